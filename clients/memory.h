@@ -21,6 +21,8 @@ typedef uint32_t reg;
 /* What a program may change before m_start: some memories look at globals and registers alone. */
 static g1_sizes m_sizes = {.regions = 256, .words = 1024, .buffer = 127, .mutators = 1, .card = 8, .globals = 16, .registers = 64};
 static uint64_t m_objects;
+/* What m_count tells of; the heap's counts are 0 where there is no policy. */
+enum { M_OBJECTS, M_CYCLES, M_PAUSES, M_SCANNED, M_COPIED, M_FREE, M_COUNTS };
 
 static inline void m_die(const char *why)
 {
@@ -59,6 +61,11 @@ static inline void m_stop(int verbose)
     }
     g1_free(&m_heap);
 }
+static inline void m_count(uint64_t counts[M_COUNTS])
+{
+    counts[M_OBJECTS] = m_objects, counts[M_CYCLES] = m_policy.cycles, counts[M_PAUSES] = m_policy.pauses;
+    counts[M_SCANNED] = m_policy.scanned, counts[M_COPIED] = m_policy.copied, counts[M_FREE] = g1_free_regions(&m_heap).first;
+}
 /* Each answer is looked at: a refusal here is a mistake of the program. */
 static inline g1_answer m_done(g1_answer answer)
 {
@@ -85,6 +92,7 @@ static inline int m_load(reg to, uint32_t global) { return m_done(g1_load(&m_hea
 static inline void m_save(uint32_t global, reg from) { m_done(g1_save(&m_heap, 0, global, from)); }
 static inline void m_scope(reg first) { m_done(g1_scope(&m_heap, 0, first)); }
 static inline uint32_t m_pointers(reg object) { return (uint32_t)m_done(g1_shape(&m_heap, 0, object)).first; }
+static inline uint32_t m_values(reg object) { return m_done(g1_shape(&m_heap, 0, object)).second; }
 /* A data word of an object, or what is said where the register is nil. Nil is answered by the heap, so it costs one call. */
 static inline uint64_t m_word(reg object, uint32_t field, uint64_t of_nil)
 {
@@ -131,6 +139,11 @@ static inline void m_stop(int verbose)
 {
     if (verbose) m_tell(), fputc('\n', stderr);
 }
+static inline void m_count(uint64_t counts[M_COUNTS])
+{
+    memset(counts, 0, M_COUNTS * sizeof *counts);
+    counts[M_OBJECTS] = m_objects;
+}
 static inline void m_set(reg to, m_object *object)
 {
     m_registers[to] = object;
@@ -175,6 +188,7 @@ static inline void m_scope(reg first)
     while (m_used > first) m_registers[--m_used] = NULL;
 }
 static inline uint32_t m_pointers(reg object) { return m_registers[object]->pointers; }
+static inline uint32_t m_values(reg object) { return m_registers[object]->values; }
 static inline uint64_t m_word(reg object, uint32_t field, uint64_t of_nil)
 {
     return m_registers[object] != NULL ? m_read(object, field) : of_nil;

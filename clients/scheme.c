@@ -1,15 +1,16 @@
-/* scheme.c: a small Scheme. All its values, and its stack, are roots and objects of memory.h: what a runtime in C has in variables and
+/* scheme.c: a Scheme after R4RS. All its values, and its stack, are roots and objects of memory.h: what a runtime in C has in variables and
    on its stack stands in registers here, so a collection may come at any m_new.
 
      scheme FILE      evaluates a file, and ends with status 1 at the first mistake
-     scheme           reads from a person, and goes on after a mistake
+     scheme           reads from a person, and goes on after a mistake; `rlwrap scheme` edits lines
 
-   It has numbers of 64 bits, pairs, symbols, strings, vectors, #t and #f, closures with tail calls, call/cc, and macros: forms that aren't
-   built in are macros of prelude.h. A definition within a body sees those before it; letrec binds procedures that call each other. A
-   symbol's object stands in the global of its number. G1HEAP_REGIONS sets the size of the heap, 256 regions of 1,024 words else. */
+   Numbers are integers of 64 bits: there are no fractions and no floats, and what is beyond 64 bits is a mistake. Characters are bytes.
+   Beside R4RS it has define-macro, when, error, eval and (gc-stats). Forms that aren't built in are macros of prelude.h. A symbol's object
+   stands in the global of its number. G1HEAP_REGIONS sets the size of the heap, 256 regions of 1,024 words else. */
 #include <ctype.h>
 #include <errno.h>
 #include <inttypes.h>
+#include <search.h>
 #include <setjmp.h>
 #include <stdarg.h>
 #include <unistd.h>
@@ -17,59 +18,93 @@
 #include "memory.h"
 #include "prelude.h"
 
-/* Registers: those of the machine, and behind them its stack, a row of frames. */
-enum { EXPRESSION, ENVIRONMENT, VALUE, REST, PART, OTHER, STACK };
-enum { MOST_REGISTERS = 65536, MOST_SYMBOLS = 4096, MOST_NAME = 255, MOST_NESTED = 10000 };
+/* Registers: those of the machine, and behind them its stack, a row of frames. WHOLE holds what is evaluated at the top. */
+enum { EXPRESSION, ENVIRONMENT, VALUE, REST, PART, OTHER, WHOLE, STACK };
+enum { MOST_REGISTERS = 65536, MOST_SYMBOLS = 4096, MOST_NAME = 255, MOST_NESTED = 10000, MOST_PORTS = 64, MOST_TOLD = 60 };
+/* Globals: the symbols, the current ports, and the first ones. */
+enum { CURRENT_INPUT = MOST_SYMBOLS, CURRENT_OUTPUT, FIRST_INPUT, FIRST_OUTPUT, GLOBALS };
 /* The tag of an object is its data word 0; that of nil, the empty list, is 0. */
-enum { NIL, NUMBER, BOOLEAN, SYMBOL, STRING, PAIR, VECTOR, CLOSURE, MACRO, PRIMITIVE, CONTINUATION, BINDING };
+enum { NIL, NUMBER, BOOLEAN, SYMBOL, STRING, PAIR, VECTOR, CHARACTER, INPUT, OUTPUT, END, CLOSURE, MACRO, PRIMITIVE, CONTINUATION,
+       BINDING };
 static const char *const kinds[] = {"the empty list", "a number", "a truth value", "a symbol", "a string", "a pair", "a vector",
-                                    "a procedure", "a macro", "a procedure", "a procedure", "a binding"};
+    "a character", "a port for input", "a port for output", "the end of a file", "a procedure", "a macro", "a procedure", "a procedure",
+    "a binding"};
 
-/* pair: car, cdr.  closure, macro: parameters, body, environment.  symbol: its global value; word 1 its number, word 2 whether it has a
-   value.  number, truth value: word 1.  binding: next, value; word 1 the symbol's number.  string: word 1 the length in bytes, then these.
-   continuation: the stack's registers; word 1 how many frames, and a word for each. */
+/* pair: car, cdr; one that was read has the place of its car in word 1.  closure, macro: parameters, body, environment.  symbol: its global
+   value; word 1 its number, word 2 whether it has a value.  number, truth value, character: word 1.  binding: next, value; word 1 the
+   symbol's number.  string: word 1 the length in bytes, then these.  port: word 1 its number.  continuation: the stack's registers; word 1
+   how many frames, and a word for each. */
 
-static const char *file_name;
-static FILE *input, *output;
-static unsigned line_number = 1;
-static const char *prelude_left; /* what of the prelude isn't read yet, or NULL */
-static int nested;               /* how deep the reader or the printer is within lists */
+/* The names that C knows, symbols by their numbers. */
+enum { NO_NAME, QUOTE, IF, DEFINE, SET, RAW_LAMBDA, BEGIN, AND, OR, LOCAL, LAMBDA, QUASIQUOTE, UNQUOTE, UNQUOTE_SPLICING, DOT,
+       TRUE_VALUE, FALSE_VALUE, END_VALUE, FIRST_NAMES };
+static const char *const first_names[FIRST_NAMES] = {"", "quote", "if", "define", "set!", "%lambda", "begin", "and", "or",
+    "%local", "lambda", "quasiquote", "unquote", "unquote-splicing", ".", "#t", "#f", "#<end of file>"};
+
+/* The files that are open: a closed port has the number CLOSED. `name` is a symbol's number, and 0 that of no file. */
+enum { STANDARD_INPUT, STANDARD_OUTPUT, PROGRAM, OTHERS, CLOSED = MOST_PORTS, PRELUDE = UINT16_MAX };
+typedef struct port { FILE *file; unsigned line; uint32_t name; } port;
+static port ports[MOST_PORTS];
+static port *source;                     /* what the reader reads */
+static FILE *output;                     /* where the printer prints */
+static char recent[48];                  /* what was read last of the expression that is read, and how many bytes of it were read */
+static size_t recently;
+static int reading, nested;              /* whether the reader is at work; how deep it or the printer is within lists */
+static uint64_t left_to_print = UINT64_MAX;
 static jmp_buf after_mistake;
 
-/* The stack: a frame begins at a register, and says what is to be done with a value. */
+/* The stack: a frame begins at a register, and says what is to be done with a value. It holds the form that it is of, or of a sequence
+   what is left of it, and the environment; one of a call then the procedure and the arguments so far. */
 typedef struct frame { uint32_t base, what; } frame;
 static frame frames[MOST_REGISTERS];
 static uint32_t depth;
 static reg top = STACK;
-enum { DO_IF, DO_SET, DO_DEFINE, DO_SEQUENCE, DO_CALL, DO_MACRO };
+enum { DO_IF, DO_SET, DO_DEFINE, DO_SEQUENCE, DO_AND, DO_OR, DO_CALL, DO_LAST, DO_MACRO };
 
+static char *names[MOST_SYMBOLS];
 static void print(reg it, int quoted);
 
-static void begin_mistake(void)
+/* The place of a pair that was read: a file's name and a line, 0 of another object. */
+static uint64_t place_of(reg it) { return m_tag(it) == PAIR && m_values(it) == 2 ? m_read(it, 1) : 0; }
+/* Leads PART to the innermost form that is being evaluated and was read, and answers its place. */
+static uint64_t find_form(void)
 {
-    fflush(stdout);
-    if (file_name != NULL) fprintf(stderr, "%s, the expression that ends in line %u: ", file_name, line_number);
-}
-/* Ends the line of a mistake, with the value in a register where there is one, and gives the expression up. */
-static _Noreturn void end_mistake(int has_value, reg value)
-{
-    if (has_value) {
-        m_move(VALUE, value);
-        fputs(": ", stderr);
-        output = stderr;
-        print(VALUE, 1);
+    for (uint32_t i = depth; i-- > 0;) {
+        uint64_t place;
+        m_move(PART, frames[i].base);
+        if ((place = place_of(PART)) == 0) continue;
+        if (frames[i].what >= DO_SEQUENCE && frames[i].what <= DO_OR) m_get(PART, PART, 0);
+        return place;
     }
-    fputc('\n', stderr);
-    longjmp(after_mistake, 1);
+    m_move(PART, WHOLE);
+    return place_of(PART);
 }
-static _Noreturn void mistake(int has_value, reg value, const char *form, ...)
+/* Says in which form a mistake is, or after which text, and what is wrong, with the value in a register where there is one; then it gives
+   up what is evaluated. The stack is left before, so what is printed has room. */
+static _Noreturn void mistake(int has_value, reg value, const char *why, ...)
 {
     va_list words;
-    begin_mistake();
-    va_start(words, form);
-    vfprintf(stderr, form, words);
+    uint64_t place;
+    if (has_value) m_move(VALUE, value);
+    place = find_form();
+    if (reading || place == 0) place = (uint64_t)source->name << 32 | source->line;
+    depth = 0, nested = 0, m_scope(STACK), top = STACK;
+    fflush(stdout), output = stderr;
+    if (place >> 32 != NO_NAME && place >> 32 != PRELUDE) fprintf(stderr, "%s, ", names[place >> 32]);
+    fprintf(stderr, "line %u, %s", (uint32_t)place, !reading ? "in " : recently > sizeof recent ? "after .." : "after ");
+    left_to_print = MOST_TOLD;
+    if (!reading) print(PART, 1);
+    else
+        for (size_t i = recently > sizeof recent ? recently - sizeof recent : 0; i < recently; i++)
+            fputc(iscntrl((unsigned char)recent[i % sizeof recent]) ? ' ' : recent[i % sizeof recent], stderr);
+    fputs(": ", stderr);
+    va_start(words, why);
+    vfprintf(stderr, why, words);
     va_end(words);
-    end_mistake(has_value, value);
+    left_to_print = MOST_TOLD;
+    if (has_value) fputs(": ", stderr), print(VALUE, 1);
+    fputc('\n', stderr);
+    longjmp(after_mistake, 1);
 }
 
 static reg room(uint32_t registers)
@@ -92,7 +127,9 @@ static void make(reg to, unsigned tag, uint32_t pointers, uint32_t values)
         mistake(0, 0, "the heap is full of live objects: give it more by G1HEAP_REGIONS=%u", 2 * m_sizes.regions);
     m_write(to, 0, tag);
 }
-static void number(reg to, int64_t value) { make(to, NUMBER, 0, 1), m_write(to, 1, (uint64_t)value); }
+/* A number, a character or a port. */
+static void make_word(reg to, unsigned tag, uint64_t value) { make(to, tag, 0, 1), m_write(to, 1, value); }
+static void number(reg to, int64_t value) { make_word(to, NUMBER, (uint64_t)value); }
 static int64_t value_of(reg it) { return (int64_t)m_read(it, 1); }
 /* The pair of two registers; `to` may be one of them. */
 static void cons(reg to, reg car, reg cdr)
@@ -101,31 +138,29 @@ static void cons(reg to, reg car, reg cdr)
     m_move(to, OTHER), m_drop(OTHER);
 }
 static void car(reg to, reg pair) { m_get(to, pair, 0); }
-static void cdr(reg to, reg pair) { m_get(to, pair, 1); }
+static int cdr(reg to, reg pair) { return m_get(to, pair, 1); }
 
 /* Symbols: their names stand here, their objects in globals. */
-static char *names[MOST_SYMBOLS];
 static uint32_t symbols;
-enum { QUOTE, IF, DEFINE, SET, LAMBDA, BEGIN, DEFINE_MACRO, TRUE_VALUE, FALSE_VALUE, DOT, FIRST_NAMES };
-static const char *const first_names[FIRST_NAMES] = {"quote", "if", "define", "set!", "lambda", "begin", "define-macro", "#t", "#f", "."};
+static uint32_t lambda_name = RAW_LAMBDA;      /* the form that define makes: that of prelude.h once this is read */
 
 static uint32_t intern(const char *name)
 {
-    uint32_t id = 0;
-    while (id < symbols && strcmp(names[id], name) != 0) id++;
-    if (id < symbols) return id;
+    ENTRY entry = {(char *)(uintptr_t)name, NULL}, *found = hsearch(entry, FIND);
+    if (found != NULL) return (uint32_t)(uintptr_t)found->data;
     if (symbols == MOST_SYMBOLS) mistake(0, 0, "there are too many symbols: %u", MOST_SYMBOLS);
-    names[symbols] = strdup(name);
+    entry.key = names[symbols] = strdup(name), entry.data = (void *)(uintptr_t)symbols;
+    if (entry.key == NULL || hsearch(entry, ENTER) == NULL) m_die("no memory");
     return symbols++;
 }
-/* The truth values stand in the table of symbols too: so there is one object of each. */
+/* The truth values and the end of a file stand in the table of symbols too: so there is one object of each. */
 static void symbol(reg to, uint32_t id)
 {
     if (m_load(to, id)) return;
-    make(to, id == TRUE_VALUE || id == FALSE_VALUE ? BOOLEAN : SYMBOL, 1, 2);
-    m_write(to, 1, id);
+    make(to, id == TRUE_VALUE || id == FALSE_VALUE ? BOOLEAN : id == END_VALUE ? END : SYMBOL, 1, 2), m_write(to, 1, id);
     m_save(id, to);
 }
+static void set_global(reg name, reg value) { m_put(name, 0, value), m_write(name, 2, 1); }
 static void truth(int yes) { m_load(VALUE, yes ? TRUE_VALUE : FALSE_VALUE); }
 static int is_false(reg it) { return m_tag(it) == BOOLEAN && value_of(it) == FALSE_VALUE; }
 
@@ -140,38 +175,53 @@ static void string(reg to, const char *bytes, size_t length)
         m_write(to, 2 + (uint32_t)(i / 8), word);
     }
 }
-/* The bytes of a string or the name of a symbol, with a 0 behind them, until the next call but one. */
+/* The bytes of a string, with a 0 behind them, until the next call but one. */
 static char *bytes_of(reg it, size_t *length)
 {
     static char *buffers[2];
     static int turn;
-    char *bytes;
-    turn = !turn;
-    *length = m_tag(it) == SYMBOL ? strlen(names[value_of(it)]) : (size_t)m_read(it, 1);
-    bytes = buffers[turn] = (char *)realloc(buffers[turn], *length + 8);
-    if (bytes == NULL) m_die("no memory");
-    if (m_tag(it) == SYMBOL) memcpy(bytes, names[value_of(it)], *length);
-    else
-        for (size_t i = 0; i < *length; i += 8) {
-            uint64_t word = m_read(it, 2 + (uint32_t)(i / 8));
-            memcpy(bytes + i, &word, 8);
-        }
-    bytes[*length] = 0;
-    return bytes;
+    *length = (size_t)m_read(it, 1), turn = !turn;
+    buffers[turn] = (char *)realloc(buffers[turn], *length + 8);
+    if (buffers[turn] == NULL) m_die("no memory");
+    for (size_t i = 0; i < *length; i += 8) {
+        uint64_t word = m_read(it, 2 + (uint32_t)(i / 8));
+        memcpy(buffers[turn] + i, &word, 8);
+    }
+    buffers[turn][*length] = 0;
+    return buffers[turn];
+}
+
+/* The length of a list, -1 of what is none: it ends otherwise, or leads back into itself. A register waits for it to come back. */
+static int64_t length_of(reg list)
+{
+    int64_t length = 0, turn = 1;
+    for (m_move(OTHER, list), m_move(PART, list); m_tag(OTHER) == PAIR; length++) {
+        if (cdr(OTHER, OTHER) && m_same(OTHER, PART)) return -1;
+        if (length == turn) m_move(PART, OTHER), turn *= 2;
+    }
+    return m_tag(OTHER) == NIL ? length : -1;
+}
+/* A vector of the list in a register, whose length is known. */
+static void vector_of(reg to, reg list, int64_t length)
+{
+    make(to, VECTOR, (uint32_t)length, 0);
+    m_move(PART, list);
+    for (uint32_t i = 0; i < (uint32_t)length; i++, cdr(PART, PART)) car(OTHER, PART), m_put(to, i, OTHER);
 }
 
 /* The reader. */
 static int next_byte(void)
 {
-    int c = prelude_left == NULL ? getc(input) : *prelude_left == 0 ? EOF : *prelude_left++;
-    line_number += c == '\n';
+    int c = getc(source->file);
+    source->line += c == '\n';
+    if (c != EOF) recent[recently++ % sizeof recent] = (char)c;
     return c;
 }
 static void put_back(int c)
 {
-    line_number -= c == '\n';
-    if (prelude_left == NULL) ungetc(c, input);
-    else if (c != EOF) prelude_left--;
+    source->line -= c == '\n';
+    if (c != EOF) recently--;
+    ungetc(c, source->file);
 }
 static int next_mark(void)
 {
@@ -180,94 +230,145 @@ static int next_mark(void)
         while (c == ';' && (c = next_byte()) != '\n' && c != EOF) c = ';';
         c = next_byte();
     }
+    if (nested == 0) recent[0] = (char)c, recently = 1;
     return c;
 }
 static void read_string(void)
 {
     static char text[65536];
     size_t length = 0;
+    unsigned line = source->line;
     for (int c; (c = next_byte()) != '"';) {
         if (c == '\\') c = next_byte(), c = c == 'n' ? '\n' : c;
-        if (c == EOF) mistake(0, 0, "the text ends within a string");
+        if (c == EOF) mistake(0, 0, "the text ends within a string that begins in line %u", line);
         if (length == sizeof text) mistake(0, 0, "a string is longer than %zu bytes", sizeof text);
         text[length++] = (char)c;
     }
     string(VALUE, text, length);
 }
-static void read_word(int c)
+/* A word that begins with c, in lowercase. */
+static size_t read_text(int c, char *text)
 {
-    char text[MOST_NAME + 1], *end;
     size_t length = 0;
-    long long value;
     for (; !isspace(c) && c != '(' && c != ')' && c != '"' && c != ';' && c != EOF; c = next_byte()) {
         if (length == MOST_NAME) mistake(0, 0, "a word is longer than %d bytes", MOST_NAME);
-        text[length++] = (char)c;
+        text[length++] = (char)tolower(c);
     }
     put_back(c);
     text[length] = 0;
     if (memchr(text, 0, length) != NULL) mistake(0, 0, "a word with a zero byte in it");
-    errno = 0;
-    value = strtoll(text, &end, 10);
-    if (end == text || *end != 0) symbol(VALUE, intern(text));
-    else if (errno != 0) mistake(0, 0, "a number beyond 64 bits: %s", text);
-    else number(VALUE, value);
+    return length;
+}
+/* The number that a text says, with prefixes such as #x: 1 where it says one, 0 where not, -1 where that is beyond 64 bits. */
+static int parse_number(const char *text, int radix, int64_t *value)
+{
+    char digits[] = "0123456789abcdefABCDEF";
+    const char *first;
+    for (; text[0] == '#'; text += 2) {
+        int c = tolower((unsigned char)text[1]);
+        if (c == 0 || strchr("boxdei", c) == NULL) return 0;
+        radix = c == 'b' ? 2 : c == 'o' ? 8 : c == 'd' ? 10 : c == 'x' ? 16 : radix;
+    }
+    if (radix < 16) digits[radix] = 0;
+    first = text + (*text == '+' || *text == '-');
+    if (*first == 0 || first[strspn(first, digits)] != 0) return 0;
+    errno = 0, *value = strtoll(text, NULL, radix);
+    return errno == 0 ? 1 : -1;
+}
+static void read_word(int c)
+{
+    static char text[MOST_NAME + 1];
+    size_t length = read_text(c, text), sign = *text == '+' || *text == '-' || *text == '.';
+    int64_t value;
+    int is = parse_number(text, 10, &value);
+    if (is == 1) number(VALUE, value);
+    else if (is == -1) mistake(0, 0, "a number beyond 64 bits: %s", text);
+    else if (*text == '#' && strcmp(text, "#t") != 0 && strcmp(text, "#f") != 0) mistake(0, 0, "nothing is written so: %s", text);
+    else if (length > sign && isdigit((unsigned char)text[sign])) mistake(0, 0, "numbers are whole, and names don't begin so: %s", text);
+    else symbol(VALUE, intern(text));
+}
+static void read_character(void)
+{
+    static char text[MOST_NAME + 1];
+    int c = next_byte();
+    if (c == EOF) mistake(0, 0, "the text ends within a character");
+    if (isalpha(c) && read_text(c, text) > 1) {
+        c = strcmp(text, "space") == 0 ? ' ' : strcmp(text, "newline") == 0 ? '\n' : EOF;
+        if (c == EOF) mistake(0, 0, "no character is called so: %s", text);
+    }
+    make_word(VALUE, CHARACTER, (uint64_t)c);
 }
 static int read_expression(void);
-static void need_expression(const char *where)
+static void need_expression(const char *where, unsigned line)
 {
-    if (!read_expression()) mistake(0, 0, "the text ends within a %s", where);
+    if (!read_expression()) mistake(0, 0, "the text ends within a %s that begins in line %u", where, line);
 }
 static int is_dot(reg it) { return m_tag(it) == SYMBOL && m_read(it, 1) == DOT; }
-/* What follows a list's dot. */
-static void read_tail(reg list)
+/* Makes the pair of VALUE, which began in a line, and what a register holds. */
+static void read_pair(unsigned line, reg rest)
 {
-    int c = next_mark();
-    if (m_tag(list) == NIL) mistake(0, 0, "a list begins with a dot");
-    if (c == ')') mistake(0, 0, "nothing follows the dot of a list");
-    put_back(c);
-    need_expression("list");
-    m_put(list + 1, 1, VALUE);
-    if (is_dot(VALUE) || next_mark() != ')') mistake(1, VALUE, "a list doesn't end after what follows its dot");
+    make(OTHER, PAIR, 2, source->name != PRELUDE);
+    if (source->name != PRELUDE) m_write(OTHER, 1, (uint64_t)source->name << 32 | line);
+    m_put(OTHER, 0, VALUE), m_put(OTHER, 1, rest);
+    m_move(VALUE, OTHER), m_drop(OTHER);
 }
 /* A list, into VALUE. Its frame holds its pairs: the first and the last. */
-static void read_list(void)
+static void read_list(const char *what)
 {
     reg base = room(3);
-    top += 2;
-    for (int c; (c = next_mark()) != ')';) {
-        put_back(c);
-        need_expression("list");
-        if (is_dot(VALUE)) {
-            read_tail(base);
+    unsigned line = source->line, begin;
+    int c;
+    for (top += 2; (c = next_mark()) != ')'; m_move(base + 1, VALUE)) {
+        put_back(c), begin = source->line;
+        need_expression(what, line);
+        if (is_dot(VALUE)) {                                     /* one expression more, for the last pair */
+            if (m_tag(base) == NIL || *what == 'v') mistake(0, 0, "a %s %s", what, *what == 'v' ? "has no dot" : "begins with a dot");
+            if ((c = next_mark()) == ')') mistake(0, 0, "nothing follows the dot of a list");
+            put_back(c), need_expression(what, line), m_put(base + 1, 1, VALUE);
+            if (is_dot(VALUE) || next_mark() != ')') mistake(1, VALUE, "a list doesn't end after what follows its dot");
             break;
         }
-        m_drop(PART), cons(VALUE, VALUE, PART);
+        m_drop(PART), read_pair(begin, PART);
         if (m_tag(base) == NIL) m_move(base, VALUE);
         else m_put(base + 1, 1, VALUE);
-        m_move(base + 1, VALUE);
     }
-    m_move(VALUE, base);
-    leave(base);
+    m_move(VALUE, base), leave(base);
+}
+/* (quote x) for 'x, and the like. */
+static void read_quotation(uint32_t name)
+{
+    unsigned line = source->line;
+    need_expression("quotation", line);
+    m_drop(PART), read_pair(line, PART);
+    m_move(PART, VALUE), symbol(VALUE, name), read_pair(line, PART);
 }
 /* Reads an expression into VALUE; 0 at the end of the text. */
 static int read_expression(void)
 {
-    int c = next_mark();
+    int c = next_mark(), next = c == '#' || c == ',' ? next_byte() : EOF;
     if (c == EOF) return 0;
     if (c == ')') mistake(0, 0, "a ')' without its '('");
+    if (c == '#' ? next != '\\' && next != '(' : c == ',' && next != '@') put_back(next);
     go_deeper();
     if (c == '"') read_string();
-    else if (c == '(') read_list();
-    else if (c != '\'') read_word(c);
-    else {
-        need_expression("quotation");
-        m_drop(PART);
-        cons(VALUE, VALUE, PART);
-        symbol(PART, QUOTE);
-        cons(VALUE, PART, VALUE);
-    }
+    else if (c == '(') read_list("list");
+    else if (c == '\'' || c == '`') read_quotation(c == '`' ? QUASIQUOTE : QUOTE);
+    else if (c == ',') read_quotation(next == '@' ? UNQUOTE_SPLICING : UNQUOTE);
+    else if (c == '#' && next == '\\') read_character();
+    else if (c == '#' && next == '(') read_list("vector"), m_move(REST, VALUE), vector_of(VALUE, REST, length_of(REST));
+    else read_word(c);
     nested--;
     return 1;
+}
+/* Reads the next expression of a port into VALUE; 0 at the end. */
+static int read_from(port *from)
+{
+    port *before = source;
+    int found;
+    source = from, reading = 1, recently = 0;
+    found = read_expression();
+    source = before, reading = 0;
+    return found;
 }
 
 /* The printer: what a register holds. Its frames are registers too. */
@@ -276,55 +377,49 @@ static void print_string(reg it)
     size_t length;
     const char *bytes = bytes_of(it, &length);
     fputc('"', output);
-    for (size_t i = 0; i < length; i++)
-        if (bytes[i] == '\n') fputs("\\n", output);
-        else fprintf(output, bytes[i] == '"' || bytes[i] == '\\' ? "\\%c" : "%c", bytes[i]);
+    for (size_t i = 0; i < length; i++) {
+        if (bytes[i] == '\n' || bytes[i] == '"' || bytes[i] == '\\') fputc('\\', output);
+        fputc(bytes[i] == '\n' ? 'n' : bytes[i], output);
+    }
     fputc('"', output);
 }
 /* A list that leads back into itself is cut short: a register waits for it to come back, farther on each time. */
 static void print_list(reg it, int quoted)
 {
     reg at = room(3);
-    const char *before = "(";
     uint32_t steps = 0, most = 1;
     push(it), push(it), push(it);
-    for (; m_tag(at) == PAIR; cdr(at, at), before = " ", steps++) {
-        if (steps != 0 && m_same(at, at + 2)) {
-            fputs(" ..", output);
-            m_drop(at);
-            break;
-        }
+    for (; m_tag(at) == PAIR && left_to_print != 0 && (steps == 0 || !m_same(at, at + 2)); cdr(at, at), steps++) {
         if (steps == most) m_move(at + 2, at), steps = 0, most *= 2;
-        fputs(before, output);
-        car(at + 1, at);
-        print(at + 1, quoted);
+        fputc(most == 1 && steps == 0 ? '(' : ' ', output);
+        car(at + 1, at), print(at + 1, quoted);
     }
-    if (m_tag(at) != NIL) fputs(" . ", output), print(at, quoted);
-    fputc(')', output);
-    leave(at);
+    if (m_tag(at) == PAIR) fputs(" ..", output);
+    else if (m_tag(at) != NIL) fputs(" . ", output), print(at, quoted);
+    fputc(')', output), leave(at);
 }
 static void print_vector(reg it, int quoted)
 {
     reg at = room(1);
-    push(it);
-    fputs("#(", output);
-    for (uint32_t i = 0; i < m_pointers(it); i++) {
-        if (i != 0) fputc(' ', output);
-        m_get(at, it, i);
-        print(at, quoted);
-    }
-    fputc(')', output);
-    leave(at);
+    uint32_t i = 0, length = m_pointers(it);
+    push(it), fputs("#(", output);
+    for (; i < length && left_to_print != 0; i++) fputs(i == 0 ? "" : " ", output), m_get(at, it, i), print(at, quoted);
+    fputs(i < length ? " ..)" : ")", output), leave(at);
 }
 static void print(reg it, int quoted)
 {
     size_t length;
     const char *bytes;
-    go_deeper();
+    go_deeper(), left_to_print--;
     switch (m_tag(it)) {
     case NIL: fputs("()", output); break;
     case NUMBER: fprintf(output, "%" PRId64, value_of(it)); break;
-    case BOOLEAN: case SYMBOL: fputs(names[value_of(it)], output); break;
+    case BOOLEAN: case SYMBOL: case END: fputs(names[value_of(it)], output); break;
+    case CHARACTER:
+        if (!quoted) fputc((int)value_of(it), output);
+        else if (value_of(it) == ' ' || value_of(it) == '\n') fputs(value_of(it) == ' ' ? "#\\space" : "#\\newline", output);
+        else fprintf(output, "#\\%c", (int)value_of(it));
+        break;
     case STRING:
         if (quoted) print_string(it);
         else bytes = bytes_of(it, &length), fwrite(bytes, 1, length, output);
@@ -339,36 +434,34 @@ static void print(reg it, int quoted)
 #include "scheme_primitives.h"
 
 /* The evaluator: EXPRESSION in ENVIRONMENT, and its value into VALUE. */
-static void begin_frame(uint32_t what)
+static void begin_frame(uint32_t what, reg form)
 {
-    frames[depth++] = (frame){room(4), what};
+    reg base = room(4);
+    frames[depth++] = (frame){base, what}, push(form), push(ENVIRONMENT);
 }
 static reg end_frame(void) { return frames[--depth].base; }
 
-/* Leads PART to the binding of a symbol's number, or to the symbol in EXPRESSION itself; the answer is the field of the value. */
-static uint32_t find(uint64_t id)
+/* Leads PART to the binding of a name, or to the symbol itself; the answer is the field of the value. */
+static uint32_t find(reg name)
 {
-    uint64_t found;
+    uint64_t id = m_read(name, 1), found;
     for (m_move(PART, ENVIRONMENT); (found = m_word(PART, 1, UINT64_MAX)) != UINT64_MAX; m_get(PART, PART, 0))
         if (found == id) return 1;
-    m_move(PART, EXPRESSION);
+    m_move(PART, name);
     return 0;
 }
 static void bind(reg name, reg value)
 {
     make(PART, BINDING, 2, 1);
-    m_write(PART, 1, m_read(name, 1));
-    m_put(PART, 0, ENVIRONMENT);
-    m_put(PART, 1, value);
+    m_write(PART, 1, m_read(name, 1)), m_put(PART, 0, ENVIRONMENT), m_put(PART, 1, value);
     m_move(ENVIRONMENT, PART);
 }
-static void need_symbol(reg it)
-{
-    if (m_tag(it) != SYMBOL) mistake(1, it, "a name is wanted here, not %s", kinds[m_tag(it)]);
-}
+static void need_symbol(reg it) { if (m_tag(it) != SYMBOL) mistake(1, it, "a name is wanted here, not %s", kinds[m_tag(it)]); }
 static void need_part(const char *form)
 {
-    if (m_tag(REST) != PAIR) mistake(1, EXPRESSION, "%s lacks a part", form);
+    if (m_tag(REST) == PAIR) return;
+    begin_frame(DO_IF, EXPRESSION);
+    mistake(0, 0, "%s lacks a part", form);
 }
 /* What is left of a list of operands or of a body has to be a list. Answers whether there is more. */
 static int has_more(reg list)
@@ -378,20 +471,13 @@ static int has_more(reg list)
     return tag == PAIR;
 }
 /* A closure of the parameters in PART and the body in REST. */
-static void closure(unsigned tag)
+static void closure(void) { make(VALUE, CLOSURE, 3, 0), m_put(VALUE, 0, PART), m_put(VALUE, 1, REST), m_put(VALUE, 2, ENVIRONMENT); }
+/* What a name stands for, into a register; answers whether that is a binding's value. */
+static uint32_t look_up(reg to, reg name)
 {
-    make(VALUE, tag, 3, 0);
-    m_put(VALUE, 0, PART), m_put(VALUE, 1, REST), m_put(VALUE, 2, ENVIRONMENT);
-}
-static void look_up(void)
-{
-    uint32_t field = find(m_read(EXPRESSION, 1));
-    m_get(VALUE, PART, field);
-    if (field == 0 && m_tag(VALUE) == NIL && m_read(EXPRESSION, 2) == 0) mistake(1, EXPRESSION, "a name that isn't defined");
-}
-static void set_global(reg name, reg value)
-{
-    m_put(name, 0, value), m_write(name, 2, 1);
+    uint32_t field = find(name);
+    if (!m_get(to, PART, field) && field == 0 && m_read(name, 2) == 0) mistake(1, name, "a name that isn't defined");
+    return field;
 }
 
 /* Binds the parameters in REST to the arguments from a register on, `count` of them. */
@@ -431,120 +517,159 @@ static void resume(reg from)
     for (uint32_t i = 0; i < m_pointers(from); i++) m_get(STACK + i, from, i);
 }
 
-/* How the machine goes on: with an expression, with the body in REST, with a value, with the call whose frame is on top. */
-enum { EVALUATE, SEQUENCE, RETURN, CALL };
+/* How the machine goes on: with an expression, with a value, with the call whose frame is on top. */
+enum { EVALUATE, RETURN, CALL };
 
-/* A frame of a call has what is left of its operands, the environment, the procedure, and its arguments. */
-static int begin_call(void)
+/* Evaluates the operands in REST, for the frame on top. Before one that isn't simple what is left is pushed where its value is to stand;
+   before the last one nothing is, so a recursion there takes no register more. */
+static int operands(void)
 {
-    begin_frame(DO_CALL);
-    push(REST), push(ENVIRONMENT);
-    car(EXPRESSION, EXPRESSION);
+    for (; has_more(REST); cdr(REST, REST)) {
+        uint64_t tag;
+        car(EXPRESSION, REST);
+        tag = m_tag(EXPRESSION);
+        if (tag == SYMBOL) look_up(room(1), EXPRESSION), top++;
+        else if (tag != PAIR) push(EXPRESSION);
+        else if (cdr(PART, REST)) return push(PART), EVALUATE;
+        else return frames[depth - 1].what = DO_LAST, EVALUATE;
+    }
+    return CALL;
+}
+/* Evaluates what REST lists, one after the other: a body, or the operands of `and` or `or`. The last one has no frame: a tail call. */
+static int parts(uint32_t what)
+{
+    if (!has_more(REST)) {
+        if (what == DO_SEQUENCE) m_drop(VALUE);
+        else truth(what == DO_AND);
+        return RETURN;
+    }
+    car(EXPRESSION, REST);
+    if (cdr(PART, REST)) begin_frame(what, REST);
     return EVALUATE;
 }
 
 static int define(void)
 {
+    reg name;
+    begin_frame(DO_DEFINE, EXPRESSION), name = top;
     need_part("define");
     car(PART, REST), cdr(REST, REST);
     if (m_tag(PART) == PAIR) {                                   /* (define (f x) ..) is (define f (lambda (x) ..)) */
-        car(EXPRESSION, PART), cdr(PART, PART);
+        car(EXPRESSION, PART), push(EXPRESSION), cdr(PART, PART);
         cons(REST, PART, REST);
-        symbol(PART, LAMBDA);
+        symbol(PART, lambda_name);
         cons(REST, PART, REST);
         m_drop(PART);
         cons(REST, REST, PART);
-    } else m_move(EXPRESSION, PART);
-    need_symbol(EXPRESSION);
+    } else push(PART);
+    need_symbol(name);
     need_part("define");
     if (m_tag(ENVIRONMENT) == BINDING) {                         /* what is left of the body sees it too */
         m_drop(VALUE);
-        bind(EXPRESSION, VALUE);
-        if (depth != 0 && frames[depth - 1].what == DO_SEQUENCE) m_move(frames[depth - 1].base + 1, ENVIRONMENT);
+        bind(name, VALUE), m_move(name - 1, ENVIRONMENT);
+        if (depth > 1 && frames[depth - 2].what == DO_SEQUENCE) m_move(frames[depth - 2].base + 1, ENVIRONMENT);
+        frames[depth - 1].what = DO_SET;
     }
-    begin_frame(m_tag(ENVIRONMENT) == BINDING ? DO_SET : DO_DEFINE);
-    push(EXPRESSION), push(ENVIRONMENT);
     car(EXPRESSION, REST);
     return EVALUATE;
 }
-
-static int evaluate(void)
+/* (%local a b ..) begins a body that defines: what is left of it sees these names. */
+static int define_local(void)
 {
-    uint64_t tag = m_tag(EXPRESSION), form;
-    if (tag == SYMBOL) return look_up(), RETURN;
-    if (tag != PAIR) return m_move(VALUE, EXPRESSION), RETURN;
-    cdr(REST, EXPRESSION);
-    car(PART, EXPRESSION);
-    form = m_tag(PART) == SYMBOL ? m_read(PART, 1) : UINT64_MAX;
-    switch (form) {
-    case QUOTE: need_part("quote"), car(VALUE, REST); return RETURN;
-    case IF: need_part("if"), begin_frame(DO_IF), push(REST), push(ENVIRONMENT), car(EXPRESSION, REST); return EVALUATE;
-    case DEFINE: return define();
-    case SET: case DEFINE_MACRO:
-        need_part(names[form]), car(PART, REST), cdr(REST, REST), need_part(names[form]);
-        if (form == DEFINE_MACRO) {
-            if (m_tag(PART) != PAIR) mistake(1, EXPRESSION, "define-macro wants a name and parameters in a list");
-            car(EXPRESSION, PART), need_symbol(EXPRESSION), cdr(PART, PART), closure(MACRO), set_global(EXPRESSION, VALUE);
-            return m_move(VALUE, EXPRESSION), RETURN;
-        }
-        need_symbol(PART), begin_frame(DO_SET), push(PART), push(ENVIRONMENT), car(EXPRESSION, REST);
-        return EVALUATE;
-    case LAMBDA: need_part("lambda"), car(PART, REST), cdr(REST, REST), closure(CLOSURE); return RETURN;
-    case BEGIN: return SEQUENCE;
-    }
-    if (form != UINT64_MAX) m_get(VALUE, PART, 0);
-    if (form == UINT64_MAX || m_tag(VALUE) != MACRO) return begin_call();
-    begin_frame(DO_MACRO);                                       /* a macro gets its operands as they are */
-    push(EXPRESSION), push(ENVIRONMENT);
-    begin_frame(DO_CALL);
-    m_drop(PART), push(PART), push(ENVIRONMENT), push(VALUE);
+    if (depth == 0 || frames[depth - 1].what != DO_SEQUENCE) mistake(0, 0, "%%local begins no body");
+    m_drop(VALUE);
+    for (; has_more(REST); cdr(REST, REST)) car(OTHER, REST), need_symbol(OTHER), bind(OTHER, VALUE);
+    m_move(frames[depth - 1].base + 1, ENVIRONMENT);
+    return RETURN;
+}
+/* A macro, in VALUE, gets its operands as they are. The frame on top holds the form. */
+static int expand(void)
+{
+    frames[depth - 1].what = DO_MACRO;
+    m_drop(PART), begin_frame(DO_CALL, PART), push(VALUE);
     for (; has_more(REST); cdr(REST, REST)) car(PART, REST), push(PART);
     return CALL;
 }
 
-static int sequence(void)
+static int evaluate(void)
 {
-    if (!has_more(REST)) return m_drop(VALUE), RETURN;
-    car(EXPRESSION, REST), cdr(REST, REST);
-    if (m_tag(REST) == NIL) return EVALUATE;                     /* the last one has no frame: a tail call */
-    begin_frame(DO_SEQUENCE), push(REST), push(ENVIRONMENT);
-    return EVALUATE;
+    uint64_t tag = m_tag(EXPRESSION);
+    if (tag == SYMBOL) return look_up(VALUE, EXPRESSION), RETURN;
+    if (tag != PAIR) return m_move(VALUE, EXPRESSION), RETURN;
+    cdr(REST, EXPRESSION);
+    car(OTHER, EXPRESSION);
+    tag = m_tag(OTHER);
+    switch (tag == SYMBOL ? m_read(OTHER, 1) : NO_NAME) {
+    case QUOTE: need_part("quote"), car(VALUE, REST); return RETURN;
+    case IF: begin_frame(DO_IF, EXPRESSION), need_part("if"), car(EXPRESSION, REST); return EVALUATE;
+    case DEFINE: return define();
+    case SET:
+        begin_frame(DO_SET, EXPRESSION), need_part("set!"), car(PART, REST), cdr(REST, REST), need_part("set!");
+        need_symbol(PART), push(PART), car(EXPRESSION, REST);
+        return EVALUATE;
+    case RAW_LAMBDA: need_part("lambda"), car(PART, REST), cdr(REST, REST), closure(); return RETURN;
+    case BEGIN: return parts(DO_SEQUENCE);
+    case AND: return parts(DO_AND);
+    case OR: return parts(DO_OR);
+    case LOCAL: return define_local();
+    }
+    begin_frame(DO_CALL, EXPRESSION);
+    if (tag == SYMBOL) {
+        if (look_up(VALUE, OTHER) == 0 && m_tag(VALUE) == MACRO) return expand();
+        push(VALUE);
+    } else if (tag != PAIR) push(OTHER);
+    else {
+        m_move(EXPRESSION, OTHER);
+        if (m_tag(REST) != NIL) push(REST);
+        else frames[depth - 1].what = DO_LAST;
+        return EVALUATE;
+    }
+    return operands();
+}
+
+static int assign(uint32_t what, reg name)
+{
+    uint32_t field = what == DO_DEFINE ? 0 : find(name);
+    if (field == 1) m_put(PART, 1, VALUE);
+    else if (what == DO_SET && m_read(name, 2) == 0) mistake(1, name, "a name that isn't defined");
+    else set_global(name, VALUE);
+    m_move(VALUE, name), leave(end_frame());
+    return RETURN;
 }
 
 /* Gives VALUE to the frame on top. */
 static int give_value(void)
 {
     reg base = frames[depth - 1].base;
-    uint32_t what = frames[depth - 1].what, field;
-    m_move(REST, base), m_move(ENVIRONMENT, base + 1);
-    if (what == DO_CALL) {
-        push(VALUE);
-        if (!has_more(REST)) return CALL;
-        car(EXPRESSION, REST), cdr(REST, REST), m_move(base, REST);
-        return EVALUATE;
-    }
-    leave(end_frame());
+    uint32_t what = frames[depth - 1].what;
+    if (what == DO_LAST) return push(VALUE), CALL;
+    m_move(ENVIRONMENT, base + 1);
     switch (what) {
+    case DO_CALL:
+        m_move(REST, top - 1), m_move(top - 1, VALUE);
+        return operands();
+    case DO_SET: case DO_DEFINE: return assign(what, base + 2);
     case DO_IF:
-        cdr(OTHER, REST);
-        if (m_tag(OTHER) != PAIR) mistake(1, REST, "if lacks a part");
-        if (is_false(VALUE)) cdr(OTHER, OTHER);
-        if (!has_more(OTHER)) return m_drop(VALUE), RETURN;
-        car(EXPRESSION, OTHER);
+        cdr(REST, base);
+        if (m_tag(REST) != PAIR || !cdr(REST, REST) || m_tag(REST) != PAIR) mistake(0, 0, "if lacks a part");
+        leave(end_frame());
+        if (is_false(VALUE)) {
+            cdr(REST, REST);
+            if (!has_more(REST)) return m_drop(VALUE), RETURN;
+        }
+        car(EXPRESSION, REST);
         return EVALUATE;
-    case DO_SEQUENCE: return SEQUENCE;
     case DO_MACRO:                                               /* the expansion takes the place of the expression, for good */
-        m_move(EXPRESSION, REST);
+        m_move(EXPRESSION, base);
         if (m_tag(VALUE) != PAIR) m_drop(PART), cons(VALUE, VALUE, PART), symbol(PART, BEGIN), cons(VALUE, PART, VALUE);
         car(PART, VALUE), m_put(EXPRESSION, 0, PART), cdr(PART, VALUE), m_put(EXPRESSION, 1, PART);
+        leave(end_frame());
         return EVALUATE;
-    default:
-        m_move(EXPRESSION, REST);
-        field = what == DO_DEFINE ? 0 : find(m_read(EXPRESSION, 1));
-        if (field == 1) m_put(PART, 1, VALUE);
-        else if (what == DO_SET && m_read(EXPRESSION, 2) == 0) mistake(1, EXPRESSION, "a name that isn't defined");
-        else set_global(EXPRESSION, VALUE);
-        return m_move(VALUE, EXPRESSION), RETURN;
+    default:                                                     /* a sequence, `and`, `or` */
+        cdr(REST, base);
+        leave(end_frame());
+        if (what != DO_SEQUENCE && is_false(VALUE) == (what == DO_AND)) return RETURN;
+        return parts(what);
     }
 }
 
@@ -561,11 +686,16 @@ static int call(void)
             m_move(procedure, first), m_move(first, VALUE);
             return CALL;
         }
-        if (which == APPLY) {                                    /* (f a b) in place of (apply f '(a b)) */
-            m_move(procedure, first), m_move(PART, first + 1), m_move(REST, PART), leave(first);
-            for (; m_tag(PART) == PAIR; cdr(PART, PART)) car(VALUE, PART), push(VALUE);
-            if (m_tag(PART) != NIL) mistake(1, REST, "apply wants a list of arguments");
+        if (which == APPLY) {                                    /* (f a b c) in place of (apply f a '(b c)) */
+            m_move(REST, top - 1), m_move(EXPRESSION, REST);
+            for (reg it = procedure; it + 2 < top; it++) m_move(it, it + 1);
+            for (leave(top - 2); m_tag(REST) == PAIR; cdr(REST, REST)) car(VALUE, REST), push(VALUE);
+            if (m_tag(REST) != NIL) mistake(1, EXPRESSION, "apply wants a list of arguments");
             return CALL;
+        }
+        if (which == EVAL) {
+            m_move(EXPRESSION, first), m_move(WHOLE, first), m_drop(ENVIRONMENT);
+            return leave(end_frame()), EVALUATE;
         }
         primitive(which, first, count);
         return leave(end_frame()), RETURN;
@@ -577,59 +707,78 @@ static int call(void)
         m_get(ENVIRONMENT, procedure, 2), m_get(REST, procedure, 0);
         bind_arguments(first, count, procedure);
         m_get(REST, procedure, 1);
-        return leave(end_frame()), SEQUENCE;
+        return leave(end_frame()), parts(DO_SEQUENCE);
     default: mistake(1, procedure, "%s can't be called", kinds[m_tag(procedure)]);
     }
 }
 
 static void run(void)
 {
-    m_drop(ENVIRONMENT);
-    for (int next = EVALUATE; next != RETURN || depth != 0;)
-        next = next == EVALUATE ? evaluate() : next == SEQUENCE ? sequence() : next == CALL ? call() : give_value();
+    m_move(WHOLE, VALUE), m_move(EXPRESSION, VALUE), m_drop(ENVIRONMENT);
+    for (int next = EVALUATE; next != RETURN || depth != 0;) next = next == EVALUATE ? evaluate() : next == CALL ? call() : give_value();
 }
 
+/* Afterwards a program's names are objects of their own, so what it defines anew changes nothing within the prelude. Names with % are the
+   prelude's alone. */
+static void read_prelude(void)
+{
+    for (size_t i = 0; i < sizeof prelude / sizeof *prelude; i++) {
+        source->file = fmemopen((void *)(uintptr_t)prelude[i], strlen(prelude[i]), "r");
+        if (source->file == NULL) m_die("no memory");
+        while (read_from(source)) run();
+        fclose(source->file);
+    }
+    for (uint32_t id = 0; id < symbols; id++) {
+        if (!m_load(REST, id) || m_tag(REST) != SYMBOL || m_read(REST, 2) == 0) continue;
+        m_get(VALUE, REST, 0), m_drop(REST), m_save(id, REST), symbol(REST, id);
+        if (names[id][0] != '%') set_global(REST, VALUE);
+    }
+    lambda_name = LAMBDA, names[RAW_LAMBDA] = names[LAMBDA];
+}
 static void start(void)
 {
-    m_sizes.globals = MOST_SYMBOLS, m_sizes.registers = MOST_REGISTERS;
+    m_sizes.globals = GLOBALS, m_sizes.registers = MOST_REGISTERS;
     if (getenv("G1HEAP_REGIONS") != NULL) m_sizes.regions = (uint32_t)atoi(getenv("G1HEAP_REGIONS"));
     m_start();
+    if (hcreate(2 * MOST_SYMBOLS) == 0) m_die("no memory");
+    make_word(VALUE, INPUT, STANDARD_INPUT), m_save(FIRST_INPUT, VALUE), make_word(VALUE, OUTPUT, STANDARD_OUTPUT);
+    m_save(FIRST_OUTPUT, VALUE);
     for (uint32_t i = 0; i < FIRST_NAMES; i++) symbol(VALUE, intern(first_names[i]));
-    for (uint32_t i = 0; i < PRIMITIVES; i++) {
-        make(VALUE, PRIMITIVE, 0, 1);
-        m_write(VALUE, 1, i);
-        symbol(EXPRESSION, intern(primitives[i].name));
-        set_global(EXPRESSION, VALUE);
-    }
+    for (uint32_t i = 0; i < PRIMITIVES; i++)
+        make_word(VALUE, PRIMITIVE, i), symbol(EXPRESSION, intern(primitives[i].name)), set_global(EXPRESSION, VALUE);
 }
 
-/* Evaluates what is left of the input. Where no person is there, the first mistake ends it; the answer is whether there was one. */
-static int evaluate_all(int person)
+static void use_first_ports(void)
+{
+    m_load(VALUE, FIRST_INPUT), m_save(CURRENT_INPUT, VALUE), m_load(VALUE, FIRST_OUTPUT), m_save(CURRENT_OUTPUT, VALUE);
+}
+/* Evaluates what is left of a port. Where no person is there, the first mistake ends it; the answer is whether there was one. */
+static int evaluate_all(port *from, int person)
 {
     if (setjmp(after_mistake) != 0) {
-        depth = 0, nested = 0, leave(STACK), output = stdout;
+        reading = 0, source = from, left_to_print = UINT64_MAX;
         if (!person) return 1;
+        use_first_ports();
+        for (int c = 0; c != '\n' && c != EOF; from->line += c == '\n') c = getc(from->file);
     }
     for (;;) {
         if (person) fputs("> ", stdout), fflush(stdout);
-        if (!read_expression()) return 0;
-        m_move(EXPRESSION, VALUE);
+        if (!read_from(from)) return 0;
         run();
-        if (person && m_tag(VALUE) != NIL) print(VALUE, 1), putchar('\n');
+        if (person && m_tag(VALUE) != NIL) output = stdout, print(VALUE, 1), putchar('\n');
     }
 }
 
 int main(int count, char **words)
 {
-    int failed;
-    output = stdout, input = count < 2 ? stdin : fopen(words[1], "r");
-    if (input == NULL || count > 2) m_die("usage: scheme [FILE], a file that can be read");
+    source = &ports[PROGRAM], source->name = PRELUDE;
+    ports[STANDARD_INPUT] = (port){stdin, 1, NO_NAME}, ports[STANDARD_OUTPUT] = (port){stdout, 1, NO_NAME};
     if (setjmp(after_mistake) != 0) m_die("it can't start");
-    start();
-    prelude_left = prelude;
-    while (read_expression()) m_move(EXPRESSION, VALUE), run();
-    prelude_left = NULL, line_number = 1, file_name = count < 2 ? NULL : words[1];
-    failed = evaluate_all(count < 2 && isatty(0));
+    start(), read_prelude(), use_first_ports();
+    if (count > 1) *source = (port){fopen(words[1], "r"), 1, intern(words[1])};
+    else source = &ports[STANDARD_INPUT];
+    if (source->file == NULL || count > 2) m_die("usage: scheme [FILE], a file that can be read");
+    count = evaluate_all(source, count < 2 && isatty(0));
     m_stop(getenv("VERBOSE") != NULL);
-    return failed;
+    return count;
 }

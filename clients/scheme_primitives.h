@@ -1,30 +1,54 @@
-/* The procedures that scheme.c has of itself. Their arguments stand in registers, one behind the other; the result goes into VALUE. */
-enum {
-    ADD, SUBTRACT, MULTIPLY, QUOTIENT, REMAINDER, LESS, GREATER, EQUAL, CONS, CAR, CDR, SET_CAR, SET_CDR, IS_EQ, IS_NULL, IS_PAIR,
-    IS_NUMBER, IS_SYMBOL, IS_STRING, IS_VECTOR, IS_PROCEDURE, DISPLAY, WRITE, NEWLINE, ERROR, STRING_LENGTH, STRING_APPEND, SUBSTRING,
-    STRING_EQUAL,
-    NUMBER_TO_STRING, STRING_TO_NUMBER, SYMBOL_TO_STRING, STRING_TO_SYMBOL, MAKE_VECTOR, VECTOR_REF, VECTOR_SET, VECTOR_LENGTH,
-    CALL_CC, APPLY, PRIMITIVES
-};
-enum { ANY_COUNT = 255 };
-static const struct { const char *name; unsigned char least, most; } primitives[PRIMITIVES] = {
-    {"+", 0, ANY_COUNT}, {"-", 1, ANY_COUNT}, {"*", 0, ANY_COUNT}, {"quotient", 2, 2}, {"remainder", 2, 2}, {"<", 2, 2}, {">", 2, 2},
-    {"=", 2, 2}, {"cons", 2, 2}, {"car", 1, 1}, {"cdr", 1, 1}, {"set-car!", 2, 2}, {"set-cdr!", 2, 2}, {"eq?", 2, 2}, {"null?", 1, 1},
-    {"pair?", 1, 1}, {"number?", 1, 1}, {"symbol?", 1, 1}, {"string?", 1, 1}, {"vector?", 1, 1}, {"procedure?", 1, 1}, {"display", 1, 1},
-    {"write", 1, 1}, {"newline", 0, 0}, {"error", 1, 2}, {"string-length", 1, 1}, {"string-append", 0, ANY_COUNT}, {"substring", 3, 3},
-    {"string=?", 2, 2}, {"number->string", 1, 1}, {"string->number", 1, 1}, {"symbol->string", 1, 1}, {"string->symbol", 1, 1},
-    {"make-vector", 2, 2}, {"vector-ref", 2, 2}, {"vector-set!", 3, 3}, {"vector-length", 1, 1}, {"call/cc", 1, 1}, {"apply", 2, 2},
-};
+/* The procedures that scheme.c has of itself, with how many arguments each takes. These stand in registers, one behind the other; the
+   result goes into VALUE. Comparisons are five of numbers, characters and strings each; IS_NULL to IS_END have the order of the tags. */
+#define EACH_PRIMITIVE(X)                                                                                                                 \
+    X(ADD, "+", 0, ANY) X(SUBTRACT, "-", 1, ANY) X(MULTIPLY, "*", 0, ANY) X(QUOTIENT, "quotient", 2, 2) X(REMAINDER, "remainder", 2, 2)   \
+    X(MODULO, "modulo", 2, 2) X(LESS, "<", 1, ANY) X(GREATER, ">", 1, ANY) X(EQUAL, "=", 1, ANY) X(AT_MOST, "<=", 1, ANY)                 \
+    X(AT_LEAST, ">=", 1, ANY) X(C_LESS, "char<?", 1, ANY) X(C_GREATER, "char>?", 1, ANY) X(C_EQUAL, "char=?", 1, ANY)                     \
+    X(C_AT_MOST, "char<=?", 1, ANY) X(C_AT_LEAST, "char>=?", 1, ANY) X(S_LESS, "string<?", 1, ANY) X(S_GREATER, "string>?", 1, ANY)       \
+    X(S_EQUAL, "string=?", 1, ANY) X(S_AT_MOST, "string<=?", 1, ANY) X(S_AT_LEAST, "string>=?", 1, ANY) X(IS_NULL, "null?", 1, 1)         \
+    X(IS_NUMBER, "number?", 1, 1) X(IS_BOOLEAN, "boolean?", 1, 1) X(IS_SYMBOL, "symbol?", 1, 1) X(IS_STRING, "string?", 1, 1)             \
+    X(IS_PAIR, "pair?", 1, 1) X(IS_VECTOR, "vector?", 1, 1) X(IS_CHARACTER, "char?", 1, 1) X(IS_INPUT, "input-port?", 1, 1)               \
+    X(IS_OUTPUT, "output-port?", 1, 1) X(IS_END, "eof-object?", 1, 1) X(IS_PROCEDURE, "procedure?", 1, 1) X(IS_LIST, "list?", 1, 1)       \
+    X(IS_EQ, "eq?", 2, 2) X(CONS, "cons", 2, 2) X(CAR, "car", 1, 1) X(CDR, "cdr", 1, 1) X(CAAR, "caar", 1, 1) X(CADR, "cadr", 1, 1)       \
+    X(CDAR, "cdar", 1, 1) X(CDDR, "cddr", 1, 1) X(CAAAR, "caaar", 1, 1) X(CAADR, "caadr", 1, 1) X(CADAR, "cadar", 1, 1)                   \
+    X(CADDR, "caddr", 1, 1) X(CDAAR, "cdaar", 1, 1) X(CDADR, "cdadr", 1, 1) X(CDDAR, "cddar", 1, 1) X(CDDDR, "cdddr", 1, 1)               \
+    X(CAAAAR, "caaaar", 1, 1) X(CAAADR, "caaadr", 1, 1) X(CAADAR, "caadar", 1, 1) X(CAADDR, "caaddr", 1, 1) X(CADAAR, "cadaar", 1, 1)     \
+    X(CADADR, "cadadr", 1, 1) X(CADDAR, "caddar", 1, 1) X(CADDDR, "cadddr", 1, 1) X(CDAAAR, "cdaaar", 1, 1) X(CDAADR, "cdaadr", 1, 1)     \
+    X(CDADAR, "cdadar", 1, 1) X(CDADDR, "cdaddr", 1, 1) X(CDDAAR, "cddaar", 1, 1) X(CDDADR, "cddadr", 1, 1) X(CDDDAR, "cdddar", 1, 1)     \
+    X(CDDDDR, "cddddr", 1, 1) X(SET_CAR, "set-car!", 2, 2) X(SET_CDR, "set-cdr!", 2, 2) X(LENGTH, "length", 1, 1)                         \
+    X(REVERSE, "reverse", 2, 2) X(TO_VECTOR, "list->vector", 1, 1) X(MAKE_VECTOR, "make-vector", 1, 2)                              \
+    X(VECTOR_REF, "vector-ref", 2, 2) X(VECTOR_SET, "vector-set!", 3, 3) X(VECTOR_LENGTH, "vector-length", 1, 1)                          \
+    X(MAKE_STRING, "make-string", 1, 2) X(STRING_REF, "string-ref", 2, 2) X(STRING_SET, "string-set!", 3, 3)                              \
+    X(STRING_LENGTH, "string-length", 1, 1) X(STRING_APPEND, "string-append", 0, ANY) X(SUBSTRING, "substring", 3, 3)                     \
+    X(NUMBER_TO_STRING, "number->string", 1, 1) X(STRING_TO_NUMBER, "string->number", 1, 2) X(SYMBOL_TO_STRING, "symbol->string", 1, 1)  \
+    X(STRING_TO_SYMBOL, "string->symbol", 1, 1) X(CHAR_TO_INTEGER, "char->integer", 1, 1) X(INTEGER_TO_CHAR, "integer->char", 1, 1)       \
+    X(UPCASE, "char-upcase", 1, 1) X(DOWNCASE, "char-downcase", 1, 1) X(OPEN_INPUT, "open-input-file", 1, 1)                              \
+    X(OPEN_OUTPUT, "open-output-file", 1, 1) X(CLOSE_INPUT, "close-input-port", 1, 1) X(CLOSE_OUTPUT, "close-output-port", 1, 1)          \
+    X(INPUT_PORT, "current-input-port", 0, 0) X(OUTPUT_PORT, "current-output-port", 0, 0) X(USE_PORT, "%use-port", 1, 1)                  \
+    X(READ, "read", 0, 1) X(READ_CHAR, "read-char", 0, 1) X(PEEK_CHAR, "peek-char", 0, 1) X(WRITE, "write", 1, 2)                         \
+    X(DISPLAY, "display", 1, 2) X(WRITE_CHAR, "write-char", 1, 2) X(ERROR, "error", 1, 2) X(COUNT, "%count", 1, 1)                        \
+    X(CALL_CC, "call/cc", 1, 1) X(APPLY, "apply", 2, ANY) X(EVAL, "eval", 1, 1) X(DEFINE_MACRO, "%define-macro", 2, 2)
+enum { ANY = 255 };
+#define NUMBER_OF(number, name, least, most) number,
+#define ROW_OF(number, name, least, most) {name, least, most},
+enum { EACH_PRIMITIVE(NUMBER_OF) PRIMITIVES };
+static const struct { const char *name; unsigned char least, most; } primitives[PRIMITIVES] = {EACH_PRIMITIVE(ROW_OF)};
 
 static void need_count(uint32_t which, uint32_t count)
 {
     unsigned least = primitives[which].least, most = primitives[which].most;
     if (count < least) mistake(0, 0, "%s needs %u arguments, and got %u", primitives[which].name, least, count);
-    if (count > most && most != ANY_COUNT) mistake(0, 0, "%s takes %u arguments, and got %u", primitives[which].name, most, count);
+    if (count > most && most != ANY) mistake(0, 0, "%s takes %u arguments, and got %u", primitives[which].name, most, count);
 }
 static void need(uint32_t which, reg it, uint64_t kind)
 {
     if (m_tag(it) != kind) mistake(1, it, "%s wants %s, not %s", primitives[which].name, kinds[kind], kinds[m_tag(it)]);
+}
+static uint32_t need_within(uint32_t which, reg it, int64_t least, int64_t most, const char *why)
+{
+    need(which, it, NUMBER);
+    if (value_of(it) < least || value_of(it) > most) mistake(1, it, "%s: %s", primitives[which].name, why);
+    return (uint32_t)value_of(it);
 }
 
 static int64_t arithmetic(uint32_t which, int64_t one, int64_t other)
@@ -38,6 +62,7 @@ static int64_t arithmetic(uint32_t which, int64_t one, int64_t other)
     else if (other == -1) beyond = which == QUOTIENT && __builtin_sub_overflow(0, one, &result);
     else result = which == QUOTIENT ? one / other : one % other;
     if (beyond) mistake(0, 0, "%s: a number beyond 64 bits", primitives[which].name);
+    if (which == MODULO && result != 0 && (result < 0) != (other < 0)) result += other;
     return result;
 }
 static void compute(uint32_t which, reg first, uint32_t count)
@@ -50,127 +75,241 @@ static void compute(uint32_t which, reg first, uint32_t count)
     }
     number(VALUE, result);
 }
-static void compare(uint32_t which, reg one, reg other)
+/* Below 0, 0 or above: how one number, character or string compares with another. */
+static int order_of(reg one, reg other, int is_string)
 {
-    int64_t left, right;
-    need(which, one, NUMBER), need(which, other, NUMBER);
-    left = value_of(one), right = value_of(other);
-    truth(which == LESS ? left < right : which == GREATER ? left > right : left == right);
+    size_t length, more;
+    const char *left, *right;
+    int order;
+    if (!is_string) return (value_of(one) > value_of(other)) - (value_of(one) < value_of(other));
+    left = bytes_of(one, &length), right = bytes_of(other, &more);
+    order = memcmp(left, right, length < more ? length : more);
+    return order != 0 ? order : (length > more) - (length < more);
+}
+/* Compares each argument with the next one. */
+static void compare(uint32_t which, reg first, uint32_t count)
+{
+    static const unsigned char kind[] = {NUMBER, CHARACTER, STRING};
+    static const unsigned char fits[][3] = {{1, 0, 0}, {0, 0, 1}, {0, 1, 0}, {1, 1, 0}, {0, 1, 1}}; /* where it is below, the same, above */
+    uint32_t group = (which - LESS) / 5, by = (which - LESS) % 5;
+    int yes = 1;
+    for (uint32_t i = 0; i < count; i++) need(which, first + i, kind[group]);
+    for (uint32_t i = 1; i < count && yes; i++) {
+        int order = order_of(first + i - 1, first + i, group == 2);
+        yes = fits[by][order < 0 ? 0 : order == 0 ? 1 : 2];
+    }
+    truth(yes);
 }
 static int is_eq(reg one, reg other)
 {
-    return m_tag(one) == NUMBER && m_tag(other) == NUMBER ? value_of(one) == value_of(other) : m_same(one, other);
+    uint64_t tag = m_tag(one);
+    return (tag == NUMBER || tag == CHARACTER) && m_tag(other) == tag ? value_of(one) == value_of(other) : m_same(one, other);
 }
 
+/* Lists. */
+static int64_t need_list(uint32_t which, reg it)
+{
+    int64_t length = length_of(it);
+    if (length < 0) mistake(1, it, "%s wants a list", primitives[which].name);
+    return length;
+}
+/* The list's elements in reverse, before another list. */
+static void reverse_onto(reg list, reg tail)
+{
+    need_list(REVERSE, list);
+    m_move(VALUE, tail);
+    for (m_move(PART, list); m_tag(PART) == PAIR; cdr(PART, PART)) car(REST, PART), cons(VALUE, REST, VALUE);
+}
+/* The car of a cdr and the like, by the letters of the name from the last one on. */
+static void follow(const char *name, reg it)
+{
+    m_move(VALUE, it);
+    for (size_t i = strlen(name) - 2; i != 0; i--) need(name[i] == 'd' ? CDR : CAR, VALUE, PAIR), m_get(VALUE, VALUE, name[i] == 'd');
+}
+
+/* Vectors and strings. */
+static uint32_t place(uint32_t which, reg of, uint64_t kind, reg at)
+{
+    need(which, of, kind);
+    if (kind == VECTOR) return need_within(which, at, 0, (int64_t)m_pointers(of) - 1, "the vector has no such place");
+    return need_within(which, at, 0, (int64_t)m_read(of, 1) - 1, "the string has no such place");
+}
+static void make_vector(reg length, reg fill, uint32_t count)
+{
+    make(VALUE, VECTOR, need_within(MAKE_VECTOR, length, 0, 16777216, "no vector is as long"), 0);
+    for (uint32_t i = 0; count > 1 && i < m_pointers(VALUE) && m_tag(fill) != NIL; i++) m_put(VALUE, i, fill);
+}
+static void make_string(reg length, reg fill, uint32_t count)
+{
+    uint32_t bytes = need_within(MAKE_STRING, length, 0, 16777216, "no string is as long"), words = (bytes + 7) / 8;
+    if (count > 1) need(MAKE_STRING, fill, CHARACTER);
+    make(VALUE, STRING, 0, 1 + words), m_write(VALUE, 1, bytes);
+    for (uint32_t i = 0; i < words; i++) m_write(VALUE, 2 + i, 0x0101010101010101u * (uint64_t)(count > 1 ? value_of(fill) : ' '));
+}
+static void string_place(uint32_t which, reg of, reg at, reg value)
+{
+    uint32_t byte = place(which, of, STRING, at);
+    uint64_t word = m_read(of, 2 + byte / 8);
+    unsigned char bytes[8];
+    memcpy(bytes, &word, 8);
+    if (which == STRING_SET) {
+        need(which, value, CHARACTER), bytes[byte % 8] = (unsigned char)value_of(value);
+        memcpy(&word, bytes, 8);
+        m_write(of, 2 + byte / 8, word), m_move(VALUE, of);
+    } else make_word(VALUE, CHARACTER, bytes[byte % 8]);
+}
 static void append_strings(reg first, uint32_t count)
 {
+    static char *text;
     size_t length = 0, more;
-    char *text;
     for (uint32_t i = 0; i < count; i++) need(STRING_APPEND, first + i, STRING), length += (size_t)m_read(first + i, 1);
-    text = (char *)malloc(length + 1);
+    text = (char *)realloc(text, length + 1), length = 0;
     if (text == NULL) m_die("no memory");
-    length = 0;
-    for (uint32_t i = 0; i < count; i++) {
+    for (uint32_t i = 0; i < count; i++, length += more) {
         const char *bytes = bytes_of(first + i, &more);
         memcpy(text + length, bytes, more);
-        length += more;
     }
     string(VALUE, text, length);
-    free(text);
 }
 static void substring(reg of, reg from, reg to)
 {
     size_t length;
-    const char *bytes;
-    need(SUBSTRING, of, STRING), need(SUBSTRING, from, NUMBER), need(SUBSTRING, to, NUMBER);
-    bytes = bytes_of(of, &length);
-    if (value_of(from) < 0 || value_of(from) > value_of(to) || (uint64_t)value_of(to) > length)
-        mistake(1, of, "substring: %" PRId64 " to %" PRId64 " isn't within", value_of(from), value_of(to));
-    string(VALUE, bytes + value_of(from), (size_t)(value_of(to) - value_of(from)));
+    const char *bytes = (need(SUBSTRING, of, STRING), bytes_of(of, &length));
+    uint32_t end = need_within(SUBSTRING, to, 0, (int64_t)length, "the string has no such end");
+    uint32_t begin = need_within(SUBSTRING, from, 0, end, "the part has no such beginning");
+    string(VALUE, bytes + begin, end - begin);
 }
-static void convert(uint32_t which, reg it)
+static void string_to_number(reg it, uint32_t radix)
 {
-    char digits[24], *end;
     size_t length;
+    int64_t value;
+    const char *bytes = bytes_of(it, &length);
+    int is = strlen(bytes) == length ? parse_number(bytes, (int)radix, &value) : 0;
+    if (is < 0) mistake(1, it, "string->number: a number beyond 64 bits");
+    if (is == 0) truth(0);
+    else number(VALUE, value);
+}
+static void string_to_symbol(reg it)
+{
+    size_t length;
+    const char *bytes = bytes_of(it, &length);
+    if (strlen(bytes) != length) mistake(1, it, "string->symbol: a zero byte stands in the string");
+    symbol(VALUE, intern(bytes));
+}
+
+/* Ports. */
+static void open_port(uint32_t which, reg name)
+{
+    size_t length;
+    uint32_t number = OTHERS;
     const char *bytes;
-    need(which, it, which == NUMBER_TO_STRING ? NUMBER : which == SYMBOL_TO_STRING ? SYMBOL : STRING);
-    if (which == NUMBER_TO_STRING) {
-        snprintf(digits, sizeof digits, "%" PRId64, value_of(it));
-        string(VALUE, digits, strlen(digits));
-        return;
-    }
-    bytes = bytes_of(it, &length);
-    if (which == SYMBOL_TO_STRING) string(VALUE, bytes, length);
-    else if (which == STRING_TO_SYMBOL) {
-        if (strlen(bytes) != length) mistake(1, it, "string->symbol: a zero byte stands in the string");
-        symbol(VALUE, intern(bytes));
-    } else {
-        int64_t value;
-        errno = 0;
-        value = strtoll(bytes, &end, 10);
-        if (length == 0 || isspace((unsigned char)*bytes) || end != bytes + length) truth(0);
-        else if (errno != 0) mistake(1, it, "string->number: a number beyond 64 bits");
-        else number(VALUE, value);
-    }
+    need(which, name, STRING), bytes = bytes_of(name, &length);
+    while (number < MOST_PORTS && ports[number].file != NULL) number++;
+    if (number == MOST_PORTS) mistake(1, name, "%s: %d files are open", primitives[which].name, MOST_PORTS - OTHERS);
+    make_word(VALUE, which == OPEN_INPUT ? INPUT : OUTPUT, CLOSED);
+    ports[number] = (port){strlen(bytes) == length ? fopen(bytes, which == OPEN_INPUT ? "r" : "w") : NULL, 1, intern(bytes)};
+    if (ports[number].file == NULL) mistake(1, name, "%s: the file can't be opened", primitives[which].name);
+    m_write(VALUE, 1, number);
 }
-
-/* The place in a vector that a number names. */
-static uint32_t place(uint32_t which, reg vector, reg at)
+static void close_port(uint32_t which, reg it)
 {
-    need(which, vector, VECTOR), need(which, at, NUMBER);
-    if (value_of(at) < 0 || value_of(at) >= (int64_t)m_pointers(vector))
-        mistake(1, at, "%s: a vector of %u has no such place", primitives[which].name, m_pointers(vector));
-    return (uint32_t)value_of(at);
+    uint64_t number;
+    need(which, it, which == CLOSE_INPUT ? INPUT : OUTPUT), number = m_read(it, 1);
+    if (number >= OTHERS && number != CLOSED) fclose(ports[number].file), ports[number].file = NULL, m_write(it, 1, CLOSED);
+    m_drop(VALUE);
 }
-static void make_vector(reg length, reg fill)
+/* The port in a register, or the current one where there is no argument for it. */
+static port *port_of(uint32_t which, reg it, int given)
 {
-    need(MAKE_VECTOR, length, NUMBER);
-    if (value_of(length) < 0 || value_of(length) > 16777216) mistake(1, length, "make-vector: no vector is as long");
-    make(VALUE, VECTOR, (uint32_t)value_of(length), 0);
-    for (uint32_t i = 0; i < m_pointers(VALUE) && m_tag(fill) != NIL; i++) m_put(VALUE, i, fill);
+    uint64_t kind = which < WRITE ? INPUT : OUTPUT;
+    if (given) m_move(OTHER, it);
+    else m_load(OTHER, kind == INPUT ? CURRENT_INPUT : CURRENT_OUTPUT);
+    need(which, OTHER, kind);
+    if (m_read(OTHER, 1) == CLOSED) mistake(1, OTHER, "%s: the port is closed", primitives[which].name);
+    return &ports[m_read(OTHER, 1)];
 }
-
+static void read_character_of(uint32_t which, port *from)
+{
+    int c = getc(from->file);
+    if (which == PEEK_CHAR) ungetc(c, from->file);
+    else from->line += c == '\n';
+    if (c == EOF) symbol(VALUE, END_VALUE);
+    else make_word(VALUE, CHARACTER, (uint64_t)c);
+}
+static void print_to(uint32_t which, reg it, port *to)
+{
+    output = to->file;
+    if (which == WRITE_CHAR) need(which, it, CHARACTER), fputc((int)value_of(it), output);
+    else print(it, which == WRITE);
+    m_drop(VALUE);
+}
+static void of_text(uint32_t which, reg first, uint32_t count)
+{
+    size_t length;
+    char digits[24];
+    uint64_t counts[M_COUNTS];
+    switch (which) {
+    case MAKE_STRING: make_string(first, first + 1, count); break;
+    case STRING_REF: case STRING_SET: string_place(which, first, first + 1, first + 2); break;
+    case STRING_LENGTH: need(which, first, STRING), number(VALUE, (int64_t)m_read(first, 1)); break;
+    case STRING_APPEND: append_strings(first, count); break;
+    case SUBSTRING: substring(first, first + 1, first + 2); break;
+    case NUMBER_TO_STRING:
+        need(which, first, NUMBER), snprintf(digits, sizeof digits, "%" PRId64, value_of(first)), string(VALUE, digits, strlen(digits));
+        break;
+    case STRING_TO_NUMBER:
+        need(which, first, STRING);
+        string_to_number(first, count == 1 ? 10 : need_within(which, first + 1, 2, 16, "a radix is from 2 to 16"));
+        break;
+    case SYMBOL_TO_STRING: need(which, first, SYMBOL), string(VALUE, names[value_of(first)], strlen(names[value_of(first)])); break;
+    case STRING_TO_SYMBOL: need(which, first, STRING), string_to_symbol(first); break;
+    case CHAR_TO_INTEGER: need(which, first, CHARACTER), number(VALUE, value_of(first)); break;
+    case INTEGER_TO_CHAR: make_word(VALUE, CHARACTER, need_within(which, first, 0, 255, "a character is a byte")); break;
+    case UPCASE: need(which, first, CHARACTER), make_word(VALUE, CHARACTER, (uint64_t)toupper((int)value_of(first))); break;
+    case DOWNCASE: need(which, first, CHARACTER), make_word(VALUE, CHARACTER, (uint64_t)tolower((int)value_of(first))); break;
+    case OPEN_INPUT: case OPEN_OUTPUT: open_port(which, first); break;
+    case CLOSE_INPUT: case CLOSE_OUTPUT: close_port(which, first); break;
+    case INPUT_PORT: m_load(VALUE, CURRENT_INPUT); break;
+    case OUTPUT_PORT: m_load(VALUE, CURRENT_OUTPUT); break;
+    case USE_PORT: m_save(m_tag(first) == INPUT ? CURRENT_INPUT : CURRENT_OUTPUT, first); break;
+    case READ:
+        if (!read_from(port_of(which, first, count == 1))) symbol(VALUE, END_VALUE);
+        break;
+    case READ_CHAR: case PEEK_CHAR: read_character_of(which, port_of(which, first, count == 1)); break;
+    case WRITE: case DISPLAY: case WRITE_CHAR: print_to(which, first, port_of(which, first + 1, count == 2)); break;
+    case ERROR: need(which, first, STRING), mistake(count == 2, first + count - 1, "%s", bytes_of(first, &length));
+    case DEFINE_MACRO:
+        need(which, first, SYMBOL), need(which, first + 1, CLOSURE), make(VALUE, MACRO, 3, 0);
+        for (uint32_t i = 0; i < 3; i++) m_get(PART, first + 1, i), m_put(VALUE, i, PART);
+        set_global(first, VALUE), m_move(VALUE, first);
+        break;
+    case COUNT: m_count(counts), number(VALUE, (int64_t)counts[need_within(which, first, 0, M_COUNTS - 1, "no such count")]); break;
+    }
+}
 static void primitive(uint32_t which, reg first, uint32_t count)
 {
     uint64_t tag = count != 0 ? m_tag(first) : NIL;
     switch (which) {
-    case ADD: case SUBTRACT: case MULTIPLY: case QUOTIENT: case REMAINDER: compute(which, first, count); break;
-    case LESS: case GREATER: case EQUAL: compare(which, first, first + 1); break;
+    case ADD: case SUBTRACT: case MULTIPLY: case QUOTIENT: case REMAINDER: case MODULO: compute(which, first, count); break;
+    case IS_NULL: case IS_NUMBER: case IS_BOOLEAN: case IS_SYMBOL: case IS_STRING: case IS_PAIR: case IS_VECTOR: case IS_CHARACTER:
+    case IS_INPUT: case IS_OUTPUT: case IS_END: truth(tag == which - IS_NULL); break;
+    case IS_PROCEDURE: truth(tag == CLOSURE || tag == PRIMITIVE || tag == CONTINUATION); break;
+    case IS_LIST: truth(length_of(first) >= 0); break;
+    case IS_EQ: truth(is_eq(first, first + 1)); break;
     case CONS: cons(VALUE, first, first + 1); break;
     case CAR: need(which, first, PAIR), car(VALUE, first); break;
     case CDR: need(which, first, PAIR), cdr(VALUE, first); break;
-    case SET_CAR: need(which, first, PAIR), m_put(first, 0, first + 1), m_move(VALUE, first); break;
-    case SET_CDR: need(which, first, PAIR), m_put(first, 1, first + 1), m_move(VALUE, first); break;
-    case IS_EQ: truth(is_eq(first, first + 1)); break;
-    case IS_NULL: truth(tag == NIL); break;
-    case IS_PAIR: truth(tag == PAIR); break;
-    case IS_NUMBER: truth(tag == NUMBER); break;
-    case IS_SYMBOL: truth(tag == SYMBOL); break;
-    case IS_STRING: truth(tag == STRING); break;
-    case IS_VECTOR: truth(tag == VECTOR); break;
-    case IS_PROCEDURE: truth(tag == CLOSURE || tag == PRIMITIVE || tag == CONTINUATION); break;
-    case DISPLAY: print(first, 0), m_drop(VALUE); break;
-    case WRITE: print(first, 1), m_drop(VALUE); break;
-    case NEWLINE: putchar('\n'), m_drop(VALUE); break;
-    case ERROR:
-        need(which, first, STRING);
-        begin_mistake(), output = stderr, print(first, 0);
-        end_mistake(count == 2, first + count - 1);
-    case STRING_LENGTH: need(which, first, STRING), number(VALUE, (int64_t)m_read(first, 1)); break;
-    case STRING_APPEND: append_strings(first, count); break;
-    case SUBSTRING: substring(first, first + 1, first + 2); break;
-    case STRING_EQUAL: {
-        size_t one, other;
-        const char *left, *right;
-        need(which, first, STRING), need(which, first + 1, STRING);
-        left = bytes_of(first, &one), right = bytes_of(first + 1, &other);
-        truth(one == other && memcmp(left, right, one) == 0);
-        break;
-    }
-    case NUMBER_TO_STRING: case STRING_TO_NUMBER: case SYMBOL_TO_STRING: case STRING_TO_SYMBOL: convert(which, first); break;
-    case MAKE_VECTOR: make_vector(first, first + 1); break;
-    case VECTOR_REF: m_get(VALUE, first, place(which, first, first + 1)); break;
-    case VECTOR_SET: m_put(first, place(which, first, first + 1), first + 2), m_move(VALUE, first); break;
+    case SET_CAR: case SET_CDR: need(which, first, PAIR), m_put(first, which - SET_CAR, first + 1), m_move(VALUE, first); break;
+    case LENGTH: number(VALUE, need_list(which, first)); break;
+    case REVERSE: reverse_onto(first, first + 1); break;
+    case TO_VECTOR: vector_of(VALUE, first, need_list(which, first)); break;
+    case MAKE_VECTOR: make_vector(first, first + 1, count); break;
+    case VECTOR_REF: m_get(VALUE, first, place(which, first, VECTOR, first + 1)); break;
+    case VECTOR_SET: m_put(first, place(which, first, VECTOR, first + 1), first + 2), m_move(VALUE, first); break;
     case VECTOR_LENGTH: need(which, first, VECTOR), number(VALUE, m_pointers(first)); break;
+    default:
+        if (which >= LESS && which <= S_AT_LEAST) compare(which, first, count);
+        else if (which >= CAAR && which <= CDDDDR) follow(primitives[which].name, first);
+        else of_text(which, first, count);
     }
 }

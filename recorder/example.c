@@ -69,6 +69,19 @@ static void use_frames(g1record *r, heap *h) {
     h->stacks[0][2] = NULL, g1record_drop(r, 0, 2);
 }
 
+/* An object that a weak slot alone names is lost, and the heap clears the slot when it likes, without an event. */
+static int use_weak_slots(g1record *r, heap *h, const g1record_view *view) {
+    object **stack = h->stacks[1];
+    int settled;
+    stack[1] = make(h, 1, 1, g1record_new(r, 1, 1, 0, 0), 0, 0, 0);
+    stack[0]->fields[1] = stack[1], g1record_putweak(r, 1, 0, 0, 1);
+    stack[1] = NULL, g1record_drop(r, 1, 1);
+    stack[0]->fields[1] = NULL;
+    settled = g1record_sync(r, view) == 0;
+    g1record_getweak(r, 1, 1, 0, 0, G1RECORD_NIL);
+    return settled;
+}
+
 int main(int count, char **arguments) {
     static heap h;
     g1record r;
@@ -84,7 +97,7 @@ int main(int count, char **arguments) {
     g1record_cleanup(&r, 0);
     g1record_refine(&r, 2, 1);
     g1record_pause(&r, 4096, 1, 8);
-    whole = g1record_walk(&r, &view) == 0;
+    whole = g1record_walk(&r, &view) == 0 && use_weak_slots(&r, &h, &view);
     if (count > 2) abort();
     return g1record_close(&r) == 0 && whole ? 0 : 1;
 }

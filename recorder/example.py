@@ -101,6 +101,20 @@ def use_frames(r, h):
     r.drop(0, 2)
 
 
+def use_weak_slots(r, h):
+    """An object that a weak slot alone names is lost, and the heap clears the slot when it likes, without an event."""
+    stack = h.stacks[1]
+    h.make(1, 1, r.new(1, 1, 0, 0), 0, 0, 0)
+    stack[0].weaks[0] = stack[1]
+    r.putweak(1, 0, 0, 1)
+    stack[1] = None
+    r.drop(1, 1)
+    stack[0].weaks[0] = None
+    left = r.sync(h)
+    r.getweak(1, 1, 0, 0, None)
+    return left
+
+
 def main(path):
     r, h = Record(path, 3000000, 2, 2, 8), Heap()
     use_objects(r, h)
@@ -113,7 +127,7 @@ def main(path):
     r.collector("cleanup", "reclaimed 0")
     r.collector("refine 2", "refined 1")
     r.collector("pause 4096", "moved 1 8")
-    left = r.walk(h)
+    left = r.walk(h) + use_weak_slots(r, h)
     r.close()
     return 1 if left else 0
 

@@ -214,6 +214,19 @@ static inline uint64_t g1record_meet(g1record_walker *w, void *object, int room,
     return object != NULL && (elsewhere || name == G1RECORD_NIL) ? G1RECORD_NIL - 1 : name;
 }
 
+/* Reads shape and data words of the object in register `at` of the walk. The answer is how many fields it has, pointers and weak slots. */
+static inline unsigned g1record_read_words(g1record_walker *w, unsigned at, void *object) {
+    const g1record_view *v = w->view;
+    unsigned m = w->r->mutators;
+    unsigned pointers = v->pointers(v->heap, object);
+    unsigned words = v->words(v->heap, object);
+    unsigned weaks = v->weaks == NULL ? 0 : v->weaks(v->heap, object);
+    g1record_shape(w->r, m, at, pointers, words);
+    if (v->weaks != NULL) g1record_weaks(w->r, m, at, weaks);
+    for (unsigned i = 0; i < words; i++) g1record_read(w->r, m, at, i, v->word(v->heap, object, i));
+    return pointers + weaks;
+}
+
 /* Reads the object in register `at` of the walk and follows its fields. The last one may take its register, so a list needs no more. */
 static inline void g1record_look(g1record_walker *w, unsigned at, void *object) {
     const g1record_view *v = w->view;
@@ -223,11 +236,7 @@ static inline void g1record_look(g1record_walker *w, unsigned at, void *object) 
     while (fresh) {
         void *holder = object;
         unsigned pointers = v->pointers(v->heap, holder);
-        unsigned words = v->words(v->heap, holder);
-        unsigned fields = pointers + (v->weaks == NULL ? 0 : v->weaks(v->heap, holder));
-        g1record_shape(r, m, at, pointers, words);
-        if (v->weaks != NULL) g1record_weaks(r, m, at, fields - pointers);
-        for (unsigned i = 0; i < words; i++) g1record_read(r, m, at, i, v->word(v->heap, holder, i));
+        unsigned fields = g1record_read_words(w, at, holder);
         fresh = 0;
         for (unsigned i = 0; i < fields; i++) {
             int last = i + 1 == fields;
@@ -260,6 +269,71 @@ static inline int64_t g1record_walk(g1record *r, const g1record_view *view) {
     g1record_save(r, r->mutators, r->globals, 0);
     free(w.places);
     return w.left;
+}
+
+/* The objects that a sync has taken: the one in held[i] is in register i of the walk, and register `count` is for what isn't fresh. */
+typedef struct {
+    g1record_walker w;
+    void **held;
+    unsigned count;
+} g1record_taker;
+
+/* The name to write for an object that comes into register `count`, where it stays if it is fresh. */
+static inline uint64_t g1record_take(g1record_taker *t, void *object) {
+    int fresh;
+    uint64_t name = g1record_meet(&t->w, object, t->count + 1 < t->w.r->registers, &fresh);
+    if (fresh) t->held[t->count++] = object;
+    return name;
+}
+
+/* Reads the object in register `at` of the walk, and takes what its pointers name, and its weak slots that still hold something. */
+static inline void g1record_take_fields(g1record_taker *t, unsigned at) {
+    const g1record_view *v = t->w.view;
+    g1record *r = t->w.r;
+    void *holder = t->held[at];
+    unsigned pointers = v->pointers(v->heap, holder);
+    unsigned fields = g1record_read_words(&t->w, at, holder);
+    for (unsigned i = 0; i < fields; i++) {
+        void *object = i < pointers ? v->pointer(v->heap, holder, i) : v->weak(v->heap, holder, i - pointers);
+        unsigned to = t->count;
+        if (i < pointers) g1record_get(r, r->mutators, to, at, i, g1record_take(t, object));
+        else if (object != NULL) g1record_getweak(r, r->mutators, to, at, i - pointers, g1record_take(t, object));
+    }
+}
+
+static inline void g1record_read_nil_slots(g1record_taker *t) {
+    const g1record_view *v = t->w.view;
+    for (unsigned at = 0; at < t->count; at++)
+        for (unsigned i = 0; v->weaks != NULL && i < v->weaks(v->heap, t->held[at]); i++)
+            if (v->weak(v->heap, t->held[at], i) == NULL) g1record_getweak(t->w.r, t->w.r->mutators, t->count, at, i, G1RECORD_NIL);
+}
+
+/* In place of a walk, where the heap clears weak slots when it likes: each object that is reached, by pointers and by weak slots that
+   still hold something, takes a register; the judge clears the slots of all others; then the slots that are nil are read. The answer is how
+   many objects found no register, and then nothing is cleared; or -1 where memory was refused. */
+static inline int64_t g1record_sync(g1record *r, const g1record_view *view) {
+    g1record_taker t = {{r, view, (void **)calloc(r->next + 1, sizeof(void *)), 0}, (void **)calloc(r->registers, sizeof(void *)), 0};
+    unsigned spare = r->mutators;
+    int whole = t.w.places != NULL && t.held != NULL;
+    for (int m = -1; whole && m < (int)spare; m++)
+        for (unsigned i = 0; i < view->roots(view->heap, m); i++) {
+            unsigned to = t.count;
+            if (m >= 0) g1record_save(r, (unsigned)m, r->globals, i);
+            g1record_load(r, spare, to, m < 0 ? i : r->globals, g1record_take(&t, view->root(view->heap, m, i)));
+        }
+    for (unsigned at = 0; at < t.count; at++) g1record_take_fields(&t, at);
+    if (whole && t.w.left == 0) {
+        g1record_begin(r);
+        g1record_remark(r, 0);
+        g1record_read_nil_slots(&t);
+    }
+    if (whole) {
+        g1record_scope(r, spare, 0);
+        g1record_save(r, spare, r->globals, 0);
+    }
+    free(t.w.places);
+    free(t.held);
+    return whole ? t.w.left : -1;
 }
 
 #endif

@@ -118,6 +118,26 @@ class Record:
         self.save(self.mutators, self.globals, 0)
         return walk.left
 
+    def sync(self, view):
+        """In place of a walk, where the heap clears weak slots when it likes: each object that is reached, by pointers and by weak slots
+        that still hold something, takes a register; the judge clears the slots of all others; then the slots that are nil are read.
+        Meanwhile all these objects are held. The answer is how many objects found no register, and then nothing is cleared."""
+        taking = Taking(self, view)
+        for m in range(-1, self.mutators):
+            for i in range(view.roots(m)):
+                if m >= 0:
+                    self.save(m, self.globals, i)
+                taking.take(lambda to, name: self.load(self.mutators, to, i if m < 0 else self.globals, name), view.root(m, i))
+        for at, found in enumerate(taking.held):
+            taking.take_fields(at, found)
+        if taking.left == 0:
+            self.collector("begin")
+            self.collector("remark", "marked 0")
+            taking.read_nil_slots()
+        self.scope(self.mutators, 0)
+        self.save(self.mutators, self.globals, 0)
+        return taking.left
+
 
 class Walk:
     def __init__(self, record, view):
@@ -162,6 +182,33 @@ class Walk:
             write(self.record.mutators, to, at, i, name)
             if fresh:
                 held[to:] = [self.look(to, found)]
+
+
+class Taking(Walk):
+    """What a sync takes: held[i] is in register i of the walk; the one behind them is for what was met before."""
+
+    def __init__(self, record, view):
+        super().__init__(record, view)
+        self.held = []
+
+    def take(self, write, found):
+        to = len(self.held)
+        name, fresh = self.meet(found, to + 1 < self.record.registers)
+        write(to, name)
+        if fresh:
+            self.held.append(found)
+
+    def take_fields(self, at, holder):
+        for write, i, field in self.look(at, holder)[1]:
+            found = field(holder, i)
+            if found is not None or write == self.record.get:
+                self.take(lambda to, name: write(self.record.mutators, to, at, i, name), found)
+
+    def read_nil_slots(self):
+        for at, holder in enumerate(self.held):
+            for i in range(self.view.weaks(holder) if self.view.weaks is not None else 0):
+                if self.view.weak(holder, i) is None:
+                    self.record.getweak(self.record.mutators, len(self.held), at, i, None)
 
 
 def spelled(name):

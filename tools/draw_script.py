@@ -86,7 +86,7 @@ class Drawer:
     """Draws one script. Each option left as None is drawn too."""
 
     def __init__(self, seed, steps=80, regions=None, words=None, buffer=None, mutators=None, large=None,
-                 weights=None, card=None, globals=None, registers=None):
+                 weights=None, card=None, globals=None, registers=None, first=None):
         self.random = random.Random(seed)
         self.chance = self.random.random
         self.steps = steps
@@ -107,6 +107,8 @@ class Drawer:
         self.buffer = buffer or self.number(4, self.words // 2 if self.chance() < 0.5 else min(16, self.words // 2))
         count = mutators or self.pick((1, 1, 1, 1, 2, 2, 3, 5, 1, 1, 2, 2, 16))
         self.first_name = self.pick((0, 0, 0, 0, 0, 1, 1000000, 2 ** 63, 2 ** 64 - 3, 2 ** 64 - 20, 2 ** 64 - 60))
+        if first is not None:
+            self.first_name = first
         # Some scripts pause often, some mark for long, some lose many objects.
         self.weights = dict(WEIGHTS)
         self.weights["pause"] *= self.pick((0.05, 0.3, 1, 1, 1, 2))
@@ -671,6 +673,7 @@ def add_options(parser):
     parser.add_argument("--card", type=int, help="words a card: 8 to 64; 0 for the first format; alone: not the third format")
     parser.add_argument("--globals", type=int, help="globals, in the third format")
     parser.add_argument("--registers", type=int, help="registers of each mutator, in the third format; 0: never the third format")
+    parser.add_argument("--first", type=int, help="the first object's name; drawn, some are above what a signed number holds")
     parser.add_argument("--weak", type=float, default=0, metavar="FACTOR",
                         help="how often steps on weak slots come, 1 for about a quarter of all (0: never)")
     parser.add_argument("--large", choices=("yes", "no"), help="with objects of more than half a region, or without")
@@ -685,7 +688,8 @@ def options_of(words):
     weights = {name: getattr(words, name) for name in WEIGHT_OPTIONS if getattr(words, name) is not None}
     return {"steps": words.steps, "regions": words.regions, "words": words.words, "buffer": words.buffer,
             "mutators": words.mutators, "large": None if words.large is None else words.large == "yes",
-            "weights": weights, "card": words.card, "globals": words.globals, "registers": words.registers, "weak": words.weak}
+            "weights": weights, "card": words.card, "globals": words.globals, "registers": words.registers, "first": words.first,
+            "weak": words.weak}
 
 
 def main():

@@ -8,6 +8,9 @@
 static g1_heap heap = G1_HEAP_NONE;
 static const g1_sizes sizes = {256, 1024, 128, 1, 0, 8, 16, 64};
 
+/* What is in memory may have changed: else a compiler that inlines the calls would take them out of the loop. It costs no instruction. */
+static inline void again(void) { __asm__ volatile("" : : "r"(&heap) : "memory"); }
+
 int main(int count, char **words)
 {
     const char *call = count == 3 ? words[1] : "";
@@ -15,18 +18,19 @@ int main(int count, char **words)
     uint64_t sum = 0;
     if (g1_new(&heap, &sizes) != G1_DONE) return 1;
     g1_new_object(&heap, 0, 0, 2, 2), g1_new_object(&heap, 0, 1, 2, 2), g1_put(&heap, 0, 0, 0, 1);
-    if (strcmp(call, "get") == 0) for (long i = 0; i < times; i++) sum += g1_get(&heap, 0, 2, 0, 0).first;
-    else if (strcmp(call, "read") == 0) for (long i = 0; i < times; i++) sum += g1_read(&heap, 0, 0, 1).first;
-    else if (strcmp(call, "write") == 0) for (long i = 0; i < times; i++) sum += g1_write(&heap, 0, 0, 1, (uint64_t)i).code;
-    else if (strcmp(call, "put") == 0) for (long i = 0; i < times; i++) sum += g1_put(&heap, 0, 0, 0, 1).code;
+    if (strcmp(call, "get") == 0) for (long i = 0; i < times; i++, again()) sum += g1_get(&heap, 0, 2, 0, 0).first;
+    else if (strcmp(call, "read") == 0) for (long i = 0; i < times; i++, again()) sum += g1_read(&heap, 0, 0, 1).first;
+    else if (strcmp(call, "write") == 0) for (long i = 0; i < times; i++, again()) sum += g1_write(&heap, 0, 0, 1, (uint64_t)i).code;
+    else if (strcmp(call, "put") == 0) for (long i = 0; i < times; i++, again()) sum += g1_put(&heap, 0, 0, 0, 1).code;
     else if (strcmp(call, "put while marking") == 0) {
         g1_begin(&heap);
-        for (long i = 0; i < times; i++) sum += g1_put(&heap, 0, 0, 0, 1).code;
-    } else if (strcmp(call, "move") == 0) for (long i = 0; i < times; i++) sum += g1_move(&heap, 0, 2, 0).code;
-    else if (strcmp(call, "new 2 + 1") == 0) for (long i = 0; i < times; i++) sum += g1_new_object(&heap, 0, 3, 2, 1).code;
-    else if (strcmp(call, "name") == 0) for (long i = 0; i < times; i++) sum += g1_name(&heap, 0, 0).first;
-    else if (strcmp(call, "scope") == 0) for (long i = 0; i < times; i++) sum += g1_scope(&heap, 0, 4).code;
-    else if (strcmp(call, "no such register") == 0) for (long i = 0; i < times; i++) sum += g1_get(&heap, 0, 2, 99, 0).code;
+        for (long i = 0; i < times; i++, again()) sum += g1_put(&heap, 0, 0, 0, 1).code;
+    } else if (strcmp(call, "move") == 0) for (long i = 0; i < times; i++, again()) sum += g1_move(&heap, 0, 2, 0).code;
+    else if (strcmp(call, "new 2 + 1") == 0) for (long i = 0; i < times; i++, again()) sum += g1_new_object(&heap, 0, 3, 2, 1).code;
+    else if (strcmp(call, "name") == 0) for (long i = 0; i < times; i++, again()) sum += g1_name(&heap, 0, 0).first;
+    else if (strcmp(call, "scope") == 0) for (long i = 0; i < times; i++, again()) sum += g1_scope(&heap, 0, 4).code;
+    else if (strcmp(call, "no such register") == 0) for (long i = 0; i < times; i++, again()) sum += g1_get(&heap, 0, 2, 99, 0).code;
+    else if (strcmp(call, "nothing") == 0) for (long i = 0; i < times; i++, again()) sum += (uint64_t)i;
     g1_free(&heap);
     return sum == 1;
 }

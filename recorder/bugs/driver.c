@@ -1,10 +1,12 @@
 /* Mutators that take steps of a fixed pseudo-random order over the heap of heap.c, and the record of what they got.
 
-       driver BUG RECORD WALK [LAST]
+       driver BUG RECORD WALK [LAST [WITHOUT]]
 
    WALK is `never`, `collections`, behind each of which a walk is recorded then, or the number of the event from which on a walk is
-   recorded behind each. LAST is the event behind which the run ends. Events of walks don't count. On standard output a line for each other
-   event: its number in the record, and 1 where it is the end of a collection. */
+   recorded behind each. LAST is the event behind which the run ends, or 0. Events of walks don't count. On standard output a line for each
+   other event: its number in the record, and 1 where it is the end of a collection. WITHOUT leaves out what shows bugs: `holders` that
+   live long, the two tables; `overwriting` fields that aren't nil; objects of all `sizes`: each has two pointers and a data word; steps
+   while `marking` runs. */
 #include "../g1record.h"
 #include "heap.c"
 
@@ -12,6 +14,8 @@ enum { STORE, READ, TAKE };
 enum { STEPS = 6000, FRAME = 4, TABLE = 40 };
 static g1record record;
 static unsigned walk_from, walk_collections, events, last;
+static const char *without = "";
+static int has(const char *part) { return strcmp(without, part) != 0; }
 
 static unsigned drawn(unsigned below) {
     static uint64_t state = 176345290926650502;
@@ -65,7 +69,9 @@ static void collect(void) {
 
 static void make(unsigned m, unsigned to, unsigned pointers, Address *held) {
     unsigned weaks = drawn(3) == 0 ? 1 + drawn(3) : 0, words = drawn(4);
-    Address made = heap_new(pointers, weaks, words);
+    Address made;
+    if (!has("sizes") && pointers < TABLE) pointers = 2, weaks = 0, words = 1;
+    made = heap_new(pointers, weaks, words);
     if (made == 0) collect(), made = heap_new(pointers, weaks, words);
     if (made == 0) g1record_new_refused(&record, m, to, pointers, weaks, words);
     else if (weaks == 0) g1record_new(&record, m, to, pointers, words);
@@ -80,6 +86,7 @@ static void read_pointer(unsigned m, unsigned to, unsigned of, unsigned i, Addre
     done(0);
 }
 static void store_pointer(unsigned m, unsigned of, unsigned i, unsigned from, Address *held) {
+    if (!has("overwriting") && memory[held[of] + 2 + i] != 0) return;
     heap_put(held[of], i, from == G1RECORD_NOTHING ? 0 : held[from]);
     g1record_put(&record, m, of, i, from);
     done(0);
@@ -100,7 +107,7 @@ static void use_weak(unsigned m, unsigned of, unsigned other, Address *held, int
     unsigned pointers = pointers_of(held[of]), count = fields_of(held[of]) - pointers, i = count > 0 ? drawn(count) : 0;
     if (count == 0) {
         g1record_weaks(&record, m, of, 0);
-    } else if (store) {
+    } else if (store && (has("overwriting") || memory[held[of] + 2 + pointers + i] == 0)) {
         heap_put(held[of], pointers + i, held[other]);
         g1record_putweak(&record, m, of, i, other);
     } else {
@@ -112,7 +119,7 @@ static void use_weak(unsigned m, unsigned of, unsigned other, Address *held, int
 /* Two globals name tables of many pointers. */
 static void use_table(unsigned m, unsigned it, unsigned other, Address *held, unsigned kind) {
     unsigned global = drawn(2);
-    if (it == other || (kind == STORE && held[other] == 0)) return;
+    if (it == other || (kind == STORE && held[other] == 0) || !has("holders")) return;
     held[it] = roots[global];
     g1record_load(&record, m, it, global, name_at(held[it])), done(0);
     if (drawn(4) == 0) use_weak(m, it, other, held, kind == STORE);
@@ -150,7 +157,7 @@ static void step(void) {
     else if (kind < 34) use_table(m, it, other, held, kind < 30 ? STORE : kind < 32 ? TAKE : READ);
     else if (kind < 39) use_root(m, it, other, held);
     else if (kind < 42) call_or_return(m, &base[m], held);
-    else if (kind < 45 && !marking) begin_marking();
+    else if (kind < 45 && !marking) { begin_marking(); if (!has("marking")) finish_marking(); }
     else if (kind < 48 && marking) heap_mark(2), g1record_mark(&record, 2), done(0);
     else if (kind < 51 && marking && greys == 0) finish_marking();
     else if (held[it] == 0) g1record_event(&record, "%u read r%u 0 = refused 1 Nil", m, it), done(0);
@@ -164,9 +171,13 @@ int main(int count, char **words) {
     walk_collections = strcmp(words[3], "collections") == 0;
     walk_from = (unsigned)atoi(words[3]);
     last = count > 4 ? (unsigned)atoi(words[4]) : 0;
+    without = count > 5 ? words[5] : "";
     heap_start(atoi(words[1]));
     if (g1record_open(&record, words[2], END, MUTATORS, GLOBALS, 64) != 0) return 1;
-    for (unsigned i = 0; i < 2; i++) make(0, 0, TABLE, roots + GLOBALS), roots[i] = roots[GLOBALS], g1record_save(&record, 0, i, 0), done(0);
+    for (unsigned i = 0; i < 2 && has("holders"); i++) {
+        make(0, 0, TABLE, roots + GLOBALS), roots[i] = roots[GLOBALS];
+        g1record_save(&record, 0, i, 0), done(0);
+    }
     for (unsigned i = 0; i < STEPS; i++) step();
     return g1record_close(&record) != 0;
 }

@@ -4,8 +4,8 @@
        walks RECORD sizes WORDS MUTATORS GLOBALS REGISTERS
 
    POINTERS is how many each has. KIND is `whole`; `twice`: r1 holds a copy, which has the same name; `wild`: the object of r0 bears a name
-   that none was given; `without`: its name is that of nil. Prints how many objects weren't followed. By `sizes` a record without events is
-   written. walks.py does the same in Python. */
+   that none was given; `without`: its name is that of nil; `sync`: as `whole`, and a sync in place of the walk. Prints how many objects
+   weren't followed. By `sizes` a record without events is written. walks.py does the same in Python. */
 #include "../../recorder/g1record.h"
 #include <string.h>
 
@@ -43,7 +43,7 @@ int main(int count, char **arguments) {
     if (strcmp(arguments[2], "twice") == 0) stack[1] = &nodes[made];
     if (strcmp(arguments[2], "wild") == 0) stack[0]->name = 1u << 31;
     if (strcmp(arguments[2], "without") == 0) stack[0]->name = G1RECORD_NIL;
-    printf("%d\n", (int)g1record_walk(&r, &view));
+    printf("%d\n", (int)(strcmp(arguments[2], "sync") == 0 ? g1record_sync : g1record_walk)(&r, &view));
     free(nodes);
     return g1record_close(&r) != 0;
 }

@@ -52,7 +52,7 @@ def main(path, kind, count, fields, registers):
         r.move(0, 0, 1)
     copy = Node(node.name, list(node.pointers))
     node.name = {"wild": 2 ** 31, "without": None}.get(kind, node.name)
-    print(r.walk(View([node, copy if kind == "twice" else node])))
+    print((r.sync if kind == "sync" else r.walk)(View([node, copy if kind == "twice" else node])))
     r.close()
 
 

@@ -101,6 +101,13 @@ impl AllocBuffers {
         }
     }
 
+    /// The region that buffers are cut from, none where no region is current.
+    pub fn current(&self) -> Option<u32>
+        ensures { result ≡ self.now.current }
+    {
+        self.current
+    }
+
     /// What is left of a mutator's buffer, none where none is open.
     pub fn open_buffer(&self, mutator: u32) -> Option<Buffer>
         requires { mutator < length self.now.open_buffers }

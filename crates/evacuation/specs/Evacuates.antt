@@ -121,6 +121,14 @@ pub record RegionsAfter (rows : List LiveRow) (t t' : Table) : Type 0 where
   pub none : (a : ℕ) → set_in t.words_per_region rows a ≡ false → kind_of t (a / t.words_per_region) ≢ kinds.Free
       → object_at t a ≡ None → object_at t' a ≡ None
 
+-- How many free regions were taken for copies: the free regions now are those before, less so many, and the chosen ones. None is taken
+-- where nothing was copied; and where two are, or more, the copies have more than half of their words, all together
+pub record SparesRegions (rows : List LiveRow) (words : ℕ) (t t' : Table) : Type 0 where
+  pub taken : ℕ
+  pub count : free_count t' + taken ≡ free_count t + length rows
+  pub none : words ≡ 0 → taken ≡ 0
+  pub full : 2 ≤ taken → taken * t.words_per_region < 2 * words
+
 -- chosen regions have no marks and their tops at their bottoms, and nothing else changes
 pub record MarksAfter (words : ℕ) (rows : List LiveRow) (tops tops' : List ℕ) (marks marks' : List Bool) : Type 0 where
   pub count : length tops' ≡ length tops
@@ -156,6 +164,7 @@ pub record HasEvacuated (rows : List LiveRow) (card_words words : ℕ) (h h' : L
   pub words_are : AreReachedWords (set_by h rows) (heap_of h) words
   pub within : words ≤ live_sum rows
   pub regions : RegionsAfter rows h.table h'.table
+  pub spares : SparesRegions rows words h.table h'.table
   -- a filler outside the set, and an object there that isn't kept, is as it was
   pub unkept : (a : ℕ) → set_by h rows a ≡ false → kind_of h.table (a / h.table.words_per_region) ≢ kinds.Free → kept_of h a ≡ None
       → tile_in h'.table a ≡ tile_in h.table a

@@ -18,11 +18,12 @@ pub record Layout : Type 0 where
 abbrev pub set_of : Layout → ℕ → Bool
 set_of l a = l.chosen (a / l.words)
 
--- the heap at the start, the most words to be copied, and how many destinations there can be
+-- the heap at the start, the most words to be copied, how many destinations there can be, and how many regions were free
 pub record Plan : Type 0 where
   pub heap : Heap
   pub limit : ℕ
   pub places : ℕ
+  pub frees : ℕ
 
 pub record Space : Type 0 where
   pub object : ℕ → Option Stored  -- the kept object at an address
@@ -55,6 +56,19 @@ filled s (Some k) = Some (s.used k)
 abbrev pub HasRoom : ℕ → ℕ → Option ℕ → ℕ → Type 0
 HasRoom words free None left = 2 * left ≤ free * words
 HasRoom words free (Some fill) left = 2 * (left + fill) ≤ (free + 1) * words
+
+-- n destinations have so many copied words, the open one `fill` of them: those that are closed are more than half full, and where there are
+-- two or more in all, they are so all together
+pub record AreFilled (words n fill copied : ℕ) : Type 0 where
+  pub some : 0 < n
+  pub any : 0 < copied
+  pub closed : n * words + 2 * fill ≤ 2 * copied + words
+  pub all : 2 ≤ n → n * words < 2 * copied
+
+-- the same where the open destination has so many words, if there is one; where there is none, there are no destinations
+abbrev pub AreSpared : ℕ → ℕ → Option ℕ → ℕ → Type 0
+AreSpared words n None copied = n ≡ 0
+AreSpared words n (Some fill) copied = AreFilled words n fill copied
 
 -- what was copied, each once, and its words
 pub record IsTally (set : ℕ → Bool) (h : Heap) (forward : ℕ → Option ℕ) (words : ℕ) : Type 0 where
@@ -90,6 +104,8 @@ pub record IsCopying (l : Layout) (p : Plan) (s : Space) (d : Places) : Type 0 w
   pub limit : d.words + s.left ≤ p.limit
   pub tally : IsTally (set_of l) p.heap s.forward d.words
   pub places : length d.regions + d.room ≡ p.places
+  pub frees : s.free_count + length d.regions ≡ p.frees
+  pub spared : AreSpared l.words (length d.regions) (filled s d.last) d.words
 
 -- an object of the set that is reached
 pub record IsNamed (l : Layout) (p : Plan) (a : ℕ) : Type 0 where

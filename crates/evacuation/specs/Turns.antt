@@ -31,7 +31,12 @@ abbrev pub layout : Pause → Layout
 layout p = record { words = p.start.words_per_region; card_words = p.card_words; chosen = flag p.chosen }
 
 abbrev pub plan : Pause → Plan
-plan p = record { heap = heap_in p.start p.tams p.previous p.roots; limit = p.limit; places = length p.start.regions }
+plan p = record {
+  heap = heap_in p.start p.tams p.previous p.roots;
+  limit = p.limit;
+  places = length p.start.regions;
+  frees = free_count p.start;
+}
 
 -- the words of the objects that are kept at one of n addresses from 0 on and lie in the set
 abbrev pub left_words : (ℕ → Option Stored) → (ℕ → Bool) → ℕ → ℕ

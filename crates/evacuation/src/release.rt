@@ -1,11 +1,11 @@
 //! The regions of the set are released: they have no marks then, their tops at mark start are their bottoms, and their
 //! remembered sets are empty.
 
-ghost use Rattle.std.specs.Prelude.{◌≡◌, ◌≢◌, ◌*◌, ◌/◌, ◌<◌, ℕ, All, false, if◌then◌else◌, length};
+ghost use Rattle.std.specs.Prelude.{◌≡◌, ◌≢◌, ◌+◌, ◌*◌, ◌/◌, ◌<◌, ℕ, All, false, if◌then◌else◌, length};
 ghost use Rattle.regions.specs.declared.row.Kind.TheVariants as kinds;
 ghost use Rattle.evacuation.specs.Evacuates.{AreDistinct, MarksAfter};
 ghost use Rattle.evacuation.specs.Releasing.{AreCleared, AreReleased, NoneForwardedInto};
-ghost use Rattle.regions.specs.Table.{kind_of, released, EachForwardedIn};
+ghost use Rattle.regions.specs.Table.{free_count, kind_of, released, EachForwardedIn};
 ghost use Rattle.mark_bitmap.specs.Marks.{is_marked};
 ghost use Rattle.mark_bitmap.specs.Tops.{is_in_region, with_bottom};
 ghost use Rattle.remembered_sets.specs.Sets.{cleared};
@@ -73,6 +73,7 @@ pub(crate) fn release_chosen(
     requires next_tops { length tams.old.next ≡ length table.old.regions }
     requires sets { length sets.old.sets ≡ length table.old.regions }
     ensures table { AreReleased rows.now table.old table.new }
+    ensures count { free_count table.new ≡ free_count table.old + length rows.now }
     ensures unmoved { NoneForwardedInto rows.now table.old.words_per_region table.new }
     ensures previous { MarksAfter table.old.words_per_region rows.now tams.old.previous tams.new.previous bitmaps.old.previous
         bitmaps.new.previous }

@@ -2,16 +2,22 @@
 // The regions as lanes in a grid. A lane is drawn anew only where its region has changed.
 
 const PARTS = ["marked", "dead", "new", "filler"];
-const PART_WORDS = { marked: "live by the last marking", dead: "dead", new: "new since marking began", filler: "filler", free: "free" };
+const PART_WORDS = {
+  marked: "live by the last marking", dead: "dead by the last marking", new: "not judged by the last marking",
+  filler: "filler", free: "free",
+};
+const NOT_REACHED = "not reached now";
+// The same where the file leaves something out, so that more may be reached.
+const NOT_SEEN = "not seen to be reached";
 
 // Where lanes lie, by the width that there is: how many columns, and how large a lane is.
 function layoutOf(life, width) {
   const { regions, words } = life.sizes;
   const sizes = [
-    { most: 2, wide: 5000, tall: 54, head: 22, gapX: 26, gapY: 26 },
-    { most: 12, wide: Math.max(360, Math.min(620, words * 18)), tall: 50, head: 22, gapX: 26, gapY: 22 },
-    { most: 48, wide: 250, tall: 34, head: 20, gapX: 18, gapY: 16 },
-    { most: 128, wide: 150, tall: 22, head: 17, gapX: 14, gapY: 10 },
+    { most: 2, wide: 5000, tall: 54, head: 25, gapX: 26, gapY: 24 },
+    { most: 12, wide: Math.max(360, Math.min(620, words * 18)), tall: 50, head: 25, gapX: 26, gapY: 19 },
+    { most: 48, wide: 250, tall: 34, head: 23, gapX: 18, gapY: 13 },
+    { most: 128, wide: 150, tall: 22, head: 20, gapX: 14, gapY: 8 },
     { most: 320, wide: 92, tall: 14, head: 0, gapX: 8, gapY: 7 },
     { most: 1024, wide: 44, tall: 10, head: 0, gapX: 5, gapY: 5 },
   ];
@@ -39,7 +45,8 @@ function drawDefinitions(svg) {
   pattern("dots", 6, ["M2.2 3h1.4"]);
   pattern("bars", 6, ["M3 0v6"]);
   for (const [id, colour] of [["head", "var(--ink)"], ["head-copy", "var(--pause)"], ["head-card", "var(--deep)"]]) {
-    const marker = shape("marker", { id, viewBox: "0 0 10 10", refX: 9, refY: 5, markerWidth: 7, markerHeight: 7, orient: "auto-start-reverse" }, definitions);
+    const size = { markerUnits: "userSpaceOnUse", markerWidth: 13, markerHeight: 13, refX: 9, refY: 5 };
+    const marker = shape("marker", { id, viewBox: "0 0 10 10", ...size, orient: "auto-start-reverse" }, definitions);
     shape("path", { d: "M0 0L10 5L0 10z", fill: colour }, marker);
   }
 }
@@ -70,13 +77,15 @@ class Lanes {
     const { life } = this;
     const width = Math.max(320, this.holder.clientWidth - 8);
     this.layout = layoutOf(life, width);
-    this.svg = shape("svg", { viewBox: `0 0 ${width} ${this.layout.height}`, height: this.layout.height, role: "group", "aria-label": "Regions" });
+    const { height } = this.layout;
+    this.svg = shape("svg", { viewBox: `0 0 ${width} ${height}`, height, role: "group", "aria-label": "Regions" });
     drawDefinitions(this.svg);
     this.rowLabels();
     this.lanes = [];
     for (let region = 0; region < life.sizes.regions; region += 1) {
       const { x, y } = this.layout.place(region);
-      const lane = shape("g", { class: "lane", transform: `translate(${x} ${y})`, "data-region": region, role: "button", tabindex: region === this.focused ? 0 : -1 }, this.svg);
+      const stop = { role: "button", tabindex: region === this.focused ? 0 : -1 };
+      const lane = shape("g", { class: "lane", transform: `translate(${x} ${y})`, "data-region": region, ...stop }, this.svg);
       lane.addEventListener("click", () => this.open(region));
       lane.addEventListener("focus", () => this.focus(region, false));
       this.lanes.push(lane);
@@ -92,7 +101,8 @@ class Lanes {
     for (let row = 0; row < this.layout.rows; row += 1) {
       const region = row * this.layout.columns;
       const { y } = this.layout.place(region);
-      shape("text", { class: "soft small", x: this.layout.side - 8, y: y + this.layout.tall - 1, "text-anchor": "end", text: region }, this.svg);
+      const at = { x: this.layout.side - 8, y: y + this.layout.tall - 1 };
+      shape("text", { class: "soft small", ...at, "text-anchor": "end", text: region }, this.svg);
     }
   }
 
@@ -143,8 +153,16 @@ class Lanes {
     const row = rowAt(life, region, view.moment);
     const shares = sharesAt(life, region, view.moment);
     const moment = life.moments[view.moment];
-    const own = view.tiles && row.tiles ? rowNumber(row) : "";
-    return [row.kind, ...Object.values(shares), row.top, row.next, row.grey, row.live, moment.current === region, view.region === region, own].join(" ");
+    const lost = () => this.notReached(row, view.moment).map((tile) => tile.offset);
+    const own = view.tiles && row.tiles ? [rowNumber(row), rulesGiven, ...lost()] : [];
+    const numbers = [...Object.values(shares), row.top, row.next, row.grey, row.live];
+    return [row.kind, ...numbers, moment.current === region, view.region === region, ...own].join(" ");
+  }
+
+  // The tiles of a region that no root reaches.
+  notReached(row, moment) {
+    const { reached } = reachedAt(this.life, moment);
+    return row.tiles.filter((tile) => tile.name !== undefined && !reached.has(tile.name));
   }
 
   drawLane(region, view) {
@@ -154,7 +172,8 @@ class Lanes {
     const shares = sharesAt(life, region, view.moment);
     const current = life.moments[view.moment].current === region;
     lane.replaceChildren();
-    lane.setAttribute("class", ["lane", row.kind === "f" ? "" : "used", current ? "current" : "", view.region === region ? "chosen" : ""].join(" "));
+    const marks = { used: row.kind !== "f", current, chosen: view.region === region };
+    lane.setAttribute("class", ["lane", ...Object.keys(marks).filter((mark) => marks[mark])].join(" "));
     lane.setAttribute("data-kind", row.kind);
     for (const [part, words] of Object.entries(shares)) lane.setAttribute(`data-${part}`, words);
     lane.setAttribute("data-live", row.live);
@@ -162,7 +181,7 @@ class Lanes {
     shape("title", { text: describeRegion(life, region, view.moment) }, lane);
     if (layout.head) this.drawLabel(lane, region, row, current);
     shape("rect", { class: "bed", x: 0, y: 0, width: layout.wide, height: layout.tall, rx: layout.head ? 3 : 1 }, lane);
-    if (view.tiles && row.tiles && row.kind === "o") this.drawTiles(lane, row);
+    if (view.tiles && row.tiles && row.kind === "o") this.drawTiles(lane, row, new Set(this.notReached(row, view.moment)));
     else this.drawShares(lane, region, row, shares, view);
     this.drawTops(lane, row);
     shape("rect", { class: "halo", x: -4, y: -4, width: layout.wide + 8, height: layout.tall + 8, rx: 5 }, lane);
@@ -173,9 +192,11 @@ class Lanes {
     const parts = [String(region)];
     if (this.layout.wide > 140 && kinds[row.kind]) parts.push(kinds[row.kind]);
     if (current) parts.push("current");
-    shape("text", { class: row.kind === "f" ? "soft tag" : "tag", x: 0, y: -6, text: parts.join(", "), style: current ? "font-weight:700" : "" }, lane);
+    const style = current ? "font-weight:700" : "";
+    shape("text", { class: row.kind === "f" ? "soft tag" : "tag", x: 0, y: -9, text: parts.join(", "), style }, lane);
     if (row.kind === "o" && this.layout.wide > 220) {
-      shape("text", { class: "soft tag", x: this.layout.wide, y: -6, "text-anchor": "end", text: `${grouped(row.live)} live of ${grouped(row.used)}` }, lane);
+      const text = `${grouped(row.live)} live of ${grouped(row.used)}`;
+      shape("text", { class: "soft tag", x: this.layout.wide, y: -9, "text-anchor": "end", text }, lane);
     }
   }
 
@@ -192,11 +213,19 @@ class Lanes {
   // The name of a humongous object, where it is told.
   nameOf(lane, row, view) {
     if (!view.tiles || !row.tiles || this.layout.tall < 22) return;
-    shape("text", { class: "tile-name", x: this.layout.wide / 2, y: this.layout.tall / 2 + 4, text: `#${row.tiles[0].name}` }, lane);
+    const [text] = tileNames(row.tiles[0]);
+    shape("text", { class: "tile-name", x: this.layout.wide / 2, y: this.layout.tall / 2 + 4, text }, lane);
+    if (this.notReached(row, view.moment).length) this.drawNotReached(lane, 0, row.used * this.layout.perWord);
   }
 
-  // The tiles of a region in the order of their addresses.
-  drawTiles(lane, row) {
+  // A line through what no root reaches.
+  drawNotReached(lane, x, width) {
+    const y = this.layout.tall * 0.8;
+    shape("line", { class: "lost", x1: x + Math.min(3, width / 4), x2: x + Math.max(width * 0.75, width - 3), y1: y, y2: y }, lane);
+  }
+
+  // The tiles of a region in the order of their addresses, those that no root reaches with a line.
+  drawTiles(lane, row, lost = new Set()) {
     const { perWord, tall } = this.layout;
     for (const tile of row.tiles) {
       const x = tile.offset * perWord;
@@ -204,10 +233,12 @@ class Lanes {
       drawPart(lane, tile.part, x, width, tall);
       const grey = tile.progress === "grey" ? "grey" : tile.progress === "scanned" ? "scanned" : "";
       const inner = grey ? 2 : 0;
-      shape("rect", { class: `tile ${grey}`, fill: "none", x: x + inner, y: inner, width: Math.max(0, width - 2 * inner), height: tall - 2 * inner }, lane);
+      const frame = { x: x + inner, y: inner, width: Math.max(0, width - 2 * inner), height: tall - 2 * inner };
+      shape("rect", { class: `tile ${grey}`, fill: "none", ...frame }, lane);
+      if (lost.has(tile)) this.drawNotReached(lane, x, width);
       if (tile.name === undefined || tall < 22) continue;
-      const label = `#${tile.name}`;
-      if (width > label.length * 8 + 4) shape("text", { class: "tile-name", x: x + width / 2, y: tall / 2 + 4, text: label }, lane);
+      const text = tileNames(tile).find((label) => width > label.length * 8 + 4);
+      if (text) shape("text", { class: "tile-name", x: x + width / 2, y: tall / 2 + 4, text }, lane);
     }
   }
 
@@ -217,7 +248,8 @@ class Lanes {
     const tick = (words, next) => {
       const x = Math.min(wide - 1, Math.max(1, words * perWord));
       shape("line", { class: `top ${next}`, x1: x, x2: x, y1: -3, y2: tall + 3 }, lane);
-      if (tall > 12) shape("path", { class: `top-head ${next}`, d: next ? `M${x - 5} ${tall + 8}h10l-5 -7z` : `M${x - 5} -7h10l-5 7z` }, lane);
+      const head = next ? `M${x - 5} ${tall + 8}h10l-5 -7z` : `M${x - 5} -7h10l-5 7z`;
+      if (tall > 12) shape("path", { class: `top-head ${next}`, d: head }, lane);
     };
     if (row.kind === "f" || row.kind === "t") return;
     if (row.top > 0) tick(row.top, "");
@@ -227,6 +259,12 @@ class Lanes {
       if (tall > 20) shape("text", { class: "tile-name", x: wide - tall / 4 - 2, y: tall / 2 + 4, text: row.grey }, lane);
     }
   }
+}
+
+// What a tile may be called, the longest first.
+function tileNames(tile) {
+  const label = labelOf(tile);
+  return [...(label === null ? [] : [`#${tile.name} ${label}`]), `#${tile.name}`];
 }
 
 // A number of its own for each row that was read, so that a lane sees whether its tiles changed.

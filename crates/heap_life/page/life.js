@@ -13,7 +13,8 @@ function linesOf(text) {
 // The heap line's sizes.
 function readSizes(line) {
   const [format, regions, words, buffer, mutators, firstName, card = "8"] = line.split(" ");
-  return { line, format, regions: Number(regions), words: Number(words), buffer: Number(buffer), mutators: Number(mutators), firstName, card: Number(card) };
+  const heap = { regions: Number(regions), words: Number(words), card: Number(card) };
+  return { line, format, firstName, ...heap, buffer: Number(buffer), mutators: Number(mutators) };
 }
 
 // An event of a record's line: `COUNT ACTOR STEP = REPLY`.
@@ -29,7 +30,7 @@ const MOMENT = ["event", "handedOut", "live", "free", "queued", "dirty", "copied
 
 // A moment's numbers.
 function readMoment(words) {
-  const moment = { nextName: words[10], current: null, buffers: [], queue: [], logs: [], roots: [], tiles: true };
+  const moment = { nextName: words[10], current: null, buffers: [], queue: [], logs: [], roots: [] };
   MOMENT.forEach((field, place) => { moment[field] = Number(words[place + 1]); });
   if (words[11] !== "-") moment.current = Number(words[11]);
   return moment;
@@ -73,7 +74,10 @@ function readTile(words) {
 // A region's lines.
 function readRow(lines) {
   const words = lines[0].split(" ");
-  const row = { kind: words[2], used: 0, marked: 0, dead: 0, new: 0, filler: 0, live: 0, top: 0, next: null, grey: 0, cards: [], sources: [], tiles: null };
+  const row = {
+    kind: words[2], used: 0, marked: 0, dead: 0, new: 0, filler: 0, live: 0, top: 0, next: null, grey: 0,
+    cards: [], sources: [], tiles: null,
+  };
   const numbers = words.slice(3).map(Number);
   if (row.kind === "t") row.used = numbers[0];
   if (row.kind === "o" || row.kind === "h") {
@@ -97,7 +101,9 @@ const FREE = readRow(["r 0 f"]);
 // The life that the page's texts tell.
 function readLife(recordText, lifeText) {
   const record = linesOf(recordText);
-  const life = { sizes: readSizes(record[0]), events: new Map(), moments: [], rows: [], pace: null, eventCount: 0, tilesEnd: null };
+  const life = {
+    sizes: readSizes(record[0]), events: new Map(), moments: [], rows: [], pace: null, eventCount: 0, tilesEnd: null, tells: false,
+  };
   for (const line of record.slice(1)) {
     const event = readEvent(line);
     life.events.set(event.count, event);
@@ -115,8 +121,10 @@ function readLife(recordText, lifeText) {
     else if (words[0] === "r") {
       lines = [line];
       life.rows[Number(words[1])].push({ moment: life.moments.length - 1, lines, row: null });
-    } else if ("soxy".includes(words[0])) lines.push(line);
-    else if (words[0] === "z") life.tilesEnd = moment.event;
+    } else if ("soxy".includes(words[0])) {
+      lines.push(line);
+      life.tells = life.tells || words[0] === "o";
+    } else if (words[0] === "z") life.tilesEnd = life.moments.length - 1;
     else readOfMoment(moment, words);
   }
   return life;
@@ -158,28 +166,56 @@ function sharesAt(life, region, moment) {
   return shares;
 }
 
-// The tile that starts at an address, and the region that it starts in.
-function tileAt(life, address, moment) {
-  const region = Math.floor(address / life.sizes.words);
-  const row = rowAt(life, region, moment);
-  if (!row.tiles) return null;
-  const offset = address - region * life.sizes.words;
-  const tile = row.tiles.find((each) => each.offset === offset && each.name !== undefined);
-  return tile ? { tile, region } : null;
+// What was worked out for a few keys, moments or names, the last ones that were asked for.
+class Kept {
+  constructor(work, most = 12) {
+    this.work = work;
+    this.most = most;
+    this.found = new Map();
+  }
+
+  at(life, key) {
+    if (!this.found.has(key)) {
+      if (this.found.size >= this.most) this.found.delete(this.found.keys().next().value);
+      this.found.set(key, this.work(life, key));
+    }
+    return this.found.get(key);
+  }
 }
 
-// Where each object stands at a moment, by name.
-function placesAt(life, moment) {
-  const found = life.moments[moment];
-  if (found.places) return found.places;
+const PLACES = new Kept((life, moment) => {
   const places = new Map();
   for (let region = 0; region < life.sizes.regions; region += 1) {
     for (const tile of rowAt(life, region, moment).tiles || []) {
       if (tile.name !== undefined) places.set(tile.name, { tile, region, address: region * life.sizes.words + tile.offset });
     }
   }
-  found.places = places;
   return places;
+});
+
+// Where each object is at a moment, by name.
+function placesAt(life, moment) {
+  return PLACES.at(life, moment);
+}
+
+// The last moment at which objects are told, where they aren't told to the end.
+function lastTold(life) {
+  return life.tilesEnd === null ? null : Math.max(0, life.tilesEnd - 1);
+}
+
+// Whether a region's objects are told at a moment, where it has some.
+function tellsObjects(life, region, moment) {
+  const row = rowAt(life, region, moment);
+  return row.kind === "f" || row.kind === "t" || row.tiles !== null;
+}
+
+// The fullest moment: of those at which most words are handed out, the last.
+function fullestMoment(life) {
+  let fullest = 0;
+  life.moments.forEach((moment, place) => {
+    if (moment.handedOut >= life.moments[fullest].handedOut) fullest = place;
+  });
+  return fullest;
 }
 
 // The event that led to a moment, where the file has it.
@@ -187,7 +223,7 @@ function eventOf(life, moment) {
   return life.events.get(life.moments[moment].event) || null;
 }
 
-// Whether a moment is one event behind the one before it.
+// Whether a moment is one event after the one before it.
 function isOneStep(life, moment) {
   return moment > 0 && life.moments[moment].event === life.moments[moment - 1].event + 1;
 }
@@ -239,21 +275,81 @@ function rootName(life, place) {
   return mutators > 1 ? `${register} of mutator ${mutator}` : register;
 }
 
+// Where an object is from which moment on, in the order of the moments; null where it is nowhere. The regions' lines are read for that, and
+// no more of them than have the name; what was found of a few names is kept.
+function stretchesOf(life, name) {
+  return STRETCHES.at(life, name);
+}
+
+const STRETCHES = new Kept((life, name) => {
+  const wanted = new RegExp(`^o \\d+ ${name} `);
+  const changes = [];
+  life.rows.forEach((rows, region) => {
+    let was = false;
+    for (const { moment, lines } of rows) {
+      const line = lines.find((each) => each.startsWith("o") && wanted.test(each)) || null;
+      if (line || was) changes.push({ moment, region, line });
+      was = line !== null;
+    }
+  });
+  changes.sort((a, b) => a.moment - b.moment);
+  const lines = new Map();
+  const stretches = [];
+  changes.forEach(({ moment, region, line }, number) => {
+    if (line) lines.set(region, line);
+    else lines.delete(region);
+    if (number + 1 < changes.length && changes[number + 1].moment === moment) return;
+    const [found] = lines;
+    if (!found) {
+      stretches.push({ moment, place: null });
+      return;
+    }
+    const tile = readTile(found[1].split(" "));
+    stretches.push({ moment, place: { region: found[0], tile, address: found[0] * life.sizes.words + tile.offset } });
+  });
+  return stretches;
+});
+
+// Why an object that was in a region is at no place that is told.
+function whyGone(life, region, moment) {
+  if (!tellsObjects(life, region, moment)) return `told no more: the objects of region ${region} aren't in this file from here on`;
+  for (let other = 0; other < life.sizes.regions; other += 1) {
+    if (!tellsObjects(life, other, moment)) return `gone from region ${region}, or moved to where objects aren't told`;
+  }
+  return `gone: region ${region} was reclaimed`;
+}
+
 // The life of an object: what happened to it, and at which moment.
 function lifeOfName(life, name) {
   const notes = [];
   let last = null;
-  for (let moment = 0; moment < life.moments.length; moment += 1) {
-    const place = placesAt(life, moment).get(name) || null;
+  for (const { moment, place } of stretchesOf(life, name)) {
     const note = (text) => notes.push({ moment, text });
-    if (place && !last) note(`made in region ${place.region}, at ${place.address}, ${place.tile.size} words`);
-    if (place && last && place.address !== last.address) note(`moved from ${last.address} to ${place.address}, in region ${place.region}`);
-    if (place && last && place.tile.progress === "grey" && last.tile.progress !== "grey") note("found by marking: grey");
-    if (place && last && place.tile.progress === "scanned" && last.tile.progress !== "scanned") note("scanned");
-    if (place && last && place.tile.part === "marked" && last.tile.part !== "marked") note("marked when marking ended: live");
-    if (place && last && place.tile.part === "dead" && last.tile.part !== "dead") note("not marked when marking ended: dead");
-    if (!place && last) note(`gone: region ${last.region} was reclaimed`);
+    const became = (key, value) => place.tile[key] === value && last.tile[key] !== value;
+    const how = notes.length ? "told again" : "made";
+    if (place && !last) note(`${how} in region ${place.region}, at ${place.address}, ${place.tile.size} words`);
+    if (place && last) {
+      if (place.address !== last.address) note(`moved from ${last.address} to ${place.address}, in region ${place.region}`);
+      if (became("progress", "grey")) note("found by marking: grey");
+      if (became("progress", "scanned")) note("scanned");
+      if (became("part", "marked")) note("marked when marking ended: live");
+      if (became("part", "dead")) note("not marked when marking ended: dead");
+    }
+    if (!place && last) note(whyGone(life, last.region, moment));
     last = place;
   }
   return notes;
+}
+
+// The moment nearest to one at which an object is told, or null where there is none.
+function nearestWith(life, name, moment) {
+  let nearest = null;
+  const stretches = stretchesOf(life, name);
+  stretches.forEach(({ moment: from, place }, number) => {
+    if (!place) return;
+    const to = number + 1 < stretches.length ? stretches[number + 1].moment - 1 : life.moments.length - 1;
+    const near = Math.max(from, Math.min(to, moment));
+    if (nearest === null || Math.abs(near - moment) < Math.abs(nearest - moment)) nearest = near;
+  });
+  return nearest;
 }

@@ -1,14 +1,41 @@
 "use strict";
 // What is drawn over the lanes: runs, open buffers, dirty cards, what a step of the collector did, and where pointers and cards lead.
 
-// An arrow from one point to another, bent a little so that arrows both ways don't cover each other.
-function drawArrow(over, from, to, style) {
+// How many arrows of a kind are drawn each by itself; more are bundled, one for each pair of regions.
+const MOST_ARROWS = 24;
+const MOST_BUNDLES = 60;
+
+// An arrow from one point to another, bent a little so that arrows both ways don't cover each other; with a count where it is a bundle.
+function drawArrow(over, from, to, style, count = 1) {
   const dx = to.x - from.x;
   const dy = to.y - from.y;
   const length = Math.hypot(dx, dy) || 1;
   const bend = Math.min(60, length / 4);
   const middle = { x: (from.x + to.x) / 2 - (dy / length) * bend, y: (from.y + to.y) / 2 + (dx / length) * bend };
-  shape("path", { class: `arrow ${style}`, d: `M${from.x} ${from.y}Q${middle.x} ${middle.y} ${to.x} ${to.y}` }, over);
+  const arrow = shape("path", { class: `arrow ${style}`, d: `M${from.x} ${from.y}Q${middle.x} ${middle.y} ${to.x} ${to.y}` }, over);
+  if (count < 2) return;
+  arrow.setAttribute("style", `stroke-width:${Math.min(7, 1.8 + Math.log2(count) / 2).toFixed(1)}`);
+  arrow.setAttribute("data-count", count);
+  const at = { x: (from.x + to.x) / 4 + middle.x / 2, y: (from.y + to.y) / 4 + middle.y / 2 + 4 };
+  shape("text", { class: "bundle", x: at.x, y: at.y, text: grouped(count) }, over);
+}
+
+// Draws arrows `{ from, to, pair, whole }`: each by itself where they are few, else one for each pair of regions, from `whole.from` to
+// `whole.to`, the largest ones. Answers how many aren't drawn.
+function drawArrows(over, arrows, style) {
+  if (arrows.length <= MOST_ARROWS) {
+    for (const { from, to } of arrows) drawArrow(over, from, to, style);
+    return 0;
+  }
+  const bundles = new Map();
+  for (const { pair, whole } of arrows) {
+    const bundle = bundles.get(pair) || { ...whole, count: 0 };
+    bundle.count += 1;
+    bundles.set(pair, bundle);
+  }
+  const largest = [...bundles.values()].sort((a, b) => b.count - a.count);
+  for (const { from, to, count } of largest.slice(0, MOST_BUNDLES)) drawArrow(over, from, to, style, count);
+  return largest.slice(MOST_BUNDLES).reduce((sum, bundle) => sum + bundle.count, 0);
 }
 
 // Joins the lanes of each run by a line below them.
@@ -38,7 +65,8 @@ function drawBuffers(lanes, view) {
     const width = buffer.left * layout.perWord;
     shape("rect", { class: "buffer", x: at.x + 1, y: at.y + 1, width: Math.max(1, width - 2), height: layout.tall - 2 }, lanes.over);
     if (width > 64 && layout.tall > 20) {
-      shape("text", { class: "tile-name", style: "fill:var(--ink)", x: at.x + width / 2, y: at.y + layout.tall / 2 + 4, text: `buffer ${buffer.mutator}` }, lanes.over);
+      const middle = { x: at.x + width / 2, y: at.y + layout.tall / 2 + 4 };
+      shape("text", { class: "tile-name framed", ...middle, text: `buffer ${buffer.mutator}` }, lanes.over);
     }
   }
 }
@@ -51,7 +79,8 @@ function drawDirty(lanes, view) {
   const fresh = new Set(view.fresh || []);
   const dot = (card, style) => {
     const at = lanes.pointOfCard(card);
-    const circle = shape("circle", { class: `dirty ${style} ${fresh.has(card) ? "fresh" : ""}`, cx: at.x, cy: at.y, r: radius, "data-card": card }, lanes.over);
+    const marks = `dirty ${style} ${fresh.has(card) ? "fresh" : ""}`;
+    const circle = shape("circle", { class: marks, cx: at.x, cy: at.y, r: radius, "data-card": card }, lanes.over);
     shape("title", { text: `Card ${card} is dirty` }, circle);
   };
   moment.queue.forEach((card) => dot(card, "queued"));
@@ -77,24 +106,15 @@ function drawGhost(lanes, view, region, style) {
   shape("rect", { class: style, x: x - 2, y: y - 2, width: layout.wide + 4, height: layout.tall + 4, rx: 4 }, lanes.over);
 }
 
-// The arrows of a pause's copies: an arrow an object where they are few, else an arrow from region to region.
+// The arrows of a pause's copies.
 function drawCopies(lanes, copies) {
-  if (copies.length <= 40) {
-    for (const { from, to } of copies) {
-      drawArrow(
-        lanes.over,
-        lanes.point(from.region, from.tile.offset + from.tile.size / 2, "middle"),
-        lanes.point(to.region, to.tile.offset + to.tile.size / 2, "top"),
-        "copy",
-      );
-    }
-    return;
-  }
-  const pairs = new Set(copies.map(({ from, to }) => `${from.region} ${to.region}`));
-  for (const pair of pairs) {
-    const [from, to] = pair.split(" ").map(Number);
-    drawArrow(lanes.over, lanes.point(from, lanes.life.sizes.words / 2, "middle"), lanes.point(to, lanes.life.sizes.words / 2, "middle"), "copy");
-  }
+  const middle = lanes.life.sizes.words / 2;
+  drawArrows(lanes.over, copies.map(({ from, to }) => ({
+    from: lanes.point(from.region, from.tile.offset + from.tile.size / 2, "middle"),
+    to: lanes.point(to.region, to.tile.offset + to.tile.size / 2, "top"),
+    pair: `${from.region} ${to.region}`,
+    whole: { from: lanes.point(from.region, middle, "middle"), to: lanes.point(to.region, middle, "middle") },
+  })), "copy");
 }
 
 // What the collector's step that led to the moment did.
@@ -114,16 +134,19 @@ function drawSet(lanes, view) {
   if (view.region === null) return;
   const row = rowAt(lanes.life, view.region, view.moment);
   const { words, card } = lanes.life.sizes;
-  const into = (from) => {
-    const at = lanes.layout.place(view.region);
-    const to = { x: at.x + Math.min(lanes.layout.wide - 6, Math.max(6, from.x - at.x)), y: from.y > at.y + lanes.layout.tall ? at.y + lanes.layout.tall : at.y };
-    drawArrow(lanes.over, from, to, "card");
+  const at = lanes.layout.place(view.region);
+  const { wide, tall } = lanes.layout;
+  const into = (from) => ({ x: at.x + Math.min(wide - 6, Math.max(6, from.x - at.x)), y: from.y > at.y + tall ? at.y + tall : at.y });
+  const arrow = (from, region) => {
+    const whole = lanes.point(region, words / 2, "bottom");
+    return { from, to: into(from), pair: String(region), whole: { from: whole, to: into(whole) } };
   };
-  const whole = new Set(row.sources);
-  for (const each of row.cards) {
-    if (!whole.has(Math.floor((each * card) / words))) into(lanes.pointOfCard(each));
-  }
-  for (const region of row.sources) into(lanes.point(region, words / 2, "bottom"));
+  const sources = new Set(row.sources);
+  const cards = row.cards.map((each) => [each, Math.floor((each * card) / words)]).filter(([, region]) => !sources.has(region));
+  drawArrows(lanes.over, [
+    ...cards.map(([each, region]) => arrow(lanes.pointOfCard(each), region)),
+    ...row.sources.map((region) => arrow(lanes.point(region, words / 2, "bottom"), region)),
+  ], "card");
 }
 
 // Where the chosen object's pointers and weak slots lead.
@@ -132,17 +155,20 @@ function drawPointers(lanes, view) {
   const places = placesAt(lanes.life, view.moment);
   const from = places.get(view.name);
   if (!from) return;
-  const middle = (place, where) => lanes.point(place.region, place.tile.offset + place.tile.size / 2, where);
+  const { words } = lanes.life.sizes;
+  const middle = (place, where) => lanes.point(place.region, Math.min(words / 2, place.tile.size / 2) + place.tile.offset, where);
   const lead = (fields, style) => {
-    for (const name of fields.told) {
+    for (const name of new Set(fields.told)) {
       const to = places.get(name);
-      if (to && to !== from) drawArrow(lanes.over, middle(from, "middle"), middle(to, "top"), style);
+      const count = fields.told.filter((each) => each === name).length;
+      if (to && to !== from) drawArrow(lanes.over, middle(from, "middle"), middle(to, "top"), style, count);
     }
   };
   lead(from.tile.pointers, "");
   lead(from.tile.weaks, "weak");
   const at = lanes.point(from.region, from.tile.offset, "top");
-  shape("rect", { class: "arrow", style: "marker-end:none", x: at.x - 1, y: at.y - 1, width: from.tile.size * lanes.layout.perWord + 2, height: lanes.layout.tall + 2 }, lanes.over);
+  const width = Math.min(words, from.tile.size) * lanes.layout.perWord + 2;
+  shape("rect", { class: "arrow", style: "marker-end:none", x: at.x - 1, y: at.y - 1, width, height: lanes.layout.tall + 2 }, lanes.over);
 }
 
 function drawOver(lanes, view) {

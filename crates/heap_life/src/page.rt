@@ -8,8 +8,8 @@ ghost use Rattle.heap_life.specs.Pages.{IsPageOf, facts_text, pace_text, sizes_t
 use crate::life::{Life, Moment};
 use crate::pace::Pace;
 use crate::page_parts::{
-    BEFORE, BEHIND, BETWEEN, END, SCRIPT_CURVES, SCRIPT_LANES, SCRIPT_LIFE, SCRIPT_OVER,
-    SCRIPT_PAGE, SCRIPT_PANELS,
+    BEFORE, BEHIND, BETWEEN, END, SCRIPT_CURVES, SCRIPT_FIND, SCRIPT_LANES, SCRIPT_LIFE,
+    SCRIPT_OBJECTS, SCRIPT_OVER, SCRIPT_PAGE, SCRIPT_PANELS, SCRIPT_REACH,
 };
 use heap_steps::Record;
 use heap_words::config::Config;
@@ -126,7 +126,10 @@ fn text_behind(alloc: Global) -> Result<Vec<u8>, AllocError> {
     text.put(SCRIPT_CURVES);
     text.put(SCRIPT_LANES);
     text.put(SCRIPT_OVER);
+    text.put(SCRIPT_REACH);
     text.put(SCRIPT_PANELS);
+    text.put(SCRIPT_OBJECTS);
+    text.put(SCRIPT_FIND);
     text.put(SCRIPT_PAGE);
     text.put(END);
     text.into_bytes()

@@ -6,7 +6,8 @@ use Rattle.std.proofs.lemmas.List.Quantifiers.{position-Some}
 use Rattle.std.proofs.lemmas.List.Recursion.{is_count_by, is_position_or_len}
 use Rattle.std.proofs.lemmas.List.Sums.{sum_by-set}
 use Rattle.regions.specs.Table.{Region, Free, Ordinary, First, Rest, Table, is_free, first_free}
-use Rattle.regions.specs.Table.{taken, kind_of, region_kind, nth_region, free_count}
+use Rattle.regions.specs.Table.{taken, kind_of, region_kind, nth_region, free_count, released, released_as}
+use Rattle.regions.specs.declared.row.Kind.TheVariants as kinds
 use Rattle.regions.specs.Rows.{kind_is_free}
 
 abbrev frees : List Region → ℕ
@@ -80,3 +81,23 @@ same_free t t' n f =
     let c = is_count_by frees is_free refl count_step t.regions in
     let c' = is_count_by frees is_free refl count_step t'.regions in
     sym c' ∙ same_frees t.regions t'.regions n f ∙ c
+
+ordinary_bit : (r : Region) → region_kind r ≡ kinds.Ordinary → bit r ≡ 0
+ordinary_bit Free e = absurd cc
+ordinary_bit (Ordinary ts) e = refl
+ordinary_bit (First s) e = absurd cc
+ordinary_bit (Rest n) e = absurd cc
+
+-- one free region more
+pub released_free : (t : Table) (k : ℕ) → k < length t.regions → kind_of t k ≡ kinds.Ordinary
+    → free_count (released t k) ≡ free_count t + 1
+unfolding kind_of nth_region released
+released_free t k h e = go (nth_region t k) refl
+  where
+    go : (r : Region) → nth_region t k ≡ r → free_count (released_as r t k) ≡ free_count t + 1
+    go Free q = absurd (let f = ap region_kind q in cc)
+    go (Ordinary ts) q =
+        let z = ordinary_bit (get_or t.regions k Free) e in
+        omega (arith, sum_by-set bit t.regions k Free Free h, z)
+    go (First s) q = absurd (let f = ap region_kind q in cc)
+    go (Rest n) q = absurd (let f = ap region_kind q in cc)

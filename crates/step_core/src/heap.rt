@@ -10,6 +10,7 @@ ghost use Rattle.heap_steps.specs.Roots.{IsRegister, IsGlobal};
 ghost use Rattle.step_core.specs.Stands.{ShowsGraph, KeepsFrom, Stands, IsCore, IsWhole, heap_of};
 ghost use Rattle.step_core.specs.Stands.{IsWordOf, IsRootWord, Leads, name_in, RemembersFields};
 ghost use Rattle.cards.specs.Cards.{ListsDirtyOnce};
+ghost use Rattle.regions.specs.Shaped.{IsShaped};
 ghost use Rattle.step_core.specs.Fresh.{fresh_core};
 ghost use Rattle.step_core.specs.Mutators.{register_of, with_root_word, with_nil_words};
 ghost use Rattle.step_core.specs.Cycle.{LeavesRegions};
@@ -206,6 +207,13 @@ impl Core {
         ensures cards { ListsDirtyOnce self.now.cards }
     {
         self.cards.law();
+    }
+
+    /// Tells a proof what every table of regions is: its regions have words, and not too many of them. It does nothing.
+    pub fn shaped(&self)
+        ensures { IsShaped self.now.table }
+    {
+        self.table.law();
     }
 
     /// Tells a proof that each object that a root reaches stands, whole and once, in regions in use. It

@@ -11,7 +11,7 @@ use Rattle.heap_model.proofs.Evacuated as evacuated
 use Rattle.object_copy.specs.Copies.{Places}
 use Rattle.evacuation.specs.Evacuates.{stored_words, words_at}
 use Rattle.evacuation.specs.Space.{Layout, Plan, Space, IsPlan, IsCopying, IsTaken, IsTally, IsNamed, IsAfter, CopiesTo, GoesOn}
-use Rattle.evacuation.specs.Space.{TakesNext, HasRoom, filled, set_of, seen_as, words_of}
+use Rattle.evacuation.specs.Space.{TakesNext, HasRoom, AreFilled, AreSpared, filled, set_of, seen_as, words_of}
 use Rattle.evacuation.proofs.Lists.{push_place}
 
 total_push : (kept : ℕ → Option Stored) (xs : List ℕ) (a : ℕ) → words_at kept (xs ++ a ∷ []) ≡ words_at kept xs + stored_words (kept a)
@@ -26,6 +26,27 @@ room_opened : (words free left size : ℕ) (last : Option ℕ) → HasRoom words
     → ((f : ℕ) → last ≡ Some f → words < f + size) → 2 * (left + 0) ≤ (free + 1) * words
 room_opened words free left size None h s l n = omega arith
 room_opened words free left size (Some f) h s l n = let k = n f refl in omega arith
+
+-- the open destination gets an object more
+filled_on : (words n n' fill fill' copied copied' size : ℕ) → n' ≡ n → fill' ≡ fill + size → copied' ≡ copied + size
+    → AreFilled words n fill copied → AreFilled words n' fill' copied'
+filled_on words n n' fill fill' copied copied' size e f g h =
+    let a = h.some in
+    let b = h.any in
+    let c = h.closed in
+    rw (e, f, g) (record { some = omega arith; any = omega arith; closed = omega arith; all = λ two. let d = h.all two in omega arith })
+
+-- another one is opened for it: what was open is closed for want of room
+filled_next : (words n n' fill' copied copied' size : ℕ) (last : Option ℕ) → n' ≡ n + 1 → fill' ≡ size → copied' ≡ copied + size
+    → 0 < size → 2 * size ≤ words → ((f : ℕ) → last ≡ Some f → words < f + size) → AreSpared words n last copied
+    → AreFilled words n' fill' copied'
+filled_next words n n' fill' copied copied' size None e f g z s k h =
+    rw (e, f, g, h) (record { some = omega arith; any = omega arith; closed = omega arith; all = λ two. absurd (omega arith) })
+filled_next words n n' fill' copied copied' size (Some fill) e f g z s k h =
+    let a = k fill refl in
+    let b = h.closed in
+    let c = h.some in
+    rw (e, f, g) (record { some = omega arith; any = omega arith; closed = omega arith; all = λ two. omega arith })
 
 -- the object of the set stands there until it is forwarded
 pub named_object : (l : Layout) (p : Plan) (s : Space) (d : Places) (a : ℕ) → IsCopying l p s d → (n : IsNamed l p a)
@@ -172,6 +193,23 @@ module _ (l : Layout) (p : Plan) (s s' : Space) (d d' : Places) (from to : ℕ) 
       let r = room_opened l.words s'.free_count s.left (words_of x) (filled s d.last) r' small (omega arith) g.full in
       rw (u.last, u.used, g.empty) (room_pushed l.words s'.free_count s.left s'.left 0 (words_of x) r e)
 
+  spared_by : AreFilled l.words (length d'.regions) (s'.used k) d'.words
+      → AreSpared l.words (length d'.regions) (filled s' d'.last) d'.words
+  spared_by h = subst (λ (m : Option ℕ). AreSpared l.words (length d'.regions) (filled s' m) d'.words) (sym u.last) h
+
+  spared_on : GoesOn l s s' d d' k → AreSpared l.words (length d'.regions) (filled s' d'.last) d'.words
+  spared_on g =
+      let h : AreFilled l.words (length d.regions) (s.used k) d.words =
+      subst (λ (m : Option ℕ). AreSpared l.words (length d.regions) (filled s m) d.words) g.last c.spared in
+      spared_by (filled_on l.words (length d.regions) (length d'.regions) (s.used k) (s'.used k) d.words d'.words (words_of x)
+      (ap (λ (v : List ℕ). length v) g.regions) u.used u.words h)
+
+  spared_next : TakesNext l s s' d d' k (words_of x) → AreSpared l.words (length d'.regions) (filled s' d'.last) d'.words
+  spared_next g =
+      spared_by (filled_next l.words (length d.regions) (length d'.regions) (s'.used k) d.words d'.words (words_of x) (filled s d.last)
+      (ap (λ (v : List ℕ). length v) g.regions ∙ length-append d.regions (k ∷ []))
+      (let a = u.used in let b = g.empty in omega arith) u.words (omega arith) small g.full c.spared)
+
   pub copied_copying : IsCopying l p s' d'
   copied_copying = record {
     heap = evacuated.copied (set_of l) p.heap s.forward (seen_as s p.heap) c.heap s'.forward (seen_as s' p.heap) from to x copies n.reached;
@@ -213,6 +251,15 @@ module _ (l : Layout) (p : Plan) (s s' : Space) (d d' : Places) (from to : ℕ) 
     ];
     limit = let e = u.left clear in let q = c.limit in let z = u.words in omega arith;
     tally = tally c.tally;
+    frees = elim u.how [
+      | inl g ↦ (let a = ap (λ (v : List ℕ). length v) g.regions in let b = g.free_count in let q = c.frees in omega arith)
+      | inr g ↦ (let a = ap (λ (v : List ℕ). length v) g.regions in
+          let e = length-append d.regions (k ∷ []) in
+          let b = g.free_count in
+          let q = c.frees in
+          omega arith)
+    ];
+    spared = elim u.how [ inl g ↦ spared_on g | inr g ↦ spared_next g ];
     places = elim u.how [
       | inl g ↦ (let a = ap (λ (v : List ℕ). length v) g.regions in let b = g.room in let q = c.places in omega arith)
       | inr g ↦ (let a = ap (λ (v : List ℕ). length v) g.regions in

@@ -67,6 +67,8 @@ module _ (l : Layout) (p : Plan) (s s' : Space) (d : Places) (c : IsCopying l p 
     limit = let e = u.left in let k = c.limit in omega arith;
     tally = same_tally (set_of l) p.heap s.forward s'.forward d.words d.words (λ x. sym (u.forward x)) refl c.tally;
     places = c.places;
+    frees = let e = u.free_count in let k = c.frees in omega arith;
+    spared = rw (filled_same d.last) c.spared;
   }
 
   new_outside : set_of l b ≡ false

@@ -113,6 +113,8 @@ module _ (p : Pause) (q : IsPause p) (room : 2 * (space p p.start).left ≤ free
         total = refl;
       };
       places = (let l = list in omega arith);
+      frees = omega arith;
+      spared = refl;
     };
     table = stays;
     taken = λ k w. absurd (none_taken k w);

@@ -14,7 +14,8 @@ use Rattle.regions.specs.Tiles.{Tile, Object, Filler, Forwarded, tile_size, tile
 use Rattle.regions.specs.Walks.{AllPositive, region_tiles, tiles_of}
 use Rattle.regions.proofs.Tiles.Placing.{tile_at-back}
 use Rattle.regions.proofs.Walks.WalkFrom.{listed_tile}
-use Rattle.regions.specs.Table.{Region, Free, Ordinary, First, Rest, Table, EachForwarded, EachForwardedIn, HasNoForwarded, kind_of}
+use Rattle.regions.specs.Table.{Region, Free, Ordinary, First, Rest, Table, EachForwarded, EachForwardedIn, HasNoForwarded, free_count}
+use Rattle.regions.specs.Table.{kind_of}
 use Rattle.regions.specs.Table.{moved_to, object_at, region_kind, nth_region, region_tile, region_used, tile_in, used_of, AreHalves}
 use Rattle.regions.specs.Shaped.{IsShaped}
 use Rattle.regions.specs.declared.row.Kind.TheVariants as kinds
@@ -25,9 +26,9 @@ use Rattle.mark_bitmap.specs.Kept.{MarksObjects, kept_in}
 use Rattle.mark_bitmap.proofs.KeptLaws.{gone_kept}
 use Rattle.region_choice.specs.declared.LiveRow.{LiveRow}
 use Rattle.object_copy.specs.Copies.{Places}
-use Rattle.evacuation.specs.Evacuates.{AreReachedWords, CanEvacuate, Layers, MarksAfter, RegionsAfter}
+use Rattle.evacuation.specs.Evacuates.{AreReachedWords, CanEvacuate, Layers, MarksAfter, RegionsAfter, SparesRegions}
 use Rattle.evacuation.specs.Evacuates.{heap_of, kept_of, is_chosen, set_by, IsNewCrossing}
-use Rattle.evacuation.specs.Space.{flag, NewCrossing}
+use Rattle.evacuation.specs.Space.{flag, filled, AreSpared, NewCrossing}
 use Rattle.evacuation.specs.Turns.{Pause, IsTurn, in_set, kept_now, plan, space, layout}
 use Rattle.evacuation.specs.Releasing.{AreReleased}
 use Rattle.heap_model.specs.Marking.{Marking}
@@ -98,7 +99,7 @@ none_moved t g f = regions_none t.regions
 module _ (h : Layers) (rows : List LiveRow) (cw : ℕ) (can : CanEvacuate h rows cw) (shaped : IsShaped h.table) (flags : List Bool)
     (flags_are : (k : ℕ) → flag flags k ≡ is_chosen rows k) (len : length flags ≡ length h.table.regions)
     (t1 : Table) (d1 : Places) (turn : IsTurn (asked.pause h rows cw can shaped flags flags_are len) t1 d1)
-    (t2 : Table) (rel : AreReleased rows t1 t2) where
+    (t2 : Table) (rel : AreReleased rows t1 t2) (more : free_count t2 ≡ free_count t1 + length rows) where
   abbrev p : Pause
   p = asked.pause h rows cw can shaped flags flags_are len
 
@@ -259,6 +260,23 @@ module _ (h : Layers) (rows : List LiveRow) (cw : ℕ) (can : CanEvacuate h rows
           (y, g);
       below = λ a e. let o = marked_out a e in below_same a o ∙ m.below a (sym (mark_same a o) ∙ e);
     }
+
+  -- ---- the destinations
+  pub spares : SparesRegions rows d1.words h.table t2
+  spares = record {
+    taken = length d1.regions;
+    count = (let f = turn.copying.frees in let m = more in omega arith);
+    none = λ z. unused words (length d1.regions) (filled (space p t1) d1.last) d1.words turn.copying.spared z;
+    full = λ two. half words (length d1.regions) (filled (space p t1) d1.last) d1.words turn.copying.spared two;
+  }
+    where
+      unused : (w n : ℕ) (fill : Option ℕ) (copied : ℕ) → AreSpared w n fill copied → copied ≡ 0 → n ≡ 0
+      unused w n None copied s z = s
+      unused w n (Some f) copied s z = absurd (let a = s.any in omega arith)
+
+      half : (w n : ℕ) (fill : Option ℕ) (copied : ℕ) → AreSpared w n fill copied → 2 ≤ n → n * w < 2 * copied
+      half w n None copied s two = absurd (omega arith)
+      half w n (Some f) copied s two = s.all two
 
   -- ---- all together
   module _ (tams' : Tops) (previous' next' : List Bool) (cards' : Cards) (sets' : Sets)
@@ -422,6 +440,7 @@ module _ (h : Layers) (rows : List LiveRow) (cw : ℕ) (can : CanEvacuate h rows
       words_are = subst (λ (s : ℕ → Bool). AreReachedWords s (heap_of h) d1.words) (sym sets_same) copied_words;
       within = (let a = turn.copying.limit in let b = asked.within_bounds h rows cw can shaped flags flags_are len in omega (arith, a, b));
       regions = regions;
+      spares = spares;
       unkept = λ a o n e. tile_outside a (off (a / words) o)
           ∙ turn.table.unkept a (off (a / words) o) n (ap (λ (k : ℕ → Option Stored). k a) (kept_now_is p h.table) ∙ e);
       unmoved = unmoved g;

@@ -20,8 +20,8 @@ function linesOf(text) {\n\
 // The heap line's sizes.\n\
 function readSizes(line) {\n\
 \x20 const [format, regions, words, buffer, mutators, firstName, card = \"8\"] = line.split(\" \");\n\
-\x20 return { line, format, regions: Number(regions), words: Number(words), buffer: Number(buffer), mutators: Number(mutators), fir\
-stName, card: Number(card) };\n\
+\x20 const heap = { regions: Number(regions), words: Number(words), card: Number(card) };\n\
+\x20 return { line, format, firstName, ...heap, buffer: Number(buffer), mutators: Number(mutators) };\n\
 }\n\
 \n\
 // An event of a record's line: `COUNT ACTOR STEP = REPLY`.\n\
@@ -37,7 +37,7 @@ const MOMENT = [\"event\", \"handedOut\", \"live\", \"free\", \"queued\", \"dirt
 \n\
 // A moment's numbers.\n\
 function readMoment(words) {\n\
-\x20 const moment = { nextName: words[10], current: null, buffers: [], queue: [], logs: [], roots: [], tiles: true };\n\
+\x20 const moment = { nextName: words[10], current: null, buffers: [], queue: [], logs: [], roots: [] };\n\
 \x20 MOMENT.forEach((field, place) => { moment[field] = Number(words[place + 1]); });\n\
 \x20 if (words[11] !== \"-\") moment.current = Number(words[11]);\n\
 \x20 return moment;\n\
@@ -81,8 +81,10 @@ function readTile(words) {\n\
 // A region's lines.\n\
 function readRow(lines) {\n\
 \x20 const words = lines[0].split(\" \");\n\
-\x20 const row = { kind: words[2], used: 0, marked: 0, dead: 0, new: 0, filler: 0, live: 0, top: 0, next: null, grey: 0, cards: []\
-, sources: [], tiles: null };\n\
+\x20 const row = {\n\
+\x20   kind: words[2], used: 0, marked: 0, dead: 0, new: 0, filler: 0, live: 0, top: 0, next: null, grey: 0,\n\
+\x20   cards: [], sources: [], tiles: null,\n\
+\x20 };\n\
 \x20 const numbers = words.slice(3).map(Number);\n\
 \x20 if (row.kind === \"t\") row.used = numbers[0];\n\
 \x20 if (row.kind === \"o\" || row.kind === \"h\") {\n\
@@ -106,8 +108,10 @@ const FREE = readRow([\"r 0 f\"]);\n\
 // The life that the page's texts tell.\n\
 function readLife(recordText, lifeText) {\n\
 \x20 const record = linesOf(recordText);\n\
-\x20 const life = { sizes: readSizes(record[0]), events: new Map(), moments: [], rows: [], pace: null, eventCount: 0, tilesEnd: nul\
-l };\n\
+\x20 const life = {\n\
+\x20   sizes: readSizes(record[0]), events: new Map(), moments: [], rows: [], pace: null, eventCount: 0, tilesEnd: null, tells: fal\
+se,\n\
+\x20 };\n\
 \x20 for (const line of record.slice(1)) {\n\
 \x20   const event = readEvent(line);\n\
 \x20   life.events.set(event.count, event);\n\
@@ -126,8 +130,10 @@ l };\n\
 \x20   else if (words[0] === \"r\") {\n\
 \x20     lines = [line];\n\
 \x20     life.rows[Number(words[1])].push({ moment: life.moments.length - 1, lines, row: null });\n\
-\x20   } else if (\"soxy\".includes(words[0])) lines.push(line);\n\
-\x20   else if (words[0] === \"z\") life.tilesEnd = moment.event;\n\
+\x20   } else if (\"soxy\".includes(words[0])) {\n\
+\x20     lines.push(line);\n\
+\x20     life.tells = life.tells || words[0] === \"o\";\n\
+\x20   } else if (words[0] === \"z\") life.tilesEnd = life.moments.length - 1;\n\
 \x20   else readOfMoment(moment, words);\n\
 \x20 }\n\
 \x20 return life;\n\
@@ -170,28 +176,56 @@ function sharesAt(life, region, moment) {\n\
 \x20 return shares;\n\
 }\n\
 \n\
-// The tile that starts at an address, and the region that it starts in.\n\
-function tileAt(life, address, moment) {\n\
-\x20 const region = Math.floor(address / life.sizes.words);\n\
-\x20 const row = rowAt(life, region, moment);\n\
-\x20 if (!row.tiles) return null;\n\
-\x20 const offset = address - region * life.sizes.words;\n\
-\x20 const tile = row.tiles.find((each) => each.offset === offset && each.name !== undefined);\n\
-\x20 return tile ? { tile, region } : null;\n\
+// What was worked out for a few keys, moments or names, the last ones that were asked for.\n\
+class Kept {\n\
+\x20 constructor(work, most = 12) {\n\
+\x20   this.work = work;\n\
+\x20   this.most = most;\n\
+\x20   this.found = new Map();\n\
+\x20 }\n\
+\n\
+\x20 at(life, key) {\n\
+\x20   if (!this.found.has(key)) {\n\
+\x20     if (this.found.size >= this.most) this.found.delete(this.found.keys().next().value);\n\
+\x20     this.found.set(key, this.work(life, key));\n\
+\x20   }\n\
+\x20   return this.found.get(key);\n\
+\x20 }\n\
 }\n\
 \n\
-// Where each object stands at a moment, by name.\n\
-function placesAt(life, moment) {\n\
-\x20 const found = life.moments[moment];\n\
-\x20 if (found.places) return found.places;\n\
+const PLACES = new Kept((life, moment) => {\n\
 \x20 const places = new Map();\n\
 \x20 for (let region = 0; region < life.sizes.regions; region += 1) {\n\
 \x20   for (const tile of rowAt(life, region, moment).tiles || []) {\n\
 \x20     if (tile.name !== undefined) places.set(tile.name, { tile, region, address: region * life.sizes.words + tile.offset });\n\
 \x20   }\n\
 \x20 }\n\
-\x20 found.places = places;\n\
 \x20 return places;\n\
+});\n\
+\n\
+// Where each object is at a moment, by name.\n\
+function placesAt(life, moment) {\n\
+\x20 return PLACES.at(life, moment);\n\
+}\n\
+\n\
+// The last moment at which objects are told, where they aren't told to the end.\n\
+function lastTold(life) {\n\
+\x20 return life.tilesEnd === null ? null : Math.max(0, life.tilesEnd - 1);\n\
+}\n\
+\n\
+// Whether a region's objects are told at a moment, where it has some.\n\
+function tellsObjects(life, region, moment) {\n\
+\x20 const row = rowAt(life, region, moment);\n\
+\x20 return row.kind === \"f\" || row.kind === \"t\" || row.tiles !== null;\n\
+}\n\
+\n\
+// The fullest moment: of those at which most words are handed out, the last.\n\
+function fullestMoment(life) {\n\
+\x20 let fullest = 0;\n\
+\x20 life.moments.forEach((moment, place) => {\n\
+\x20   if (moment.handedOut >= life.moments[fullest].handedOut) fullest = place;\n\
+\x20 });\n\
+\x20 return fullest;\n\
 }\n\
 \n\
 // The event that led to a moment, where the file has it.\n\
@@ -199,7 +233,7 @@ function eventOf(life, moment) {\n\
 \x20 return life.events.get(life.moments[moment].event) || null;\n\
 }\n\
 \n\
-// Whether a moment is one event behind the one before it.\n\
+// Whether a moment is one event after the one before it.\n\
 function isOneStep(life, moment) {\n\
 \x20 return moment > 0 && life.moments[moment].event === life.moments[moment - 1].event + 1;\n\
 }\n\
@@ -251,25 +285,83 @@ function rootName(life, place) {\n\
 \x20 return mutators > 1 ? `${register} of mutator ${mutator}` : register;\n\
 }\n\
 \n\
+// Where an object is from which moment on, in the order of the moments; null where it is nowhere. The regions' lines are read f\
+or that, and\n\
+// no more of them than have the name; what was found of a few names is kept.\n\
+function stretchesOf(life, name) {\n\
+\x20 return STRETCHES.at(life, name);\n\
+}\n\
+\n\
+const STRETCHES = new Kept((life, name) => {\n\
+\x20 const wanted = new RegExp(`^o \\\\d+ ${name} `);\n\
+\x20 const changes = [];\n\
+\x20 life.rows.forEach((rows, region) => {\n\
+\x20   let was = false;\n\
+\x20   for (const { moment, lines } of rows) {\n\
+\x20     const line = lines.find((each) => each.startsWith(\"o\") && wanted.test(each)) || null;\n\
+\x20     if (line || was) changes.push({ moment, region, line });\n\
+\x20     was = line !== null;\n\
+\x20   }\n\
+\x20 });\n\
+\x20 changes.sort((a, b) => a.moment - b.moment);\n\
+\x20 const lines = new Map();\n\
+\x20 const stretches = [];\n\
+\x20 changes.forEach(({ moment, region, line }, number) => {\n\
+\x20   if (line) lines.set(region, line);\n\
+\x20   else lines.delete(region);\n\
+\x20   if (number + 1 < changes.length && changes[number + 1].moment === moment) return;\n\
+\x20   const [found] = lines;\n\
+\x20   if (!found) {\n\
+\x20     stretches.push({ moment, place: null });\n\
+\x20     return;\n\
+\x20   }\n\
+\x20   const tile = readTile(found[1].split(\" \"));\n\
+\x20   stretches.push({ moment, place: { region: found[0], tile, address: found[0] * life.sizes.words + tile.offset } });\n\
+\x20 });\n\
+\x20 return stretches;\n\
+});\n\
+\n\
+// Why an object that was in a region is at no place that is told.\n\
+function whyGone(life, region, moment) {\n\
+\x20 if (!tellsObjects(life, region, moment)) return `told no more: the objects of region ${region} aren't in this file from here o\
+n`;\n\
+\x20 for (let other = 0; other < life.sizes.regions; other += 1) {\n\
+\x20   if (!tellsObjects(life, other, moment)) return `gone from region ${region}, or moved to where objects aren't told`;\n\
+\x20 }\n\
+\x20 return `gone: region ${region} was reclaimed`;\n\
+}\n\
+\n\
 // The life of an object: what happened to it, and at which moment.\n\
 function lifeOfName(life, name) {\n\
 \x20 const notes = [];\n\
 \x20 let last = null;\n\
-\x20 for (let moment = 0; moment < life.moments.length; moment += 1) {\n\
-\x20   const place = placesAt(life, moment).get(name) || null;\n\
+\x20 for (const { moment, place } of stretchesOf(life, name)) {\n\
 \x20   const note = (text) => notes.push({ moment, text });\n\
-\x20   if (place && !last) note(`made in region ${place.region}, at ${place.address}, ${place.tile.size} words`);\n\
-\x20   if (place && last && place.address !== last.address) note(`moved from ${last.address} to ${place.address}, in region ${place\
-.region}`);\n\
-\x20   if (place && last && place.tile.progress === \"grey\" && last.tile.progress !== \"grey\") note(\"found by marking: grey\");\
-\n\
-\x20   if (place && last && place.tile.progress === \"scanned\" && last.tile.progress !== \"scanned\") note(\"scanned\");\n\
-\x20   if (place && last && place.tile.part === \"marked\" && last.tile.part !== \"marked\") note(\"marked when marking ended: live\
-\");\n\
-\x20   if (place && last && place.tile.part === \"dead\" && last.tile.part !== \"dead\") note(\"not marked when marking ended: dead\
-\");\n\
-\x20   if (!place && last) note(`gone: region ${last.region} was reclaimed`);\n\
+\x20   const became = (key, value) => place.tile[key] === value && last.tile[key] !== value;\n\
+\x20   const how = notes.length ? \"told again\" : \"made\";\n\
+\x20   if (place && !last) note(`${how} in region ${place.region}, at ${place.address}, ${place.tile.size} words`);\n\
+\x20   if (place && last) {\n\
+\x20     if (place.address !== last.address) note(`moved from ${last.address} to ${place.address}, in region ${place.region}`);\n\
+\x20     if (became(\"progress\", \"grey\")) note(\"found by marking: grey\");\n\
+\x20     if (became(\"progress\", \"scanned\")) note(\"scanned\");\n\
+\x20     if (became(\"part\", \"marked\")) note(\"marked when marking ended: live\");\n\
+\x20     if (became(\"part\", \"dead\")) note(\"not marked when marking ended: dead\");\n\
+\x20   }\n\
+\x20   if (!place && last) note(whyGone(life, last.region, moment));\n\
 \x20   last = place;\n\
 \x20 }\n\
 \x20 return notes;\n\
+}\n\
+\n\
+// The moment nearest to one at which an object is told, or null where there is none.\n\
+function nearestWith(life, name, moment) {\n\
+\x20 let nearest = null;\n\
+\x20 const stretches = stretchesOf(life, name);\n\
+\x20 stretches.forEach(({ moment: from, place }, number) => {\n\
+\x20   if (!place) return;\n\
+\x20   const to = number + 1 < stretches.length ? stretches[number + 1].moment - 1 : life.moments.length - 1;\n\
+\x20   const near = Math.max(from, Math.min(to, moment));\n\
+\x20   if (nearest === null || Math.abs(near - moment) < Math.abs(nearest - moment)) nearest = near;\n\
+\x20 });\n\
+\x20 return nearest;\n\
 }\n";

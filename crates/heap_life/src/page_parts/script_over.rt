@@ -8,14 +8,44 @@ pub(crate) const SCRIPT_OVER: &str = "\
 // What is drawn over the lanes: runs, open buffers, dirty cards, what a step of the collector did, and where pointers and card\
 s lead.\n\
 \n\
-// An arrow from one point to another, bent a little so that arrows both ways don't cover each other.\n\
-function drawArrow(over, from, to, style) {\n\
+// How many arrows of a kind are drawn each by itself; more are bundled, one for each pair of regions.\n\
+const MOST_ARROWS = 24;\n\
+const MOST_BUNDLES = 60;\n\
+\n\
+// An arrow from one point to another, bent a little so that arrows both ways don't cover each other; with a count where it is \
+a bundle.\n\
+function drawArrow(over, from, to, style, count = 1) {\n\
 \x20 const dx = to.x - from.x;\n\
 \x20 const dy = to.y - from.y;\n\
 \x20 const length = Math.hypot(dx, dy) || 1;\n\
 \x20 const bend = Math.min(60, length / 4);\n\
 \x20 const middle = { x: (from.x + to.x) / 2 - (dy / length) * bend, y: (from.y + to.y) / 2 + (dx / length) * bend };\n\
-\x20 shape(\"path\", { class: `arrow ${style}`, d: `M${from.x} ${from.y}Q${middle.x} ${middle.y} ${to.x} ${to.y}` }, over);\n\
+\x20 const arrow = shape(\"path\", { class: `arrow ${style}`, d: `M${from.x} ${from.y}Q${middle.x} ${middle.y} ${to.x} ${to.y}` }, \
+over);\n\
+\x20 if (count < 2) return;\n\
+\x20 arrow.setAttribute(\"style\", `stroke-width:${Math.min(7, 1.8 + Math.log2(count) / 2).toFixed(1)}`);\n\
+\x20 arrow.setAttribute(\"data-count\", count);\n\
+\x20 const at = { x: (from.x + to.x) / 4 + middle.x / 2, y: (from.y + to.y) / 4 + middle.y / 2 + 4 };\n\
+\x20 shape(\"text\", { class: \"bundle\", x: at.x, y: at.y, text: grouped(count) }, over);\n\
+}\n\
+\n\
+// Draws arrows `{ from, to, pair, whole }`: each by itself where they are few, else one for each pair of regions, from `whole.f\
+rom` to\n\
+// `whole.to`, the largest ones. Answers how many aren't drawn.\n\
+function drawArrows(over, arrows, style) {\n\
+\x20 if (arrows.length <= MOST_ARROWS) {\n\
+\x20   for (const { from, to } of arrows) drawArrow(over, from, to, style);\n\
+\x20   return 0;\n\
+\x20 }\n\
+\x20 const bundles = new Map();\n\
+\x20 for (const { pair, whole } of arrows) {\n\
+\x20   const bundle = bundles.get(pair) || { ...whole, count: 0 };\n\
+\x20   bundle.count += 1;\n\
+\x20   bundles.set(pair, bundle);\n\
+\x20 }\n\
+\x20 const largest = [...bundles.values()].sort((a, b) => b.count - a.count);\n\
+\x20 for (const { from, to, count } of largest.slice(0, MOST_BUNDLES)) drawArrow(over, from, to, style, count);\n\
+\x20 return largest.slice(MOST_BUNDLES).reduce((sum, bundle) => sum + bundle.count, 0);\n\
 }\n\
 \n\
 // Joins the lanes of each run by a line below them.\n\
@@ -46,8 +76,8 @@ function drawBuffers(lanes, view) {\n\
 \x20   shape(\"rect\", { class: \"buffer\", x: at.x + 1, y: at.y + 1, width: Math.max(1, width - 2), height: layout.tall - 2 }, lan\
 es.over);\n\
 \x20   if (width > 64 && layout.tall > 20) {\n\
-\x20     shape(\"text\", { class: \"tile-name\", style: \"fill:var(--ink)\", x: at.x + width / 2, y: at.y + layout.tall / 2 + 4, te\
-xt: `buffer ${buffer.mutator}` }, lanes.over);\n\
+\x20     const middle = { x: at.x + width / 2, y: at.y + layout.tall / 2 + 4 };\n\
+\x20     shape(\"text\", { class: \"tile-name framed\", ...middle, text: `buffer ${buffer.mutator}` }, lanes.over);\n\
 \x20   }\n\
 \x20 }\n\
 }\n\
@@ -60,8 +90,8 @@ function drawDirty(lanes, view) {\n\
 \x20 const fresh = new Set(view.fresh || []);\n\
 \x20 const dot = (card, style) => {\n\
 \x20   const at = lanes.pointOfCard(card);\n\
-\x20   const circle = shape(\"circle\", { class: `dirty ${style} ${fresh.has(card) ? \"fresh\" : \"\"}`, cx: at.x, cy: at.y, r: rad\
-ius, \"data-card\": card }, lanes.over);\n\
+\x20   const marks = `dirty ${style} ${fresh.has(card) ? \"fresh\" : \"\"}`;\n\
+\x20   const circle = shape(\"circle\", { class: marks, cx: at.x, cy: at.y, r: radius, \"data-card\": card }, lanes.over);\n\
 \x20   shape(\"title\", { text: `Card ${card} is dirty` }, circle);\n\
 \x20 };\n\
 \x20 moment.queue.forEach((card) => dot(card, \"queued\"));\n\
@@ -87,25 +117,15 @@ function drawGhost(lanes, view, region, style) {\n\
 \x20 shape(\"rect\", { class: style, x: x - 2, y: y - 2, width: layout.wide + 4, height: layout.tall + 4, rx: 4 }, lanes.over);\n\
 }\n\
 \n\
-// The arrows of a pause's copies: an arrow an object where they are few, else an arrow from region to region.\n\
+// The arrows of a pause's copies.\n\
 function drawCopies(lanes, copies) {\n\
-\x20 if (copies.length <= 40) {\n\
-\x20   for (const { from, to } of copies) {\n\
-\x20     drawArrow(\n\
-\x20       lanes.over,\n\
-\x20       lanes.point(from.region, from.tile.offset + from.tile.size / 2, \"middle\"),\n\
-\x20       lanes.point(to.region, to.tile.offset + to.tile.size / 2, \"top\"),\n\
-\x20       \"copy\",\n\
-\x20     );\n\
-\x20   }\n\
-\x20   return;\n\
-\x20 }\n\
-\x20 const pairs = new Set(copies.map(({ from, to }) => `${from.region} ${to.region}`));\n\
-\x20 for (const pair of pairs) {\n\
-\x20   const [from, to] = pair.split(\" \").map(Number);\n\
-\x20   drawArrow(lanes.over, lanes.point(from, lanes.life.sizes.words / 2, \"middle\"), lanes.point(to, lanes.life.sizes.words / 2\
-, \"middle\"), \"copy\");\n\
-\x20 }\n\
+\x20 const middle = lanes.life.sizes.words / 2;\n\
+\x20 drawArrows(lanes.over, copies.map(({ from, to }) => ({\n\
+\x20   from: lanes.point(from.region, from.tile.offset + from.tile.size / 2, \"middle\"),\n\
+\x20   to: lanes.point(to.region, to.tile.offset + to.tile.size / 2, \"top\"),\n\
+\x20   pair: `${from.region} ${to.region}`,\n\
+\x20   whole: { from: lanes.point(from.region, middle, \"middle\"), to: lanes.point(to.region, middle, \"middle\") },\n\
+\x20 })), \"copy\");\n\
 }\n\
 \n\
 // What the collector's step that led to the moment did.\n\
@@ -126,17 +146,21 @@ function drawSet(lanes, view) {\n\
 \x20 if (view.region === null) return;\n\
 \x20 const row = rowAt(lanes.life, view.region, view.moment);\n\
 \x20 const { words, card } = lanes.life.sizes;\n\
-\x20 const into = (from) => {\n\
-\x20   const at = lanes.layout.place(view.region);\n\
-\x20   const to = { x: at.x + Math.min(lanes.layout.wide - 6, Math.max(6, from.x - at.x)), y: from.y > at.y + lanes.layout.tall ? a\
-t.y + lanes.layout.tall : at.y };\n\
-\x20   drawArrow(lanes.over, from, to, \"card\");\n\
+\x20 const at = lanes.layout.place(view.region);\n\
+\x20 const { wide, tall } = lanes.layout;\n\
+\x20 const into = (from) => ({ x: at.x + Math.min(wide - 6, Math.max(6, from.x - at.x)), y: from.y > at.y + tall ? at.y + tall : at\
+.y });\n\
+\x20 const arrow = (from, region) => {\n\
+\x20   const whole = lanes.point(region, words / 2, \"bottom\");\n\
+\x20   return { from, to: into(from), pair: String(region), whole: { from: whole, to: into(whole) } };\n\
 \x20 };\n\
-\x20 const whole = new Set(row.sources);\n\
-\x20 for (const each of row.cards) {\n\
-\x20   if (!whole.has(Math.floor((each * card) / words))) into(lanes.pointOfCard(each));\n\
-\x20 }\n\
-\x20 for (const region of row.sources) into(lanes.point(region, words / 2, \"bottom\"));\n\
+\x20 const sources = new Set(row.sources);\n\
+\x20 const cards = row.cards.map((each) => [each, Math.floor((each * card) / words)]).filter(([, region]) => !sources.has(region));\
+\n\
+\x20 drawArrows(lanes.over, [\n\
+\x20   ...cards.map(([each, region]) => arrow(lanes.pointOfCard(each), region)),\n\
+\x20   ...row.sources.map((region) => arrow(lanes.point(region, words / 2, \"bottom\"), region)),\n\
+\x20 ], \"card\");\n\
 }\n\
 \n\
 // Where the chosen object's pointers and weak slots lead.\n\
@@ -145,18 +169,22 @@ function drawPointers(lanes, view) {\n\
 \x20 const places = placesAt(lanes.life, view.moment);\n\
 \x20 const from = places.get(view.name);\n\
 \x20 if (!from) return;\n\
-\x20 const middle = (place, where) => lanes.point(place.region, place.tile.offset + place.tile.size / 2, where);\n\
+\x20 const { words } = lanes.life.sizes;\n\
+\x20 const middle = (place, where) => lanes.point(place.region, Math.min(words / 2, place.tile.size / 2) + place.tile.offset, where\
+);\n\
 \x20 const lead = (fields, style) => {\n\
-\x20   for (const name of fields.told) {\n\
+\x20   for (const name of new Set(fields.told)) {\n\
 \x20     const to = places.get(name);\n\
-\x20     if (to && to !== from) drawArrow(lanes.over, middle(from, \"middle\"), middle(to, \"top\"), style);\n\
+\x20     const count = fields.told.filter((each) => each === name).length;\n\
+\x20     if (to && to !== from) drawArrow(lanes.over, middle(from, \"middle\"), middle(to, \"top\"), style, count);\n\
 \x20   }\n\
 \x20 };\n\
 \x20 lead(from.tile.pointers, \"\");\n\
 \x20 lead(from.tile.weaks, \"weak\");\n\
 \x20 const at = lanes.point(from.region, from.tile.offset, \"top\");\n\
-\x20 shape(\"rect\", { class: \"arrow\", style: \"marker-end:none\", x: at.x - 1, y: at.y - 1, width: from.tile.size * lanes.layout\
-.perWord + 2, height: lanes.layout.tall + 2 }, lanes.over);\n\
+\x20 const width = Math.min(words, from.tile.size) * lanes.layout.perWord + 2;\n\
+\x20 shape(\"rect\", { class: \"arrow\", style: \"marker-end:none\", x: at.x - 1, y: at.y - 1, width, height: lanes.layout.tall + \
+2 }, lanes.over);\n\
 }\n\
 \n\
 function drawOver(lanes, view) {\n\

@@ -17,20 +17,20 @@ module _ (g : Graph) (h : Heap) (shows : Shows g h) (set : ℕ → Bool) where
   reached_kept a (ByOutside b c o f i) = (closed g h shows).field b f.field c f.object f.at f.is
   reached_kept a (ByInside b c r f i) = (closed g h shows).field b f.field c f.object f.at f.is
 
-  name_at : Option Stored → ℕ
+  pub name_at : Option Stored → ℕ
   name_at None = 0
   name_at (Some x) = x.name
 
-  names_of : List ℕ → List ℕ
+  pub names_of : List ℕ → List ℕ
   names_of [] = []
   names_of (a ∷ rest) = name_at (h.kept a) ∷ names_of rest
 
-  record NamedAt (addresses : List ℕ) (i n : ℕ) : Type 0 where
+  pub record NamedAt (addresses : List ℕ) (i n : ℕ) : Type 0 where
     pub address : ℕ
     pub there : slice_get addresses i ≡ Some address
     pub name : name_at (h.kept address) ≡ n
 
-  names_get : (addresses : List ℕ) (i n : ℕ) → slice_get (names_of addresses) i ≡ Some n → NamedAt addresses i n
+  pub names_get : (addresses : List ℕ) (i n : ℕ) → slice_get (names_of addresses) i ≡ Some n → NamedAt addresses i n
   unfolding names_of
   names_get [] i n e = absurd (let f = e in cc)
   names_get (a ∷ rest) zero n e = record { address = a; there = refl; name = (let same : name_at (h.kept a) ≡ n = cc in same) }
@@ -43,7 +43,7 @@ module _ (g : Graph) (h : Heap) (shows : Shows g h) (set : ℕ → Bool) where
   names_there (b ∷ rest) zero a e = let same : b ≡ a = cc in ap (λ (c : ℕ). Some (name_at (h.kept c))) same
   names_there (b ∷ rest) (suc i) a e = names_there rest i a e
 
-  name_is : (a : ℕ) (x : Stored) → h.kept a ≡ Some x → name_at (h.kept a) ≡ x.name
+  pub name_is : (a : ℕ) (x : Stored) → h.kept a ≡ Some x → name_at (h.kept a) ≡ x.name
   unfolding name_at
   name_is a x e = ap name_at e
 
@@ -60,7 +60,7 @@ module _ (g : Graph) (h : Heap) (shows : Shows g h) (set : ℕ → Bool) where
       let in_heap : stored_words (h.kept a) ≡ tile_size (Object x) = ap stored_words e in
       omega (arith, in_graph, in_heap, count, slots, values)
 
-  words_same : (addresses : List ℕ) → ((i a : ℕ) → slice_get addresses i ≡ Some a → (x : Stored) × (h.kept a ≡ Some x))
+  pub words_same : (addresses : List ℕ) → ((i a : ℕ) → slice_get addresses i ≡ Some a → (x : Stored) × (h.kept a ≡ Some x))
       → words_of g (names_of addresses) ≡ words_at h.kept addresses
   unfolding names_of
   words_same [] kept = refl

@@ -120,6 +120,7 @@ returns-clause-evacuated c =
     let all = final.evacuated h c.args.chosen.now c.args.card_words c.requires.can c.law.ensures c.flag_chosen.new.set
     c.flag_chosen.ensures.flags (c.flag_chosen.ensures.len ∙ c.requires.each_region) c.copy_reached.new.table
     c.copy_reached.new.destinations c.copy_reached.ensures.turn c.release_chosen.new.table c.release_chosen.ensures.table
+    c.release_chosen.ensures.count
     c.release_chosen.new.tams c.release_chosen.new.bitmaps.previous c.release_chosen.new.bitmaps.next c.dirty_noted.new.cards
     c.release_chosen.new.sets c.copy_reached.new.roots.words c.copy_reached.new.noted c.law-2.ensures
     previous next c.release_chosen.ensures.sets c.dirty_noted.ensures.dirty c.dirty_noted.ensures.logs

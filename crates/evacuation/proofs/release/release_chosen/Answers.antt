@@ -1,13 +1,14 @@
 use Rattle.std.proofs.Common.{◌≡◌, ◌≢◌, ◌∙◌, ℕ, sym, ap, subst, arith, ◌<◌, ◌+◌, ◌*◌, ◌/◌, length, take, Some, false, set}
 use Rattle.std.specs.Prelude.{◌||◌, ◌==◌, if◌then◌else◌}
 use Rattle.std.proofs.lemmas.Option.{slice_get-get_or}
-use Rattle.regions.specs.Table.{kind_of}
+use Rattle.regions.specs.Table.{free_count, kind_of}
 use Rattle.regions.specs.declared.row.Kind.TheVariants as kinds
 use Rattle.regions.proofs.Words.Sizes.{EachForwardedIn-imp}
 use Rattle.mark_bitmap.specs.Marks.{is_marked}
 use Rattle.mark_bitmap.specs.Tops.{Tops, is_in_region}
 use Rattle.region_choice.specs.declared.LiveRow.{LiveRow}
 use Rattle.evacuation.specs.Evacuates.{is_chosen}
+use Rattle.object_copy.proofs.Frees.{released_free}
 use Rattle.evacuation.proofs.WholePause.ChosenReleased.{chosen_more, not_before, none_moved, step_released}
 use Rattle.evacuation.proofs.WholePause.ChosenReleased.{step_cleared, step_marks, kind_by, chosen_at}
 use Rattle.evacuation.proofs.release.release_chosen.Goals as goal
@@ -53,6 +54,10 @@ loop-row-preserved c =
     record {
       table = step_released xs ys row.region more c.args.table.now c.loop-row.table c.release_region.new.table z
           (let e = v.table.count in omega arith) o c.release_region.ensures.table v.table;
+      count = (let e = released_free c.loop-row.table row.region (let e = v.table.count in omega arith) o in
+          let f = ap free_count c.release_region.ensures.table in
+          let g = v.count in
+          omega arith);
       unmoved = none_moved c.args.rows.now c.args.table.now.words_per_region c.loop-row.table c.release_region.new.table row.region z
           (let e = v.table.count in omega arith) o c.release_region.ensures.table v.unmoved;
       previous = step_marks xs ys row.region more c.args.table.now.words_per_region c.args.tams.now.previous c.loop-row.tams.previous

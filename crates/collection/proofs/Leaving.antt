@@ -1,0 +1,56 @@
+-- Whether a heap has regions enough, of one configuration and the same.
+use Rattle.std.proofs.Common.{◌≡◌, ◌+◌, ◌⊎◌}
+use Rattle.std.proofs.Common.{ℕ, Bool, true, false, inl, inr, sym, ap, subst, arith}
+use Rattle.std.proofs.lemmas.Bool.{cases_lt}
+use Rattle.heap_words.specs.declared.config.Config.{Config}
+use Rattle.heap_steps.specs.declared.step.Action.{Action}
+use Rattle.heap_steps.specs.declared.step.Op.{Op}
+use Rattle.object_graph.specs.State.{State}
+use Rattle.step_core.specs.Stands.{CoreState, Stands}
+use Rattle.heap_steps.specs.declared.step.Event.{Event}
+use Rattle.collection.specs.Steps.{Collects, LeavesTwo, asked_words, regions_for}
+use Rattle.collection.specs.Rooms.{IsFilled, IsLast, IsSpared}
+use Rattle.collection.proofs.Reached.{packed_at_before, then_cleared}
+use Rattle.collection.proofs.Took.{collected_after, reached}
+
+pub clash : (b : Bool) → b ≡ true → b ≡ false → ⊥
+clash b t f = cc
+
+pub leaves_not : (k l : Config) (a : Action) → k ≡ l → (LeavesTwo k a → ⊥) → LeavesTwo l a → ⊥
+leaves_not k l a e not h = not (subst (λ (x : Config). LeavesTwo x a) (sym e) h)
+
+pub leaves_still : (k l : Config) (a : Action) → k ≡ l → ((LeavesTwo k a → ⊥) → ⊥) → LeavesTwo l a
+leaves_still k l a e not = elim (cases_lt (regions_for k.words (asked_words a) + 2) k.regions) [
+  | inl h ↦ subst (λ (x : Config). LeavesTwo x a) e h
+  | inr h ↦ absurd (not (λ f. absurd (omega (arith, f, h))))
+]
+
+-- what a last part of the work came to, after other steps
+module _ {W : Type 0} (sees : W → Event → W → Type 0) (m : ℕ) (c d : CoreState) (x y : W) (before : Collects sees m c x d y) where
+  pub last_after : (op : Op) (c' : CoreState) → IsSpared c' op ⊎ IsLast d op c' → IsSpared c' op ⊎ IsLast c op c'
+  last_after op c' (inl s) = inl s
+  last_after op c' (inr l) = inr (record {
+    few = leaves_not d.config c.config op.action before.config l.few;
+    collected = λ s stands. collected_after sees m c d c' x y s before stands l.collected;
+  })
+
+  pub leaves_after : (a : Action) → LeavesTwo d.config a → LeavesTwo c.config a
+  leaves_after a h = subst (λ (k : Config). LeavesTwo k a) before.config h
+
+  pub filled_after : (a : Action) (c' : CoreState) (s : State) → Stands s c → ((r : State) → Stands r d → IsFilled r.graph d a c')
+      → IsFilled s.graph c a c'
+  filled_after a c' s stands f =
+      let (mid, there, reach) = reached sees m c d x y s before stands in
+      let w = f mid there in
+      record {
+        collected = record {
+          after = w.collected.after;
+          quiet = w.collected.quiet;
+          reached = then_cleared s.graph mid.graph w.collected.after.graph reach w.collected.reached;
+        };
+        small = λ leaves small two. packed_at_before s.graph mid.graph c' reach
+            (w.small (subst (λ (k : Config). LeavesTwo k a) (sym before.config) leaves)
+            (let e = ap (λ (k : Config). k.words) before.config in omega (arith, e, small)) (before.two two));
+        large = λ leaves large. w.large (subst (λ (k : Config). LeavesTwo k a) (sym before.config) leaves)
+            (let e = ap (λ (k : Config). k.words) before.config in omega (arith, e, large));
+      }

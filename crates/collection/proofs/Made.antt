@@ -1,0 +1,200 @@
+-- How many free regions it takes to make an object.
+use Rattle.std.proofs.Common.{◌≡◌, ◌+◌, ◌-◌, ◌*◌, ◌/◌, ◌%◌, ◌≤◌, ◌∷◌, ◌++◌}
+use Rattle.std.proofs.Common.{ℕ, suc, zero, Bool, true, false, cond, List, [], Option, Some, None, get_or, set, sum_by, take, drop}
+use Rattle.std.proofs.Common.{length, refl, sym, ap, subst, arith}
+use Rattle.std.specs.Prelude.{nat_le, if◌then◌else◌, slice_index_or}
+use Rattle.std.proofs.lemmas.Bool.{le-leb}
+use Rattle.std.proofs.lemmas.List.Sums.{sum_by-cons, sum_by-append, count_by-le-length}
+use Rattle.std.proofs.lemmas.List.{take-append-drop, drop-drop}
+use Rattle.heap_model.specs.Heap.{Stored}
+use Rattle.regions.specs.Tiles.{Tile, Object, Filler}
+use Rattle.regions.specs.Table.{Region, Free, Ordinary, First, Rest, Table, is_free, free_count, first_free, used_of, top_of, remainder}
+use Rattle.regions.specs.Table.{nth_region, region_at}
+use Rattle.regions.specs.Table.{push_tile, replace_tile, region_with_tile, region_replaced, with_regions}
+use Rattle.object_copy.proofs.Frees.{fewer_free}
+use Rattle.alloc_buffers.specs.declared.buffers.Buffer.{Buffer}
+use Rattle.alloc_buffers.specs.Placement.{Buffers, Placement, Room, room_for, fresh_room, in_new_buffer, in_buffer, alone, outside}
+use Rattle.alloc_buffers.specs.Placement.{place_by, place_of, small_place_of, run_place_of, with_filler, made_at}
+
+set_free : (rs : List Region) (k : ℕ) (r : Region) → is_free r ≡ is_free (get_or rs k Free)
+    → sum_by (λ (x : Region). cond (is_free x) 1 0) (set rs k r) ≡ sum_by (λ (x : Region). cond (is_free x) 1 0) rs
+set_free [] k r e = refl
+set_free (x ∷ xs) zero r e =
+    let a = sum_by-cons (λ (x : Region). cond (is_free x) 1 0) r xs in
+    let b = sum_by-cons (λ (x : Region). cond (is_free x) 1 0) x xs in
+    let d = ap {B = ℕ} (λ (q : Bool). cond q 1 0) e in
+    omega (arith, a, b, d)
+set_free (x ∷ xs) (suc k) r e =
+    let a = sum_by-cons (λ (x : Region). cond (is_free x) 1 0) x (set xs k r) in
+    let b = sum_by-cons (λ (x : Region). cond (is_free x) 1 0) x xs in
+    let d = set_free xs k r e in
+    omega (arith, a, b, d)
+
+tile_free : (r : Region) (u : Tile) → is_free (region_with_tile r u) ≡ is_free r
+tile_free Free u = refl
+tile_free (Ordinary ts) u = refl
+tile_free (First s) u = refl
+tile_free (Rest n) u = refl
+
+other_free : (r : Region) (o : ℕ) (us : List Tile) → is_free (region_replaced r o us) ≡ is_free r
+other_free Free o us = refl
+other_free (Ordinary ts) o us = refl
+other_free (First s) o us = refl
+other_free (Rest n) o us = refl
+
+pushed_free : (t : Table) (k : ℕ) (u : Tile) → free_count (push_tile t k u) ≡ free_count t
+unfolding push_tile nth_region
+pushed_free t k u = set_free t.regions k (region_with_tile (get_or t.regions k Free) u) (tile_free (get_or t.regions k Free) u)
+
+replaced_free : (t : Table) (a : ℕ) (us : List Tile) → free_count (replace_tile t a us) ≡ free_count t
+unfolding replace_tile region_at
+replaced_free t a us =
+    set_free t.regions (a / t.words_per_region) (region_replaced (get_or t.regions (a / t.words_per_region) Free)
+    (a % t.words_per_region) us)
+    (other_free (get_or t.regions (a / t.words_per_region) Free) (a % t.words_per_region) us)
+
+filler_free : (t : Table) (k n : ℕ) → free_count (with_filler t k n) ≡ free_count t
+filler_free t k zero = refl
+filler_free t k (suc n) = pushed_free t k (Filler (suc n))
+
+some_is : {A : Type 0} (x y : A) → Some x ≡ Some y → x ≡ y
+some_is x y e = cc
+
+no_some : {A : Type 0} (x : A) → None ≡ Some x → ⊥
+no_some x e = cc
+
+-- one region less at most
+abbrev IsRoom : Table → Option Room → Type 0
+IsRoom t o = (r : Room) → o ≡ Some r → free_count t ≤ free_count r.table + 1
+
+-- one region less at most is free once an object is made in the place
+abbrev pub IsNear : Table → Option Placement → Type 0
+IsNear t o = (x : Placement) → o ≡ Some x → (s : Stored) → free_count t ≤ free_count (made_at x.table x.place s) + 1
+
+if_near : (t : Table) (b : Bool) (x y : Option Placement) → IsNear t x → IsNear t y → IsNear t (if b then x else y)
+if_near t true x y p q = p
+if_near t false x y p q = q
+
+if_room : (t : Table) (b : Bool) (x y : Option Room) → IsRoom t x → IsRoom t y → IsRoom t (if b then x else y)
+if_room t true x y p q = p
+if_room t false x y p q = q
+
+module _ (t : Table) where
+  fresh : (o : Option ℕ) → first_free t ≡ o → IsRoom t (fresh_room t o)
+  fresh None e r f = absurd (no_some r f)
+  fresh (Some k) e r f = subst (λ (q : Room). free_count t ≤ free_count q.table + 1) (some_is _ r f)
+      (let a = fewer_free t k e in omega (arith, a))
+
+  room : (current : Option ℕ) (w : ℕ) → IsRoom t (room_for t current w)
+  room None w = fresh (first_free t) refl
+  room (Some k) w = if_room t (nat_le (used_of t k + w) t.words_per_region) _ _
+      (λ r f. subst (λ (q : Room). free_count t ≤ free_count q.table + 1) (some_is _ r f) (omega arith)) (fresh (first_free t) refl)
+
+  new_near : (b : Buffers) (m size : ℕ) (r : Option Room) → IsRoom t r → IsNear t (in_new_buffer b m size r)
+  new_near b m size None h x f s = absurd (no_some x f)
+  new_near b m size (Some r) h x f s =
+      subst (λ (q : Placement). free_count t ≤ free_count (made_at q.table q.place s) + 1) (some_is _ x f)
+      (let a = h r refl in
+      let d = pushed_free r.table r.region (Filler size) in
+      let e = filler_free (push_tile r.table r.region (Filler size)) r.region (b.words - size) in
+      let g = replaced_free (with_filler (push_tile r.table r.region (Filler size)) r.region (b.words - size))
+      (top_of r.table r.region) (Object s ∷ []) in
+      omega (arith, a, d, e, g))
+
+  alone_near : (b : Buffers) (size : ℕ) (r : Option Room) → IsRoom t r → IsNear t (alone b size r)
+  alone_near b size None h x f s = absurd (no_some x f)
+  alone_near b size (Some r) h x f s =
+      subst (λ (q : Placement). free_count t ≤ free_count (made_at q.table q.place s) + 1) (some_is _ x f)
+      (let a = h r refl in
+      let d = pushed_free r.table r.region (Filler size) in
+      let g = replaced_free (push_tile r.table r.region (Filler size)) (top_of r.table r.region) (Object s ∷ []) in
+      omega (arith, a, d, g))
+
+  outside_near : (b : Buffers) (m size : ℕ) → IsNear t (outside t b m size)
+  outside_near b m size = if_near t (nat_le size b.words) _ _ (new_near b m size (room_for t b.current b.words) (room b.current b.words))
+      (alone_near b size (room_for t b.current size) (room b.current size))
+
+  by_near : (b : Buffers) (m size : ℕ) (o : Option Buffer) → IsNear t (place_by t b m size o)
+  by_near b m size None = outside_near b m size
+  by_near b m size (Some y) = if_near t (nat_le size y.rest) _ _ (λ x f s.
+      subst (λ (q : Placement). free_count t ≤ free_count (made_at q.table q.place s) + 1) (some_is _ x f)
+      (let a = replaced_free t y.next (Filler size ∷ remainder (y.rest - size)) in
+      let g = replaced_free (in_buffer t b m size y).table y.next (Object s ∷ []) in
+      omega (arith, a, g))) (outside_near b m size)
+
+  pub place_near : (b : Buffers) (m size : ℕ) → 2 * size ≤ t.words_per_region → IsNear t (place_of t b m size)
+  place_near b m size small =
+      subst (λ (q : Bool). IsNear t (if q then small_place_of t b m size else run_place_of t b size))
+      (sym (le-leb (2 * size) t.words_per_region small)) (by_near b m size (slice_index_or b.open_buffers m None))
+
+-- ---- no region is taken
+abbrev IsHere : Table → Option Room → Type 0
+IsHere t o = (r : Room) → o ≡ Some r → free_count r.table ≡ free_count t
+
+-- as many regions are free once an object is made in the place
+abbrev pub IsInside : Table → Option Placement → Type 0
+IsInside t o = (x : Placement) → o ≡ Some x → (s : Stored) → free_count (made_at x.table x.place s) ≡ free_count t
+
+-- one region less
+abbrev IsNext : Table → Option Room → Type 0
+IsNext t o = (r : Room) → o ≡ Some r → free_count r.table + 1 ≡ free_count t
+
+abbrev pub IsOutside : Table → Option Placement → Type 0
+IsOutside t o = (x : Placement) → o ≡ Some x → (s : Stored) → free_count (made_at x.table x.place s) + 1 ≡ free_count t
+
+module _ (t : Table) where
+  pub new_as : (b : Buffers) (m size n : ℕ) (o : Option Room) → ((r : Room) → o ≡ Some r → free_count r.table + n ≡ free_count t)
+      → (x : Placement) → in_new_buffer b m size o ≡ Some x → (s : Stored) → free_count (made_at x.table x.place s) + n ≡ free_count t
+  new_as b m size n None h x f s = absurd (no_some x f)
+  new_as b m size n (Some r) h x f s =
+      subst (λ (q : Placement). free_count (made_at q.table q.place s) + n ≡ free_count t) (some_is _ x f)
+      (let a = h r refl in
+      let d = pushed_free r.table r.region (Filler size) in
+      let e = filler_free (push_tile r.table r.region (Filler size)) r.region (b.words - size) in
+      let g = replaced_free (with_filler (push_tile r.table r.region (Filler size)) r.region (b.words - size)) (top_of r.table r.region)
+      (Object s ∷ []) in
+      omega (arith, a, d, e, g))
+
+  pub alone_as : (b : Buffers) (size n : ℕ) (o : Option Room) → ((r : Room) → o ≡ Some r → free_count r.table + n ≡ free_count t)
+      → (x : Placement) → alone b size o ≡ Some x → (s : Stored) → free_count (made_at x.table x.place s) + n ≡ free_count t
+  alone_as b size n None h x f s = absurd (no_some x f)
+  alone_as b size n (Some r) h x f s =
+      subst (λ (q : Placement). free_count (made_at q.table q.place s) + n ≡ free_count t) (some_is _ x f)
+      (let a = h r refl in
+      let d = pushed_free r.table r.region (Filler size) in
+      let g = replaced_free (push_tile r.table r.region (Filler size)) (top_of r.table r.region) (Object s ∷ []) in
+      omega (arith, a, d, g))
+
+  pub next_room : (o : Option ℕ) → first_free t ≡ o → IsNext t (fresh_room t o)
+  next_room None e r f = absurd (no_some r f)
+  next_room (Some k) e r f =
+      subst (λ (q : Room). free_count q.table + 1 ≡ free_count t) (some_is _ r f) (let a = fewer_free t k e in omega (arith, a))
+
+  pub inside_buffer : (b : Buffers) (m size : ℕ) (y : Buffer) (s : Stored)
+      → free_count (made_at (in_buffer t b m size y).table (in_buffer t b m size y).place s) ≡ free_count t
+  inside_buffer b m size y s =
+      let a = replaced_free t y.next (Filler size ∷ remainder (y.rest - size)) in
+      let g = replaced_free (in_buffer t b m size y).table y.next (Object s ∷ []) in
+      omega (arith, a, g)
+
+-- ---- a run
+take_most : (m : ℕ) (rs : List Region) → length (take m rs) ≤ m
+take_most zero rs = omega arith
+take_most (suc m) [] = omega arith
+take_most (suc m) (r ∷ rs) = let h = take_most m rs in omega (arith, h)
+
+-- m regions give way to others: m less are free at most
+pub run_free : (t : Table) (k m : ℕ) (block : List Region) → free_count t ≤ free_count (with_regions t k m block) + m
+run_free t k m block =
+    let bit : Region → ℕ = λ (x : Region). cond (is_free x) 1 0 in
+    let rs = t.regions in
+    let a = sum_by-append bit (take k rs) (block ++ drop (k + m) rs) in
+    let b = sum_by-append bit block (drop (k + m) rs) in
+    let d = ap (sum_by bit) (take-append-drop k rs) in
+    let e = sum_by-append bit (take k rs) (drop k rs) in
+    let f = ap (sum_by bit) (take-append-drop m (drop k rs)) in
+    let g = sum_by-append bit (take m (drop k rs)) (drop m (drop k rs)) in
+    let h = ap (sum_by bit) (drop-drop m k rs) in
+    let i = count_by-le-length is_free (take m (drop k rs)) in
+    let j = take_most m (drop k rs) in
+    omega (arith, a, b, d, e, f, g, h, i, j)

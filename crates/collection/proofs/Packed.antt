@@ -1,0 +1,179 @@
+-- What a pause leaves that frees no region.
+use Rattle.std.proofs.Common.{◌≡◌, ◌+◌, ◌*◌, ◌/◌, ◌<◌, ◌≤◌, ◌∷◌, ◌∙◌, ◌^◌}
+use Rattle.std.proofs.Common.{ℕ, true, false, List, [], Some, length, All, inl, inr, refl, sym, ap, subst, arith}
+use Rattle.std.specs.Prelude.{slice_get}
+use Rattle.std.proofs.lemmas.Bool.{cases_Bool}
+use Rattle.std.proofs.lemmas.Nat.{mul-le}
+use Rattle.std.proofs.lemmas.List.Elements.{All-head, All-take}
+use Rattle.std.proofs.lemmas.List.Sums.{sum_by-cons, count_by-le-length}
+use Rattle.regions.specs.Table.{Table, is_free, kind_of, free_count}
+use Rattle.regions.specs.Shaped.{IsShaped}
+use Rattle.regions.specs.declared.row.Kind.{Kind}
+use Rattle.regions.specs.declared.row.Kind.TheVariants as kinds
+use Rattle.region_choice.specs.declared.LiveRow.{LiveRow}
+use Rattle.region_choice.specs.Choice.{copy_limit, live_sum}
+use Rattle.evacuation.specs.Evacuates.{is_chosen, RegionsAfter}
+use Rattle.evacuation.proofs.WholePause.Asked.{found, get_is}
+use Rattle.heap_model.specs.Graph.{Graph}
+use Rattle.object_graph.specs.State.{State}
+use Rattle.step_core.specs.Stands.{CoreState, IsCore, Stands}
+use Rattle.step_core.specs.Measures.{sum_below}
+use Rattle.step_core.specs.Pause.{HasPaused, IsRowOf}
+use Rattle.collection.specs.Space.{run_one, run_count, ordinary_count, kept_sum, IsQuiet, IsPacked}
+use Rattle.collection.proofs.Sums.{sum_same}
+use Rattle.collection.proofs.Counts.{Taken, two_stay, same_stay, count_all}
+use Rattle.collection.proofs.Bound.{half_kept}
+use Rattle.collection.proofs.Names.{reachable}
+use Rattle.collection.proofs.Paused as paused
+use Rattle.collection.proofs.Runs.{paused_runs}
+
+none_sum : (rows : List LiveRow) → length rows ≡ 0 → live_sum rows ≡ 0
+none_sum [] e = refl
+none_sum (x ∷ xs) e = absurd (omega arith)
+
+one_sum : (words : ℕ) (rows : List LiveRow) → All (λ row. row.live_bound < words) rows → length rows ≡ 1 → live_sum rows < words
+one_sum words [] h e = absurd (omega arith)
+one_sum words (x ∷ []) h e =
+    let a = All-head (λ (row : LiveRow). row.live_bound < words) x [] h in
+    let b = sum_by-cons (λ (row : LiveRow). row.live_bound) x [] in
+    omega (arith, a, b)
+one_sum words (x ∷ y ∷ xs) h e = absurd (omega arith)
+
+limit_le : (words budget frees : ℕ) → copy_limit words budget frees ≤ frees * words / 2
+limit_le words budget frees = omega arith
+
+-- half of the free regions' words is no more than any number of 32 bits
+pub half_small : (t : Table) (budget : ℕ) → IsShaped t → 2 ^ 24 ≤ budget → free_count t * t.words_per_region / 2 ≤ budget
+half_small t budget shape h =
+    let a = count_by-le-length is_free t.regions in
+    let m = mul-le (free_count t) t.words_per_region (length t.regions) t.words_per_region a (omega arith) in
+    let s = shape.in_all in
+    omega (arith, h, m, s)
+
+free_run : run_one kinds.Free ≡ 0
+free_run = refl
+
+module _ (budget n w : ℕ) (c c' : CoreState) (core : IsCore c) (shape : IsShaped c.table) (shape' : IsShaped c'.table)
+    (p : HasPaused budget n w c c') where
+  abbrev t : Table
+  t = c.table
+
+  abbrev t' : Table
+  t' = c'.table
+
+  abbrev words : ℕ
+  words = t.words_per_region
+
+  abbrev chosen : List LiveRow
+  chosen = p.evacuates.chosen
+
+  ready_same : p.ready.table ≡ t
+  ready_same = ap (λ (k : CoreState). k.table) p.is_ready.same
+
+  regions : RegionsAfter chosen t t'
+  regions = subst (λ (u : Table). RegionsAfter chosen u t') ready_same p.evacuates.evacuated.regions
+
+  taken : Taken words (free_count t) (length chosen) p.evacuates.evacuated.spares.taken w (live_sum chosen)
+  taken = record {
+    positive = shape.positive;
+    within = p.evacuates.evacuated.within;
+    limit = (let a = p.evacuates.choice.best.within in let b = limit_le words budget (free_count t) in omega (arith, a, b));
+    empty = none_sum chosen;
+    one = one_sum words chosen below;
+    none = p.evacuates.evacuated.spares.none;
+    full = λ two. (let a = p.evacuates.evacuated.spares.full two in
+        let b = ap (λ (u : Table). p.evacuates.evacuated.spares.taken * u.words_per_region) ready_same in
+        omega (arith, a, b));
+  }
+    where
+      below : All (λ (row : LiveRow). row.live_bound < words) chosen
+      below = subst (λ (rows : List LiveRow). All (λ (row : LiveRow). row.live_bound < words) rows) (sym p.evacuates.choice.front)
+          (All-take (λ (row : LiveRow). row.live_bound < words) (length chosen) p.evacuates.choice.rows (λ i d l.
+          (let a = (p.evacuates.choice.candidates.each i d l).candidate.frees in
+          let b = (p.evacuates.choice.candidates.are_rows.each i d l).bound in
+          omega (arith, a, b))))
+
+  counted : free_count t' + p.evacuates.evacuated.spares.taken ≡ free_count t + length chosen
+  counted = let a = p.evacuates.evacuated.spares.count in let b = ap free_count ready_same in omega (arith, a, b)
+
+  pub two_free : 2 ≤ free_count t → 2 ≤ free_count t'
+  two_free two = two_stay words (free_count t) (free_count t') (length chosen) p.evacuates.evacuated.spares.taken w (live_sum chosen)
+      taken counted two
+
+  ordinary_chosen : (k : ℕ) → is_chosen chosen k ≡ true → kind_of t k ≡ kinds.Ordinary
+  ordinary_chosen k e =
+      let each : All (IsRowOf t c.marker.tams.previous c.marker.bitmaps.previous) chosen =
+      subst (λ (rows : List LiveRow). All (IsRowOf t c.marker.tams.previous c.marker.bitmaps.previous) rows) (sym p.evacuates.choice.front)
+      (All-take (IsRowOf t c.marker.tams.previous c.marker.bitmaps.previous) (length chosen) p.evacuates.choice.rows
+      p.evacuates.choice.candidates.are_rows.each) in
+      let (i, row, at, same) = found chosen k e in
+      let (lt, is) = get_is chosen i row at in
+      let r = each i row lt in
+      subst (λ (j : ℕ). kind_of t j ≡ kinds.Ordinary) (ap (λ (x : LiveRow). x.region) is ∙ same) r.ordinary
+
+  run_each : (k : ℕ) → run_one (kind_of t' k) ≡ run_one (kind_of t k)
+  run_each k = elim (cases_Bool (is_chosen chosen k)) [
+    | inl i ↦ ap run_one (regions.chosen k i) ∙ sym (ap run_one (ordinary_chosen k i))
+    | inr out ↦ by_kind k out (kind_of t k) refl
+  ]
+    where
+      by_kind : (k : ℕ) → is_chosen chosen k ≡ false → (o : Kind) → kind_of t k ≡ o → run_one (kind_of t' k) ≡ run_one (kind_of t k)
+      by_kind k out kinds.Free e = elim (regions.was_free k e) [
+        | inl f ↦ ap run_one f ∙ sym (ap run_one e)
+        | inr o ↦ ap run_one o ∙ sym (ap run_one e)
+      ]
+      by_kind k out kinds.Ordinary e = ap run_one (regions.kinds_same k out (λ f. let q : kinds.Free ≡ kinds.Ordinary = sym f
+          ∙ e in absurd {A = ⊥} cc))
+      by_kind k out kinds.First e = ap run_one (regions.kinds_same k out (λ f. let q : kinds.Free ≡ kinds.First = sym f
+          ∙ e in absurd {A = ⊥} cc))
+      by_kind k out kinds.Rest e = ap run_one (regions.kinds_same k out (λ f. let q : kinds.Free ≡ kinds.Rest = sym f
+          ∙ e in absurd {A = ⊥} cc))
+
+  pub runs_same : run_count t' ≡ run_count t
+  runs_same =
+      sum_same (λ k. run_one (kind_of t' k)) (λ k. run_one (kind_of t k)) (length t'.regions) (λ k h. run_each k)
+      ∙ ap (sum_below (λ k. run_one (kind_of t k))) regions.count
+
+  pub packed : (s : State) → IsQuiet s c → 2 ≤ free_count t → free_count t' ≤ free_count t → free_count t' ≤ 2
+      → free_count t * words / 2 ≤ budget → IsPacked s.graph c'
+  packed s q two gain few enough =
+      let same = same_stay words (free_count t) (free_count t') (length chosen) p.evacuates.evacuated.spares.taken w (live_sum chosen)
+      taken counted two gain few in
+      let a = count_all t in
+      let b = count_all t' in
+      let d = runs_same in
+      let e = regions.count in
+      let ordinary : ordinary_count t' ≡ ordinary_count t = omega (arith, same, a, b, d, e) in
+      record {
+        words = kept_sum c;
+        reachable = reachable c s.graph q.stands.shows.shows q.reached;
+        half = λ some.
+            (let h = half_kept budget n w c c' p q.exact shape.positive two gain enough (omega (arith, some, ordinary)) in
+            let i = ap (λ (m : ℕ). ordinary_count t' * m) regions.size in
+            let j = ap (λ (m : ℕ). m * words) ordinary in
+            omega (arith, h, i, j));
+      }
+
+  pub quiet_stays : (s : State) → Stands s c' → IsQuiet s c → IsQuiet s c'
+  quiet_stays s stands q = record {
+    stands = stands;
+    exact = paused.paused_exact budget n w c c' core shape shape' p q.exact;
+    reached = paused.paused_reached budget n w c c' core shape shape' p q.exact s.graph q.reached;
+    runs = paused_runs budget n w c c' core shape shape' p q.exact q.runs;
+  }
+
+-- where all regions are free there is nothing to be reachable
+pub all_free : (g : Graph) (c : CoreState) → IsCore c → c.config.regions ≤ free_count c.table → IsPacked g c
+all_free g c core all = record {
+  words = 0;
+  reachable = record {
+    names = [];
+    distinct = λ i j n e f. absurd (no_name i n e);
+    each = λ i n e. absurd (no_name i n e);
+    total = refl;
+  };
+  half = λ some. absurd (let a = count_all c.table in let b = core.layers.region_count in omega (arith, a, b, all, some));
+}
+  where
+    no_name : (i n : ℕ) → slice_get (let none : List ℕ = [] in none) i ≡ Some n → ⊥
+    no_name i n e = cc

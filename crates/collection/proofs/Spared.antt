@@ -1,0 +1,129 @@
+-- An object for which there is room beside two free regions, and its step.
+use Rattle.std.proofs.Common.{◌≡◌, ◌*◌, ◌<◌, ◌≤◌, ◌∙◌}
+use Rattle.std.proofs.Common.{ℕ, Bool, Option, Some, None, refl, sym, ap, subst, arith}
+use Rattle.std.specs.Prelude.{if◌then◌else◌}
+use Rattle.std.proofs.lemmas.Bool.{lt-leb}
+use Rattle.heap_model.specs.Graph.{Graph}
+use Rattle.heap_model.specs.Heap.{Stored}
+use Rattle.regions.specs.Table.{first_run, free_count, is_free, run_regions}
+use Rattle.alloc_buffers.specs.declared.placement.Place.TheVariants as places
+use Rattle.alloc_buffers.specs.Placement.{Placement, in_run, made_at, place_of, run_count, run_place_of, small_place_of}
+use Rattle.heap_steps.specs.declared.step.Action.{Action}
+use Rattle.heap_steps.specs.declared.step.Action.TheVariants as actions
+use Rattle.heap_steps.specs.declared.step.Counts.{Counts}
+use Rattle.heap_steps.specs.declared.step.Op.{Op}
+use Rattle.heap_steps.specs.declared.step.Reply.{Reply}
+use Rattle.heap_steps.specs.declared.step.Reply.TheVariants as replies
+use Rattle.object_graph.specs.Run.{IsNew}
+use Rattle.step_core.specs.Stands.{CoreState}
+use Rattle.step_core.specs.Answers.{IsFull}
+use Rattle.step_core.specs.Mutators.{ActsOn, HasActed, core_after, with_made}
+use Rattle.collection.specs.Rooms.{FitsOpen, HasRun, IsSpared}
+use Rattle.collection.specs.Steps.{asked_words}
+use Rattle.collection.proofs.Made.{place_near, run_free}
+use Rattle.collection.proofs.Placed.{place_found}
+
+some_of : {A : Type 0} (o : Option A) → (o ≡ None → ⊥) → (x : A) × (o ≡ Some x)
+some_of None n = absurd (n refl)
+some_of (Some x) n = (x, refl)
+
+none_some : {A : Type 0} (x : A) (o : Option A) → o ≡ Some x → o ≡ None → ⊥
+none_some x o e f = cc
+
+module _ (c : CoreState) where
+  made_two : (p : ℕ) (counts : Counts) (weaks : ℕ) (o : Option Placement) (x : Placement) → o ≡ Some x
+      → ((s : Stored) → 2 ≤ free_count (made_at x.table x.place s)) → 2 ≤ free_count (with_made c p counts weaks o).table
+  made_two p counts weaks o x e h =
+      subst (λ (q : Option Placement). 2 ≤ free_count (with_made c p counts weaks q).table) (sym e) (h _)
+
+  after_two : (m : ℕ) (a : Action) → IsNew a → (x : Placement) → place_of c.table c.buffers m (asked_words a) ≡ Some x
+      → ((s : Stored) → 2 ≤ free_count (made_at x.table x.place s)) → 2 ≤ free_count (core_after c m a).table
+  after_two m (actions.New to counts) new x e h = made_two _ counts 0 _ x e h
+  after_two m (actions.NewWeak to counts weaks) new x e h = made_two _ counts weaks _ x e h
+  after_two m (actions.Get a b d) new x e h = absurd new
+  after_two m (actions.Put a b d) new x e h = absurd new
+  after_two m (actions.Read a b) new x e h = absurd new
+  after_two m (actions.Write a b d) new x e h = absurd new
+  after_two m (actions.Move a b) new x e h = absurd new
+  after_two m (actions.Drop a) new x e h = absurd new
+  after_two m (actions.Load a b) new x e h = absurd new
+  after_two m (actions.Save a b) new x e h = absurd new
+  after_two m (actions.Shape a) new x e h = absurd new
+  after_two m (actions.GetWeak a b d) new x e h = absurd new
+  after_two m (actions.PutWeak a b d) new x e h = absurd new
+  after_two m (actions.Weaks a) new x e h = absurd new
+  after_two m (actions.Scope a) new x e h = absurd new
+
+  by_place : (op : Op) → IsNew op.action → (x : Placement) → place_of c.table c.buffers op.mutator (asked_words op.action) ≡ Some x
+      → (2 ≤ free_count c.table → (s : Stored) → 2 ≤ free_count (made_at x.table x.place s)) → IsSpared c op
+  by_place op new x e h = record {
+    place = none_some x _ e;
+    two = λ two. after_two op.mutator op.action new x e (h two);
+  }
+
+  -- a third region is free
+  pub small_spared : (op : Op) → IsNew op.action → 2 * asked_words op.action ≤ c.table.words_per_region → 2 < free_count c.table
+      → IsSpared c op
+  small_spared op new small more =
+      let (x, e) = some_of (place_of c.table c.buffers op.mutator (asked_words op.action))
+      (place_found c.table (omega arith) c.buffers op.mutator (asked_words op.action) small) in
+      by_place op new x e (λ two s.
+      (let n = place_near c.table c.buffers op.mutator (asked_words op.action) small x e s in omega (arith, n, more)))
+
+  -- it needs no free region
+  pub fits_spared : (op : Op) → IsNew op.action → FitsOpen c op.mutator (asked_words op.action) → IsSpared c op
+  fits_spared op new f = by_place op new f.place f.is (λ two s. (let e = f.free s in omega (arith, e, two)))
+
+  -- it has a run
+  pub run_spared : (op : Op) → IsNew op.action → c.table.words_per_region < 2 * asked_words op.action → HasRun c (asked_words op.action)
+      → IsSpared c op
+  run_spared op new large r =
+      let size = asked_words op.action in
+      let count = run_count c.table.words_per_region size in
+      let (k, e) = some_of (first_run is_free count c.table.regions) r.run in
+      by_place op new (record { place = places.Run k count; table = c.table; buffers = c.buffers })
+      (ap (λ (q : Bool). if q then small_place_of c.table c.buffers op.mutator size else run_place_of c.table c.buffers size)
+      (lt-leb (2 * size) c.table.words_per_region large) ∙ ap (in_run c.table c.buffers count) e)
+      (λ two s.
+      (let f = run_free c.table k count (run_regions c.table.words_per_region s count) in let g = r.two in omega (arith, f, g)))
+
+-- ---- its step
+acted_two : (c d : CoreState) (op : Op) → IsSpared c op → HasActed op.mutator op.action c d → 2 ≤ free_count c.table
+    → 2 ≤ free_count d.table
+acted_two c d op s h two =
+    let e = ap (λ (x : CoreState). free_count x.table) h.core in
+    let f = s.two two in
+    omega (arith, e, f)
+
+pub spared_two : (r : Reply) (c d : CoreState) (op : Op) → IsSpared c op → ActsOn op.mutator op.action r c d
+    → 2 ≤ free_count c.table → 2 ≤ free_count d.table
+spared_two (replies.Refused why) c d op s h two = let e = ap (λ (x : CoreState). free_count x.table) h in omega (arith, e, two)
+spared_two replies.Done c d op s h two = acted_two c d op s h two
+spared_two (replies.Named v) c d op s h two = acted_two c d op s h two
+spared_two (replies.Word v) c d op s h two = acted_two c d op s h two
+spared_two (replies.Shape p v) c d op s h two = acted_two c d op s h two
+spared_two (replies.Marked v) c d op s h two = acted_two c d op s h two
+spared_two (replies.Reclaimed v) c d op s h two = acted_two c d op s h two
+spared_two (replies.Refined v) c d op s h two = acted_two c d op s h two
+spared_two (replies.Moved p v) c d op s h two = acted_two c d op s h two
+
+full_place : (g : Graph) (m : ℕ) (a : Action) (c : CoreState) → IsFull g m a c → place_of c.table c.buffers m (asked_words a) ≡ None
+full_place g m (actions.New to counts) c f = f.1
+full_place g m (actions.NewWeak to counts weaks) c f = f.1
+full_place g m (actions.Get a b d) c f = absurd f
+full_place g m (actions.Put a b d) c f = absurd f
+full_place g m (actions.Read a b) c f = absurd f
+full_place g m (actions.Write a b d) c f = absurd f
+full_place g m (actions.Move a b) c f = absurd f
+full_place g m (actions.Drop a) c f = absurd f
+full_place g m (actions.Load a b) c f = absurd f
+full_place g m (actions.Save a b) c f = absurd f
+full_place g m (actions.Shape a) c f = absurd f
+full_place g m (actions.GetWeak a b d) c f = absurd f
+full_place g m (actions.PutWeak a b d) c f = absurd f
+full_place g m (actions.Weaks a) c f = absurd f
+full_place g m (actions.Scope a) c f = absurd f
+
+-- it isn't refused as Full
+pub spared_made : (g : Graph) (c : CoreState) (op : Op) → IsSpared c op → IsFull g op.mutator op.action c → ⊥
+spared_made g c op s f = s.place (full_place g op.mutator op.action c f)

@@ -1,0 +1,168 @@
+-- Steps of the collector, one after another.
+use Rattle.std.proofs.Common.{◌≡◌, ◌+◌, ◌≤◌, ◌∷◌, ◌++◌, ◌∙◌}
+use Rattle.std.proofs.Common.{ℕ, List, [], All, refl, sym, subst, arith}
+use Rattle.std.proofs.lemmas.List.{length-append}
+use Rattle.std.proofs.lemmas.List.Elements.{All-append, All-nil, All-cons, All-head, All-tail}
+use Rattle.cards.specs.Cards.{ListsDirtyOnce}
+use Rattle.regions.specs.Table.{free_count}
+use Rattle.heap_steps.specs.declared.step.Actor.TheVariants as actors
+use Rattle.heap_steps.specs.declared.step.CollectorStep.{CollectorStep}
+use Rattle.heap_steps.specs.declared.step.CollectorStep.TheVariants as collector
+use Rattle.heap_steps.specs.declared.step.Event.{Event}
+use Rattle.heap_steps.specs.declared.step.Reply.{Reply}
+use Rattle.heap_steps.specs.declared.step.Reply.TheVariants as replies
+use Rattle.heap_steps.specs.declared.step.Refusal.TheVariants as refusals
+use Rattle.heap_steps.specs.declared.step.Step.{Step}
+use Rattle.heap_steps.specs.declared.step.Step.TheVariants as steps
+use Rattle.std.specs.Prelude.{◌↔◌}
+use Rattle.object_graph.specs.State.{State}
+use Rattle.object_graph.specs.Run as run
+use Rattle.object_graph.specs.Run.{Happens}
+use Rattle.step_core.specs.Stands.{CoreState, IsCore, IsWhole, Stands}
+use Rattle.step_core.specs.Answers.{Follows, IsFullStep}
+use Rattle.step_core.specs.Cycle.{Does}
+use Rattle.step_core.specs.Histories.{IsHistory, Passes, Runs}
+use Rattle.collection.specs.Space.{HasReached, IsCollected}
+use Rattle.collection.specs.Steps.{Collects, IsCollectors, Sees}
+use Rattle.collection.proofs.Reached.{by_reached, none_cleared, then_cleared}
+
+-- ---- one step
+pub passes : (s : State) (e : Event) (c c' : CoreState) → Follows s e.step e.reply c' → Does e.step e.reply c c'
+    → (e.reply ≡ replies.Refused refusals.Full) ↔ IsFullStep s.graph e.step c → IsCore c' → ListsDirtyOnce c'.cards
+    → ((r : State) → Stands r c' → IsWhole r.graph c') → Passes s c e c'
+passes s e c c' follows does full core listed whole = record {
+  follows = follows;
+  does = does;
+  full = full;
+  core = core;
+  listed = listed;
+  whole = whole follows.after follows.stands;
+}
+
+-- ---- histories
+pub history_then : (s mid last : State) (c d c' : CoreState) (es fs : List Event) → IsHistory s c es mid d → IsHistory mid d fs last c'
+    → IsHistory s c (es ++ fs) last c'
+history_then s mid last c d c' [] fs h k =
+    subst (λ (x : State). IsHistory x c fs last c') h.0 (subst (λ (x : CoreState). IsHistory mid x fs last c') h.1 k)
+history_then s mid last c d c' (e ∷ es) fs h k = (h.0, h.1, history_then h.1.follows.after mid last h.0 d c' es fs h.2 k)
+
+-- what a step of the collector leaves reachable was reachable before it
+step_reached : (s after : State) (k : CollectorStep) (r : Reply) → Happens s (steps.Collector k) r after → HasReached s.graph after.graph
+step_reached s after k r h = go k r h.1
+  where
+    same : after ≡ s → HasReached s.graph after.graph
+    same e = subst (λ (x : State). HasReached s.graph x.graph) (sym e) (none_cleared s.graph)
+
+    go : (k : CollectorStep) (r : Reply) → run.Collects s k r after → HasReached s.graph after.graph
+    go collector.Begin replies.Done h = subst (λ (x : State). HasReached s.graph x.graph) (sym h) (none_cleared s.graph)
+    go collector.Begin (replies.Named v) h = same h
+    go collector.Begin (replies.Word v) h = same h
+    go collector.Begin (replies.Shape p v) h = same h
+    go collector.Begin (replies.Marked v) h = same h
+    go collector.Begin (replies.Reclaimed v) h = same h
+    go collector.Begin (replies.Refined v) h = same h
+    go collector.Begin (replies.Moved p v) h = same h
+    go collector.Begin (replies.Refused q) h = same h
+    go collector.Remark replies.Done h = same h
+    go collector.Remark (replies.Named v) h = same h
+    go collector.Remark (replies.Word v) h = same h
+    go collector.Remark (replies.Shape p v) h = same h
+    go collector.Remark (replies.Marked v) h = by_reached s.snapshot s.graph after.graph h.1
+    go collector.Remark (replies.Reclaimed v) h = same h
+    go collector.Remark (replies.Refined v) h = same h
+    go collector.Remark (replies.Moved p v) h = same h
+    go collector.Remark (replies.Refused q) h = same h
+    go (collector.Mark n) r h = same h
+    go collector.Cleanup r h = same h
+    go (collector.Refine n) r h = same h
+    go (collector.Pause n) r h = same h
+
+pub history_reached : (s last : State) (c c' : CoreState) (es : List Event) → All IsCollectors es → IsHistory s c es last c'
+    → HasReached s.graph last.graph
+history_reached s last c c' [] all h = subst (λ (x : State). HasReached s.graph x.graph) (sym h.0) (none_cleared s.graph)
+history_reached s last c c' (e ∷ es) all h =
+    let first = All-head IsCollectors e es all in
+    let after = h.1.follows.after in
+    then_cleared s.graph after.graph last.graph
+    (step_reached s after first.step e.reply (subst (λ (x : Step). Happens s x e.reply after) first.is h.1.follows.happens))
+    (history_reached after last h.0 c' es (All-tail IsCollectors e es all) h.2)
+
+pub one_history : (s : State) (e : Event) (c c' : CoreState) → Passes s c e c' → Runs s c (e ∷ []) c'
+one_history s e c c' p = record { last = p.follows.after; stands = p.follows.stands; history = (c', p, (refl, refl)) }
+
+-- ---- what a watch sees
+module _ {W : Type 0} (sees : W → Event → W → Type 0) where
+  sees_then : (x y z : W) (es fs : List Event) → Sees sees x es y → Sees sees y fs z → Sees sees x (es ++ fs) z
+  sees_then x y z [] fs h k = subst (λ (v : W). Sees sees v fs z) h k
+  sees_then x y z (e ∷ es) fs h k = (h.0, h.1, sees_then h.0 y z es fs h.2 k)
+
+  pub none : (c : CoreState) (x : W) → Collects sees 0 c x c x
+  none c x = record {
+    events = [];
+    few = omega arith;
+    collectors = All-nil IsCollectors;
+    seen = refl;
+    history = λ s stands. record { last = s; stands = stands; history = (refl, refl) };
+    two = λ h. h;
+    config = refl;
+    next = refl;
+  }
+
+  pub one : (c c' : CoreState) (x x' : W) (e : Event) (k : CollectorStep) → e.step ≡ steps.Collector k → e.actor ≡ actors.Collector
+      → sees x e x' → ((s : State) → Stands s c → Passes s c e c') → (2 ≤ free_count c.table → 2 ≤ free_count c'.table)
+      → c'.config ≡ c.config → c'.next ≡ c.next → Collects sees 1 c x c' x'
+  one c c' x x' e k is actor seen passes two config next = record {
+    events = e ∷ [];
+    few = omega arith;
+    collectors = All-cons IsCollectors e [] (record { step = k; is = is; actor = actor }) (All-nil IsCollectors);
+    seen = (x', seen, refl);
+    history = λ s stands. one_history s e c c' (passes s stands);
+    two = two;
+    config = config;
+    next = next;
+  }
+
+  pub more : (m n : ℕ) (c c' : CoreState) (x x' : W) → m ≤ n → Collects sees m c x c' x' → Collects sees n c x c' x'
+  more m n c c' x x' h a = record {
+    events = a.events;
+    few = let few = a.few in omega (arith, few, h);
+    collectors = a.collectors;
+    seen = a.seen;
+    history = a.history;
+    two = a.two;
+    config = a.config;
+    next = a.next;
+  }
+
+  pub chain : (m n o : ℕ) (c d c' : CoreState) (x y x' : W) → m + n ≤ o → Collects sees m c x d y → Collects sees n d y c' x'
+      → Collects sees o c x c' x'
+  chain m n o c d c' x y x' h a b = record {
+    events = a.events ++ b.events;
+    few = let p = a.few in let q = b.few in let e = length-append a.events b.events in omega (arith, p, q, e, h);
+    collectors = All-append IsCollectors a.events b.events a.collectors b.collectors;
+    seen = sees_then x y x' a.events b.events a.seen b.seen;
+    history = λ s stands. joined s (a.history s stands);
+    two = λ h. b.two (a.two h);
+    config = b.config ∙ a.config;
+    next = b.next ∙ a.next;
+  }
+    where
+      joined : (s : State) → Runs s c a.events d → Runs s c (a.events ++ b.events) c'
+      joined s r =
+          let t = b.history r.last r.stands in
+          record { last = t.last; stands = t.stands; history = history_then s r.last t.last c d c' a.events b.events r.history t.history }
+
+  -- the state after the steps, and what was reachable before them
+  pub reached : (m : ℕ) (c c' : CoreState) (x x' : W) (s : State) → Collects sees m c x c' x' → Stands s c
+      → (after : State) × Stands after c' × HasReached s.graph after.graph
+  reached m c c' x x' s a stands =
+      let r = a.history s stands in
+      (r.last, r.stands, history_reached s r.last c c' a.events a.collectors r.history)
+
+  -- a whole collection after other steps
+  pub collected_after : (m : ℕ) (c c' d : CoreState) (x x' : W) (s : State) → Collects sees m c x c' x' → Stands s c
+      → ((r : State) → Stands r c' → IsCollected r.graph d) → IsCollected s.graph d
+  collected_after m c c' d x x' s a stands f =
+      let (mid, there, before) = reached m c c' x x' s a stands in
+      let w = f mid there in
+      record { after = w.after; quiet = w.quiet; reached = then_cleared s.graph mid.graph w.after.graph before w.reached }

@@ -1,0 +1,8 @@
+use Rattle.std.proofs.Common.{arith}
+use Rattle.collection.proofs.Took.{chain}
+use Rattle.collection.proofs.cycle.begin_cycle.Goals as goal
+
+pub returns-then-free-policy-2 : goal.returns-then-free-policy-2
+returns-then-free-policy-2 g c =
+    chain g.W.Watch.sees 1 2 3 c.args.core.now c.take.new.core c.end_cycle.new.core c.args.watch.now c.take.new.watch c.end_cycle.new.watch
+    (omega arith) c.take.ensures.collects c.end_cycle.ensures

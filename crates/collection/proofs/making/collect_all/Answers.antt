@@ -1,0 +1,76 @@
+use Rattle.std.proofs.Common.{◌≡◌, ◌≢◌, ◌*◌, ◌≤◌, ◌∙◌, Option, Some, None, ℕ, inl, inr, refl, sym, ap, subst, arith}
+use Rattle.heap_model.specs.Heap.{Stored}
+use Rattle.heap_words.specs.declared.config.Config.{Config}
+use Rattle.heap_steps.specs.Actors.{IsOp}
+use Rattle.regions.specs.Table.{free_count}
+use Rattle.step_core.specs.Stands.{kept_of}
+use Rattle.collection.specs.Space.{IsPackedAt}
+use Rattle.collection.specs.Steps.{asked_words}
+use Rattle.collection.specs.Rooms.{HasRun}
+use Rattle.collection.proofs.Counts.{count_all}
+use Rattle.collection.proofs.Leaving.{clash, leaves_not, leaves_still}
+use Rattle.collection.proofs.Took.{more}
+use Rattle.collection.proofs.making.collect_all.Goals as goal
+
+some_kept : (o : Option Stored) → o ≢ None → (x : Stored) × (o ≡ Some x)
+some_kept None n = absurd (n refl)
+some_kept (Some x) n = (x, refl)
+
+pub is_spared-requires-clause-op : goal.is_spared-requires-clause-op
+is_spared-requires-clause-op g c = subst (λ (x : Config). IsOp x c.args.op.now) (sym c.collect.ensures.collects.config) c.requires.op
+
+pub is_spared-requires-clause-within : goal.is_spared-requires-clause-within
+is_spared-requires-clause-within g c =
+    subst (λ (x : Config). c.args.size ≤ x.regions * x.words) (sym c.collect.ensures.collects.config) c.requires.within
+
+pub returns-then-is_spared-clause-collects : goal.returns-then-is_spared-clause-collects
+returns-then-is_spared-clause-collects g c =
+    more g.W.Watch.sees _ _ c.args.core.now c.collect.new.core c.args.watch.now c.collect.new.watch (omega arith) c.collect.ensures.collects
+
+pub returns-clause-collects : goal.returns-clause-collects
+returns-clause-collects g c =
+    more g.W.Watch.sees _ _ c.args.core.now c.collect.new.core c.args.watch.now c.collect.new.watch (omega arith) c.collect.ensures.collects
+
+pub returns-then-is_spared-clause-room : goal.returns-then-is_spared-clause-room
+returns-then-is_spared-clause-room g c e = inl (c.is_spared.ensures.spared c.if-is_spared.true)
+
+pub returns-clause-room : goal.returns-clause-room
+returns-clause-room g c e = inr (record {
+  few = leaves_not c.config-2.result c.args.core.now.config c.args.op.now.action
+      (c.config-2.ensures.config ∙ c.collect.ensures.collects.config) (c.is_last_resort.ensures.0 e);
+  collected = c.collect.ensures.quiet;
+})
+
+pub returns-clause-leaves : goal.returns-clause-leaves
+returns-clause-leaves g c e =
+    leaves_still c.config-2.result c.args.core.now.config c.args.op.now.action
+    (c.config-2.ensures.config ∙ c.collect.ensures.collects.config)
+    (λ not. clash c.is_last_resort.result (c.is_last_resort.ensures.1 not) e)
+
+pub returns-clause-filled : goal.returns-clause-filled
+returns-clause-filled g c e s stands = record {
+  collected = c.collect.ensures.quiet s stands;
+  small = λ leaves small two. packed small two;
+  large = λ leaves large run. c.is_spared.ensures.large c.if-is_spared.false
+      (let f = ap (λ (x : Config). x.words) c.collect.ensures.collects.config in let h = c.requires.size in omega (arith, f, h, large))
+      (subst (λ (n : ℕ). HasRun c.collect.new.core n) (sym c.requires.size) run);
+}
+  where
+    packed : 2 * asked_words c.args.op.now.action ≤ c.args.core.now.config.words → 2 ≤ free_count c.args.core.now.table
+        → IsPackedAt s.graph c.collect.new.core
+    packed small two =
+        let f = ap (λ (x : Config). x.words) c.collect.ensures.collects.config in
+        let h = c.requires.size in
+        let few = c.is_spared.ensures.small c.if-is_spared.false (omega (arith, f, h, small)) in
+        let d = c.collect.ensures.collects.two two in
+        let i = count_all c.collect.new.core.table in
+        let j = c.remembers.ensures.core.layers.region_count in
+        let w = c.collect.ensures.quiet s stands in
+        record {
+          packed = c.collect.ensures.packed s stands two few;
+          free = omega (arith, few, d);
+          regions = omega (arith, few, d, i, j);
+          runs = λ k e. (let (x, is) = some_kept (kept_of c.collect.new.core (k * c.collect.new.core.table.words_per_region))
+              (w.quiet.runs k e) in
+              (x, is, w.reached.back x.name (w.quiet.reached (k * c.collect.new.core.table.words_per_region) x is)));
+        }

@@ -1,0 +1,28 @@
+use Rattle.std.proofs.Common.{ap, subst, arith, ℕ}
+use Rattle.heap_words.specs.declared.config.Config.{Config}
+use Rattle.collection.specs.Rooms.{HasRun}
+use Rattle.collection.proofs.Spared.{small_spared, run_spared}
+use Rattle.collection.proofs.room.is_spared.Goals as goal
+
+pub returns-then-free_regions-gt2-clause-spared : goal.returns-then-free_regions-gt2-clause-spared
+returns-then-free_regions-gt2-clause-spared c e =
+    let a = c.if-from.true in
+    let b = c.from.ensures in
+    let d = c.from-2.ensures in
+    let f = ap (λ (x : Config). x.words) c.config.ensures.config in
+    let h = c.remembers.ensures.core.layers.region_size in
+    let i = c.requires.size in
+    let j = c.if-free_regions-gt2.true in
+    let k = c.free_regions.ensures in
+    small_spared c.args.core.now c.args.op.now c.requires.new (omega (arith, a, b, d, f, h, i)) (omega (arith, j, k))
+
+pub returns-else-from-clause-spared : goal.returns-else-from-clause-spared
+returns-else-from-clause-spared c e =
+    let a = c.if-from.false in
+    let b = c.from.ensures in
+    let d = c.from-2.ensures in
+    let f = ap (λ (x : Config). x.words) c.config.ensures.config in
+    let h = c.remembers.ensures.core.layers.region_size in
+    let i = c.requires.size in
+    run_spared c.args.core.now c.args.op.now c.requires.new (omega (arith, a, b, d, f, h, i))
+    (subst (λ (n : ℕ). HasRun c.args.core.now n) c.requires.size (c.has_run.ensures.0 e))

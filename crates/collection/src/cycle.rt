@@ -1,0 +1,131 @@
+//! What is due at a look: steps that go on with a cycle of marking, or evacuate some regions. How many at most is proved, and what any
+//! steps of the collector do; which they are is the policy's choice.
+
+ghost use Rattle.std.specs.Prelude.{◌+◌, ◌-◌};
+ghost use Rattle.regions.specs.Table.{free_count};
+ghost use Rattle.collection.specs.Steps.{Collects};
+
+use crate::numbers::{Policy, copied_words};
+use crate::steps::{Watch, take};
+use crate::whole::pause_all;
+use heap_steps::CollectorStep;
+use step_core::Core;
+
+/// Evacuates new regions, of which most objects are dead by now, where a part of the free regions was filled since the last time.
+fn pause_young<W: Watch>(core: &mut Core, policy: &mut Policy, watch: &mut W)
+    ensures { Collects W.sees 1 core.old watch.old core.new watch.new }
+{
+    let before = core.free_regions();
+    if policy.young == 0 && before > policy.young_at {
+        return;
+    }
+    let config = core.config();
+    let budget = policy.pause_words;
+    let reply = take(core, policy, CollectorStep::Pause(budget), watch);
+    policy.note_young(&config, before, core.free_regions(), copied_words(reply));
+}
+
+/// Ends a cycle: remark and cleanup. Evacuation is due then.
+fn end_cycle<W: Watch>(core: &mut Core, policy: &mut Policy, watch: &mut W)
+    ensures { Collects W.sees 2 core.old watch.old core.new watch.new }
+{
+    take(core, policy, CollectorStep::Remark, watch);
+    take(core, policy, CollectorStep::Cleanup, watch);
+    policy.plan_evacuation(&core.config(), core.live_words());
+}
+
+/// Marks, and ends the cycle where nothing is grey, or few regions are free.
+fn mark_on<W: Watch>(core: &mut Core, policy: &mut Policy, watch: &mut W)
+    ensures { Collects W.sees 3 core.old watch.old core.new watch.new }
+{
+    let objects = policy.pace.min(policy.mark_objects);
+    take(core, policy, CollectorStep::Mark(objects), watch);
+    if core.free_regions() <= policy.reserve || !core.grey() {
+        end_cycle(core, policy, watch);
+    }
+}
+
+/// Evacuates some of the regions in which little is live.
+fn evacuate<W: Watch>(core: &mut Core, policy: &mut Policy, watch: &mut W)
+    ensures { Collects W.sees 1 core.old watch.old core.new watch.new }
+{
+    let config = core.config();
+    let before = core.free_regions();
+    let budget = policy.evacuation_budget(&config, before, core.live_words());
+    let reply = take(core, policy, CollectorStep::Pause(budget), watch);
+    let after = core.free_regions();
+    if !policy.pays(&config, before, after, copied_words(reply)) {
+        policy.plan_cycle(&config, after);
+    }
+}
+
+/// Begins a cycle where few regions are free, or as many words were asked for as the heap has.
+fn begin_cycle<W: Watch>(core: &mut Core, policy: &mut Policy, watch: &mut W)
+    ensures { Collects W.sees 3 core.old watch.old core.new watch.new }
+{
+    let config = core.config();
+    let free = core.free_regions();
+    let all = u64::from(config.regions) * u64::from(config.words);
+    if free > policy.begin_at && policy.asked < all {
+        return;
+    }
+    let objects = if policy.cycles == 0 {
+        core.used_words() / 4
+    } else {
+        policy.marked
+    };
+    policy.plan_marking(free, objects);
+    take(core, policy, CollectorStep::Begin, watch);
+    if free <= policy.reserve {
+        end_cycle(core, policy, watch);
+    }
+}
+
+/// Goes on with a cycle, or with the evacuation after one, or begins one where it is due.
+fn cycle_on<W: Watch>(core: &mut Core, policy: &mut Policy, watch: &mut W)
+    ensures { Collects W.sees 3 core.old watch.old core.new watch.new }
+{
+    if core.marking() {
+        mark_on(core, policy, watch);
+    } else if policy.wanted != 0 {
+        evacuate(core, policy, watch);
+    } else {
+        begin_cycle(core, policy, watch);
+    }
+}
+
+/// Takes the steps that are due at a look.
+pub(crate) fn collect_due<W: Watch>(core: &mut Core, policy: &mut Policy, watch: &mut W)
+    ensures { Collects W.sees 4 core.old watch.old core.new watch.new }
+{
+    pause_young(core, policy, watch);
+    cycle_on(core, policy, watch);
+}
+
+/// Ends a cycle, if one runs.
+fn end_running<W: Watch>(core: &mut Core, policy: &mut Policy, watch: &mut W)
+    ensures { Collects W.sees 2 core.old watch.old core.new watch.new }
+{
+    if core.marking() {
+        end_cycle(core, policy, watch);
+    }
+}
+
+/// Does all pauses that are left after a cycle.
+fn evacuate_all<W: Watch>(core: &mut Core, policy: &mut Policy, watch: &mut W)
+    ensures { Collects W.sees core.old.config.regions core.old watch.old core.new watch.new }
+{
+    if policy.wanted == 0 {
+        return;
+    }
+    pause_all(core, policy, watch);
+    policy.plan_cycle(&core.config(), core.free_regions());
+}
+
+/// Brings a cycle to its end, if one runs, and what is left of the evacuation after it.
+pub(crate) fn finish_cycle<W: Watch>(core: &mut Core, policy: &mut Policy, watch: &mut W)
+    ensures { Collects W.sees (2 + core.old.config.regions) core.old watch.old core.new watch.new }
+{
+    end_running(core, policy, watch);
+    evacuate_all(core, policy, watch);
+}

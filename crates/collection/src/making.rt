@@ -1,0 +1,168 @@
+//! An object that is asked for, with the steps of the collector that are due before it.
+
+ghost use Rattle.std.specs.Prelude.{◌≡◌, ◌⊎◌, ◌+◌, ◌*◌, ◌≤◌, true, false, ℕ};
+ghost use Rattle.regions.specs.Table.{free_count};
+ghost use Rattle.object_graph.specs.State.{State};
+ghost use Rattle.object_graph.specs.Run.{IsNew};
+ghost use Rattle.step_core.specs.Stands.{Stands};
+ghost use Rattle.heap_steps.specs.Actors.{IsOp};
+ghost use Rattle.heap_steps.specs.declared.step.Reply.TheVariants as replies;
+ghost use Rattle.heap_steps.specs.declared.step.Refusal.TheVariants as refusals;
+ghost use Rattle.collection.specs.Steps.{Collects, LeavesTwo, Makes, asked_words};
+ghost use Rattle.collection.specs.Rooms.{IsCreatable, IsFilled, IsLast, IsSpared};
+
+use crate::cycle::{collect_due, finish_cycle};
+use crate::numbers::Policy;
+use crate::room::{has_spare, is_creatable, is_last_resort, is_spared, words_of};
+use crate::steps::{Watch, take_own};
+use crate::whole::collect;
+use heap_steps::{Op, Refusal, Reply};
+use step_core::Core;
+
+/// Takes what is due, if a look is.
+fn look<W: Watch>(core: &mut Core, policy: &mut Policy, size: u32, due: bool, watch: &mut W)
+    ensures { Collects W.sees 4 core.old watch.old core.new watch.new }
+{
+    if due {
+        policy.look_on(&core.config(), u64::from(size));
+        collect_due(core, policy, watch);
+    }
+}
+
+/// A whole collection. Answers whether the object may be made after it: there is room beside two free regions, or the heap has too few
+/// regions to leave two.
+fn collect_all<W: Watch>(
+    core: &mut Core,
+    policy: &mut Policy,
+    op: &Op,
+    size: u32,
+    watch: &mut W,
+) -> bool
+    requires op { IsOp core.old.config op.now }
+    requires new { IsNew op.now.action }
+    requires size { size ≡ asked_words op.now.action }
+    requires within { size ≤ core.old.config.regions * core.old.config.words }
+    ensures collects { Collects W.sees (4 + core.old.config.regions) core.old watch.old core.new watch.new }
+    ensures room { result ≡ true → IsSpared core.new op.now ⊎ IsLast core.old op.now core.new }
+    ensures leaves { result ≡ false → LeavesTwo core.old.config op.now.action }
+    ensures filled { result ≡ false → (s : State) → Stands s core.old → IsFilled s.graph core.old op.now.action core.new }
+{
+    collect(core, policy, watch);
+    policy.plan_cycle(&core.config(), core.free_regions());
+    core.remembers();
+    core.shaped();
+    if is_spared(core, op, size) {
+        return true;
+    }
+    is_last_resort(&core.config(), &op.action, size)
+}
+
+/// Takes what is due, and if need be brings the cycle to its end, or does a whole collection, until there is room for the object. Answers
+/// whether it may be made.
+fn make_room<W: Watch>(
+    core: &mut Core,
+    policy: &mut Policy,
+    op: &Op,
+    size: u32,
+    due: bool,
+    watch: &mut W,
+) -> bool
+    requires op { IsOp core.old.config op.now }
+    requires new { IsNew op.now.action }
+    requires size { size ≡ asked_words op.now.action }
+    requires within { size ≤ core.old.config.regions * core.old.config.words }
+    ensures collects { Collects W.sees (2 * core.old.config.regions + 10) core.old watch.old core.new watch.new }
+    ensures room { result ≡ true → IsSpared core.new op.now ⊎ IsLast core.old op.now core.new }
+    ensures leaves { result ≡ false → LeavesTwo core.old.config op.now.action }
+    ensures filled { result ≡ false → (s : State) → Stands s core.old → IsFilled s.graph core.old op.now.action core.new }
+{
+    look(core, policy, size, due, watch);
+    if is_spared(core, op, size) {
+        return true;
+    }
+    finish_cycle(core, policy, watch);
+    if is_spared(core, op, size) {
+        return true;
+    }
+    collect_all(core, policy, op, size, watch)
+}
+
+/// Makes an object that the graph would create, where something has to be looked at before.
+fn make_creatable<W: Watch>(
+    core: &mut Core,
+    policy: &mut Policy,
+    op: Op,
+    size: u32,
+    due: bool,
+    watch: &mut W,
+) -> Reply
+    requires op { IsOp core.old.config op }
+    requires new { IsNew op.action }
+    requires size { size ≡ asked_words op.action }
+    requires creatable { IsCreatable core.old op.action }
+    ensures makes { Makes W.sees (2 * core.old.config.regions + 10) op result core.old watch.old core.new watch.new }
+    ensures full { result ≡ replies.Refused refusals.Full → (s : State) → Stands s core.old
+        → IsFilled s.graph core.old op.action core.new }
+    ensures two { LeavesTwo core.old.config op.action → 2 ≤ free_count core.old.table → 2 ≤ free_count core.new.table }
+    ensures config { core.new.config ≡ core.old.config }
+{
+    if !make_room(core, policy, &op, size, due, watch) {
+        return Reply::Refused(Refusal::Full);
+    }
+    take_own(core, op, watch)
+}
+
+/// Makes an object where something has to be looked at before.
+#[inline(never)]
+fn make_looking<W: Watch>(
+    core: &mut Core,
+    policy: &mut Policy,
+    op: Op,
+    size: u64,
+    due: bool,
+    watch: &mut W,
+) -> Reply
+    requires op { IsOp core.old.config op }
+    requires new { IsNew op.action }
+    requires size { size ≡ asked_words op.action }
+    ensures makes { Makes W.sees (2 * core.old.config.regions + 10) op result core.old watch.old core.new watch.new }
+    ensures full { result ≡ replies.Refused refusals.Full → (s : State) → Stands s core.old
+        → IsFilled s.graph core.old op.action core.new }
+    ensures two { LeavesTwo core.old.config op.action → 2 ≤ free_count core.old.table → 2 ≤ free_count core.new.table }
+    ensures config { core.new.config ≡ core.old.config }
+{
+    core.remembers();
+    core.shaped();
+    if !is_creatable(core, &op.action, size) {
+        return take_own(core, op, watch);
+    }
+    make_creatable(core, policy, op, size as u32, due, watch)
+}
+
+/// Makes an object, with the steps of the collector that are due before it. Like any step that makes one it may be refused; as Full only
+/// after a whole collection. If the heap has regions enough to leave two beside the object, then one of at most half a region is refused as
+/// Full only where two regions are free and more than half of the words of the ordinary regions are reachable, if these are two or more;
+/// and a larger one where there is no run of free regions for it, or fewer than two are free beside it. Two regions that were free stay
+/// free then.
+///
+/// ```rust
+/// let op = Op { mutator: 0, action: Action::New { to: r0, counts } };
+/// assert_eq!(rt; make(&mut core, &mut policy, op, &mut Unwatched), Reply::Named(Some(0)));
+/// ```
+#[inline(always)]
+pub fn make<W: Watch>(core: &mut Core, policy: &mut Policy, op: Op, watch: &mut W) -> Reply
+    requires op { IsOp core.old.config op }
+    requires new { IsNew op.action }
+    ensures makes { Makes W.sees (2 * core.old.config.regions + 10) op result core.old watch.old core.new watch.new }
+    ensures full { result ≡ replies.Refused refusals.Full → (s : State) → Stands s core.old
+        → IsFilled s.graph core.old op.action core.new }
+    ensures two { LeavesTwo core.old.config op.action → 2 ≤ free_count core.old.table → 2 ≤ free_count core.new.table }
+    ensures config { core.new.config ≡ core.old.config }
+{
+    let size = words_of(&op.action);
+    let due = !policy.spends(size);
+    if !due && has_spare(core, &op, size) {
+        return take_own(core, op, watch);
+    }
+    make_looking(core, policy, op, size, due, watch)
+}

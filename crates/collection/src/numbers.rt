@@ -1,0 +1,196 @@
+//! What a policy goes by: when which step of the collector is due.
+//!
+//! Nothing is promised of these numbers, and any will do: the theorem of `make` holds whatever they are. They decide how often the
+//! collector works, and how much at a time.
+
+use heap_steps::Reply;
+use heap_words::config::Config;
+
+/// A policy's numbers and counts. A client may set `reserve`, `pause_words` and `mark_objects` at any time; the others are the policy's
+/// own.
+#[repr(C)]
+#[derive(Clone, Copy, Debug, PartialEq, Eq, Drop)]
+pub struct Policy {
+    /// Regions: a cycle of marking ends before fewer are free.
+    pub reserve: u32,
+    /// Words: the budget of a pause, but for those of a whole collection.
+    pub pause_words: u32,
+    /// Objects: as many are scanned at a look, at most.
+    pub mark_objects: u32,
+    /// Words that may be asked for before the next look, as it was set, and what is left of them.
+    pub look: u32,
+    pub left: u32,
+    /// Regions: where so many are free, or fewer, a cycle begins.
+    pub begin_at: u32,
+    /// Regions: where so many are free, or fewer, new regions are evacuated; 0 where that brings little.
+    pub young_at: u32,
+    /// Whether they are evacuated now: 0 or 1.
+    pub young: u32,
+    /// Regions: after a cycle regions are evacuated until so many are free; 0 where that is over.
+    pub wanted: u32,
+    /// Objects to scan at each look of a cycle.
+    pub pace: u32,
+    /// Words asked for since the last cycle began.
+    pub asked: u64,
+    /// Objects that the last cycle marked.
+    pub marked: u64,
+    /// Cycles that ended, and the objects that they marked.
+    pub cycles: u64,
+    pub scanned: u64,
+    /// Pauses, those of whole collections too, and the words that they copied.
+    pub pauses: u64,
+    pub copied: u64,
+}
+
+/// How many words a pause copied.
+pub(crate) fn copied_words(reply: Reply) -> u64 {
+    match reply {
+        Reply::Moved { words, .. } => u64::from(words),
+        _ => 0,
+    }
+}
+
+impl Policy {
+    /// A policy for a new heap of these sizes.
+    ///
+    /// ```rust
+    /// let mut policy = Policy::new(&config);
+    /// ```
+    pub fn new(config: &Config) -> Policy {
+        let reserve = (config.regions / 24).max(3);
+        Policy {
+            reserve,
+            pause_words: config.words.saturating_mul(4).max(131072),
+            mark_objects: 32768,
+            look: 0,
+            left: 0,
+            begin_at: reserve.saturating_add(config.regions / 8),
+            young_at: config.regions.saturating_sub((config.regions / 4).max(1)),
+            young: 0,
+            wanted: 0,
+            pace: 0,
+            asked: 0,
+            marked: 0,
+            cycles: 0,
+            scanned: 0,
+            pauses: 0,
+            copied: 0,
+        }
+    }
+
+    /// Counts what a step of the collector did.
+    pub(crate) fn count(&mut self, reply: Reply) {
+        match reply {
+            Reply::Marked(objects) => {
+                self.marked = u64::from(objects);
+                self.cycles = self.cycles.wrapping_add(1);
+                self.scanned = self.scanned.wrapping_add(u64::from(objects));
+            }
+            Reply::Moved { words, .. } => {
+                self.pauses = self.pauses.wrapping_add(1);
+                self.copied = self.copied.wrapping_add(u64::from(words));
+            }
+            _ => {}
+        }
+    }
+
+    /// Whether so many words may be asked for before the next look. They are asked for then.
+    #[inline(always)]
+    pub(crate) fn spends(&mut self, size: u64) -> bool {
+        let left = u64::from(self.left);
+        if size < left {
+            self.left = (left - size) as u32;
+            true
+        } else {
+            false
+        }
+    }
+
+    /// The next look is due after half a region of words.
+    pub(crate) fn look_on(&mut self, config: &Config, size: u64) {
+        self.asked = self
+            .asked
+            .saturating_add(u64::from(self.look))
+            .saturating_add(size);
+        self.look = config.words / 2;
+        self.left = self.look;
+    }
+
+    /// Sets how fast a cycle marks: three times as fast as it would take to end at the reserve. The heap has so many objects, by estimate.
+    pub(crate) fn plan_marking(&mut self, free: u32, objects: u64) {
+        let room = u64::from(free.saturating_sub(self.reserve).max(1));
+        let pace = 16 + objects.min(u64::from(u32::MAX)) * 3 / 2 / room;
+        self.pace = pace.min(u64::from(self.mark_objects)) as u32;
+        self.asked = 0;
+    }
+
+    /// Sets until how many free regions those that hold little live are evacuated after a cycle: three quarters of what is to be had.
+    pub(crate) fn plan_evacuation(&mut self, config: &Config, live: u64) {
+        let all = u64::from(config.regions) * u64::from(config.words);
+        let most = (all.saturating_sub(live) / u64::from(config.words).max(1)).min(u64::from(
+            u32::MAX,
+        )) as u32;
+        self.wanted = (most - most / 4).max(self.reserve.saturating_mul(2)).max(1);
+    }
+
+    /// The budget of a pause after a cycle: what it takes to empty regions of the usual density until as many are free as are wanted.
+    pub(crate) fn evacuation_budget(&self, config: &Config, free: u32, live: u64) -> u32 {
+        let words = u64::from(config.words);
+        let used = u64::from(config.regions.saturating_sub(free)) * words;
+        let garbage = used.saturating_sub(live);
+        if garbage == 0 {
+            return self.pause_words;
+        }
+        let more = u64::from(self.wanted.saturating_sub(free)) * words;
+        let budget = more.saturating_mul(live) / garbage;
+        budget.min(u64::from(self.pause_words)) as u32
+    }
+
+    /// Whether a pause after a cycle brought enough for another one to follow.
+    pub(crate) fn pays(&self, config: &Config, before: u32, after: u32, copied: u64) -> bool {
+        if after <= before || after >= self.wanted {
+            return false;
+        }
+        let gained = u64::from(after - before) * u64::from(config.words);
+        after <= self.reserve || copied <= gained.saturating_mul(4)
+    }
+
+    /// Sets when the next cycle begins, and when new regions are evacuated before it.
+    pub(crate) fn plan_cycle(&mut self, config: &Config, free: u32) {
+        let room = free.saturating_sub(self.reserve);
+        self.wanted = 0;
+        self.begin_at = if room < 2 {
+            free.saturating_sub(1)
+        } else {
+            self.reserve
+                .saturating_add((room / 4).min(config.regions / 8))
+        };
+        self.plan_young(config, free);
+    }
+
+    /// Sets when new regions are evacuated next: where half of the way to the next cycle is filled.
+    pub(crate) fn plan_young(&mut self, config: &Config, free: u32) {
+        let way = free.saturating_sub(self.begin_at) / 2;
+        self.young = 0;
+        self.young_at = if way <= config.regions / 64 {
+            0
+        } else {
+            free.saturating_sub(way)
+        };
+    }
+
+    /// Takes note of a pause of new regions: where it copied more than half of what it took, they are left alone, the first time until the
+    /// next cycle.
+    pub(crate) fn note_young(&mut self, config: &Config, before: u32, after: u32, copied: u64) {
+        let gained = u64::from(after.saturating_sub(before)) * u64::from(config.words);
+        if after > before && copied <= gained {
+            self.young = 1;
+            return;
+        }
+        if self.young == 0 {
+            self.young_at = 0;
+        } else {
+            self.plan_young(config, after);
+        }
+    }
+}
