@@ -2,16 +2,13 @@
 use Rattle.std.proofs.Common.{◌≡◌, ◌∙◌, ◌-◌, ◌*◌, ◌/◌, ◌%◌, ◌<◌, ◌≤◌, ◌⊎◌, ◌∷◌}
 use Rattle.std.proofs.Common.{ℕ, zero, suc, Bool, true, false, List, [], Option, Some, None}
 use Rattle.std.proofs.Common.{length, get_or, refl, sym, ap, subst, inl, inr, arith}
-use Rattle.std.specs.Prelude.{All, IfSome, IsSome, slice_get, nat_le, if◌then◌else◌}
+use Rattle.std.specs.Prelude.{All, slice_get, nat_le, if◌then◌else◌}
 use Rattle.std.proofs.lemmas.List.{length-replicate}
 use Rattle.heap_model.specs.Heap.{Stored, fields}
-use Rattle.regions.specs.Tiles.{Tile, Object, Filler, Forwarded, tile_size, tile_at}
+use Rattle.regions.specs.Tiles.{Object, tile_size, tile_at}
 use Rattle.regions.specs.Table.{Table, Free, Ordinary, AreHalves, HasNoForwarded, free_count, kind_of, object_at, region_at}
 use Rattle.regions.specs.Table.{nth_region, region_tile, tile_in, tile_object, used_of}
-use Rattle.regions.specs.Shapes.{tile_shape}
 use Rattle.regions.specs.declared.row.Kind.TheVariants as kinds
-use Rattle.regions.specs.declared.row.Shape.{Shape}
-use Rattle.regions.specs.declared.row.Shape.TheVariants as shapes
 use Rattle.mark_bitmap.specs.Tops.{bottoms, is_below}
 use Rattle.mark_bitmap.specs.Live.{live_bound_of}
 use Rattle.mark_bitmap.proofs.ObjectLaws.{none_marked}
@@ -23,7 +20,7 @@ use Rattle.region_choice.specs.Choice.{live_sum}
 use Rattle.region_choice.specs.declared.LiveRow.{LiveRow}
 use Rattle.refinement.specs.Remembering.{Remembers, field_card, field_word}
 use Rattle.refinement.proofs.Holders.{kept_object}
-use Rattle.evacuation.specs.Evacuates.{Layers, CanEvacuate, IsRow, RegionsAfter, kept_of}
+use Rattle.evacuation.specs.Evacuates.{Layers, CanEvacuate, IsRow, kept_of}
 use Rattle.region_tests.specs.Evacuated.{IsFresh, by_weak_slot, held, holder, itself, selfish, two_cards}
 
 the_row : (row : LiveRow) (P : LiveRow → Type 0) → P row → All P (row ∷ [])
@@ -268,24 +265,3 @@ weak_suited = record {
   bound = weak_bound;
   room = omega arith;
 }
-
--- ---- what reading a field of an object asks for
-shaped_object : (o : Option Tile) (p weak d : ℕ) (shape : Shape) → IfSome o (λ v. shape ≡ tile_shape v) → IsSome o
-    → shape ≡ shapes.Object p weak d → IsSome (tile_object o)
-shaped_object None p weak d shape h some e = cc
-shaped_object (Some (Object x)) p weak d shape h some e = refl
-shaped_object (Some (Filler n)) p weak d shape h some e = absurd cc
-shaped_object (Some (Forwarded to n)) p weak d shape h some e = absurd cc
-
-pub object_of_shape : (t : Table) (a p weak d : ℕ) (shape : Shape) → IfSome (tile_in t a) (λ v. shape ≡ tile_shape v) → IsSome (tile_in t a)
-    → shape ≡ shapes.Object p weak d → IsSome (object_at t a)
-unfolding object_at
-object_of_shape t a p weak d shape h some e = shaped_object (tile_in t a) p weak d shape h some e
-
--- a word of the heap is one after the pause
-pub word_there : (rows : List LiveRow) (t t' v : Table) (w n : ℕ) → RegionsAfter rows t t' → t ≡ v → v.words_per_region ≡ 16
-    → length v.regions ≡ 4 → w ≡ n → n < 64 → w < length t'.regions * t'.words_per_region
-word_there rows t t' v w n r e size count is low =
-    let size' : t'.words_per_region ≡ 16 = r.size ∙ ap (λ (u : Table). u.words_per_region) e ∙ size in
-    let count' : length t'.regions ≡ 4 = r.count ∙ ap (λ (u : Table). length u.regions) e ∙ count in
-    rw (size', count', is) low

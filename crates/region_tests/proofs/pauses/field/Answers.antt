@@ -1,7 +1,6 @@
-use Rattle.region_tests.proofs.Samples.{tile_some}
-use Rattle.region_tests.proofs.PauseSamples.{object_of_shape}
+use Rattle.region_tests.proofs.Samples.{is_object, tile_some}
 use Rattle.region_tests.proofs.pauses.field.Goals as goal
 
 pub field_count-requires : goal.field_count-requires
-field_count-requires c = object_of_shape c.args.table.now c.in_ok-at.at _ _ _ c.tile.result c.tile.ensures
+field_count-requires c = is_object c.args.table.now c.in_ok-at.at _ _ _ c.tile.result c.tile.ensures
     (tile_some c.args.table.now c.in_ok-at.at c.args.word c.in_ok-at.ensures.holder) c.in-Object.is
