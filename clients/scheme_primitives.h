@@ -246,7 +246,7 @@ static void print_to(uint32_t which, reg it, port *to)
 static void of_text(uint32_t which, reg first, uint32_t count)
 {
     size_t length;
-    char digits[24];
+    char text[1024];
     uint64_t counts[M_COUNTS];
     switch (which) {
     case MAKE_STRING: make_string(first, first + 1, count); break;
@@ -255,7 +255,7 @@ static void of_text(uint32_t which, reg first, uint32_t count)
     case STRING_APPEND: append_strings(first, count); break;
     case SUBSTRING: substring(first, first + 1, first + 2); break;
     case NUMBER_TO_STRING:
-        need(which, first, NUMBER), snprintf(digits, sizeof digits, "%" PRId64, value_of(first)), string(VALUE, digits, strlen(digits));
+        need(which, first, NUMBER), snprintf(text, sizeof text, "%" PRId64, value_of(first)), string(VALUE, text, strlen(text));
         break;
     case STRING_TO_NUMBER:
         need(which, first, STRING);
@@ -277,7 +277,8 @@ static void of_text(uint32_t which, reg first, uint32_t count)
         break;
     case READ_CHAR: case PEEK_CHAR: read_character_of(which, port_of(which, first, count == 1)); break;
     case WRITE: case DISPLAY: case WRITE_CHAR: print_to(which, first, port_of(which, first + 1, count == 2)); break;
-    case ERROR: need(which, first, STRING), mistake(count == 2, first + count - 1, "%s", bytes_of(first, &length));
+    case ERROR: need(which, first, STRING), snprintf(text, sizeof text, "%s", bytes_of(first, &length));
+        mistake(count == 2, first + count - 1, "%s", text);
     case DEFINE_MACRO:
         need(which, first, SYMBOL), need(which, first + 1, CLOSURE), make(VALUE, MACRO, 3, 0);
         for (uint32_t i = 0; i < 3; i++) m_get(PART, first + 1, i), m_put(VALUE, i, PART);
