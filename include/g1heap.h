@@ -197,8 +197,8 @@ g1_answer g1_globals(const g1_heap *heap);
 g1_answer g1_registers(const g1_heap *heap);
 g1_answer g1_name(const g1_heap *heap, uint32_t mutator, uint32_t of);
 
-/* A policy of collection, so that a program never thinks of it: it makes its objects by g1_make, which takes the steps of the collector that
-   are due.
+/* A policy of collection, so that a program never thinks of it: it makes its objects by g1_make, which takes the steps of the collector
+   that are due.
 
        g1_policy policy;
        g1_policy_start(&policy, &sizes);                 // the sizes that g1_new was given
@@ -207,13 +207,14 @@ g1_answer g1_name(const g1_heap *heap, uint32_t mutator, uint32_t of);
    A policy is the caller's, like the heap, and calls on both go under one lock. It holds plain numbers, and any will do: they decide when
    the collector works, and how much at a time. The first four may be set at any time.
 
-   TWO REGIONS ARE KEPT, since live objects are copied into free regions alone. No region is taken for an object where fewer than 2 would stay
-   free. Before that comes a whole collection: a marking from begin to remark with nothing between, a cleanup, and pauses for as long as each
-   frees a region. G1_FULL comes only after one, and then it is proved:
+   TWO REGIONS ARE KEPT, since live objects are copied into free regions alone. No region is taken for an object where fewer than 2 would
+   stay free. Before that comes a whole collection: a marking from begin to remark with nothing between, a cleanup, and pauses for as long
+   as each frees a region. G1_FULL comes only after one, and then it is proved:
    - for an object of at most half a region that 2 regions are free, each larger object that is left is reachable, and so is more than half
      of the words of the other regions, if these are two or more;
    - for a larger one, which takes whole regions, that too few free ones lie side by side, or fewer than 2 would stay free.
-   Each G1_FULL costs a whole collection: what is dropped isn't seen here, so the next g1_make has to look again. docs/SPACE.md has the theorem.
+   Each G1_FULL costs a whole collection: what is dropped isn't seen here, so the next g1_make has to look again. docs/SPACE.md has the
+   theorem.
 
    The last resort: an object that needs all regions of the heap but 2, or more of them, may take these too, after a whole collection. So
    may any object in a heap of 2 or 3 regions, which works but can get stuck: give a heap 4 regions or more, better 64. And what is made by

@@ -34,6 +34,7 @@ public:
     Number queued() const { return queue_count_; }
     plain::Reply name(Number mutator, Number number) const { return named(root(mutator, number)); }
     const plain::Sizes& sizes() const { return sizes_; }
+    bool has_name() const { return next_name_ != ~Word(0); }
 
     // Whether an object of at most half a region needs no free region.
     bool fits_open(Number mutator, Number size) const {
@@ -118,7 +119,11 @@ g1_sizes sizes_of(const Heap& heap) {
 int fits_open(g1_heap* heap, std::uint32_t mutator, std::uint32_t size) { return in(heap).fits_open(mutator, size); }
 int has_run(g1_heap* heap, std::uint32_t count) { return in(heap).has_run(count); }
 
-policy_of policy_for(g1_heap* heap, g1_policy* policy, const g1_sizes& sizes) { return {heap, policy, &sizes, fits_open, has_run}; }
+int has_name(g1_heap* heap) { return in(heap).has_name(); }
+
+policy_of policy_for(g1_heap* heap, g1_policy* policy, const g1_sizes& sizes) {
+    return {heap, policy, &sizes, fits_open, has_run, has_name};
+}
 
 }  // namespace
 

@@ -1,5 +1,5 @@
-/* The policy of collection of crate `collection`, over the calls of g1heap.h and without proofs: for the plain heap, which stands in for the
-   proved one where the two are compared. C11 and C++17; plain_library.cpp includes it. */
+/* The policy of collection of crate `collection`, over the calls of g1heap.h and without proofs: for the plain heap, which stands in for
+   the proved one where the two are compared. C11 and C++17; plain_library.cpp includes it. */
 #ifndef PLAIN_POLICY_H
 #define PLAIN_POLICY_H
 
@@ -8,6 +8,7 @@
 static inline uint32_t policy_least(uint32_t one, uint32_t other) { return one < other ? one : other; }
 static inline uint32_t policy_most(uint32_t one, uint32_t other) { return one > other ? one : other; }
 static inline uint32_t policy_above(uint32_t one, uint32_t other) { return one > other ? one - other : 0; }
+static inline uint32_t policy_within(uint64_t number) { return number < UINT32_MAX ? (uint32_t)number : UINT32_MAX; }
 static inline uint32_t policy_free(const g1_heap *heap) { return (uint32_t)g1_free_regions(heap).first; }
 
 /* A heap with its policy, and what the policy can't read of the heap: its sizes, and a step that isn't taken but looked at. */
@@ -17,6 +18,7 @@ typedef struct policy_of {
     const g1_sizes *sizes;
     int (*fits_open)(g1_heap *heap, uint32_t mutator, uint32_t size);
     int (*has_run)(g1_heap *heap, uint32_t count);
+    int (*has_name)(g1_heap *heap);
 } policy_of;
 
 static inline void policy_start(g1_policy *policy, const g1_sizes *sizes)
@@ -25,7 +27,7 @@ static inline void policy_start(g1_policy *policy, const g1_sizes *sizes)
     start.reserve = policy_most(3, sizes->regions / 24);
     start.pause_words = 262144;
     start.mark_objects = 32768;
-    start.cycle_words = 4 * sizes->regions * sizes->words;
+    start.cycle_words = policy_within((uint64_t)4 * policy_within((uint64_t)sizes->regions * sizes->words));
     start.begin_at = start.reserve + sizes->regions / 8;
     start.span = policy_most(1, sizes->regions / 4);
     start.young_at = policy_above(sizes->regions, start.span);
@@ -54,7 +56,8 @@ static inline void policy_plan_cycle(policy_of *of, uint32_t free)
 {
     uint32_t room = policy_above(free, of->policy->reserve);
     of->policy->wanted = 0;
-    of->policy->begin_at = room < 2 ? policy_above(free, 1) : of->policy->reserve + policy_least(room / 4, of->sizes->regions / 8);
+    of->policy->begin_at = room < 2 ? policy_above(free, 1)
+        : policy_within((uint64_t)of->policy->reserve + policy_least(room / 4, of->sizes->regions / 8));
     policy_plan_young(of, free);
 }
 static inline void policy_pause_young(policy_of *of)
@@ -81,14 +84,16 @@ static inline void policy_end(policy_of *of)
     g1_cleanup(of->heap);
     live = g1_live_words(of->heap).first;
     most = (uint32_t)((all > live ? all - live : 0) / of->sizes->words);
-    of->policy->wanted = policy_most(1, policy_most(most - most / 4, 2 * of->policy->reserve));
+    of->policy->wanted = policy_most(1, policy_most(most - most / 4, policy_within((uint64_t)2 * of->policy->reserve)));
 }
 static inline void policy_evacuate(policy_of *of)
 {
     g1_policy *policy = of->policy;
     uint32_t before = policy_free(of->heap), after;
     uint64_t words = of->sizes->words, live = g1_live_words(of->heap).first, used = (of->sizes->regions - before) * words;
-    uint64_t budget = used <= live ? policy->pause_words : policy_above(policy->wanted, before) * words * live / (used - live), copied;
+    uint64_t more = policy_above(policy->wanted, before) * words, copied;
+    uint64_t all = live != 0 && more > UINT64_MAX / live ? UINT64_MAX : more * live;
+    uint64_t budget = used <= live ? policy->pause_words : all / (used - live);
     copied = policy_pause(of, budget < policy->pause_words ? (uint32_t)budget : policy->pause_words).first;
     after = policy_free(of->heap);
     if (after > before && after < policy->wanted && (after <= policy->reserve || copied <= 4 * (after - before) * words)) return;
@@ -117,8 +122,10 @@ static inline void policy_due(policy_of *of)
 }
 static inline void policy_pause_all(policy_of *of)
 {
-    for (uint32_t before = 0, free = policy_free(of->heap); free > before && free < of->sizes->regions;)
+    for (uint32_t before, free = policy_free(of->heap); free < of->sizes->regions;) {
         before = free, policy_pause(of, UINT32_MAX), free = policy_free(of->heap);
+        if (free <= before) return;
+    }
 }
 static inline void policy_whole(policy_of *of)
 {
@@ -144,7 +151,7 @@ static inline int policy_room(policy_of *of, uint32_t mutator, uint64_t size)
         policy->left -= (uint32_t)size;
         if (size <= of->sizes->words / 2 && policy_free(of->heap) > 2) return 1;
     }
-    if (size > (uint64_t)of->sizes->regions * of->sizes->words) return 1;
+    if (size > (uint64_t)of->sizes->regions * of->sizes->words || !of->has_name(of->heap)) return 1;
     if (due) {
         policy->asked += policy->look + size;
         policy->look = policy->left = of->sizes->words / 2;
