@@ -208,8 +208,8 @@ impl Policy {
         true
     }
 
-    /// Takes note of a pause of new regions. Where all are done and more than half of what was taken was copied, they are left alone until the
-    /// next cycle.
+    /// Takes note of a pause of new regions. Where all are done and more than half of what was taken was copied, they are left alone until
+    /// the next cycle.
     pub(crate) fn note_young(&mut self, config: &Config, before: u32, after: u32, reply: Reply) {
         let (regions, words) = moved(reply);
         self.gained = self.gained.saturating_add(after.saturating_sub(before));

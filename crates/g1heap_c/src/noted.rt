@@ -6,8 +6,8 @@ use crate::answer::{Answer, answer_of};
 use collection::Watch;
 use heap_steps::{CollectorStep, Event, Step};
 
-/// A step that was taken, with its answer: 0 begin, 1 mark, 2 remark, 3 cleanup, 4 refine, 5 pause, each with its number, and 6 the mutator's
-/// own.
+/// A step that was taken, with its answer: 0 begin, 1 mark, 2 remark, 3 cleanup, 4 refine, 5 pause, each with its number, and 6 the
+/// mutator's own.
 #[repr(C)]
 #[derive(Clone, Copy, Debug, PartialEq, Eq, Drop)]
 pub struct Entry {

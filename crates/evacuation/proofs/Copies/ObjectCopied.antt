@@ -193,7 +193,8 @@ module _ (l : Layout) (p : Plan) (s s' : Space) (d d' : Places) (from to : ℕ) 
       let r = room_opened l.words s'.free_count s.left (words_of x) (filled s d.last) r' small (omega arith) g.full in
       rw (u.last, u.used, g.empty) (room_pushed l.words s'.free_count s.left s'.left 0 (words_of x) r e)
 
-  spared_by : AreFilled l.words (length d'.regions) (s'.used k) d'.words → AreSpared l.words (length d'.regions) (filled s' d'.last) d'.words
+  spared_by : AreFilled l.words (length d'.regions) (s'.used k) d'.words
+      → AreSpared l.words (length d'.regions) (filled s' d'.last) d'.words
   spared_by h = subst (λ (m : Option ℕ). AreSpared l.words (length d'.regions) (filled s' m) d'.words) (sym u.last) h
 
   spared_on : GoesOn l s s' d d' k → AreSpared l.words (length d'.regions) (filled s' d'.last) d'.words

@@ -14,7 +14,8 @@ use Rattle.regions.specs.Tiles.{Tile, Object, Filler, Forwarded, tile_size, tile
 use Rattle.regions.specs.Walks.{AllPositive, region_tiles, tiles_of}
 use Rattle.regions.proofs.Tiles.Placing.{tile_at-back}
 use Rattle.regions.proofs.Walks.WalkFrom.{listed_tile}
-use Rattle.regions.specs.Table.{Region, Free, Ordinary, First, Rest, Table, EachForwarded, EachForwardedIn, HasNoForwarded, free_count, kind_of}
+use Rattle.regions.specs.Table.{Region, Free, Ordinary, First, Rest, Table, EachForwarded, EachForwardedIn, HasNoForwarded, free_count}
+use Rattle.regions.specs.Table.{kind_of}
 use Rattle.regions.specs.Table.{moved_to, object_at, region_kind, nth_region, region_tile, region_used, tile_in, used_of, AreHalves}
 use Rattle.regions.specs.Shaped.{IsShaped}
 use Rattle.regions.specs.declared.row.Kind.TheVariants as kinds
