@@ -1,5 +1,5 @@
 /* Makes 1,000,000 objects in a heap of 512 KiB, of which a list keeps the last 1,000. */
-#include <g1heap_collect.h>
+#include <g1heap.h>
 #include <stdio.h>
 
 enum { LIST, CELL, FRAME }; /* registers: two that main uses; a function's frame begins behind them */

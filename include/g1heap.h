@@ -197,6 +197,62 @@ g1_answer g1_globals(const g1_heap *heap);
 g1_answer g1_registers(const g1_heap *heap);
 g1_answer g1_name(const g1_heap *heap, uint32_t mutator, uint32_t of);
 
+/* A policy of collection, so that a program never thinks of it: it makes its objects by g1_make, which takes the steps of the collector
+   that are due.
+
+       g1_policy policy;
+       g1_policy_start(&policy, &sizes);                 // the sizes that g1_new was given
+       g1_make(&heap, &policy, 0, 0, 2, 0, 1);           // register 0 of mutator 0: a new object of 2 pointers, 0 weak slots, 1 data word
+
+   A policy is the caller's, like the heap, and calls on both go under one lock. It holds plain numbers, and any will do: they decide when
+   the collector works, and how much at a time. The first four may be set at any time.
+
+   TWO REGIONS ARE KEPT, since live objects are copied into free regions alone. No region is taken for an object where fewer than 2 would
+   stay free. Before that comes a whole collection: a marking from begin to remark with nothing between, a cleanup, and pauses for as long
+   as each frees a region. G1_FULL comes only after one, and then it is proved:
+   - for an object of at most half a region that 2 regions are free, each larger object that is left is reachable, and so is more than half
+     of the words of the other regions, if these are two or more;
+   - for a larger one, which takes whole regions, that too few free ones lie side by side, or fewer than 2 would stay free.
+   Each G1_FULL costs a whole collection: what is dropped isn't seen here, so the next g1_make has to look again. docs/SPACE.md has the
+   theorem.
+
+   The last resort: an object that needs all regions of the heap but 2, or more of them, may take these too, after a whole collection. So
+   may any object in a heap of 2 or 3 regions, which works but can get stuck: give a heap 4 regions or more, better 64. And what is made by
+   g1_new_object or g1_new_weak takes what it finds. */
+typedef struct g1_policy {
+    uint32_t reserve;      /* regions: a cycle of marking ends before fewer are free */
+    uint32_t pause_words;  /* words: the budget of a pause, but for those of a whole collection */
+    uint32_t mark_objects; /* objects: as many are scanned at a look, at most */
+    uint32_t cycle_words;  /* words: where so many were asked for since the last cycle began, another one begins */
+    uint32_t look, left;   /* words that may be asked for before the next look, as it was set, and what is left of them */
+    uint32_t begin_at;     /* regions: where so many are free, or fewer, a cycle begins */
+    uint32_t young_at;     /* regions: where so many are free, or fewer, new regions are evacuated; 0 where that brings little */
+    uint32_t span;         /* regions: so many are new then */
+    uint32_t young;        /* regions: so many of them are to be evacuated still */
+    uint32_t gained;       /* regions: so many that brought */
+    uint32_t wanted;       /* regions: after a cycle regions are evacuated until so many are free; 0 where that is over */
+    uint32_t pace;         /* objects to scan at each look of a cycle */
+    uint64_t paid;         /* words that were copied for what was gained */
+    uint64_t asked;        /* words asked for since the last cycle began */
+    uint64_t marked;       /* objects that the last cycle marked */
+    uint64_t cycles;       /* cycles that ended, */
+    uint64_t scanned;      /* and the objects that they marked */
+    uint64_t pauses;       /* pauses, those of whole collections too, */
+    uint64_t copied;       /* and the words that they copied */
+} g1_policy;
+
+/* A policy for a new heap of these sizes. */
+void g1_policy_start(g1_policy *policy, const g1_sizes *sizes);
+
+/* g1_new_object, or g1_new_weak where there are weak slots, after the steps of the collector that are due. Answers as these do. */
+g1_answer g1_make(g1_heap *heap, g1_policy *policy, uint32_t mutator, uint32_t to, uint32_t pointers, uint32_t weaks, uint32_t values);
+
+/* Takes the steps that are due, at most four: DONE, or NO_HEAP. */
+g1_answer g1_collect(g1_heap *heap, g1_policy *policy);
+
+/* A whole collection. Weak slots are cleared, and each region is free again that can be: DONE, or NO_HEAP. */
+g1_answer g1_collect_all(g1_heap *heap, g1_policy *policy);
+
 #ifdef __cplusplus
 }
 #endif

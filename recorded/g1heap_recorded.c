@@ -40,9 +40,24 @@ g1_answer g1raw_globals(const g1_heap *heap);
 g1_answer g1raw_registers(const g1_heap *heap);
 g1_answer g1raw_name(const g1_heap *heap, uint32_t mutator, uint32_t of);
 
+void g1raw_policy_start(g1_policy *policy, const g1_sizes *sizes);
+
+/* A step that a call of the policy took: 0 begin, 1 mark, 2 remark, 3 cleanup, 4 refine, 5 pause, each with its number, and 6 the mutator's
+   own. The library writes as many of the first ones as there is room for, and counts all. */
+typedef struct entry {
+    uint32_t step, number;
+    g1_answer answer;
+} entry;
+g1_answer g1_make_noted(g1_heap *heap, g1_policy *policy, uint32_t mutator, uint32_t to, uint32_t pointers, uint32_t weaks, uint32_t values,
+                        entry *entries, size_t room, uint32_t *count);
+g1_answer g1_collect_noted(g1_heap *heap, g1_policy *policy, entry *entries, size_t room, uint32_t *count);
+g1_answer g1_collect_all_noted(g1_heap *heap, g1_policy *policy, entry *entries, size_t room, uint32_t *count);
+
 typedef struct box {
     g1_heap heap;
     g1_sizes sizes;
+    entry *entries; /* for the steps of one call of the policy */
+    size_t room;
     g1_line_writer write;
     void *context;
     FILE *file;      /* of the variable, or NULL */
@@ -168,6 +183,13 @@ uint32_t g1_new(g1_heap *heap, const g1_sizes *sizes)
         free(in);
         return code;
     }
+    in->room = 2 * (size_t)sizes->regions + 16; /* a call of the policy takes no more steps */
+    in->entries = (entry *)calloc(in->room, sizeof *in->entries);
+    if (in->entries == NULL) {
+        g1raw_free(&in->heap);
+        free(in);
+        return G1_NO_MEMORY;
+    }
     in->sizes = *sizes;
     heap->live = true, heap->at = in;
     open_file(in);
@@ -180,6 +202,7 @@ void g1_free(g1_heap *heap)
     if (!heap->live) return;
     close_file(in);
     g1raw_free(&in->heap);
+    free(in->entries);
     free(in);
     heap->live = false, heap->at = NULL;
 }
@@ -327,6 +350,49 @@ g1_answer g1_pause(g1_heap *heap, uint32_t words)
 {
     box *in = box_of(heap);
     return note(in, g1raw_pause(&in->heap, words), "gc pause %", (uint64_t[]){words});
+}
+
+void g1_policy_start(g1_policy *policy, const g1_sizes *sizes) { g1raw_policy_start(policy, sizes); }
+
+/* Notes the steps of the collector that a call of the policy took. Answers whether the mutator's own step was the last. */
+static int note_all(box *in, uint32_t count)
+{
+    static const char *const forms[] = {"gc begin", "gc mark %", "gc remark", "gc cleanup", "gc refine %", "gc pause %"};
+    for (uint32_t i = 0; i < count && i < in->room; i++) {
+        const entry *of = &in->entries[i];
+        if (of->step >= sizeof forms / sizeof *forms) return 1;
+        note(in, of->answer, forms[of->step], (uint64_t[]){of->number});
+    }
+    return 0;
+}
+
+/* An object that is refused as Full without a step of its own has no line. */
+g1_answer g1_make(g1_heap *heap, g1_policy *policy, uint32_t mutator, uint32_t to, uint32_t pointers, uint32_t weaks, uint32_t values)
+{
+    box *in = box_of(heap);
+    uint32_t count = 0;
+    g1_answer made = g1_make_noted(&in->heap, policy, mutator, to, pointers, weaks, values, in->entries, in->room, &count);
+    if (!note_all(in, count)) return made;
+    if (weaks == 0) return note(in, made, "% new r% % %", (uint64_t[]){mutator, to, pointers, values});
+    return note(in, made, "% newweak r% % % %", (uint64_t[]){mutator, to, pointers, weaks, values});
+}
+
+g1_answer g1_collect(g1_heap *heap, g1_policy *policy)
+{
+    box *in = box_of(heap);
+    uint32_t count = 0;
+    g1_answer done = g1_collect_noted(&in->heap, policy, in->entries, in->room, &count);
+    note_all(in, count);
+    return done;
+}
+
+g1_answer g1_collect_all(g1_heap *heap, g1_policy *policy)
+{
+    box *in = box_of(heap);
+    uint32_t count = 0;
+    g1_answer done = g1_collect_all_noted(&in->heap, policy, in->entries, in->room, &count);
+    note_all(in, count);
+    return done;
 }
 
 /* Readers are no steps. */

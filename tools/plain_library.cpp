@@ -9,6 +9,7 @@
 
 #include "../include/g1heap.h"
 #include "plain_heap.h"
+#include "plain_policy.h"
 
 namespace {
 
@@ -32,6 +33,24 @@ public:
     bool has_grey() const { return marking_ && grey_.next(finger_) != plain::nowhere; }
     Number queued() const { return queue_count_; }
     plain::Reply name(Number mutator, Number number) const { return named(root(mutator, number)); }
+    const plain::Sizes& sizes() const { return sizes_; }
+    bool has_name() const { return next_name_ != ~Word(0); }
+
+    // Whether an object of at most half a region needs no free region.
+    bool fits_open(Number mutator, Number size) const {
+        if (size <= buffers_[mutator].end - buffers_[mutator].next) return true;
+        Number cut = size <= sizes_.buffer ? sizes_.buffer : size;
+        return current_ != plain::no_region && regions_[current_].top + cut <= bottom(current_) + sizes_.words;
+    }
+
+    // Whether so many adjacent regions are free.
+    bool has_run(Number count) const {
+        for (Number region = 0, length = 0; region < sizes_.regions; ++region) {
+            length = free_regions_.has(region) ? length + 1 : 0;
+            if (length == count) return true;
+        }
+        return false;
+    }
 
     Word used_words() const {
         Word sum = 0;
@@ -90,6 +109,20 @@ std::uint32_t size_fault(const g1_sizes& sizes) {
     if (sizes.registers < 1 || sizes.registers > 65536) return G1_BAD_REGISTERS;
     if (sizes.globals + sizes.registers * sizes.mutators > 1048576) return G1_BAD_ROOTS;
     return G1_DONE;
+}
+
+g1_sizes sizes_of(const Heap& heap) {
+    const plain::Sizes& of = heap.sizes();
+    return {of.regions, of.words, of.buffer, of.mutators, of.first_name, of.card, of.globals, of.registers};
+}
+
+int fits_open(g1_heap* heap, std::uint32_t mutator, std::uint32_t size) { return in(heap).fits_open(mutator, size); }
+int has_run(g1_heap* heap, std::uint32_t count) { return in(heap).has_run(count); }
+
+int has_name(g1_heap* heap) { return in(heap).has_name(); }
+
+policy_of policy_for(g1_heap* heap, g1_policy* policy, const g1_sizes& sizes) {
+    return {heap, policy, &sizes, fits_open, has_run, has_name};
 }
 
 }  // namespace
@@ -245,6 +278,35 @@ g1_answer g1_name(const g1_heap* heap, std::uint32_t mutator, std::uint32_t of) 
     if (!heap->live) return answer(G1_NO_HEAP);
     if (!in(heap).has_mutator(mutator) || !in(heap).has_register(of)) return answer(G1_NO_STEP);
     return told(in(heap).name(mutator, of));
+}
+
+void g1_policy_start(g1_policy* policy, const g1_sizes* sizes) { policy_start(policy, sizes); }
+
+g1_answer g1_make(g1_heap* heap, g1_policy* policy, std::uint32_t mutator, std::uint32_t to, std::uint32_t pointers, std::uint32_t weaks,
+                  std::uint32_t values) {
+    if (!heap->live) return answer(G1_NO_HEAP);
+    if (weaks > largest_weaks || !in(heap).has_mutator(mutator) || !in(heap).has_register(to)) return answer(G1_NO_STEP);
+    g1_sizes sizes = sizes_of(in(heap));
+    policy_of of = policy_for(heap, policy, sizes);
+    Word size = Word(2) + pointers + weaks + values;
+    if (!policy_room(&of, mutator, size)) return answer(G1_FULL);
+    return weaks == 0 ? g1_new_object(heap, mutator, to, pointers, values) : g1_new_weak(heap, mutator, to, pointers, weaks, values);
+}
+
+g1_answer g1_collect(g1_heap* heap, g1_policy* policy) {
+    if (!heap->live) return answer(G1_NO_HEAP);
+    g1_sizes sizes = sizes_of(in(heap));
+    policy_of of = policy_for(heap, policy, sizes);
+    policy_due(&of);
+    return answer(G1_DONE);
+}
+
+g1_answer g1_collect_all(g1_heap* heap, g1_policy* policy) {
+    if (!heap->live) return answer(G1_NO_HEAP);
+    g1_sizes sizes = sizes_of(in(heap));
+    policy_of of = policy_for(heap, policy, sizes);
+    policy_whole(&of);
+    return answer(G1_DONE);
 }
 
 }  // extern "C"

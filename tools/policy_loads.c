@@ -1,10 +1,10 @@
-/* Which share of live words the policy of include/g1heap_collect.h bears. A load keeps so many words live and makes others, until 10 times
+/* Which share of live words the policy of include/g1heap.h bears. A load keeps so many words live and makes others, until 10 times
    the heap's words were made; the share rises by 5 percent, up to 85, until G1_FULL comes. It prints the last share that was borne, and
    what the collector did at 60 percent for each 1,000 words that were made.
 
      cc -O2 -Iinclude tools/policy_loads.c -Llib -lg1heap -o policy_loads
      ./policy_loads 64 256                              heaps of 64 and of 256 regions; else 64, 256 and 1,024 */
-#include "g1heap_collect.h"
+#include "g1heap.h"
 #include <inttypes.h>
 #include <stdio.h>
 #include <stdlib.h>

@@ -1,9 +1,9 @@
 /* A runtime's table of interned strings in a heap of 16 MiB: 330,000 strings come, of which 30,000 are kept, in a table of weak slots that
-   doubles where there is no room. The policy of g1heap_collect.h has to bear it.
+   doubles where there is no room. The policy has to bear it.
 
      interned            the table grows whenever a part of it is full
      interned collect    before it grows, a whole collection clears the slots of what died */
-#include <g1heap_collect.h>
+#include <g1heap.h>
 #include <stdio.h>
 #include <stdlib.h>
 
@@ -11,13 +11,15 @@ enum { TABLE, PART, STRING, OTHER, KEPT, FRAME, OLD, WIDER }; /* registers */
 enum { SLOTS = 32, COMING = 330000, EACH = 11 };             /* slots of a part; of the strings that come each eleventh is kept */
 static g1_heap heap = G1_HEAP_NONE;
 static g1_policy policy;
+
+static uint32_t free_regions(void) { return (uint32_t)g1_free_regions(&heap).first; }
 static uint32_t parts = 16;
 
 static void make(uint32_t to, uint32_t pointers, uint32_t weaks, uint32_t values)
 {
     uint32_t code = g1_make(&heap, &policy, 0, to, pointers, weaks, values).code;
     if (code == G1_NAME) return;
-    printf("code %u with %u parts and %u free regions\n", code, parts, g1_free_count(&heap));
+    printf("code %u with %u parts and %u free regions\n", code, parts, free_regions());
     exit(1);
 }
 static void make_table(uint32_t to, uint32_t count)
@@ -69,7 +71,7 @@ static void intern(uint32_t key, int collect)
     make(STRING, 0, 0, 2 + key % 7);
     g1_write(&heap, 0, STRING, 0, key);
     for (uint64_t at = UINT64_MAX; !put(TABLE, parts, key);)
-        if (collect && at != policy.cycles) g1_collect(&heap, &policy, G1_WHOLE), at = policy.cycles;
+        if (collect && at != policy.cycles) g1_collect_all(&heap, &policy), at = policy.cycles;
         else widen();
     g1_drop(&heap, 0, OTHER), g1_drop(&heap, 0, PART);
 }
@@ -90,7 +92,7 @@ int main(int count, char **words)
     }
     for (uint32_t key = 0; key < COMING; key += EACH) lost += !is_known(key);
     printf("%u of %u kept strings lost; %u slots, %llu cycles, %llu pauses, %u free regions\n", lost, kept, parts * SLOTS,
-           (unsigned long long)policy.cycles, (unsigned long long)policy.pauses, g1_free_count(&heap));
+           (unsigned long long)policy.cycles, (unsigned long long)policy.pauses, free_regions());
     g1_free(&heap);
     return lost != 0;
 }

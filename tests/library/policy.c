@@ -1,8 +1,8 @@
-/* The policy of g1heap_collect.h where a heap gets full: most of what fills it dies, and room has to come back; heaps of 2 and 3 regions;
+/* The policy where a heap gets full: most of what fills it dies, and room has to come back; heaps of 2 and 3 regions;
    objects that take whole regions; calls that name no step; random loads, of which each g1_make is looked at.
 
      policy [LOADS]      300 random loads where it is left out */
-#include <g1heap_collect.h>
+#include <g1heap.h>
 #include <stdio.h>
 #include <stdlib.h>
 
@@ -11,6 +11,8 @@ static int failed;
 static uint64_t seed = 88172645463325252u;
 static g1_heap heap = G1_HEAP_NONE;
 static g1_policy policy;
+
+static uint32_t free_regions(void) { return (uint32_t)g1_free_regions(&heap).first; }
 
 static uint32_t draw(uint32_t below)
 {
@@ -57,7 +59,7 @@ static void fill_and_drop(void)
             start(regions[i], 256, j % 2 == 0 ? 31 : 64, 1);
             count = fill(sizes[j]);
             is(count < SLOTS && count * sizes[j] * 2 > (regions[i] - 2) * 256, "full too early", regions[i], sizes[j]);
-            is(g1_free_count(&heap) == 2, "two regions aren't kept", regions[i], sizes[j]);
+            is(free_regions() == 2, "two regions aren't kept", regions[i], sizes[j]);
             drop_most(count);
             for (int more = 0; more < 20; more++) refused += make(0, 1, sizes[j]) != G1_NAME;
             is(refused == 0, "refused though most died", regions[i], sizes[j]);
@@ -84,20 +86,20 @@ static void use_large(void)
 {
     start(16, 64, 7, 1);
     for (uint32_t i = 0; i < 7; i++) is(make(0, 0, 100) == G1_NAME, "a large object is refused", i, 0), g1_save(&heap, 0, i, 0);
-    is(g1_free_count(&heap) == 2, "regions for 7 large objects", g1_free_count(&heap), 0);
+    is(free_regions() == 2, "regions for 7 large objects", free_regions(), 0);
     is(make(0, 0, 33) == G1_FULL && make(0, 0, 16) == G1_FULL, "two regions aren't kept", 33, 16);
     g1_scope(&heap, 0, 0), drop_slot(3);
     is(make(0, 0, 16) == G1_NAME && make(0, 1, 33) == G1_NAME, "what a large object leaves", 16, 33);
     start(16, 64, 7, 1);
     for (uint32_t size = 64 * 13; size <= 64 * 16; size += 64)
-        is(make(0, 0, size) == G1_NAME, "an object of nearly the whole heap", size, g1_free_count(&heap)), g1_drop(&heap, 0, 0);
+        is(make(0, 0, size) == G1_NAME, "an object of nearly the whole heap", size, free_regions()), g1_drop(&heap, 0, 0);
     start(24, 256, 31, 1);
     drop_most(fill(16));
-    is(make(0, 0, 256 * 12) == G1_NAME, "half of the heap at once, where most died", g1_free_count(&heap), 0);
+    is(make(0, 0, 256 * 12) == G1_NAME, "half of the heap at once, where most died", free_regions(), 0);
     start(16, 64, 7, 1);
     make(0, 0, 100), g1_begin(&heap), g1_drop(&heap, 0, 0);
-    g1_collect(&heap, &policy, G1_WHOLE);
-    is(g1_free_count(&heap) == 16, "a whole collection while marking ran", g1_free_count(&heap), 0);
+    g1_collect_all(&heap, &policy);
+    is(free_regions() == 16, "a whole collection while marking ran", free_regions(), 0);
 }
 
 /* Where a heap is full too, what names no step is told as that. */
@@ -112,7 +114,7 @@ static void use_wrongly(void)
         is(g1_make(&heap, &policy, 0, 0, UINT32_MAX, 0, UINT32_MAX).code == G1_TOO_BIG, "too big", (uint32_t)full, 1);
         fill(8);
     }
-    is(make(1, 0, 4) == G1_FULL, "full", g1_free_count(&heap), 0);
+    is(make(1, 0, 4) == G1_FULL, "full", free_regions(), 0);
     g1_free(&heap);
     is(make(0, 0, 4) == G1_NO_HEAP, "no heap", 0, 0);
 }
@@ -134,7 +136,7 @@ static void load(uint32_t number)
         if (sizes[slot] > most) wide -= (sizes[slot] + words - 1) / words;
         else live -= sizes[slot];
         sizes[slot] = 0;
-        code = make(mutator, 0, size), free = g1_free_count(&heap);
+        code = make(mutator, 0, size), free = free_regions();
         if (taken + 2 < regions) is(free >= 2 || wide + 2 >= regions, "two regions aren't kept", number, free);
         if (code == G1_FULL && !is_large) {
             uint32_t ordinary = regions - wide - free;

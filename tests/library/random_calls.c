@@ -24,9 +24,38 @@ static void note_answer(g1_answer answer)
     codes[answer.code < 64 ? answer.code : 63]++;
 }
 
+static g1_policy policy;
+static bool by_policy;
+
+/* A policy for a heap, in some heaps with numbers of the client's own. */
+static void start_policy(const g1_sizes *s)
+{
+    g1_policy_start(&policy, s);
+    by_policy = draw() % 2 == 0;
+    if (draw() % 2 == 0) return;
+    policy.reserve = below(4), policy.pause_words = below(600), policy.mark_objects = below(30);
+    policy.cycle_words = below(3 * s->words);
+}
+static void note_policy(void)
+{
+    note(policy.left), note(policy.begin_at), note(policy.young_at), note(policy.span), note(policy.young), note(policy.gained);
+    note(policy.wanted), note(policy.pace), note(policy.paid), note(policy.asked), note(policy.marked), note(policy.cycles);
+    note(policy.scanned), note(policy.pauses), note(policy.copied);
+}
+
+static g1_answer asked(g1_heap *h, const g1_sizes *s, uint32_t m, uint32_t a)
+{
+    switch (draw() % 12) {
+    case 0: return g1_make(h, &policy, m, a, below(2 * s->words), 0, below(9));
+    case 1: return g1_make(h, &policy, m, a, below(3), below(4), below(3));
+    default: return g1_make(h, &policy, m, a, below(5), 0, below(4));
+    }
+}
+
 static g1_answer step_of_mutator(g1_heap *h, const g1_sizes *s)
 {
     uint32_t m = below(s->mutators), a = below(s->registers), b = below(s->registers), i = below(4), g = below(s->globals);
+    if (by_policy && draw() % 3 == 0) return asked(h, s, m, a);
     switch (draw() % 24) {
     case 0: case 1: case 2: case 3: case 4: return g1_new_object(h, m, a, below(5), below(4));
     case 5: return g1_new_object(h, m, a, below(2 * s->words), below(9));
@@ -48,6 +77,7 @@ static g1_answer step_of_mutator(g1_heap *h, const g1_sizes *s)
 
 static g1_answer step_of_collector(g1_heap *h)
 {
+    if (by_policy && draw() % 16 == 0) return draw() % 4 == 0 ? g1_collect_all(h, &policy) : g1_collect(h, &policy);
     switch (draw() % 12) {
     case 0: return g1_begin(h);
     case 1: return g1_mark(h, below(20));
@@ -75,7 +105,9 @@ int main(int count, char **words)
         sizes.globals = within(6), sizes.registers = 1 + within(9);
         if (draw() % 8 == 0) sizes.regions = below(1100), sizes.card = below(70), sizes.mutators = below(70);
         note(g1_new(&heap, &sizes));
+        start_policy(&sizes);
         for (int i = 0; i < calls; i++) note_answer(draw() % 6 == 0 ? step_of_collector(&heap) : step_of_mutator(&heap, &sizes));
+        note_policy();
         g1_free(&heap);
     }
     printf("hash %016llx", (unsigned long long)hash);

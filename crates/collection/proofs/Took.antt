@@ -1,6 +1,6 @@
 -- Steps of the collector, one after another.
-use Rattle.std.proofs.Common.{◌≡◌, ◌+◌, ◌≤◌, ◌∷◌, ◌++◌, ◌∙◌}
-use Rattle.std.proofs.Common.{ℕ, List, [], All, refl, sym, subst, arith}
+use Rattle.std.proofs.Common.{◌≡◌, ◌⊎◌, ◌+◌, ◌≤◌, ◌∷◌, ◌++◌, ◌∙◌}
+use Rattle.std.proofs.Common.{ℕ, List, [], All, inl, inr, refl, sym, subst, arith}
 use Rattle.std.proofs.lemmas.List.{length-append}
 use Rattle.std.proofs.lemmas.List.Elements.{All-append, All-nil, All-cons, All-head, All-tail}
 use Rattle.cards.specs.Cards.{ListsDirtyOnce}
@@ -9,6 +9,7 @@ use Rattle.heap_steps.specs.declared.step.Actor.TheVariants as actors
 use Rattle.heap_steps.specs.declared.step.CollectorStep.{CollectorStep}
 use Rattle.heap_steps.specs.declared.step.CollectorStep.TheVariants as collector
 use Rattle.heap_steps.specs.declared.step.Event.{Event}
+use Rattle.heap_steps.specs.declared.step.Op.{Op}
 use Rattle.heap_steps.specs.declared.step.Reply.{Reply}
 use Rattle.heap_steps.specs.declared.step.Reply.TheVariants as replies
 use Rattle.heap_steps.specs.declared.step.Refusal.TheVariants as refusals
@@ -23,7 +24,7 @@ use Rattle.step_core.specs.Answers.{Follows, IsFullStep}
 use Rattle.step_core.specs.Cycle.{Does}
 use Rattle.step_core.specs.Histories.{IsHistory, Passes, Runs}
 use Rattle.collection.specs.Space.{HasReached, IsCollected}
-use Rattle.collection.specs.Steps.{Collects, IsCollectors, Sees}
+use Rattle.collection.specs.Steps.{Collects, HoldsBack, IsCollectors, Makes, Sees, TakesOwn}
 use Rattle.collection.proofs.Reached.{by_reached, none_cleared, then_cleared}
 
 -- ---- one step
@@ -166,3 +167,39 @@ module _ {W : Type 0} (sees : W → Event → W → Type 0) where
       let (mid, there, before) = reached m c c' x x' s a stands in
       let w = f mid there in
       record { after = w.after; quiet = w.quiet; reached = then_cleared s.graph mid.graph w.after.graph before w.reached }
+
+-- ---- the same with nobody who is said to watch
+abbrev nobody : Unit {0}
+nobody = tt
+
+sees_none : (es : List Event) → Sees {W = Unit {0}} (λ x e y. Unit {0}) nobody es nobody
+sees_none [] = refl
+sees_none (e ∷ es) = (nobody, tt, sees_none es)
+
+pub unseen : {W : Type 0} (sees : W → Event → W → Type 0) (most : ℕ) (c c' : CoreState) (x x' : W) → Collects sees most c x c' x'
+    → Collects {W = Unit {0}} (λ x e y. Unit {0}) most c nobody c' nobody
+unseen sees most c c' x x' a = record {
+  events = a.events;
+  few = a.few;
+  collectors = a.collectors;
+  seen = sees_none a.events;
+  history = a.history;
+  two = a.two;
+  config = a.config;
+  next = a.next;
+}
+
+unseen_own : {W : Type 0} (sees : W → Event → W → Type 0) (op : Op) (reply : Reply) (c c' : CoreState) (x x' : W)
+    → TakesOwn sees op reply c x c' x' ⊎ HoldsBack op reply c x c' x'
+    → TakesOwn {W = Unit {0}} (λ x e y. Unit {0}) op reply c nobody c' nobody ⊎ HoldsBack {W = Unit {0}} op reply c nobody c' nobody
+unseen_own sees op reply c c' x x' (inl t) = inl (record { seen = tt; passes = t.passes })
+unseen_own sees op reply c c' x x' (inr h) = inr (record { reply_is = h.reply_is; creates = h.creates; core = h.core; watch = refl })
+
+pub unseen_made : {W : Type 0} (sees : W → Event → W → Type 0) (most : ℕ) (op : Op) (reply : Reply) (c c' : CoreState) (x x' : W)
+    → Makes sees most op reply c x c' x' → Makes {W = Unit {0}} (λ x e y. Unit {0}) most op reply c nobody c' nobody
+unseen_made sees most op reply c c' x x' a = record {
+  core = a.core;
+  watch = nobody;
+  collects = unseen sees most c a.core x a.watch a.collects;
+  own = unseen_own sees op reply a.core c' a.watch x' a.own;
+}

@@ -5,7 +5,7 @@ ghost use Rattle.std.specs.Prelude.{◌+◌, ◌-◌};
 ghost use Rattle.regions.specs.Table.{free_count};
 ghost use Rattle.collection.specs.Steps.{Collects};
 
-use crate::numbers::{Policy, copied_words};
+use crate::numbers::{Policy, moved};
 use crate::steps::{Watch, take};
 use crate::whole::pause_all;
 use heap_steps::CollectorStep;
@@ -16,13 +16,13 @@ fn pause_young<W: Watch>(core: &mut Core, policy: &mut Policy, watch: &mut W)
     ensures { Collects W.sees 1 core.old watch.old core.new watch.new }
 {
     let before = core.free_regions();
-    if policy.young == 0 && before > policy.young_at {
+    if !policy.is_young_due(before) {
         return;
     }
     let config = core.config();
     let budget = policy.pause_words;
     let reply = take(core, policy, CollectorStep::Pause(budget), watch);
-    policy.note_young(&config, before, core.free_regions(), copied_words(reply));
+    policy.note_young(&config, before, core.free_regions(), reply);
 }
 
 /// Ends a cycle: remark and cleanup. Evacuation is due then.
@@ -54,19 +54,17 @@ fn evacuate<W: Watch>(core: &mut Core, policy: &mut Policy, watch: &mut W)
     let budget = policy.evacuation_budget(&config, before, core.live_words());
     let reply = take(core, policy, CollectorStep::Pause(budget), watch);
     let after = core.free_regions();
-    if !policy.pays(&config, before, after, copied_words(reply)) {
+    if !policy.pays(&config, before, after, moved(reply).1) {
         policy.plan_cycle(&config, after);
     }
 }
 
-/// Begins a cycle where few regions are free, or as many words were asked for as the heap has.
+/// Begins a cycle where few regions are free, or many words were asked for since the last one began.
 fn begin_cycle<W: Watch>(core: &mut Core, policy: &mut Policy, watch: &mut W)
     ensures { Collects W.sees 3 core.old watch.old core.new watch.new }
 {
-    let config = core.config();
     let free = core.free_regions();
-    let all = u64::from(config.regions) * u64::from(config.words);
-    if free > policy.begin_at && policy.asked < all {
+    if free > policy.begin_at && policy.asked < u64::from(policy.cycle_words) {
         return;
     }
     let objects = if policy.cycles == 0 {
@@ -94,8 +92,12 @@ fn cycle_on<W: Watch>(core: &mut Core, policy: &mut Policy, watch: &mut W)
     }
 }
 
-/// Takes the steps that are due at a look.
-pub(crate) fn collect_due<W: Watch>(core: &mut Core, policy: &mut Policy, watch: &mut W)
+/// Takes the steps that are due at a look, at most four.
+///
+/// ```rust
+/// collect_due(&mut core, &mut policy, &mut Unwatched);
+/// ```
+pub fn collect_due<W: Watch>(core: &mut Core, policy: &mut Policy, watch: &mut W)
     ensures { Collects W.sees 4 core.old watch.old core.new watch.new }
 {
     pause_young(core, policy, watch);

@@ -6,7 +6,7 @@
 use heap_steps::Reply;
 use heap_words::config::Config;
 
-/// A policy's numbers and counts. A client may set `reserve`, `pause_words` and `mark_objects` at any time; the others are the policy's
+/// A policy's numbers and counts. A client may set the first four at any time; the others are the policy's
 /// own.
 #[repr(C)]
 #[derive(Clone, Copy, Debug, PartialEq, Eq, Drop)]
@@ -17,6 +17,8 @@ pub struct Policy {
     pub pause_words: u32,
     /// Objects: as many are scanned at a look, at most.
     pub mark_objects: u32,
+    /// Words: where so many were asked for since the last cycle began, another one begins.
+    pub cycle_words: u32,
     /// Words that may be asked for before the next look, as it was set, and what is left of them.
     pub look: u32,
     pub left: u32,
@@ -24,12 +26,16 @@ pub struct Policy {
     pub begin_at: u32,
     /// Regions: where so many are free, or fewer, new regions are evacuated; 0 where that brings little.
     pub young_at: u32,
-    /// Whether they are evacuated now: 0 or 1.
+    /// Regions: so many are new then, so many of them are to be evacuated still, and so many that brought.
+    pub span: u32,
     pub young: u32,
+    pub gained: u32,
     /// Regions: after a cycle regions are evacuated until so many are free; 0 where that is over.
     pub wanted: u32,
     /// Objects to scan at each look of a cycle.
     pub pace: u32,
+    /// Words that were copied for what was gained.
+    pub paid: u64,
     /// Words asked for since the last cycle began.
     pub asked: u64,
     /// Objects that the last cycle marked.
@@ -42,11 +48,11 @@ pub struct Policy {
     pub copied: u64,
 }
 
-/// How many words a pause copied.
-pub(crate) fn copied_words(reply: Reply) -> u64 {
+/// How many regions a pause evacuated, and how many words it copied.
+pub(crate) fn moved(reply: Reply) -> (u32, u64) {
     match reply {
-        Reply::Moved { words, .. } => u64::from(words),
-        _ => 0,
+        Reply::Moved { regions, words } => (regions, u64::from(words)),
+        _ => (0, 0),
     }
 }
 
@@ -58,17 +64,25 @@ impl Policy {
     /// ```
     pub fn new(config: &Config) -> Policy {
         let reserve = (config.regions / 24).max(3);
+        let span = (config.regions / 4).max(1);
         Policy {
             reserve,
-            pause_words: config.words.saturating_mul(4).max(131072),
+            pause_words: 262144,
             mark_objects: 32768,
+            cycle_words: config
+                .regions
+                .saturating_mul(config.words)
+                .saturating_mul(4),
             look: 0,
             left: 0,
             begin_at: reserve.saturating_add(config.regions / 8),
-            young_at: config.regions.saturating_sub((config.regions / 4).max(1)),
+            young_at: config.regions.saturating_sub(span),
+            span,
             young: 0,
+            gained: 0,
             wanted: 0,
             pace: 0,
+            paid: 0,
             asked: 0,
             marked: 0,
             cycles: 0,
@@ -172,6 +186,7 @@ impl Policy {
     pub(crate) fn plan_young(&mut self, config: &Config, free: u32) {
         let way = free.saturating_sub(self.begin_at) / 2;
         self.young = 0;
+        self.span = way;
         self.young_at = if way <= config.regions / 64 {
             0
         } else {
@@ -179,18 +194,33 @@ impl Policy {
         };
     }
 
-    /// Takes note of a pause of new regions: where it copied more than half of what it took, they are left alone, the first time until the
-    /// next cycle.
-    pub(crate) fn note_young(&mut self, config: &Config, before: u32, after: u32, copied: u64) {
-        let gained = u64::from(after.saturating_sub(before)) * u64::from(config.words);
-        if after > before && copied <= gained {
-            self.young = 1;
+    /// Whether new regions are to be evacuated now, some at each look.
+    pub(crate) fn is_young_due(&mut self, free: u32) -> bool {
+        if self.young != 0 {
+            return true;
+        }
+        if free > self.young_at {
+            return false;
+        }
+        self.young = self.span.max(1);
+        self.gained = 0;
+        self.paid = 0;
+        true
+    }
+
+    /// Takes note of a pause of new regions. Where all are done and more than half of what was taken was copied, they are left alone until
+    /// the next cycle.
+    pub(crate) fn note_young(&mut self, config: &Config, before: u32, after: u32, reply: Reply) {
+        let (regions, words) = moved(reply);
+        self.gained = self.gained.saturating_add(after.saturating_sub(before));
+        self.paid = self.paid.saturating_add(words);
+        if regions != 0 && regions < self.young {
+            self.young -= regions;
             return;
         }
-        if self.young == 0 {
+        self.plan_young(config, after);
+        if self.paid > u64::from(self.gained) * u64::from(config.words) {
             self.young_at = 0;
-        } else {
-            self.plan_young(config, after);
         }
     }
 }

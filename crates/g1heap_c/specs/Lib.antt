@@ -1,3 +1,4 @@
 pub mod Held
 pub mod Numbers
+pub mod Policies
 pub mod Steps

@@ -59,7 +59,7 @@ fn has_op(core: &Core, op: Op) -> bool
 
 /// Whether the heap's sizes have a step.
 #[inline(always)]
-fn has(core: &Core, step: Step) -> bool
+pub(crate) fn has(core: &Core, step: Step) -> bool
     ensures { IsTrue result ↔ IsStep core.now.config step }
 {
     match step {

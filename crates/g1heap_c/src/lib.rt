@@ -17,8 +17,11 @@ mod heap;
 mod loose;
 pub mod making;
 pub mod mutator;
+mod noted;
+pub mod policy;
 pub mod readers;
 
 pub use answer::Answer;
 pub use handle::Handle;
 pub use heap::Heap;
+pub use noted::Entry;

@@ -30,7 +30,7 @@ pub struct Sizes {
     pub registers: u32,
 }
 
-fn config_of(sizes: &Sizes) -> Config
+pub(crate) fn config_of(sizes: &Sizes) -> Config
     ensures { result ≡ config_of sizes.now }
 {
     Config {

@@ -1,0 +1,78 @@
+-- What a call of the policy does to a heap: nothing, where there is none, or a core.
+use Rattle.std.specs.Prelude.{◌≡◌, ◌+◌, ◌-◌, ◌*◌, ◌≤◌, ◌==◌, ℕ, Option, Some, None, if◌then◌else◌}
+use Rattle.regions.specs.Table.{free_count}
+use Rattle.heap_steps.specs.Actors.{IsOp}
+use Rattle.heap_steps.specs.declared.step.Action.TheVariants as actions
+use Rattle.heap_steps.specs.declared.step.Op.{Op}
+use Rattle.heap_steps.specs.declared.step.Reply.{Reply}
+use Rattle.heap_steps.specs.declared.step.Reply.TheVariants as replies
+use Rattle.heap_steps.specs.declared.step.Refusal.TheVariants as refusals
+use Rattle.object_graph.specs.State.{State}
+use Rattle.step_core.specs.Stands.{CoreState, Stands}
+use Rattle.collection.specs.Space.{IsCollected, IsPacked}
+use Rattle.collection.specs.Steps.{Collects, LeavesTwo, Makes}
+use Rattle.collection.specs.Rooms.{IsFilled}
+use Rattle.g1heap_c.specs.Numbers.{counts, no_heap, no_step, numbers, register, told}
+use Rattle.g1heap_c.specs.Steps.{Stays}
+use Rattle.g1heap_c.specs.declared.answer.Answer.{Answer}
+
+-- the step that makes an object, a plain one where it has no weak slots
+abbrev pub asked : ℕ → ℕ → ℕ → ℕ → ℕ → Op
+asked m to pointers weaks values = record {
+  mutator = m;
+  action = if weaks == 0 then actions.New (register to) (counts pointers values)
+      else actions.NewWeak (register to) (counts pointers values) weaks;
+}
+
+abbrev nobody : Unit {0}
+nobody = tt
+
+-- steps that nobody is said to watch: of the collector, and for an object
+abbrev pub CollectsIn : ℕ → CoreState → CoreState → Type 0
+CollectsIn most c c' = Collects {W = Unit {0}} (λ x e y. Unit {0}) most c nobody c' nobody
+
+abbrev pub MakesIn : ℕ → Op → Reply → CoreState → CoreState → Type 0
+MakesIn most op reply c c' = Makes {W = Unit {0}} (λ x e y. Unit {0}) most op reply c nobody c' nobody
+
+-- an object is asked for, and the answer tells the reply: all that the policy promises. Then the heap is the core after it
+pub record Asks (c : CoreState) (op : Op) (answer : Answer) (after : Option CoreState) : Type 0 where
+  pub reply : Reply
+  pub core : CoreState
+  pub tells : answer ≡ numbers reply
+  pub held : after ≡ Some core
+  pub makes : MakesIn (2 * c.config.regions + 10) op reply c core
+  pub full : reply ≡ replies.Refused refusals.Full → (s : State) → Stands s c → IsFilled s.graph c op.action core
+  pub two : LeavesTwo c.config op.action → 2 ≤ free_count c.table → 2 ≤ free_count core.table
+
+-- if the heap's sizes have the step; else it is as it was
+pub record AsksOrNot (c : CoreState) (op : Op) (answer : Answer) (after : Option CoreState) : Type 0 where
+  pub asks : IsOp c.config op → Asks c op answer after
+  pub not : (IsOp c.config op → ⊥) → Stays (Some c) no_step answer after
+
+abbrev pub AsksFor : Option CoreState → Op → Answer → Option CoreState → Type 0
+AsksFor None op answer after = Stays None no_heap answer after
+AsksFor (Some c) op answer after = AsksOrNot c op answer after
+
+-- the steps that are due
+pub record CollectsDueIn (c : CoreState) (answer : Answer) (after : Option CoreState) : Type 0 where
+  pub core : CoreState
+  pub tells : answer ≡ told 0 0 0
+  pub held : after ≡ Some core
+  pub collects : CollectsIn 4 c core
+
+abbrev pub CollectsDue : Option CoreState → Answer → Option CoreState → Type 0
+CollectsDue None answer after = Stays None no_heap answer after
+CollectsDue (Some c) answer after = CollectsDueIn c answer after
+
+-- a whole collection: what is kept is reachable then, and fills more than half of the ordinary regions, where no more than two are free
+pub record CollectsAllIn (c : CoreState) (answer : Answer) (after : Option CoreState) : Type 0 where
+  pub core : CoreState
+  pub tells : answer ≡ told 0 0 0
+  pub held : after ≡ Some core
+  pub collects : CollectsIn (4 + (c.config.regions - free_count c.table)) c core
+  pub collected : (s : State) → Stands s c → IsCollected s.graph core
+  pub packed : (s : State) → Stands s c → 2 ≤ free_count c.table → free_count core.table ≤ 2 → IsPacked s.graph core
+
+abbrev pub CollectsAll : Option CoreState → Answer → Option CoreState → Type 0
+CollectsAll None answer after = Stays None no_heap answer after
+CollectsAll (Some c) answer after = CollectsAllIn c answer after

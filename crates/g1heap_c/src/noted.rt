@@ -1,0 +1,59 @@
+//! The steps that a policy takes, noted for who records them.
+
+ghost use Rattle.std.specs.Prelude.{⊤};
+
+use crate::answer::{Answer, answer_of};
+use collection::Watch;
+use heap_steps::{CollectorStep, Event, Step};
+
+/// A step that was taken, with its answer: 0 begin, 1 mark, 2 remark, 3 cleanup, 4 refine, 5 pause, each with its number, and 6 the
+/// mutator's own.
+#[repr(C)]
+#[derive(Clone, Copy, Debug, PartialEq, Eq, Drop)]
+pub struct Entry {
+    pub step: u32,
+    pub number: u32,
+    pub answer: Answer,
+}
+
+/// As many entries as there are, and how many steps were taken.
+#[derive(Drop)]
+pub(crate) struct Notes<'a> {
+    pub(crate) entries: &'a mut [Entry],
+    pub(crate) count: u32,
+}
+
+/// Which step it is, and its number.
+fn numbers_of(step: Step) -> (u32, u32) {
+    match step {
+        Step::Collector(CollectorStep::Begin) => (0, 0),
+        Step::Collector(CollectorStep::Mark(objects)) => (1, objects),
+        Step::Collector(CollectorStep::Remark) => (2, 0),
+        Step::Collector(CollectorStep::Cleanup) => (3, 0),
+        Step::Collector(CollectorStep::Refine(cards)) => (4, cards),
+        Step::Collector(CollectorStep::Pause(words)) => (5, words),
+        Step::Mutator(_) => (6, 0),
+    }
+}
+
+/// Writes an entry, where there is room for it.
+fn note(entries: &mut [Entry], at: u32, event: &Event) {
+    let (step, number) = numbers_of(event.step);
+    let at = at as usize;
+    if at < entries.len() {
+        entries[at] = Entry {
+            step,
+            number,
+            answer: answer_of(event.reply),
+        };
+    }
+}
+
+impl Watch for Notes<'_> {
+    ghost sees = { λ x e y. ⊤ };
+
+    fn took(&mut self, event: &Event) {
+        note(self.entries, self.count, event);
+        self.count = self.count.saturating_add(1);
+    }
+}

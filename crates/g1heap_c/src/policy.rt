@@ -1,0 +1,221 @@
+//! Objects that are asked for, and collections, by the proved policy: the collector takes the steps that are due. Any numbers will do, the
+//! policy's too.
+
+ghost use Rattle.std.specs.Prelude.{◌≡◌, ◌↔◌, ◌<◌, ◌≤◌, Some, IsTrue};
+ghost use Rattle.heap_steps.specs.Actors.{IsOp};
+ghost use Rattle.object_graph.specs.Run.{IsNew};
+ghost use Rattle.g1heap_c.specs.Steps.{TakesNone};
+ghost use Rattle.g1heap_c.specs.Policies.{Asks, AsksFor, CollectsAll, CollectsAllIn, CollectsDue, CollectsDueIn, asked};
+
+use crate::answer::{Answer, answer_of, done, no_heap, no_step};
+use crate::heap::{Heap, handle_of, has, take_none, take_out};
+use crate::making::{Sizes, config_of};
+use crate::noted::{Entry, Notes};
+use collection::{Policy, Unwatched, Watch, collect, collect_due, make};
+use heap_steps::{Action, Counts, Op, Register, Step};
+use std::alloc::Global;
+use step_core::Core;
+
+/// The step that makes the object that is asked for: a plain one where it has no weak slots.
+#[inline(always)]
+fn asked(mutator: u32, to: u32, pointers: u32, weaks: u8, values: u32) -> Op
+    ensures op { result ≡ asked mutator to pointers weaks values }
+    ensures new { IsNew result.action }
+{
+    let to = Register { number: to };
+    let counts = Counts { pointers, values };
+    let action = if weaks == 0 {
+        Action::New { to, counts }
+    } else {
+        Action::NewWeak { to, counts, weaks }
+    };
+    Op { mutator, action }
+}
+
+#[inline(always)]
+fn make_in<W: Watch>(core: &mut Core, policy: &mut Policy, op: Op, watch: &mut W) -> Answer
+    requires op { IsOp core.old.config op }
+    requires new { IsNew op.action }
+    ensures { Asks core.old op result (Some core.new) }
+{
+    answer_of(make(core, policy, op, watch))
+}
+
+/// Makes the object, if the heap's sizes have the step.
+#[inline(always)]
+fn ask<W: Watch>(
+    alloc: Global,
+    heap: &mut Heap,
+    policy: &mut Policy,
+    op: Op,
+    watch: &mut W,
+) -> Answer
+    requires { IsNew op.action }
+    ensures { AsksFor heap.old.handle.core op result heap.new.handle.core }
+{
+    if !heap.live {
+        return no_heap();
+    }
+    let mut core = take_out(alloc, &mut heap.handle);
+    if !has(&core, Step::Mutator(op)) {
+        heap.handle = handle_of(core);
+        return no_step();
+    }
+    let answer = make_in(&mut core, policy, op, watch);
+    heap.handle = handle_of(core);
+    answer
+}
+
+/// A policy for a new heap of these sizes.
+#[unsafe(no_mangle)]
+pub extern "C" fn g1_policy_start(policy: &mut Policy, sizes: &Sizes) {
+    *policy = Policy::new(&config_of(sizes));
+}
+
+/// `to` takes a new object of so many pointers, weak slots and data words, after the steps of the collector that are due.
+#[unsafe(no_mangle)]
+pub extern "C" fn g1_make(
+    alloc: Global,
+    heap: &mut Heap,
+    policy: &mut Policy,
+    mutator: u32,
+    to: u32,
+    pointers: u32,
+    weaks: u32,
+    values: u32,
+) -> Answer
+    ensures few { weaks ≤ 255 → AsksFor heap.old.handle.core (asked mutator to pointers weaks values) result heap.new.handle.core }
+    ensures many { 255 < weaks → TakesNone heap.old.handle.core result heap.new.handle.core }
+{
+    if 255 < weaks {
+        return take_none(heap);
+    }
+    let op = asked(mutator, to, pointers, weaks as u8, values);
+    ask(alloc, heap, policy, op, &mut Unwatched)
+}
+
+fn collect_in<W: Watch>(core: &mut Core, policy: &mut Policy, watch: &mut W) -> Answer
+    ensures { CollectsDueIn core.old result (Some core.new) }
+{
+    collect_due(core, policy, watch);
+    done()
+}
+
+fn collect_all_in<W: Watch>(core: &mut Core, policy: &mut Policy, watch: &mut W) -> Answer
+    ensures { CollectsAllIn core.old result (Some core.new) }
+{
+    collect(core, policy, watch);
+    done()
+}
+
+fn collect_now<W: Watch>(
+    alloc: Global,
+    heap: &mut Heap,
+    policy: &mut Policy,
+    watch: &mut W,
+) -> Answer
+    ensures { CollectsDue heap.old.handle.core result heap.new.handle.core }
+{
+    if !heap.live {
+        return no_heap();
+    }
+    let mut core = take_out(alloc, &mut heap.handle);
+    let answer = collect_in(&mut core, policy, watch);
+    heap.handle = handle_of(core);
+    answer
+}
+
+fn collect_all_now<W: Watch>(
+    alloc: Global,
+    heap: &mut Heap,
+    policy: &mut Policy,
+    watch: &mut W,
+) -> Answer
+    ensures { CollectsAll heap.old.handle.core result heap.new.handle.core }
+{
+    if !heap.live {
+        return no_heap();
+    }
+    let mut core = take_out(alloc, &mut heap.handle);
+    let answer = collect_all_in(&mut core, policy, watch);
+    heap.handle = handle_of(core);
+    answer
+}
+
+/// Takes the steps of the collector that are due at a look.
+#[unsafe(no_mangle)]
+pub extern "C" fn g1_collect(alloc: Global, heap: &mut Heap, policy: &mut Policy) -> Answer
+    ensures { CollectsDue heap.old.handle.core result heap.new.handle.core }
+{
+    collect_now(alloc, heap, policy, &mut Unwatched)
+}
+
+/// A whole collection.
+#[unsafe(no_mangle)]
+pub extern "C" fn g1_collect_all(alloc: Global, heap: &mut Heap, policy: &mut Policy) -> Answer
+    ensures { CollectsAll heap.old.handle.core result heap.new.handle.core }
+{
+    collect_all_now(alloc, heap, policy, &mut Unwatched)
+}
+
+/// The same as `g1_make`, and the steps that were taken are noted: their number, and as many of the first ones as there are entries.
+#[unsafe(no_mangle)]
+pub extern "C" fn g1_make_noted(
+    alloc: Global,
+    heap: &mut Heap,
+    policy: &mut Policy,
+    mutator: u32,
+    to: u32,
+    pointers: u32,
+    weaks: u32,
+    values: u32,
+    entries: &mut [Entry],
+    count: &mut u32,
+) -> Answer
+    ensures few { weaks ≤ 255 → AsksFor heap.old.handle.core (asked mutator to pointers weaks values) result heap.new.handle.core }
+    ensures many { 255 < weaks → TakesNone heap.old.handle.core result heap.new.handle.core }
+{
+    *count = 0;
+    if 255 < weaks {
+        return take_none(heap);
+    }
+    let op = asked(mutator, to, pointers, weaks as u8, values);
+    let mut notes = Notes { entries, count: 0 };
+    let answer = ask(alloc, heap, policy, op, &mut notes);
+    *count = notes.count;
+    answer
+}
+
+/// The same as `g1_collect`, with notes.
+#[unsafe(no_mangle)]
+pub extern "C" fn g1_collect_noted(
+    alloc: Global,
+    heap: &mut Heap,
+    policy: &mut Policy,
+    entries: &mut [Entry],
+    count: &mut u32,
+) -> Answer
+    ensures { CollectsDue heap.old.handle.core result heap.new.handle.core }
+{
+    let mut notes = Notes { entries, count: 0 };
+    let answer = collect_now(alloc, heap, policy, &mut notes);
+    *count = notes.count;
+    answer
+}
+
+/// The same as `g1_collect_all`, with notes.
+#[unsafe(no_mangle)]
+pub extern "C" fn g1_collect_all_noted(
+    alloc: Global,
+    heap: &mut Heap,
+    policy: &mut Policy,
+    entries: &mut [Entry],
+    count: &mut u32,
+) -> Answer
+    ensures { CollectsAll heap.old.handle.core result heap.new.handle.core }
+{
+    let mut notes = Notes { entries, count: 0 };
+    let answer = collect_all_now(alloc, heap, policy, &mut notes);
+    *count = notes.count;
+    answer
+}
