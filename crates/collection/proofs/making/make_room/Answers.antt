@@ -31,7 +31,8 @@ is_spared-requires-2-clause-within g c =
 pub returns-then-is_spared-2-clause-collects : goal.returns-then-is_spared-2-clause-collects
 returns-then-is_spared-2-clause-collects g c =
     let e = ap (λ (x : Config). x.regions) c.look.ensures.config in
-    chain g.W.Watch.sees (c.args.core.now.config.regions + 5) (2 + c.look.new.core.config.regions) _ c.args.core.now c.look.new.core c.finish_cycle.new.core
+    chain g.W.Watch.sees (c.args.core.now.config.regions + 5)
+    (2 + c.look.new.core.config.regions) _ c.args.core.now c.look.new.core c.finish_cycle.new.core
     c.args.watch.now c.look.new.watch c.finish_cycle.new.watch (omega (arith, e)) c.look.ensures c.finish_cycle.ensures
 
 pub returns-then-is_spared-2-clause-room : goal.returns-then-is_spared-2-clause-room
