@@ -247,7 +247,7 @@ void g1_policy_start(g1_policy *policy, const g1_sizes *sizes);
 /* g1_new_object, or g1_new_weak where there are weak slots, after the steps of the collector that are due. Answers as these do. */
 g1_answer g1_make(g1_heap *heap, g1_policy *policy, uint32_t mutator, uint32_t to, uint32_t pointers, uint32_t weaks, uint32_t values);
 
-/* Takes the steps that are due, at most four: DONE, or NO_HEAP. */
+/* Takes the steps that are due: DONE, or NO_HEAP. */
 g1_answer g1_collect(g1_heap *heap, g1_policy *policy);
 
 /* A whole collection. Weak slots are cleared, and each region is free again that can be: DONE, or NO_HEAP. */

@@ -183,7 +183,7 @@ uint32_t g1_new(g1_heap *heap, const g1_sizes *sizes)
         free(in);
         return code;
     }
-    in->room = 2 * (size_t)sizes->regions + 16; /* a call of the policy takes no more steps */
+    in->room = 3 * (size_t)sizes->regions + 16; /* a call of the policy takes no more steps */
     in->entries = (entry *)calloc(in->room, sizeof *in->entries);
     if (in->entries == NULL) {
         g1raw_free(&in->heap);

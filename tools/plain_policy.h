@@ -71,10 +71,13 @@ static inline void policy_pause_young(policy_of *of)
     }
     moved = policy_pause(of, policy->pause_words), after = policy_free(of->heap);
     policy->gained += policy_above(after, before), policy->paid += moved.first;
-    policy->young = moved.second == 0 ? 0 : policy_above(policy->young, moved.second);
-    if (policy->young != 0) return;
+    uint64_t worth = (uint64_t)policy->gained * of->sizes->words;
+    if (moved.second != 0 && moved.second < policy->young && policy->paid <= worth + policy->pause_words) {
+        policy->young -= moved.second;
+        return;
+    }
     policy_plan_young(of, after);
-    if (policy->paid > (uint64_t)policy->gained * of->sizes->words) policy->young_at = 0;
+    if (policy->paid > worth) policy->young_at = 0;
 }
 static inline void policy_end(policy_of *of)
 {
@@ -86,18 +89,32 @@ static inline void policy_end(policy_of *of)
     most = (uint32_t)((all > live ? all - live : 0) / of->sizes->words);
     of->policy->wanted = policy_most(1, policy_most(most - most / 4, policy_within((uint64_t)2 * of->policy->reserve)));
 }
-static inline void policy_evacuate(policy_of *of)
+/* One pause of so many words at most. Answers whether it paid. */
+static inline int policy_evacuate_some(policy_of *of, uint32_t *left)
 {
     g1_policy *policy = of->policy;
     uint32_t before = policy_free(of->heap), after;
-    uint64_t words = of->sizes->words, live = g1_live_words(of->heap).first, used = (of->sizes->regions - before) * words;
-    uint64_t more = policy_above(policy->wanted, before) * words, copied;
-    uint64_t all = live != 0 && more > UINT64_MAX / live ? UINT64_MAX : more * live;
-    uint64_t budget = used <= live ? policy->pause_words : all / (used - live);
-    copied = policy_pause(of, budget < policy->pause_words ? (uint32_t)budget : policy->pause_words).first;
+    uint64_t words = of->sizes->words, live, used, more, all, budget, copied;
+    if (policy->wanted == 0 || *left == 0) return 0;
+    if (before >= policy->wanted) {
+        policy_plan_cycle(of, before);
+        return 0;
+    }
+    live = g1_live_words(of->heap).first, used = (of->sizes->regions - before) * words;
+    more = policy_above(policy->wanted, before) * words;
+    all = live != 0 && more > UINT64_MAX / live ? UINT64_MAX : more * live;
+    budget = used <= live ? *left : all / (used - live);
+    copied = policy_pause(of, budget < *left ? (uint32_t)budget : *left).first;
     after = policy_free(of->heap);
-    if (after > before && after < policy->wanted && (after <= policy->reserve || copied <= 4 * (after - before) * words)) return;
+    *left = copied < *left ? *left - (uint32_t)copied : 0;
+    if (after > before && after < policy->wanted && (after <= policy->reserve || copied <= 4 * (after - before) * words)) return 1;
     policy_plan_cycle(of, after);
+    return 0;
+}
+static inline void policy_evacuate(policy_of *of)
+{
+    uint32_t left = of->policy->pause_words;
+    while (policy_evacuate_some(of, &left)) {}
 }
 static inline void policy_begin(policy_of *of)
 {
@@ -117,8 +134,8 @@ static inline void policy_due(policy_of *of)
     if (g1_marking(of->heap).first == 1) {
         g1_mark(of->heap, policy_least(of->policy->pace, of->policy->mark_objects));
         if (policy_free(of->heap) <= of->policy->reserve || g1_grey(of->heap).first == 0) policy_end(of);
-    } else if (of->policy->wanted != 0) policy_evacuate(of);
-    else policy_begin(of);
+    } else if (of->policy->wanted == 0) policy_begin(of);
+    policy_evacuate(of);
 }
 static inline void policy_pause_all(policy_of *of)
 {

@@ -1,7 +1,7 @@
 //! What is due at a look: steps that go on with a cycle of marking, or evacuate some regions. How many at most is proved, and what any
 //! steps of the collector do; which they are is the policy's choice.
 
-ghost use Rattle.std.specs.Prelude.{◌+◌, ◌-◌};
+ghost use Rattle.std.specs.Prelude.{◌≡◌, ◌+◌, ◌<◌, true};
 ghost use Rattle.regions.specs.Table.{free_count};
 ghost use Rattle.collection.specs.Steps.{Collects};
 
@@ -45,17 +45,48 @@ fn mark_on<W: Watch>(core: &mut Core, policy: &mut Policy, watch: &mut W)
     }
 }
 
-/// Evacuates some of the regions in which little is live.
-fn evacuate<W: Watch>(core: &mut Core, policy: &mut Policy, watch: &mut W)
-    ensures { Collects W.sees 1 core.old watch.old core.new watch.new }
+/// Evacuates some of the regions in which little is live, so many words at most, which are fewer then. Answers whether it paid.
+fn evacuate_some<W: Watch>(
+    core: &mut Core,
+    policy: &mut Policy,
+    left: &mut u32,
+    watch: &mut W,
+) -> bool
+    ensures collects { Collects W.sees 1 core.old watch.old core.new watch.new }
+    ensures more { result ≡ true → free_count core.old.table < free_count core.new.table }
 {
+    if policy.wanted == 0 || *left == 0 {
+        return false;
+    }
     let config = core.config();
     let before = core.free_regions();
-    let budget = policy.evacuation_budget(&config, before, core.live_words());
+    if before >= policy.wanted {
+        policy.plan_cycle(&config, before);
+        return false;
+    }
+    let budget = policy.evacuation_budget(&config, before, core.live_words(), *left);
     let reply = take(core, policy, CollectorStep::Pause(budget), watch);
     let after = core.free_regions();
-    if !policy.pays(&config, before, after, moved(reply).1) {
-        policy.plan_cycle(&config, after);
+    let copied = moved(reply).1;
+    *left = u64::from(*left).saturating_sub(copied) as u32;
+    if policy.pays(&config, before, after, copied) {
+        return true;
+    }
+    policy.plan_cycle(&config, after);
+    false
+}
+
+/// Evacuates regions in which little is live for as long as that pays, within the budget of words for a look.
+fn evacuate<W: Watch>(core: &mut Core, policy: &mut Policy, watch: &mut W)
+    ensures { Collects W.sees (core.old.config.regions + 1) core.old watch.old core.new watch.new }
+{
+    let mut left = policy.pause_words;
+    'pauses: loop {
+        core.remembers();
+        if !evacuate_some(core, policy, &mut left, watch) {
+            return;
+        }
+        core.remembers();
     }
 }
 
@@ -79,26 +110,32 @@ fn begin_cycle<W: Watch>(core: &mut Core, policy: &mut Policy, watch: &mut W)
     }
 }
 
-/// Goes on with a cycle, or with the evacuation after one, or begins one where it is due.
-fn cycle_on<W: Watch>(core: &mut Core, policy: &mut Policy, watch: &mut W)
+/// Goes on with a cycle, or begins one where it is due.
+fn mark_or_begin<W: Watch>(core: &mut Core, policy: &mut Policy, watch: &mut W)
     ensures { Collects W.sees 3 core.old watch.old core.new watch.new }
 {
     if core.marking() {
         mark_on(core, policy, watch);
-    } else if policy.wanted != 0 {
-        evacuate(core, policy, watch);
-    } else {
+    } else if policy.wanted == 0 {
         begin_cycle(core, policy, watch);
     }
 }
 
-/// Takes the steps that are due at a look, at most four.
+/// The same, and the evacuation after a cycle.
+fn cycle_on<W: Watch>(core: &mut Core, policy: &mut Policy, watch: &mut W)
+    ensures { Collects W.sees (core.old.config.regions + 4) core.old watch.old core.new watch.new }
+{
+    mark_or_begin(core, policy, watch);
+    evacuate(core, policy, watch);
+}
+
+/// Takes the steps that are due at a look, at most five and one for each region.
 ///
 /// ```rust
 /// collect_due(&mut core, &mut policy, &mut Unwatched);
 /// ```
 pub fn collect_due<W: Watch>(core: &mut Core, policy: &mut Policy, watch: &mut W)
-    ensures { Collects W.sees 4 core.old watch.old core.new watch.new }
+    ensures { Collects W.sees (core.old.config.regions + 5) core.old watch.old core.new watch.new }
 {
     pause_young(core, policy, watch);
     cycle_on(core, policy, watch);

@@ -21,7 +21,7 @@ use step_core::Core;
 
 /// Takes what is due, if a look is.
 fn look<W: Watch>(core: &mut Core, policy: &mut Policy, size: u32, due: bool, watch: &mut W)
-    ensures { Collects W.sees 4 core.old watch.old core.new watch.new }
+    ensures { Collects W.sees (core.old.config.regions + 5) core.old watch.old core.new watch.new }
 {
     if due {
         policy.look_on(&core.config(), u64::from(size));
@@ -71,7 +71,7 @@ fn make_room<W: Watch>(
     requires new { IsNew op.now.action }
     requires size { size ≡ asked_words op.now.action }
     requires within { size ≤ core.old.config.regions * core.old.config.words }
-    ensures collects { Collects W.sees (2 * core.old.config.regions + 10) core.old watch.old core.new watch.new }
+    ensures collects { Collects W.sees (3 * core.old.config.regions + 11) core.old watch.old core.new watch.new }
     ensures room { result ≡ true → IsSpared core.new op.now ⊎ IsLast core.old op.now core.new }
     ensures leaves { result ≡ false → LeavesTwo core.old.config op.now.action }
     ensures filled { result ≡ false → (s : State) → Stands s core.old → IsFilled s.graph core.old op.now.action core.new }
@@ -100,7 +100,7 @@ fn make_creatable<W: Watch>(
     requires new { IsNew op.action }
     requires size { size ≡ asked_words op.action }
     requires creatable { IsCreatable core.old op.action }
-    ensures makes { Makes W.sees (2 * core.old.config.regions + 10) op result core.old watch.old core.new watch.new }
+    ensures makes { Makes W.sees (3 * core.old.config.regions + 11) op result core.old watch.old core.new watch.new }
     ensures full { result ≡ replies.Refused refusals.Full → (s : State) → Stands s core.old
         → IsFilled s.graph core.old op.action core.new }
     ensures two { LeavesTwo core.old.config op.action → 2 ≤ free_count core.old.table → 2 ≤ free_count core.new.table }
@@ -125,7 +125,7 @@ fn make_looking<W: Watch>(
     requires op { IsOp core.old.config op }
     requires new { IsNew op.action }
     requires size { size ≡ asked_words op.action }
-    ensures makes { Makes W.sees (2 * core.old.config.regions + 10) op result core.old watch.old core.new watch.new }
+    ensures makes { Makes W.sees (3 * core.old.config.regions + 11) op result core.old watch.old core.new watch.new }
     ensures full { result ≡ replies.Refused refusals.Full → (s : State) → Stands s core.old
         → IsFilled s.graph core.old op.action core.new }
     ensures two { LeavesTwo core.old.config op.action → 2 ≤ free_count core.old.table → 2 ≤ free_count core.new.table }
@@ -153,7 +153,7 @@ fn make_looking<W: Watch>(
 pub fn make<W: Watch>(core: &mut Core, policy: &mut Policy, op: Op, watch: &mut W) -> Reply
     requires op { IsOp core.old.config op }
     requires new { IsNew op.action }
-    ensures makes { Makes W.sees (2 * core.old.config.regions + 10) op result core.old watch.old core.new watch.new }
+    ensures makes { Makes W.sees (3 * core.old.config.regions + 11) op result core.old watch.old core.new watch.new }
     ensures full { result ≡ replies.Refused refusals.Full → (s : State) → Stands s core.old
         → IsFilled s.graph core.old op.action core.new }
     ensures two { LeavesTwo core.old.config op.action → 2 ≤ free_count core.old.table → 2 ≤ free_count core.new.table }

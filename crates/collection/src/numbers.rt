@@ -3,6 +3,8 @@
 //! Nothing is promised of these numbers, and any will do: the theorem of `make` holds whatever they are. They decide how often the
 //! collector works, and how much at a time.
 
+ghost use Rattle.std.specs.Prelude.{◌≡◌, ◌<◌, true};
+
 use heap_steps::Reply;
 use heap_words::config::Config;
 
@@ -147,21 +149,30 @@ impl Policy {
         self.wanted = (most - most / 4).max(self.reserve.saturating_mul(2)).max(1);
     }
 
-    /// The budget of a pause after a cycle: what it takes to empty regions of the usual density until as many are free as are wanted.
-    pub(crate) fn evacuation_budget(&self, config: &Config, free: u32, live: u64) -> u32 {
+    /// The budget of a pause after a cycle, at most so many words: what it takes to empty regions of the usual density until as many are
+    /// free as are wanted.
+    pub(crate) fn evacuation_budget(
+        &self,
+        config: &Config,
+        free: u32,
+        live: u64,
+        most: u32,
+    ) -> u32 {
         let words = u64::from(config.words);
         let used = u64::from(config.regions.saturating_sub(free)) * words;
         let garbage = used.saturating_sub(live);
         if garbage == 0 {
-            return self.pause_words;
+            return most;
         }
         let more = u64::from(self.wanted.saturating_sub(free)) * words;
         let budget = more.saturating_mul(live) / garbage;
-        budget.min(u64::from(self.pause_words)) as u32
+        budget.min(u64::from(most)) as u32
     }
 
     /// Whether a pause after a cycle brought enough for another one to follow.
-    pub(crate) fn pays(&self, config: &Config, before: u32, after: u32, copied: u64) -> bool {
+    pub(crate) fn pays(&self, config: &Config, before: u32, after: u32, copied: u64) -> bool
+        ensures { result ≡ true → before < after }
+    {
         if after <= before || after >= self.wanted {
             return false;
         }
@@ -208,18 +219,20 @@ impl Policy {
         true
     }
 
-    /// Takes note of a pause of new regions. Where all are done and more than half of what was taken was copied, they are left alone until
-    /// the next cycle.
+    /// Takes note of a pause of new regions. Where all are done, or these pauses brought too little, the next ones are due later; and not
+    /// before the next cycle, where more than half of what was taken was copied.
     pub(crate) fn note_young(&mut self, config: &Config, before: u32, after: u32, reply: Reply) {
         let (regions, words) = moved(reply);
         self.gained = self.gained.saturating_add(after.saturating_sub(before));
         self.paid = self.paid.saturating_add(words);
-        if regions != 0 && regions < self.young {
+        let worth = u64::from(self.gained) * u64::from(config.words);
+        let bearable = self.paid <= worth.saturating_add(u64::from(self.pause_words));
+        if regions != 0 && regions < self.young && bearable {
             self.young -= regions;
             return;
         }
         self.plan_young(config, after);
-        if self.paid > u64::from(self.gained) * u64::from(config.words) {
+        if self.paid > worth {
             self.young_at = 0;
         }
     }

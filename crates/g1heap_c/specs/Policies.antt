@@ -40,7 +40,7 @@ pub record Asks (c : CoreState) (op : Op) (answer : Answer) (after : Option Core
   pub core : CoreState
   pub tells : answer ≡ numbers reply
   pub held : after ≡ Some core
-  pub makes : MakesIn (2 * c.config.regions + 10) op reply c core
+  pub makes : MakesIn (3 * c.config.regions + 11) op reply c core
   pub full : reply ≡ replies.Refused refusals.Full → (s : State) → Stands s c → IsFilled s.graph c op.action core
   pub two : LeavesTwo c.config op.action → 2 ≤ free_count c.table → 2 ≤ free_count core.table
 
@@ -58,7 +58,7 @@ pub record CollectsDueIn (c : CoreState) (answer : Answer) (after : Option CoreS
   pub core : CoreState
   pub tells : answer ≡ told 0 0 0
   pub held : after ≡ Some core
-  pub collects : CollectsIn 4 c core
+  pub collects : CollectsIn (c.config.regions + 5) c core
 
 abbrev pub CollectsDue : Option CoreState → Answer → Option CoreState → Type 0
 CollectsDue None answer after = Stays None no_heap answer after

@@ -31,7 +31,8 @@ is_spared-requires-2-clause-within g c =
 pub returns-then-is_spared-2-clause-collects : goal.returns-then-is_spared-2-clause-collects
 returns-then-is_spared-2-clause-collects g c =
     let e = ap (λ (x : Config). x.regions) c.look.ensures.config in
-    chain g.W.Watch.sees 4 (2 + c.look.new.core.config.regions) _ c.args.core.now c.look.new.core c.finish_cycle.new.core
+    chain g.W.Watch.sees (c.args.core.now.config.regions + 5)
+    (2 + c.look.new.core.config.regions) _ c.args.core.now c.look.new.core c.finish_cycle.new.core
     c.args.watch.now c.look.new.watch c.finish_cycle.new.watch (omega (arith, e)) c.look.ensures c.finish_cycle.ensures
 
 pub returns-then-is_spared-2-clause-room : goal.returns-then-is_spared-2-clause-room
@@ -50,10 +51,10 @@ pub returns-clause-collects : goal.returns-clause-collects
 returns-clause-collects g c =
     let e = ap (λ (x : Config). x.regions) c.look.ensures.config in
     let f = ap (λ (x : Config). x.regions) c.finish_cycle.ensures.config in
-    chain g.W.Watch.sees (6 + c.args.core.now.config.regions) (4 + c.finish_cycle.new.core.config.regions) _
+    chain g.W.Watch.sees (7 + 2 * c.args.core.now.config.regions) (4 + c.finish_cycle.new.core.config.regions) _
     c.args.core.now c.finish_cycle.new.core c.collect_all.new.core c.args.watch.now c.finish_cycle.new.watch c.collect_all.new.watch
     (omega (arith, e, f))
-    (chain g.W.Watch.sees 4 (2 + c.look.new.core.config.regions) (6 + c.args.core.now.config.regions)
+    (chain g.W.Watch.sees (c.args.core.now.config.regions + 5) (2 + c.look.new.core.config.regions) (7 + 2 * c.args.core.now.config.regions)
     c.args.core.now c.look.new.core c.finish_cycle.new.core
     c.args.watch.now c.look.new.watch c.finish_cycle.new.watch (omega (arith, e)) c.look.ensures c.finish_cycle.ensures)
     c.collect_all.ensures.collects
@@ -61,9 +62,9 @@ returns-clause-collects g c =
 pub returns-clause-room : goal.returns-clause-room
 returns-clause-room g c e =
     let f = ap (λ (x : Config). x.regions) c.look.ensures.config in
-    last_after g.W.Watch.sees (6 + c.args.core.now.config.regions) c.args.core.now c.finish_cycle.new.core
+    last_after g.W.Watch.sees (7 + 2 * c.args.core.now.config.regions) c.args.core.now c.finish_cycle.new.core
     c.args.watch.now c.finish_cycle.new.watch
-    (chain g.W.Watch.sees 4 (2 + c.look.new.core.config.regions) (6 + c.args.core.now.config.regions)
+    (chain g.W.Watch.sees (c.args.core.now.config.regions + 5) (2 + c.look.new.core.config.regions) (7 + 2 * c.args.core.now.config.regions)
     c.args.core.now c.look.new.core c.finish_cycle.new.core
     c.args.watch.now c.look.new.watch c.finish_cycle.new.watch (omega (arith, f)) c.look.ensures c.finish_cycle.ensures)
     c.args.op.now c.collect_all.new.core (c.collect_all.ensures.room e)
@@ -71,9 +72,9 @@ returns-clause-room g c e =
 pub returns-clause-leaves : goal.returns-clause-leaves
 returns-clause-leaves g c e =
     let f = ap (λ (x : Config). x.regions) c.look.ensures.config in
-    leaves_after g.W.Watch.sees (6 + c.args.core.now.config.regions) c.args.core.now c.finish_cycle.new.core
+    leaves_after g.W.Watch.sees (7 + 2 * c.args.core.now.config.regions) c.args.core.now c.finish_cycle.new.core
     c.args.watch.now c.finish_cycle.new.watch
-    (chain g.W.Watch.sees 4 (2 + c.look.new.core.config.regions) (6 + c.args.core.now.config.regions)
+    (chain g.W.Watch.sees (c.args.core.now.config.regions + 5) (2 + c.look.new.core.config.regions) (7 + 2 * c.args.core.now.config.regions)
     c.args.core.now c.look.new.core c.finish_cycle.new.core
     c.args.watch.now c.look.new.watch c.finish_cycle.new.watch (omega (arith, f)) c.look.ensures c.finish_cycle.ensures)
     c.args.op.now.action (c.collect_all.ensures.leaves e)
@@ -81,9 +82,9 @@ returns-clause-leaves g c e =
 pub returns-clause-filled : goal.returns-clause-filled
 returns-clause-filled g c e s stands =
     let f = ap (λ (x : Config). x.regions) c.look.ensures.config in
-    filled_after g.W.Watch.sees (6 + c.args.core.now.config.regions) c.args.core.now c.finish_cycle.new.core
+    filled_after g.W.Watch.sees (7 + 2 * c.args.core.now.config.regions) c.args.core.now c.finish_cycle.new.core
     c.args.watch.now c.finish_cycle.new.watch
-    (chain g.W.Watch.sees 4 (2 + c.look.new.core.config.regions) (6 + c.args.core.now.config.regions)
+    (chain g.W.Watch.sees (c.args.core.now.config.regions + 5) (2 + c.look.new.core.config.regions) (7 + 2 * c.args.core.now.config.regions)
     c.args.core.now c.look.new.core c.finish_cycle.new.core
     c.args.watch.now c.look.new.watch c.finish_cycle.new.watch (omega (arith, f)) c.look.ensures c.finish_cycle.ensures)
     c.args.op.now.action c.collect_all.new.core s stands (c.collect_all.ensures.filled e)

@@ -1,0 +1,14 @@
+use Rattle.std.proofs.Common.{◌≤◌, ◌-◌}
+use Rattle.regions.specs.Table.{free_count}
+use Rattle.collection.specs.Steps.{Collects}
+use Rattle.collection.proofs.cycle.evacuate.Given as goal
+
+abbrev pub invariant-pauses : goal.invariant-pauses
+invariant-pauses g l = record {
+  collects : Collects g.W.Watch.sees (free_count l.core.table - free_count l.initial.core.table) l.initial.core l.initial.watch l.core
+      l.watch;
+  grows : free_count l.initial.core.table ≤ free_count l.core.table;
+}
+
+abbrev pub decreases-pauses : goal.decreases-pauses
+decreases-pauses g l = l.core.config.regions - free_count l.core.table
