@@ -218,6 +218,15 @@ g1_answer g1_new_weak(g1_heap *heap, uint32_t by, uint32_t to, uint32_t pointers
 {
     return weaks == 0 ? g1_new_object(heap, by, to, pointers, values) : tell(G1_FULL, 0);
 }
+/* Its policy only counts what is asked for: there is nothing to collect by. */
+void g1_policy_start(g1_policy *policy, const g1_sizes *sizes) { (void)sizes, memset(policy, 0, sizeof *policy); }
+g1_answer g1_make(g1_heap *heap, g1_policy *policy, uint32_t by, uint32_t to, uint32_t pointers, uint32_t weaks, uint32_t values)
+{
+    policy->left -= 2 + pointers + weaks + values;
+    return g1_new_weak(heap, by, to, pointers, weaks, values);
+}
+g1_answer g1_collect(g1_heap *heap, g1_policy *policy) { return (void)heap, (void)policy, tell(G1_DONE, 0); }
+g1_answer g1_collect_all(g1_heap *heap, g1_policy *policy) { return g1_collect(heap, policy); }
 
 static void *reserve(size_t bytes)
 {
