@@ -1,0 +1,309 @@
+//! Objects of any length: bytes, texts, arrays, and runs of words.
+use crate::frame::{done, of_field, Frame};
+use crate::layout::Any;
+use crate::local::{Local, Source, Typed};
+use crate::Error;
+use std::convert::Infallible;
+use std::marker::PhantomData;
+
+/// Bytes, of any number, which is fixed when they are made by [`Frame::alloc_bytes`]: data word 0 is their number, and each further one has
+/// 8 of them, the first one lowest.
+#[derive(Debug)]
+pub enum Bytes {}
+/// A text, of any length, made by [`Frame::alloc_text`]: [`Bytes`] that are UTF-8.
+#[derive(Debug)]
+pub enum Text {}
+/// An array of pointers to objects of layout `T`, of any length, which is fixed when it is made by [`Frame::alloc_array`].
+#[derive(Debug)]
+pub struct Array<T = Any>(PhantomData<fn() -> T>, Infallible);
+impl Typed for Bytes {}
+impl Typed for Text {}
+impl<T> Typed for Array<T> {}
+
+/// Words that bytes are moved by at once.
+const RUN: usize = 32;
+
+fn count(len: usize) -> Result<u32, Error> {
+    u32::try_from(len).map_err(|_| Error::TooBig)
+}
+
+impl<'f, 'h> Frame<'f, 'h> {
+    /// Reads data words, from number `from` on, as many as `out` takes. [`Error::NoField`] where one of them isn't there, and
+    /// nothing is read.
+    ///
+    /// ```
+    /// # use g1heap::*;
+    /// # let mut heap = Heap::new(&Sizes::default())?;
+    /// # heap.run(|f| {
+    /// let object = f.alloc_filled(&[], &[1, 2, 3])?;
+    /// let mut two = [0; 2];
+    /// f.read_words(object, 1, &mut two)?;
+    /// assert_eq!(two, [2, 3]);
+    /// assert_eq!(f.read_words(object, 2, &mut two), Err(Error::NoField));
+    /// # Ok::<_, Error>(())
+    /// # })?;
+    /// # Ok::<_, Box<dyn std::error::Error>>(())
+    /// ```
+    pub fn read_words<T>(&self, object: Local<'_, 'h, T>, from: u32, out: &mut [u64]) -> Result<(), Error> {
+        of_field(self.raw().read_words(self.mutator(), object.register(), from, out)).map(drop)
+    }
+    /// Sets data words, from number `from` on. [`Error::NoField`] where one of them isn't there, and nothing is written.
+    ///
+    /// ```
+    /// # use g1heap::*;
+    /// # let mut heap = Heap::new(&Sizes::default())?;
+    /// # heap.run(|f| {
+    /// let object = f.alloc_any(0, 0, 3)?;
+    /// f.write_words(object, 1, &[8, 9])?;
+    /// assert_eq!(f.words(object), [0, 8, 9]);
+    /// assert_eq!(f.write_words(object, 2, &[8, 9]), Err(Error::NoField));
+    /// # Ok::<_, Error>(())
+    /// # })?;
+    /// # Ok::<_, Box<dyn std::error::Error>>(())
+    /// ```
+    pub fn write_words<T>(&self, object: Local<'_, 'h, T>, from: u32, words: &[u64]) -> Result<(), Error> {
+        of_field(self.raw().write_words(self.mutator(), object.register(), from, words)).map(drop)
+    }
+    /// All data words of an object.
+    ///
+    /// ```
+    /// # use g1heap::*;
+    /// # let mut heap = Heap::new(&Sizes::default())?;
+    /// # heap.run(|f| {
+    /// assert_eq!(f.words(f.alloc_any(1, 0, 3)?), [0, 0, 0]);
+    /// # Ok::<_, Error>(())
+    /// # })?;
+    /// # Ok::<_, Box<dyn std::error::Error>>(())
+    /// ```
+    pub fn words<T>(&self, object: Local<'_, 'h, T>) -> Vec<u64> {
+        let mut words = vec![0; self.shape(object).1 as usize];
+        done(self.raw().read_words(self.mutator(), object.register(), 0, &mut words));
+        words
+    }
+    /// A new object that has these pointers and these data words.
+    ///
+    /// ```
+    /// # use g1heap::*;
+    /// # let mut heap = Heap::new(&Sizes::default())?;
+    /// # heap.run(|f| {
+    /// let first = f.alloc_filled(&[], &[1, 2, 3])?;
+    /// let second = f.alloc_filled(&[None, Some(first)], &[4])?;
+    /// assert_eq!((f.shape(second), f.words(second)), ((2, 1), vec![4]));
+    /// assert!(f.same(f.get_at(second, 1)?.unwrap(), first));
+    /// # Ok::<_, Error>(())
+    /// # })?;
+    /// # Ok::<_, Box<dyn std::error::Error>>(())
+    /// ```
+    pub fn alloc_filled(&self, pointers: &[Option<Local<'_, 'h>>], words: &[u64]) -> Result<Local<'f, 'h>, Error> {
+        let object = self.alloc_any(count(pointers.len())?, 0, count(words.len())?)?;
+        for (field, pointer) in (0..).zip(pointers) {
+            if pointer.is_some() {
+                self.put_at(object, field, *pointer)?;
+            }
+        }
+        done(self.raw().write_words(self.mutator(), object.register(), 0, words));
+        Ok(object)
+    }
+
+    fn new_bytes<T>(&self, bytes: &[u8]) -> Result<Local<'f, 'h, T>, Error> {
+        let object = self.make::<T>(0, 0, count(bytes.len() / 8 + 2)?)?;
+        let (raw, mutator, register) = (self.raw(), self.mutator(), object.register());
+        done(raw.write(mutator, register, 0, bytes.len() as u64));
+        for (part, from) in bytes.chunks(8 * RUN).zip((1..).step_by(RUN)) {
+            let (mut eights, mut words) = ([[0; 8]; RUN], [0; RUN]);
+            for (eight, of) in eights.iter_mut().zip(part.chunks(8)) {
+                eight[..of.len()].copy_from_slice(of);
+            }
+            for (word, eight) in words.iter_mut().zip(eights) {
+                *word = u64::from_le_bytes(eight);
+            }
+            done(raw.write_words(mutator, register, from, &words[..(part.len() + 7) / 8]));
+        }
+        Ok(object)
+    }
+    fn bytes_of<T>(&self, object: Local<'_, 'h, T>, out: &mut Vec<u8>) {
+        let (raw, mutator, register) = (self.raw(), self.mutator(), object.register());
+        let (mut words, mut left) = ([0; RUN], self.len_of(object) as usize);
+        for from in (1..).step_by(RUN) {
+            let bytes = left.min(8 * RUN);
+            if bytes == 0 {
+                return;
+            }
+            let run = &mut words[..(bytes + 7) / 8];
+            done(raw.read_words(mutator, register, from, run));
+            let end = out.len() + bytes;
+            out.extend(run.iter().flat_map(|word| word.to_le_bytes()));
+            out.truncate(end);
+            left -= bytes;
+        }
+    }
+    #[track_caller]
+    fn len_of<T>(&self, object: Local<'_, 'h, T>) -> u64 {
+        done(self.raw().read(self.mutator(), object.register(), 0)).first
+    }
+
+    /// A new object of these bytes.
+    ///
+    /// ```
+    /// # use g1heap::*;
+    /// # let mut heap = Heap::new(&Sizes::default())?;
+    /// # heap.run(|f| {
+    /// let bytes = f.alloc_bytes(&[1, 2, 255])?;
+    /// assert_eq!((f.bytes(bytes), f.bytes_len(bytes)), (vec![1, 2, 255], 3));
+    /// # Ok::<_, Error>(())
+    /// # })?;
+    /// # Ok::<_, Box<dyn std::error::Error>>(())
+    /// ```
+    pub fn alloc_bytes(&self, bytes: &[u8]) -> Result<Local<'f, 'h, Bytes>, Error> {
+        self.new_bytes(bytes)
+    }
+    /// A copy of the bytes.
+    ///
+    /// ```
+    /// # use g1heap::*;
+    /// # let mut heap = Heap::new(&Sizes::default())?;
+    /// # heap.run(|f| {
+    /// let all: Vec<u8> = (0..1000).map(|it| it as u8).collect();
+    /// assert_eq!(f.bytes(f.alloc_bytes(&all)?), all);
+    /// # Ok::<_, Error>(())
+    /// # })?;
+    /// # Ok::<_, Box<dyn std::error::Error>>(())
+    /// ```
+    pub fn bytes(&self, object: Local<'_, 'h, Bytes>) -> Vec<u8> {
+        let mut bytes = Vec::new();
+        self.bytes_of(object, &mut bytes);
+        bytes
+    }
+    /// How many bytes there are.
+    ///
+    /// ```
+    /// # use g1heap::*;
+    /// # let mut heap = Heap::new(&Sizes::default())?;
+    /// # heap.run(|f| {
+    /// assert_eq!(f.bytes_len(f.alloc_bytes(&[])?), 0);
+    /// # Ok::<_, Error>(())
+    /// # })?;
+    /// # Ok::<_, Box<dyn std::error::Error>>(())
+    /// ```
+    pub fn bytes_len(&self, object: Local<'_, 'h, Bytes>) -> usize {
+        self.len_of(object) as usize
+    }
+    /// A new object of this text.
+    ///
+    /// ```
+    /// # use g1heap::*;
+    /// # layout! { struct Symbol { pointers { name: Text } } }
+    /// # let mut heap = Heap::new(&Sizes::default())?;
+    /// # heap.run(|f| {
+    /// let symbol = f.alloc::<Symbol>()?;
+    /// f.put(symbol, Symbol::name, f.alloc_text("lambda λ")?);
+    /// let name = f.get(symbol, Symbol::name)?.unwrap();
+    /// assert_eq!(f.text(name), "lambda λ");
+    /// # Ok::<_, Error>(())
+    /// # })?;
+    /// # Ok::<_, Box<dyn std::error::Error>>(())
+    /// ```
+    pub fn alloc_text(&self, text: &str) -> Result<Local<'f, 'h, Text>, Error> {
+        self.new_bytes(text.as_bytes())
+    }
+    /// A copy of the text. What isn't UTF-8 in an object that was wrongly [assumed](Local::assume) to be one, becomes U+FFFD.
+    ///
+    /// ```
+    /// # use g1heap::*;
+    /// # let mut heap = Heap::new(&Sizes::default())?;
+    /// # heap.run(|f| {
+    /// assert_eq!(f.text(f.alloc_text("eins")?) + &f.text(f.alloc_text("zwei")?), "einszwei");
+    /// # Ok::<_, Error>(())
+    /// # })?;
+    /// # Ok::<_, Box<dyn std::error::Error>>(())
+    /// ```
+    pub fn text(&self, object: Local<'_, 'h, Text>) -> String {
+        let mut bytes = Vec::new();
+        self.bytes_of(object, &mut bytes);
+        String::from_utf8(bytes).unwrap_or_else(|error| String::from_utf8_lossy(error.as_bytes()).into_owned())
+    }
+    /// The length of the text in bytes.
+    ///
+    /// ```
+    /// # use g1heap::*;
+    /// # let mut heap = Heap::new(&Sizes::default())?;
+    /// # heap.run(|f| {
+    /// assert_eq!(f.text_len(f.alloc_text("λ")?), 2);
+    /// # Ok::<_, Error>(())
+    /// # })?;
+    /// # Ok::<_, Box<dyn std::error::Error>>(())
+    /// ```
+    pub fn text_len(&self, object: Local<'_, 'h, Text>) -> usize {
+        self.len_of(object) as usize
+    }
+
+    /// A new array of so many pointers, all nil.
+    ///
+    /// ```
+    /// # use g1heap::*;
+    /// # layout! { struct Cell { words { number: u64 } } }
+    /// # let mut heap = Heap::new(&Sizes::default())?;
+    /// # heap.run(|f| {
+    /// let array = f.alloc_array::<Cell>(100)?;
+    /// f.set_item(array, 99, f.alloc()?)?;
+    /// assert!(f.item(array, 0)?.is_none() && f.item(array, 99)?.is_some());
+    /// # Ok::<_, Error>(())
+    /// # })?;
+    /// # Ok::<_, Box<dyn std::error::Error>>(())
+    /// ```
+    #[inline]
+    pub fn alloc_array<T>(&self, len: u32) -> Result<Local<'f, 'h, Array<T>>, Error> {
+        self.make(len, 0, 0)
+    }
+    /// How many pointers the array has.
+    ///
+    /// ```
+    /// # use g1heap::*;
+    /// # let mut heap = Heap::new(&Sizes::default())?;
+    /// # heap.run(|f| {
+    /// assert_eq!(f.array_len(f.alloc_array::<Any>(7)?), 7);
+    /// # Ok::<_, Error>(())
+    /// # })?;
+    /// # Ok::<_, Box<dyn std::error::Error>>(())
+    /// ```
+    #[inline]
+    pub fn array_len<T>(&self, array: Local<'_, 'h, Array<T>>) -> u32 {
+        self.shape(array).0
+    }
+    /// What an array holds at an index, in a new root. [`Error::NoField`] where there is none.
+    ///
+    /// ```
+    /// # use g1heap::*;
+    /// # let mut heap = Heap::new(&Sizes::default())?;
+    /// # heap.run(|f| {
+    /// let array = f.alloc_array::<Any>(7)?;
+    /// assert!(f.item(array, 6)?.is_none());
+    /// assert_eq!(f.item(array, 7).unwrap_err(), Error::NoField);
+    /// # Ok::<_, Error>(())
+    /// # })?;
+    /// # Ok::<_, Box<dyn std::error::Error>>(())
+    /// ```
+    #[inline]
+    pub fn item<T>(&self, array: Local<'_, 'h, Array<T>>, index: u32) -> Result<Option<Local<'f, 'h, T>>, Error> {
+        self.pushed_at(self.raw().get(self.mutator(), self.top(), array.register(), index))
+    }
+    /// Sets what an array holds at an index. [`Error::NoField`] where there is none.
+    ///
+    /// ```
+    /// # use g1heap::*;
+    /// # layout! { struct Cell { words { number: u64 } } }
+    /// # let mut heap = Heap::new(&Sizes::default())?;
+    /// # heap.run(|f| {
+    /// let array = f.alloc_array::<Cell>(7)?;
+    /// f.set_item(array, 6, f.alloc()?)?;
+    /// f.set_item(array, 6, Nil)?;
+    /// assert_eq!(f.set_item(array, 7, Nil), Err(Error::NoField));
+    /// # Ok::<_, Error>(())
+    /// # })?;
+    /// # Ok::<_, Box<dyn std::error::Error>>(())
+    /// ```
+    #[inline]
+    pub fn set_item<T>(&self, array: Local<'_, 'h, Array<T>>, index: u32, value: impl Source<'h, T>) -> Result<(), Error> {
+        of_field(self.raw().put(self.mutator(), array.register(), index, value.code())).map(drop)
+    }
+}

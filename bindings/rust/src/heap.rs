@@ -1,0 +1,444 @@
+use crate::base::{Core, Globals};
+use crate::frame::{Frame, Run};
+use crate::layout::Any;
+use crate::sys;
+use crate::threads::Lock;
+use std::fmt;
+use std::marker::PhantomData;
+use std::sync::Arc;
+
+/// Why a step wasn't done. Nothing changed then.
+#[derive(Clone, Copy, Debug, PartialEq, Eq)]
+#[repr(u32)] // of the size of a Local: a Result of both is made and taken apart in fewer instructions
+#[non_exhaustive]
+pub enum Error {
+    /// There is no room for the object, after a whole collection. A program that drops most of what it has can go on.
+    Full,
+    /// The object is larger than the heap, or has more than 255 weak slots.
+    TooBig,
+    /// No names are left for new objects.
+    NamesSpent,
+    /// No register is left: there are too many roots, or a recursion is too deep. [`Sizes::registers`] says how many there are.
+    NoRegisters,
+    /// No global is left. [`Sizes::globals`] says how many there are.
+    NoGlobals,
+    /// The object has no such field. Calls that take a field by number tell this; one of a layout is there, or
+    /// [`assume`](crate::Local::assume) was wrong and the call panics.
+    NoField,
+}
+
+impl fmt::Display for Error {
+    fn fmt(&self, f: &mut fmt::Formatter<'_>) -> fmt::Result {
+        f.write_str(match self {
+            Error::Full => "the heap is full",
+            Error::TooBig => "the object is too big for the heap",
+            Error::NamesSpent => "no names are left for new objects",
+            Error::NoRegisters => "no registers are left for roots",
+            Error::NoGlobals => "no globals are left",
+            Error::NoField => "the object has no such field",
+        })
+    }
+}
+impl std::error::Error for Error {}
+
+/// Which of the sizes no heap has, the first one in this order; or that there is no memory for it.
+///
+/// ```
+/// use g1heap::{BadSizes, Heap, Sizes};
+/// let error = Heap::new(&Sizes { words: 100, ..Sizes::default() }).unwrap_err();
+/// assert_eq!(error, BadSizes::Words);
+/// assert_eq!(error.to_string(), "no heap has these sizes: words of a region");
+/// ```
+#[derive(Clone, Copy, Debug, PartialEq, Eq)]
+#[non_exhaustive]
+pub enum BadSizes {
+    /// The number of regions.
+    Regions,
+    /// The words of a region.
+    Words,
+    /// The words of an allocation buffer.
+    Buffer,
+    /// The number of mutators, see [`Shared::new`](crate::Shared::new).
+    Mutators,
+    /// There is no memory for a heap of these sizes.
+    Memory,
+    /// The words of a card.
+    Card,
+    /// The number of globals.
+    Globals,
+    /// The number of registers of a mutator.
+    Registers,
+    /// The number of globals and of all registers.
+    Roots,
+    /// Another one, by the code of `g1_new`.
+    Other(u32),
+}
+impl BadSizes {
+    fn of(code: u32) -> BadSizes {
+        match code {
+            sys::BAD_REGIONS => BadSizes::Regions,
+            sys::BAD_WORDS => BadSizes::Words,
+            sys::BAD_BUFFER => BadSizes::Buffer,
+            sys::BAD_MUTATORS => BadSizes::Mutators,
+            sys::NO_MEMORY => BadSizes::Memory,
+            sys::BAD_CARD => BadSizes::Card,
+            sys::BAD_GLOBALS => BadSizes::Globals,
+            sys::BAD_REGISTERS => BadSizes::Registers,
+            sys::BAD_ROOTS => BadSizes::Roots,
+            code => BadSizes::Other(code),
+        }
+    }
+}
+impl fmt::Display for BadSizes {
+    fn fmt(&self, f: &mut fmt::Formatter<'_>) -> fmt::Result {
+        f.write_str("no heap has these sizes: ")?;
+        f.write_str(match self {
+            BadSizes::Regions => "regions",
+            BadSizes::Words => "words of a region",
+            BadSizes::Buffer => "words of a buffer",
+            BadSizes::Mutators => "mutators",
+            BadSizes::Memory => return f.write_str("there is no memory for it"),
+            BadSizes::Card => "words of a card",
+            BadSizes::Globals => "globals",
+            BadSizes::Registers => "registers",
+            BadSizes::Roots => "globals and registers of all mutators",
+            BadSizes::Other(code) => return write!(f, "code {code}"),
+        })
+    }
+}
+impl std::error::Error for BadSizes {}
+
+/// The sizes of a heap, which are fixed when it is made. A word is 64 bits.
+///
+/// ```
+/// use g1heap::{Heap, Sizes};
+/// let mut heap = Heap::new(&Sizes { registers: 16, ..Sizes::mebibytes(8) })?;
+/// heap.run(|f| assert_eq!(f.room(), 16));
+/// # Ok::<_, g1heap::BadSizes>(())
+/// ```
+#[derive(Clone, Copy, Debug, PartialEq, Eq)]
+pub struct Sizes {
+    /// Regions: 4 or more, better 64. `g1heap.h` says how many there may be.
+    pub regions: u32,
+    /// Words of a region, a power of two. `g1heap.h` says how many there may be, and how many in all.
+    pub words: u32,
+    /// Words of an allocation buffer: 4 to half of a region's; an eighth of them less 1 is a good one.
+    pub buffer: u32,
+    /// Words of a card: 8, 16, 32 or 64, and at most a region's.
+    pub card: u32,
+    /// Globals, for [`Global`] and [`Kept`]: 0 to 65,536.
+    pub globals: u32,
+    /// Registers of each thread, which are the roots that it can have at once: 1 to 65,536, at 8 bytes each.
+    pub registers: u32,
+    /// Whether [`Frame::alloc`] and its like take the steps of the collector that are due, by the library's policy. Else the program takes
+    /// them, by [`Frame::steps`].
+    pub policy: bool,
+}
+impl Default for Sizes {
+    /// 2 MiB in regions of 1,024 words, 64 globals, 4,096 registers, and the policy.
+    fn default() -> Self {
+        Sizes { regions: 256, words: 1024, buffer: 127, card: 8, globals: 64, registers: 4096, policy: true }
+    }
+}
+impl Sizes {
+    /// A heap of so many mebibytes, which are all taken when it is made: from 64 MiB on it has 512 to 1,024 regions, below regions of 1,024
+    /// words, and the rest is as [`Sizes::default`] has it.
+    ///
+    /// ```
+    /// # use g1heap::Sizes;
+    /// let sizes = Sizes::mebibytes(64);
+    /// assert_eq!((sizes.regions, sizes.words, sizes.buffer), (1024, 8192, 511));
+    /// assert_eq!(Sizes::mebibytes(2), Sizes::default());
+    /// ```
+    pub fn mebibytes(mebibytes: u32) -> Sizes {
+        let all = u64::from(mebibytes) << 17; // words
+        let words = (all.max(1) / 1024).next_power_of_two().clamp(1024, 1 << 31);
+        let regions = u32::try_from(all / words).unwrap_or(u32::MAX);
+        Sizes { regions, words: words as u32, buffer: ((words / 8 - 1) as u32).min(511), ..Sizes::default() }
+    }
+}
+
+/// What the policy did so far; all 0 where [`Sizes::policy`] is false.
+///
+/// ```
+/// # use g1heap::*;
+/// # let mut heap = Heap::new(&Sizes::default())?;
+/// heap.run(|f| f.collect());
+/// assert_eq!(heap.counts().cycles, 1);
+/// # Ok::<_, BadSizes>(())
+/// ```
+#[derive(Clone, Copy, Debug, Default, PartialEq, Eq)]
+pub struct Counts {
+    /// Whole cycles of marking.
+    pub cycles: u64,
+    /// Objects that these marked.
+    pub scanned: u64,
+    /// Pauses, those of whole collections too.
+    pub pauses: u64,
+    /// Words that these copied.
+    pub copied: u64,
+    /// Compactions, for objects of more than half a region that found no room.
+    pub compactions: u64,
+    /// Words that these copied.
+    pub compacted: u64,
+}
+impl Counts {
+    pub(crate) fn of(core: &Core) -> Counts {
+        let it = core.raw.policy();
+        let (compactions, compacted) = (it.compactions, it.compacted);
+        Counts { cycles: it.cycles, scanned: it.scanned, pauses: it.pauses, copied: it.copied, compactions, compacted }
+    }
+}
+
+/// What of the policy may be set at any time: how much it does at once. Any numbers will do.
+///
+/// ```
+/// # use g1heap::*;
+/// # let mut heap = Heap::new(&Sizes::default())?;
+/// let pace = heap.pace();
+/// heap.set_pace(Pace { pause_words: 4096, ..pace });
+/// assert_eq!(heap.pace().pause_words, 4096);
+/// # Ok::<_, BadSizes>(())
+/// ```
+#[derive(Clone, Copy, Debug, PartialEq, Eq)]
+pub struct Pace {
+    /// Regions: a cycle of marking ends before fewer are free.
+    pub reserve: u32,
+    /// Words: the budget of a pause, but for those of a whole collection.
+    pub pause_words: u32,
+    /// Objects: as many are scanned at a look, at most.
+    pub mark_objects: u32,
+    /// Words: where so many were asked for since the last cycle began, another one begins.
+    pub cycle_words: u32,
+}
+
+/// A heap. It may go to another thread. Threads that are in it at once share a [`Shared`](crate::Shared), or a `Mutex<Heap>`.
+///
+/// ```
+/// use g1heap::{layout, Error, Heap, Sizes};
+/// layout! { struct Cell { pointers { next: Cell } words { number: u64 } } }
+///
+/// let mut heap = Heap::new(&Sizes::default())?;
+/// let number = heap.run(|f| {
+///     let cell = f.alloc::<Cell>()?;
+///     f.write(cell, Cell::number, 42);
+///     f.put(cell, Cell::next, cell);
+///     let next = f.get(cell, Cell::next)?.expect("it isn't nil");
+///     Ok::<_, Error>(f.read(next, Cell::number))
+/// })?;
+/// assert_eq!(number, 42);
+/// # Ok::<_, Box<dyn std::error::Error>>(())
+/// ```
+pub struct Heap {
+    core: Box<Core>,
+}
+
+impl Heap {
+    /// A heap of these sizes. All of its memory is taken now, and freed when it is dropped.
+    ///
+    /// ```
+    /// # use g1heap::*;
+    /// assert!(Heap::new(&Sizes::default()).is_ok());
+    /// assert_eq!(Heap::new(&Sizes { card: 9, ..Sizes::default() }).unwrap_err(), BadSizes::Card);
+    /// ```
+    pub fn new(sizes: &Sizes) -> Result<Heap, BadSizes> {
+        Ok(Heap { core: new_core(sizes, 1, None)? })
+    }
+
+    /// Lends a frame to `body`. What this roots can't leave the run: what is to stay is put into a [`Global`] or a [`Kept`].
+    ///
+    /// ```
+    /// # use g1heap::*;
+    /// # layout! { struct Cell { pointers { next: Cell } words { number: u64 } } }
+    /// # let mut heap = Heap::new(&Sizes::default())?;
+    /// let kept = heap.run(|f| {
+    ///     let cell = f.alloc::<Cell>()?;
+    ///     f.write(cell, Cell::number, 7);
+    ///     f.keep(cell)
+    /// })?;
+    /// heap.run(|f| {
+    ///     let cell = f.kept(&kept)?;
+    ///     assert_eq!(f.read(cell, Cell::number), 7);
+    ///     Ok::<_, Error>(())
+    /// })?;
+    /// # Ok::<_, Box<dyn std::error::Error>>(())
+    /// ```
+    #[inline]
+    pub fn run<R>(&mut self, body: impl for<'h> FnOnce(&mut Frame<'h, 'h>) -> R) -> R {
+        let run = Run::new(&self.core, 0);
+        body(&mut run.frame())
+    }
+
+    /// A global, nil at first; it lives as long as the heap. [`Frame::new_global`] does the same within a run.
+    ///
+    /// ```
+    /// # use g1heap::*;
+    /// # layout! { struct Cell { pointers { next: Cell } } }
+    /// # let mut heap = Heap::new(&Sizes::default())?;
+    /// let list = heap.new_global::<Cell>()?;
+    /// heap.run(|f| f.save(list, f.alloc()?))?;
+    /// assert!(heap.run(|f| f.load(list).map(|it| it.is_some()))?);
+    /// # Ok::<_, Box<dyn std::error::Error>>(())
+    /// ```
+    pub fn new_global<T>(&mut self) -> Result<Global<T>, Error> {
+        self.core.empty_left(0, 0); // no run is on, so all registers are nil
+        Global::take(&self.core.globals)
+    }
+
+    /// What the policy did so far.
+    ///
+    /// ```
+    /// # use g1heap::*;
+    /// let heap = Heap::new(&Sizes::default())?;
+    /// assert_eq!(heap.counts(), Counts::default());
+    /// # Ok::<_, BadSizes>(())
+    /// ```
+    pub fn counts(&self) -> Counts {
+        Counts::of(&self.core)
+    }
+
+    /// How much the policy does at once.
+    ///
+    /// ```
+    /// # use g1heap::*;
+    /// let heap = Heap::new(&Sizes::default())?;
+    /// assert_eq!(heap.pace().reserve, 10);
+    /// # Ok::<_, BadSizes>(())
+    /// ```
+    pub fn pace(&self) -> Pace {
+        let it = self.core.raw.policy();
+        Pace { reserve: it.reserve, pause_words: it.pause_words, mark_objects: it.mark_objects, cycle_words: it.cycle_words }
+    }
+
+    /// Sets how much the policy does at once.
+    ///
+    /// ```
+    /// # use g1heap::*;
+    /// let mut heap = Heap::new(&Sizes::default())?;
+    /// heap.set_pace(Pace { mark_objects: 100, ..heap.pace() });
+    /// # Ok::<_, BadSizes>(())
+    /// ```
+    pub fn set_pace(&mut self, pace: Pace) {
+        let mut it = self.core.raw.policy();
+        (it.reserve, it.pause_words, it.mark_objects, it.cycle_words) =
+            (pace.reserve, pace.pause_words, pace.mark_objects, pace.cycle_words);
+        self.core.raw.set_policy(it);
+    }
+
+    /// From now on each step is handed to `write` as a line with its line feed, until that answers an error or panics. To be called before
+    /// the first step; later it answers false, and nothing changes. `g1heap check` judges the lines.
+    ///
+    /// ```
+    /// # use g1heap::*;
+    /// # use std::io::Write;
+    /// # let mut heap = Heap::new(&Sizes::default())?;
+    /// let mut lines = std::io::sink(); // or a file
+    /// assert!(heap.record(move |line| lines.write_all(line)));
+    /// heap.run(|f| f.alloc_any(1, 0, 1).map(drop))?;
+    /// # Ok::<_, Box<dyn std::error::Error>>(())
+    /// ```
+    #[cfg(feature = "recorded")]
+    pub fn record(&mut self, write: impl FnMut(&[u8]) -> std::io::Result<()> + Send + 'static) -> bool {
+        self.core.raw.record(write)
+    }
+}
+
+pub(crate) fn new_core(sizes: &Sizes, mutators: u32, lock: Option<Lock>) -> Result<Box<Core>, BadSizes> {
+    let Sizes { regions, words, buffer, card, globals, registers, policy } = *sizes;
+    let sizes = sys::g1_sizes { regions, words, buffer, mutators, first_name: 1, card, globals, registers };
+    Core::new(&sizes, policy, lock).map_err(BadSizes::of)
+}
+
+impl fmt::Debug for Heap {
+    fn fmt(&self, f: &mut fmt::Formatter<'_>) -> fmt::Result {
+        f.debug_struct("Heap").field("counts", &self.counts()).finish_non_exhaustive()
+    }
+}
+
+/// A global of a heap: a place that holds nil or an object, and stays as long as the heap. It's `Copy`, and used with another heap it
+/// panics.
+///
+/// ```
+/// use g1heap::{layout, Error, Global, Heap, Nil, Sizes};
+/// layout! { struct Cell { pointers { next: Cell } } }
+/// struct Program {
+///     heap: Heap,
+///     list: Global<Cell>,
+/// }
+/// # fn main() -> Result<(), Box<dyn std::error::Error>> {
+/// let mut heap = Heap::new(&Sizes::default())?;
+/// let list = heap.new_global()?;
+/// let mut program = Program { heap, list };
+/// program.heap.run(|f| {
+///     let cell = f.alloc::<Cell>()?;
+///     f.put(cell, Cell::next, f.load(program.list)?);
+///     f.save(program.list, cell)
+/// })?;
+/// # Ok(())
+/// # }
+/// ```
+pub struct Global<T = Any> {
+    number: u32,
+    serial: usize,
+    of: PhantomData<fn() -> T>,
+}
+impl<T> Global<T> {
+    pub(crate) fn take(globals: &Globals) -> Result<Global<T>, Error> {
+        Ok(Global { number: globals.take_nil()?, serial: globals.serial, of: PhantomData })
+    }
+    #[track_caller]
+    pub(crate) fn number_in(&self, core: &Core) -> u32 {
+        assert!(self.serial == core.globals.serial, "a global of another heap");
+        self.number
+    }
+}
+impl<T> Clone for Global<T> {
+    fn clone(&self) -> Self {
+        *self
+    }
+}
+impl<T> Copy for Global<T> {}
+impl<T> fmt::Debug for Global<T> {
+    fn fmt(&self, f: &mut fmt::Formatter<'_>) -> fmt::Result {
+        write!(f, "Global({})", self.number)
+    }
+}
+
+/// Keeps an object until it is dropped, wherever it lies: in a struct of the program, or in another thread. It takes one of the
+/// heap's globals. [`Frame::keep`] makes one. Used with another heap it panics.
+///
+/// ```
+/// # use g1heap::*;
+/// # layout! { struct Cell { words { number: u64 } } }
+/// # let mut heap = Heap::new(&Sizes { globals: 1, ..Sizes::default() })?;
+/// let kept: Kept<Cell> = heap.run(|f| f.keep(f.alloc()?))?;
+/// assert_eq!(heap.run(|f| f.keep(f.alloc::<Cell>()?)).unwrap_err(), Error::NoGlobals);
+/// std::thread::spawn(move || drop(kept)).join().unwrap();
+/// assert!(heap.run(|f| f.keep(f.alloc::<Cell>()?)).is_ok());
+/// # Ok::<_, Box<dyn std::error::Error>>(())
+/// ```
+pub struct Kept<T = Any> {
+    number: u32,
+    globals: Arc<Globals>,
+    of: PhantomData<fn() -> T>,
+}
+impl<T> Kept<T> {
+    pub(crate) fn new(core: &Core, number: u32) -> Kept<T> {
+        Kept { number, globals: core.globals.clone(), of: PhantomData }
+    }
+    #[track_caller]
+    pub(crate) fn number_in(&self, core: &Core) -> u32 {
+        assert!(Arc::ptr_eq(&self.globals, &core.globals), "kept by another heap");
+        self.number
+    }
+}
+impl<T> Drop for Kept<T> {
+    fn drop(&mut self) {
+        self.globals.leave(self.number);
+    }
+}
+impl<T> fmt::Debug for Kept<T> {
+    fn fmt(&self, f: &mut fmt::Formatter<'_>) -> fmt::Result {
+        write!(f, "Kept({})", self.number)
+    }
+}

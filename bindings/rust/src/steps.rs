@@ -1,0 +1,119 @@
+use crate::sys::{g1_answer, Raw, NIL};
+use std::fmt;
+
+/// The steps of the collector, and what a policy steers by. [`Frame::steps`](crate::Frame::steps) lends them.
+///
+/// What is to be right of a policy: marking goes from `begin` by `mark` to `remark`; after that come `cleanup` and `pause`; and two
+/// regions are kept free, since live objects are copied into free regions alone. `docs/EMBEDDING.md` has more. Whatever it does, the
+/// heap's answers stay right.
+///
+/// ```
+/// # use g1heap::*;
+/// # layout! { struct Cell { words { number: u64 } } }
+/// /// Collects in small steps.
+/// fn collect(f: &Frame<'_, '_>) {
+///     let steps = f.steps();
+///     assert!(steps.begin());
+///     while steps.is_grey() {
+///         steps.mark(100); // here others could have their turn
+///     }
+///     steps.remark();
+///     steps.cleanup();
+///     while steps.pause(10_000).regions > 0 {}
+///     assert!(steps.live_words() == 0 && steps.free_regions() > 250);
+/// }
+/// let mut heap = Heap::new(&Sizes { policy: false, ..Sizes::default() })?;
+/// heap.run(|f| {
+///     while f.steps().free_regions() > 2 {
+///         f.scope(|g| g.alloc::<Cell>().map(drop))?;
+///     }
+///     collect(f);
+///     Ok::<_, Error>(())
+/// })?;
+/// # Ok::<_, Box<dyn std::error::Error>>(())
+/// ```
+pub struct Steps<'a> {
+    raw: &'a Raw,
+}
+impl fmt::Debug for Steps<'_> {
+    fn fmt(&self, f: &mut fmt::Formatter<'_>) -> fmt::Result {
+        f.debug_struct("Steps").field("free_regions", &self.free_regions()).finish_non_exhaustive()
+    }
+}
+
+/// What a [`pause`](Steps::pause) or a [`compact`](Steps::compact) did.
+#[derive(Clone, Copy, Debug, Default, PartialEq, Eq)]
+pub struct Moved {
+    /// Words that were copied.
+    pub words: u64,
+    /// Regions that were evacuated, and are free again.
+    pub regions: u32,
+}
+
+fn taken(answer: g1_answer) -> Option<u64> {
+    (answer.code < NIL).then_some(answer.first)
+}
+
+fn moved(answer: g1_answer) -> Moved {
+    Moved { words: answer.first, regions: answer.second }
+}
+
+impl<'a> Steps<'a> {
+    pub(crate) fn new(raw: &'a Raw) -> Self {
+        Steps { raw }
+    }
+    /// Marking begins; false where it is running.
+    pub fn begin(&self) -> bool {
+        taken(self.raw.begin()).is_some()
+    }
+    /// Scans at most so many objects, and answers how many; `None` where marking isn't running.
+    pub fn mark(&self, objects: u32) -> Option<u64> {
+        taken(self.raw.mark(objects))
+    }
+    /// Brings marking to its end, and clears weak slots; answers how many objects were marked in this cycle. `None` where marking
+    /// isn't running.
+    pub fn remark(&self) -> Option<u64> {
+        taken(self.raw.remark())
+    }
+    /// Frees the regions with nothing live, and answers how many; `None` while marking runs.
+    pub fn cleanup(&self) -> Option<u64> {
+        taken(self.raw.cleanup())
+    }
+    /// Refines at most so many queued cards, and answers how many.
+    pub fn refine(&self, cards: u32) -> u64 {
+        self.raw.refine(cards).first
+    }
+    /// Copies live objects out of some regions, at most so many words, and at most half of those of the free regions.
+    pub fn pause(&self, words: u32) -> Moved {
+        moved(self.raw.pause(words))
+    }
+    /// The same of the highest ordinary regions, as many as go down, so that free regions come to lie side by side: for objects of more than
+    /// half a region, which never move. While marking runs, nothing is copied.
+    pub fn compact(&self, words: u32) -> Moved {
+        moved(self.raw.compact(words))
+    }
+    /// How many regions are free.
+    pub fn free_regions(&self) -> u32 {
+        self.raw.free_regions().first as u32
+    }
+    /// How many words of the other regions are handed out, to objects and to allocation buffers.
+    pub fn used_words(&self) -> u64 {
+        self.raw.used_words().first
+    }
+    /// How many words are live: those of the objects that the last complete marking marked, and all handed out since it began.
+    pub fn live_words(&self) -> u64 {
+        self.raw.live_words().first
+    }
+    /// Whether marking is running.
+    pub fn is_marking(&self) -> bool {
+        self.raw.marking().first == 1
+    }
+    /// Whether marking is running, and some marked object isn't scanned yet.
+    pub fn is_grey(&self) -> bool {
+        self.raw.grey().first == 1
+    }
+    /// How many cards wait for refinement.
+    pub fn queued(&self) -> u64 {
+        self.raw.queued().first
+    }
+}
