@@ -20,7 +20,7 @@
 
    ARGUMENTS. Any numbers will do. Those that name no step of this heap are answered G1_NO_STEP, and nothing changes. What names a step goes
    to the heap, which does it or refuses it; a refusal changes nothing either. Only the pointers are the caller's duty: `heap` points to a
-   g1_heap that is G1_HEAP_NONE or as a call left it, `sizes` to a g1_sizes.
+   g1_heap that is G1_HEAP_NONE or as a call left it, `sizes` to a g1_sizes, a buffer to as many numbers as its count says.
 
    THREADS. The library has no lock and no thread. A heap takes one call at a time, those that only tell something too; heaps don't know of
    each other. A heap may pass from one thread to another, which is proved of it, and threads may share one under a lock of the caller's. No
@@ -36,6 +36,7 @@
 #define G1HEAP_H
 
 #include <stdbool.h>
+#include <stddef.h>
 #include <stdint.h>
 
 #ifdef __cplusplus
@@ -52,15 +53,30 @@ typedef struct g1_heap {
 
 /* The sizes of a heap. A word is 64 bits. */
 typedef struct g1_sizes {
-    uint32_t regions;    /* 2 to 1,024 */
-    uint32_t words;      /* of a region: a power of two, 16 to 16,384; regions * words is at most 16,777,216 */
+    uint32_t regions;    /* 2 to 4,096 */
+    uint32_t words;      /* of a region: a power of two, 16 to 4,194,304; regions * words is at most 2,147,483,648 */
     uint32_t buffer;     /* words of a mutator's allocation buffer: 4 to words / 2; words / 8 - 1 is a good one */
     uint32_t mutators;   /* 1 to 64 */
     uint64_t first_name; /* the first object's name; each later one's is one higher */
-    uint32_t card;       /* words of a card: 8, 16, 32 or 64, and at most words */
+    uint32_t card;       /* words of a card: a power of two, 8 to 512, and at most words */
     uint32_t globals;    /* 0 to 65,536 */
     uint32_t registers;  /* of each mutator: 1 to 65,536; globals and all registers are at most 1,048,576 */
 } g1_sizes;
+
+/* The largest sizes, and how much an object may have. */
+#define G1_MAX_REGIONS 4096
+#define G1_MAX_REGION_WORDS 4194304
+#define G1_MAX_WORDS 2147483648u
+#define G1_MAX_MUTATORS 64
+#define G1_MAX_CARD 512
+#define G1_MAX_GLOBALS 65536
+#define G1_MAX_REGISTERS 65536
+#define G1_MAX_ROOTS 1048576
+#define G1_MAX_OBJECT_WORDS 16777216 /* its header and its name are two of them */
+#define G1_MAX_WEAKS 255
+
+/* The version of this header and of the library, as pkg-config tells it. */
+#define G1_VERSION "0.1.0"
 
 /* What came of a call. Below 16 it was done; from 16 on nothing changed. */
 enum {
@@ -72,14 +88,14 @@ enum {
     G1_MARKED = 5,     /* g1_remark: `first` objects were marked in this cycle */
     G1_RECLAIMED = 6,  /* g1_cleanup: `first` regions are free again */
     G1_REFINED = 7,    /* g1_refine: `first` cards were refined */
-    G1_MOVED = 8,      /* g1_pause: `first` words were copied, `second` regions are free again */
+    G1_MOVED = 8,      /* g1_pause, g1_compact: `first` words were copied, `second` regions are free again */
     G1_SCANNED = 9,    /* g1_mark: `first` objects were scanned */
     G1_NUMBER = 10,    /* what a reader tells: `first` */
 
     G1_NIL = 16,          /* the register that should name an object is nil */
     G1_NO_FIELD = 17,     /* the object has no such field */
     G1_FULL = 18,         /* no place was found for the new object: collect, and try again */
-    G1_TOO_BIG = 19,      /* the new object is larger than the heap */
+    G1_TOO_BIG = 19,      /* the new object is larger than the heap, or than 16,777,216 words */
     G1_NAMES_SPENT = 20,  /* no names are left */
     G1_MARK_RUNNING = 21, /* marking is running */
     G1_NOT_MARKING = 22,  /* marking is not running */
@@ -151,6 +167,29 @@ g1_answer g1_put_weak(g1_heap *heap, uint32_t mutator, uint32_t object, uint32_t
 g1_answer g1_weaks(g1_heap *heap, uint32_t mutator, uint32_t object);
 g1_answer g1_scope(g1_heap *heap, uint32_t mutator, uint32_t first);
 
+/* Several data words of the object that a register names, from one on: all of them or none. Each is what g1_read would tell, or g1_write would
+   write, one after another, and a record has these steps; here they are one copy of memory.
+
+       uint64_t buffer[64];
+       g1_write_words(&heap, 0, STRING, 1, buffer, 64);     // data words 1 to 64 of register STRING's object
+       g1_read_words(&heap, 0, STRING, 1, buffer, 64);      // and back
+
+   `out` and `in` point to `count` words. DONE, or NIL, NO_FIELD, NO_STEP or NO_HEAP, and then nothing was read or written. NO_FIELD: the
+   object has no data word `from` + `count` - 1. Where `count` is 0, `from` may be at most the count of the object's data words. */
+g1_answer g1_read_words(g1_heap *heap, uint32_t mutator, uint32_t object, uint32_t from, uint64_t *out, size_t count);
+g1_answer g1_write_words(g1_heap *heap, uint32_t mutator, uint32_t object, uint32_t from, const uint64_t *in, size_t count);
+
+/* A new object with its fields: its pointers are what the registers in `from` hold, or nil for G1_NIL_REGISTER, and its data words are those
+   of `words`. It is g1_new_object, and where that answers NAME a g1_put for each pointer and a g1_write for each data word; a record has these
+   steps. Answers as g1_new_object does. `to` may not be among the sources, since after the first step it names the new object: G1_NO_STEP, and
+   so where a source is no register. Then nothing changes.
+
+       uint32_t from[] = {FIRST, REST};
+       uint64_t words[] = {PAIR_TAG};
+       g1_new_filled(&heap, 0, CELL, from, 2, words, 1);    // register CELL: a pair of what FIRST and REST hold */
+g1_answer g1_new_filled(g1_heap *heap, uint32_t mutator, uint32_t to, const uint32_t *from, size_t pointers, const uint64_t *words,
+                        size_t values);
+
 /* FULL: an object of more than half a region needs free regions side by side. Another one needs its words above the top of the current
    region, or a free region; if it has at most `buffer` words, it needs them in the mutator's buffer, or room for a whole new buffer there.
    So words may be unused that would hold the object. */
@@ -165,18 +204,24 @@ g1_answer g1_scope(g1_heap *heap, uint32_t mutator, uint32_t first);
    g1_refine    gc refine          at most so many queued cards are refined                                 REFINED
    g1_pause     gc pause           live objects are copied out of some regions, at most so many words,      MOVED
                                    and at most half the words of the free regions; these regions are
-                                   free again */
+                                   free again
+   g1_compact   gc compact         the same of the highest ordinary regions, full ones too, as many as    MOVED
+                                   go down: so free regions come to lie side by side, for objects of
+                                   more than half a region, which never move. While marking runs
+                                   nothing is copied */
 g1_answer g1_begin(g1_heap *heap);
 g1_answer g1_mark(g1_heap *heap, uint32_t objects);
 g1_answer g1_remark(g1_heap *heap);
 g1_answer g1_cleanup(g1_heap *heap);
 g1_answer g1_refine(g1_heap *heap, uint32_t cards);
 g1_answer g1_pause(g1_heap *heap, uint32_t words);
+g1_answer g1_compact(g1_heap *heap, uint32_t words);
 
 /* What a policy of collection steers by. Nothing changes. Each answers NUMBER, g1_name alone NAME or NIL_VALUE; or NO_HEAP, and g1_name
    also NO_STEP.
 
    g1_free_regions   how many regions are free
+   g1_free_run       how many free regions lie side by side at most: so many regions an object of more than half a region may take
    g1_used_words     how many words of the other regions are handed out, to objects and to allocation buffers
    g1_live_words     how many words are live: those of the objects that the last complete marking marked, and all handed out since it began
    g1_marking        1 while marking runs, else 0
@@ -186,8 +231,9 @@ g1_answer g1_pause(g1_heap *heap, uint32_t words);
    g1_registers      how many registers each mutator has
    g1_name           the name that a register holds: two registers hold the same object where these are the same
 
-   g1_used_words and g1_live_words add up a count of each region; the others cost less than a step. */
+   g1_used_words and g1_live_words add up a count of each region, and g1_free_run looks at each; the others cost less than a step. */
 g1_answer g1_free_regions(const g1_heap *heap);
+g1_answer g1_free_run(const g1_heap *heap);
 g1_answer g1_used_words(const g1_heap *heap);
 g1_answer g1_live_words(const g1_heap *heap);
 g1_answer g1_marking(const g1_heap *heap);
@@ -209,10 +255,12 @@ g1_answer g1_name(const g1_heap *heap, uint32_t mutator, uint32_t of);
 
    TWO REGIONS ARE KEPT, since live objects are copied into free regions alone. No region is taken for an object where fewer than 2 would
    stay free. Before that comes a whole collection: a marking from begin to remark with nothing between, a cleanup, and pauses for as long
-   as each frees a region. G1_FULL comes only after one, and then it is proved:
+   as each frees a region; and for an object of more than half a region compactions, until one of them takes no region. G1_FULL comes only
+   after that, and then it is proved:
    - for an object of at most half a region that 2 regions are free, each larger object that is left is reachable, and so is more than half
      of the words of the other regions, if these are two or more;
-   - for a larger one, which takes whole regions, that too few free ones lie side by side, or fewer than 2 would stay free.
+   - for a larger one, which takes whole regions, that too few free ones lie side by side, or fewer than 2 would stay free; and that from
+     the lowest free region on nothing but reachable objects of more than half a region parts the free ones, if 2 were free before.
    Each G1_FULL costs a whole collection: what is dropped isn't seen here, so the next g1_make has to look again. docs/SPACE.md has the
    theorem.
 
@@ -239,6 +287,8 @@ typedef struct g1_policy {
     uint64_t scanned;      /* and the objects that they marked */
     uint64_t pauses;       /* pauses, those of whole collections too, */
     uint64_t copied;       /* and the words that they copied */
+    uint64_t compactions;  /* compactions, for objects of more than half a region that found no room, */
+    uint64_t compacted;    /* and the words that they copied */
 } g1_policy;
 
 /* A policy for a new heap of these sizes. */

@@ -7,7 +7,7 @@
        G1HEAP_RECORD=hello.record ./hello_recorded
        g1heap check hello.record                                  # yes 123
 
-   The variable names the file of the first heap that is made; that of the second one has .2 behind its name, and so on. Where it isn't set,
+   The variable names the file of the first heap that is made; that of the second one has .2 after its name, and so on. Where it isn't set,
    nothing is written, unless the program asks for it by g1_record. A program linked with -lg1heap has no such calls, and pays nothing. */
 #ifndef G1HEAP_RECORD_H
 #define G1HEAP_RECORD_H

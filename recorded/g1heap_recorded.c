@@ -11,10 +11,14 @@ uint32_t g1raw_new(g1_heap *heap, const g1_sizes *sizes);
 void g1raw_free(g1_heap *heap);
 g1_answer g1raw_new_object(g1_heap *heap, uint32_t mutator, uint32_t to, uint32_t pointers, uint32_t values);
 g1_answer g1raw_new_weak(g1_heap *heap, uint32_t mutator, uint32_t to, uint32_t pointers, uint32_t weaks, uint32_t values);
+g1_answer g1raw_new_filled(g1_heap *heap, uint32_t mutator, uint32_t to, const uint32_t *from, size_t pointers, const uint64_t *words,
+                           size_t values);
 g1_answer g1raw_get(g1_heap *heap, uint32_t mutator, uint32_t to, uint32_t object, uint32_t field);
 g1_answer g1raw_put(g1_heap *heap, uint32_t mutator, uint32_t object, uint32_t field, uint32_t from);
 g1_answer g1raw_read(g1_heap *heap, uint32_t mutator, uint32_t object, uint32_t field);
 g1_answer g1raw_write(g1_heap *heap, uint32_t mutator, uint32_t object, uint32_t field, uint64_t value);
+g1_answer g1raw_read_words(g1_heap *heap, uint32_t mutator, uint32_t object, uint32_t from, uint64_t *out, size_t count);
+g1_answer g1raw_write_words(g1_heap *heap, uint32_t mutator, uint32_t object, uint32_t from, const uint64_t *in, size_t count);
 g1_answer g1raw_move(g1_heap *heap, uint32_t mutator, uint32_t to, uint32_t from);
 g1_answer g1raw_drop(g1_heap *heap, uint32_t mutator, uint32_t to);
 g1_answer g1raw_load(g1_heap *heap, uint32_t mutator, uint32_t to, uint32_t global);
@@ -30,7 +34,9 @@ g1_answer g1raw_remark(g1_heap *heap);
 g1_answer g1raw_cleanup(g1_heap *heap);
 g1_answer g1raw_refine(g1_heap *heap, uint32_t cards);
 g1_answer g1raw_pause(g1_heap *heap, uint32_t words);
+g1_answer g1raw_compact(g1_heap *heap, uint32_t words);
 g1_answer g1raw_free_regions(const g1_heap *heap);
+g1_answer g1raw_free_run(const g1_heap *heap);
 g1_answer g1raw_used_words(const g1_heap *heap);
 g1_answer g1raw_live_words(const g1_heap *heap);
 g1_answer g1raw_marking(const g1_heap *heap);
@@ -183,7 +189,7 @@ uint32_t g1_new(g1_heap *heap, const g1_sizes *sizes)
         free(in);
         return code;
     }
-    in->room = 3 * (size_t)sizes->regions + 16; /* a call of the policy takes no more steps */
+    in->room = 4 * (size_t)sizes->regions + 16; /* a call of the policy takes no more steps */
     in->entries = (entry *)calloc(in->room, sizeof *in->entries);
     if (in->entries == NULL) {
         g1raw_free(&in->heap);
@@ -236,6 +242,20 @@ g1_answer g1_new_weak(g1_heap *heap, uint32_t mutator, uint32_t to, uint32_t poi
                 (uint64_t[]){mutator, to, pointers, weaks, values});
 }
 
+/* The object's step has the answer, and each step that fills it is done. */
+g1_answer g1_new_filled(g1_heap *heap, uint32_t mutator, uint32_t to, const uint32_t *from, size_t pointers, const uint64_t *words,
+                        size_t values)
+{
+    box *in = box_of(heap);
+    g1_answer made = g1raw_new_filled(&in->heap, mutator, to, from, pointers, words, values), done = {G1_DONE, 0, 0};
+    note(in, made, "% new r% % %", (uint64_t[]){mutator, to, pointers, values});
+    if (made.code != G1_NAME) return made;
+    for (size_t i = 0; i < pointers; i++)
+        note(in, done, from[i] == G1_NIL_REGISTER ? "% put r% % nil" : "% put r% % r%", (uint64_t[]){mutator, to, i, from[i]});
+    for (size_t i = 0; i < values; i++) note(in, done, "% write r% % %", (uint64_t[]){mutator, to, i, words[i]});
+    return made;
+}
+
 g1_answer g1_get(g1_heap *heap, uint32_t mutator, uint32_t to, uint32_t object, uint32_t field)
 {
     box *in = box_of(heap);
@@ -259,6 +279,33 @@ g1_answer g1_write(g1_heap *heap, uint32_t mutator, uint32_t object, uint32_t fi
 {
     box *in = box_of(heap);
     return note(in, g1raw_write(&in->heap, mutator, object, field, value), "% write r% % %", (uint64_t[]){mutator, object, field, value});
+}
+
+/* The last of so many data words from one on, for whose sake all are refused: no object has more than 32 bits count. */
+static uint64_t last_word(uint32_t from, size_t count)
+{
+    uint64_t last = count == 0 ? 0 : count - 1;
+    return last > UINT32_MAX - from ? UINT32_MAX : from + last;
+}
+
+g1_answer g1_read_words(g1_heap *heap, uint32_t mutator, uint32_t object, uint32_t from, uint64_t *out, size_t count)
+{
+    box *in = box_of(heap);
+    g1_answer read = g1raw_read_words(&in->heap, mutator, object, from, out, count);
+    if (read.code != G1_DONE) return note(in, read, "% read r% %", (uint64_t[]){mutator, object, last_word(from, count)});
+    for (size_t i = 0; i < count; i++)
+        note(in, (g1_answer){G1_WORD, 0, out[i]}, "% read r% %", (uint64_t[]){mutator, object, from + i});
+    return read;
+}
+
+g1_answer g1_write_words(g1_heap *heap, uint32_t mutator, uint32_t object, uint32_t from, const uint64_t *words, size_t count)
+{
+    box *in = box_of(heap);
+    g1_answer wrote = g1raw_write_words(&in->heap, mutator, object, from, words, count);
+    if (wrote.code != G1_DONE)
+        return note(in, wrote, "% write r% % %", (uint64_t[]){mutator, object, last_word(from, count), count == 0 ? 0 : words[count - 1]});
+    for (size_t i = 0; i < count; i++) note(in, wrote, "% write r% % %", (uint64_t[]){mutator, object, from + i, words[i]});
+    return wrote;
 }
 
 g1_answer g1_move(g1_heap *heap, uint32_t mutator, uint32_t to, uint32_t from)
@@ -352,12 +399,18 @@ g1_answer g1_pause(g1_heap *heap, uint32_t words)
     return note(in, g1raw_pause(&in->heap, words), "gc pause %", (uint64_t[]){words});
 }
 
+g1_answer g1_compact(g1_heap *heap, uint32_t words)
+{
+    box *in = box_of(heap);
+    return note(in, g1raw_compact(&in->heap, words), "gc compact %", (uint64_t[]){words});
+}
+
 void g1_policy_start(g1_policy *policy, const g1_sizes *sizes) { g1raw_policy_start(policy, sizes); }
 
 /* Notes the steps of the collector that a call of the policy took. Answers whether the mutator's own step was the last. */
 static int note_all(box *in, uint32_t count)
 {
-    static const char *const forms[] = {"gc begin", "gc mark %", "gc remark", "gc cleanup", "gc refine %", "gc pause %"};
+    static const char *const forms[] = {"gc begin", "gc mark %", "gc remark", "gc cleanup", "gc refine %", "gc pause %", "gc compact %"};
     for (uint32_t i = 0; i < count && i < in->room; i++) {
         const entry *of = &in->entries[i];
         if (of->step >= sizeof forms / sizeof *forms) return 1;
@@ -397,6 +450,7 @@ g1_answer g1_collect_all(g1_heap *heap, g1_policy *policy)
 
 /* Readers are no steps. */
 g1_answer g1_free_regions(const g1_heap *heap) { return g1raw_free_regions(&box_of(heap)->heap); }
+g1_answer g1_free_run(const g1_heap *heap) { return g1raw_free_run(&box_of(heap)->heap); }
 g1_answer g1_used_words(const g1_heap *heap) { return g1raw_used_words(&box_of(heap)->heap); }
 g1_answer g1_live_words(const g1_heap *heap) { return g1raw_live_words(&box_of(heap)->heap); }
 g1_answer g1_marking(const g1_heap *heap) { return g1raw_marking(&box_of(heap)->heap); }

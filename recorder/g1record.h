@@ -42,13 +42,13 @@ static inline int g1record_open(g1record *r, const char *path, uint64_t words, u
     uint64_t roots = ((uint64_t)mutators + 1) * registers + globals + 1;
     uint64_t region = 16;
     uint64_t regions;
-    while (region < 16384 && region * 1024 < words) region *= 2;
+    while (region < 2097152 && region * 1024 < words) region *= 2;
     regions = words <= region * 2 ? 2 : words >= region * 1024 ? 1024 : (words + region - 1) / region;
     r->file = NULL;
     r->failed = 1;
     r->events = 0;
     r->next = 0;
-    r->limit = regions * region;
+    r->limit = regions * region < 16777216 ? regions * region : 16777216;
     r->mutators = mutators;
     r->globals = globals;
     r->registers = registers;

@@ -9,14 +9,14 @@ class Record:
 
     def __init__(self, path, words, mutators, global_count, registers):
         region = 16
-        while region < 16384 and region * 1024 < words:
+        while region < 2097152 and region * 1024 < words:
             region *= 2
         regions = min(max(2, -(-words // region)), 1024)
         roots = (mutators + 1) * registers + global_count + 1
         if not (1 <= mutators <= 63 and 0 <= global_count <= 65535 and 2 <= registers <= 65536 and roots <= 1048576):
             raise ValueError("the judge takes no such sizes")
         self.mutators, self.globals, self.registers = mutators, global_count, registers
-        self.events, self.next, self.limit = 0, 0, regions * region
+        self.events, self.next, self.limit = 0, 0, min(regions * region, 16777216)
         self.file = open(path, "wb", buffering=0)
         self.write_line(f"heap3 {regions} {region} 4 {mutators + 1} 0 8 {global_count + 1} {registers}")
 

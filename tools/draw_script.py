@@ -22,7 +22,7 @@ MOST_WEAKS = 255
 FRAME_WEIGHTS = {"call": 8, "scope": 8}
 # How many registers and globals a burst needs.
 BURST_ROOTS = {"many_cards": (8, 3), "many_deletions": (2, 0), "many_copies": (5, 0), "many_reuses": (3, 0), "many_slots": (4, 0),
-               "many_frames": (1, 0)}
+               "many_frames": (1, 0), "many_gaps": (8, 0)}
 MOST_ROOTS = 2 ** 20
 # All registers from each of them on.
 ORDERS = [[(start + place) % 8 for place in range(8)] for start in range(8)]
@@ -97,6 +97,7 @@ class Drawer:
         self.large = self.chance() < 0.4 if large is None else large
         self.words = words or self.pick((16, 16, 16, 32, 32, 64))
         # Few regions for the steps that there are, so that the heap is nearly full at times.
+        self.told_regions = regions
         self.regions = regions or self.number(3, 4 + max(2, steps * 96 // (self.words * 20)))
         if self.burst == "many_cards" and words is None:
             self.words = 16 if self.large and self.chance() < 0.5 else 256
@@ -126,7 +127,13 @@ class Drawer:
         chosen = random.Random(f"roots {seed}")
         self.third = is_third(chosen, card, globals, registers)
         if card is None:
-            card = random.Random(f"card {seed}").choice((0, 0, 8, 16, min(self.words, 32), min(self.words, 64)))
+            cards = random.Random(f"card {seed}")
+            card = cards.choice((0, 0, 8, 16, min(self.words, 32), min(self.words, 64)))
+            if self.third and cards.random() < 0.3:
+                card = min(self.words, cards.choice((128, 256, 512)))
+        # In the third format some of the pauses are compactions, drawn apart too.
+        self.compactions = random.Random(f"compactions {seed}")
+        self.compacted = self.compactions.choice((0, 0.2, 0.5, 0.9)) if self.third else 0
         if self.third:
             self.make_third(chosen, card or 8, globals, registers, mutators)
         else:
@@ -150,6 +157,9 @@ class Drawer:
             self.weights.update(load=0, save=0)
         if chosen.random() < 0.4:
             self.burst = "many_frames"
+        if self.compacted and chosen.random() < 0.6:
+            self.burst = "many_gaps"
+            self.regions = self.told_regions or min(max(self.regions, self.number(6, 24)), 1048576 // self.words)
         self.lines = [f"heap3 {self.regions} {self.words} {self.buffer} {self.mutators} {self.first_name} {card} "
                       f"{self.globals.count} {self.roots[0].count}"]
 
@@ -227,6 +237,8 @@ class Drawer:
     def collect(self, step, number):
         """A step of the collector; one of weight 0 never comes."""
         if self.weights[step] > 0:
+            if step == "pause" and self.compactions.random() < self.compacted:
+                step = "compact"
             self.say(f"gc {step} {number}")
 
     def mutator_step(self, kind):
@@ -460,6 +472,26 @@ class Drawer:
         if self.chance() < 0.6:
             self.pause()
 
+    def many_gaps(self):
+        """Objects over many regions, of which the first and some others are lost, and compactions of what is left."""
+        mutator = self.any_mutator()
+        registers = self.roots[mutator]
+        if self.marking:
+            self.mark_step("remark")
+        for place in range(self.number(8, 30)):
+            size = self.pick((self.words // 2, self.words // 2, self.words // 4 + 2, self.number(3, self.words // 2)))
+            pointers = self.number(1, size - 2)
+            self.make(mutator, place % 8, pointers, size - 2 - pointers)
+            self.fill(mutator, place % 8, 0, self.number(0, 7))
+        for kind in ("begin", "remark", "cleanup"):
+            self.mark_step(kind)
+        for _ in range(self.number(1, 5)):
+            self.say(f"gc compact {self.pick((0, self.words // 2, self.words, 2 * self.words, self.number(0, 4 * self.words), 4294967295))}")
+            self.refine_after_pause()
+            for _ in range(self.number(0, 2)):
+                self.get(mutator, registers)
+                self.put(mutator, registers)
+
     def read(self, mutator, registers):
         register = self.dataful(registers)
         place = self.index(registers[register].data if registers[register] else 0)
@@ -505,6 +537,7 @@ class Drawer:
                 self.mark_step("cleanup")
 
     def pause(self):
+        """A pause, or a compaction in its place."""
         budget = self.pick((0, self.number(1, 12), self.words // 2, self.words, self.number(0, 4 * self.words), 1000, 1000,
                             4294967295))
         self.collect("pause", budget)
@@ -670,7 +703,7 @@ def add_options(parser):
     parser.add_argument("--words", type=int, help="words a region")
     parser.add_argument("--buffer", type=int, help="words a buffer")
     parser.add_argument("--mutators", type=int, help="mutators")
-    parser.add_argument("--card", type=int, help="words a card: 8 to 64; 0 for the first format; alone: not the third format")
+    parser.add_argument("--card", type=int, help="words a card: 8 to 64, or 512 in the third format; 0 for the first format; alone: not the third format")
     parser.add_argument("--globals", type=int, help="globals, in the third format")
     parser.add_argument("--registers", type=int, help="registers of each mutator, in the third format; 0: never the third format")
     parser.add_argument("--first", type=int, help="the first object's name; drawn, some are above what a signed number holds")

@@ -34,6 +34,17 @@ static void alone(void)
     for (long place = 1; place < WORDS / OBJECT; place++) g1_new_object(&heap, 0, 2, 0, OBJECT - 2);
 }
 
+/* So many regions with nothing live, and above them as many of which every second object is reached. */
+static void half_regions(long size)
+{
+    for (long place = 0; place < size * (WORDS / OBJECT); place++) g1_new_object(&heap, 0, 2, 0, OBJECT - 2);
+    for (long place = 0; place < size * (WORDS / OBJECT); place++)
+        if (place % 2 == 0) link_object(1, OBJECT);
+        else g1_new_object(&heap, 0, 2, 0, OBJECT - 2);
+    mark();
+    g1_cleanup(&heap);
+}
+
 int main(int count, char **words)
 {
     const char *step = count == 4 ? words[1] : "";
@@ -63,6 +74,12 @@ int main(int count, char **words)
         }
         mark();
         for (long i = 0; i < times; i++) sum += g1_pause(&heap, WORDS / 2 - 1).code;
+    } else if (strcmp(step, "pause of half regions") == 0) {
+        half_regions(size);
+        if (times > 0) sum += g1_pause(&heap, UINT32_MAX).first;
+    } else if (strcmp(step, "compaction of half regions") == 0) {
+        half_regions(size);
+        if (times > 0) sum += g1_compact(&heap, UINT32_MAX).first;
     } else if (strcmp(step, "cleanup") == 0) {
         for (long place = 0; place < 2 * size; place++) g1_new_object(&heap, 0, 2, 1, WORDS / 2 - 3);
         mark();

@@ -19,6 +19,7 @@ FORMS = {
     "cleanup": r"reclaimed \d+|refused 6 MarkRunning",
     "refine": r"refined \d+",
     "pause": r"moved \d+ \d+",
+    "compact": r"moved \d+ \d+",
 }
 # The same for a reader.
 GIVEN = {
@@ -28,6 +29,7 @@ GIVEN = {
     "cleanup": "reclaimed N or refused 6 MarkRunning",
     "refine": "refined N",
     "pause": "moved N W",
+    "compact": "moved N W",
 }
 
 
@@ -60,7 +62,7 @@ class Graph:
     def __init__(self, heap):
         """The graph of a heap line. It doesn't ask how many registers and globals there are: a text that was read names no others."""
         regions, words, _, mutators, first_name = map(int, heap.split(" ")[1:6])
-        self.limit = regions * words
+        self.limit = min(regions * words, 16777216)
         self.first = self.next = first_name
         self.objects = {}
         self.registers = [Roots() for _ in range(mutators)]

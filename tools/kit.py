@@ -31,9 +31,21 @@ def rtlib():
 
 
 @functools.cache
+def rt():
+    """Returns rt's command, which notes for the machine's other checkouts where a check left what it kept."""
+    return module_of("rt_command", home() / "bin" / "rt")
+
+
+@functools.cache
 def crates():
     """Returns rt's view of each crate of the repository by its name."""
     return {it.name: it for it in rtlib().crates_below(str(TOP))}
+
+
+def offer(name):
+    """Notes for the machine's other checkouts that this one's folder of a library holds what proved it."""
+    crate = crates()[name]
+    rt().offer(crate, crate.stamp())
 
 
 def stands_over_ci(names):

@@ -6,6 +6,7 @@
 #include <string.h>
 
 static g1_heap heap = G1_HEAP_NONE;
+static g1_policy policy;
 static const g1_sizes sizes = {256, 1024, 128, 1, 0, 8, 16, 64};
 
 /* What is in memory may have changed: else a compiler that inlines the calls would take them out of the loop. It costs no instruction. */
@@ -27,7 +28,10 @@ int main(int count, char **words)
         for (long i = 0; i < times; i++, again()) sum += g1_put(&heap, 0, 0, 0, 1).code;
     } else if (strcmp(call, "move") == 0) for (long i = 0; i < times; i++, again()) sum += g1_move(&heap, 0, 2, 0).code;
     else if (strcmp(call, "new 2 + 1") == 0) for (long i = 0; i < times; i++, again()) sum += g1_new_object(&heap, 0, 3, 2, 1).code;
-    else if (strcmp(call, "name") == 0) for (long i = 0; i < times; i++, again()) sum += g1_name(&heap, 0, 0).first;
+    else if (strcmp(call, "make 2 + 1") == 0) {
+        g1_policy_start(&policy, &sizes);
+        for (long i = 0; i < times; i++, again()) sum += g1_make(&heap, &policy, 0, 3, 2, 0, 1).code;
+    } else if (strcmp(call, "name") == 0) for (long i = 0; i < times; i++, again()) sum += g1_name(&heap, 0, 0).first;
     else if (strcmp(call, "scope") == 0) for (long i = 0; i < times; i++, again()) sum += g1_scope(&heap, 0, 4).code;
     else if (strcmp(call, "no such register") == 0) for (long i = 0; i < times; i++, again()) sum += g1_get(&heap, 0, 2, 99, 0).code;
     else if (strcmp(call, "nothing") == 0) for (long i = 0; i < times; i++, again()) sum += (uint64_t)i;

@@ -2,6 +2,7 @@
 import importlib.machinery
 import importlib.util
 import re
+import urllib.parse
 from pathlib import Path
 
 TOP = Path(__file__).resolve().parent.parent
@@ -51,6 +52,9 @@ def read_life(text):
     facts, moments, block, size = {}, [], None, 0
     for line in text.splitlines():
         letter = line.split(" ", 1)[0]
+        if letter == "file":
+            facts[letter] = line.removeprefix("file ")
+            continue
         if letter in ("card", "roots", "pace", "events"):
             facts[letter] = [int(word) for word in line.split()[1:]]
             continue
@@ -104,7 +108,7 @@ def told_heap(moment):
     for line in moment.lines:
         words = line.split()
         most = {"q": 1 + MOST_CARDS, "n": 1 + 2 * MOST_ROOTS}.get(words[0], len(words))
-        if words[0] not in "dt":
+        if words[0] != "t":
             lines.append(" ".join(words[:most]))
     return lines
 
@@ -148,8 +152,13 @@ def fault_of_pace(record, every, pace):
 
 # ---- the comparison
 
-def check_facts(count, name, record, facts, sizes, every):
-    wanted = {"card": [sizes.card], "roots": [sizes.globals, sizes.registers], "events": [record.count("\n") - 1]}
+def told_name(path):
+    """A file's name as a page tells it: letters, digits and `- . / _ ~`, and each other byte as % and two digits to the base 16."""
+    return urllib.parse.quote(str(path), safe="/")
+
+
+def check_facts(count, name, path, record, facts, sizes, every):
+    wanted = {"file": told_name(path), "card": [sizes.card], "roots": [sizes.globals, sizes.registers], "events": [record.count("\n") - 1]}
     count.note(f"{name}: what the page says of itself", {**wanted, "pace": facts.get("pace")} == facts, facts)
     fault = fault_of_pace(record, every, facts["pace"]) if len(facts.get("pace", ())) == 3 else "none"
     count.note(f"{name}: its pace", fault is None, fault)
@@ -188,12 +197,12 @@ def check_life(count, name, moments, lives, sizes):
     count.note(f"{name}: regions told again as they were", not again, again[:9])
 
 
-def check_page_text(count, name, page, record, lives, sizes, every=1):
-    """A page against the record of its steps, and what the plain heap is after some events."""
+def check_page_text(count, name, path, page, record, lives, sizes, every=1):
+    """The page of a script in a file against the record of its steps, and what the plain heap is after some events."""
     told, life = text_of(page, "record"), text_of(page, "life")
     count.note(f"{name}: the page is its files around two texts", page == page_around(told, life))
     facts, moments = read_life(life)
-    check_facts(count, name, record, facts, sizes, every)
+    check_facts(count, name, path, record, facts, sizes, every)
     check_told_record(count, name, record, told, moments)
     if len(facts.get("pace", ())) == 3:
         wanted, got = due_events(record, facts["pace"]), [moment.event for moment in moments]

@@ -206,9 +206,15 @@ def check_address(count, browser, name, path, last):
     fullest = browser.run("return heapLife.life.moments[fullest].event")
     most = browser.run("return heapLife.life.moments.reduce((so, moment) => (moment.handedOut >= so.handedOut ? moment : so)).event")
     count.note(f"{name}: the fullest moment first", event_of(browser) == fullest == most, (event_of(browser), fullest, most))
-    title = browser.run("return [document.title, document.querySelector('h1').textContent]")
-    wanted = [f"{path.name}: the life of a heap", f"The life of a heap: {path.name}"]
-    count.note(f"{name}: the file's name in title and heading", title == wanted, title)
+
+
+def check_file(count, browser, name, file):
+    """The name of the script's file in the title and the heading of the page that is open."""
+    title = browser.run("return [document.title, document.querySelector('h1').textContent, document.querySelectorAll('h1 *').length]")
+    # Of blanks and control characters a title has one blank, and none at its ends.
+    last = " ".join(re.split("[\x00- \x7f]+", f"{file.split('/')[-1]}: the life of a heap")).strip()
+    wanted = [last, f"The life of a heap: {file}", 1]
+    count.note(f"{name}: the file's name in title and heading", title == wanted, (title, wanted))
 
 
 def check_finding(count, browser, name, path):

@@ -20,6 +20,8 @@ class Objects:
                 self.tiles[words[2]] = words
         numbers = [int(word) for line in moment.lines if line[0] == "n" for word in line.split()[1:]]
         self.roots = [*zip(numbers[::2], numbers[1::2])][:most_roots]
+        logs = [[int(word) for word in line.split()[1:]] for line in moment.lines if line[0] == "d"]
+        self.deleted = [(mutator, address) for mutator, *addresses in logs for address in addresses]
 
     def reached(self):
         """The names that roots reach by pointers."""
@@ -45,13 +47,19 @@ def root_name(place, sizes):
     return f"r{register} of mutator {mutator}" if sizes.mutators > 1 else f"r{register}"
 
 
+def called(objects, sizes, address):
+    """How the page calls an object, by its address where the page doesn't tell it."""
+    return f"#{objects.names[address]}" if address in objects.names else f"{address}, region {address // sizes.words}"
+
+
 def root_labels(objects, sizes):
-    """How the page calls each root, and where it leads: to an object, or to an address where the page tells none."""
-    leads = {address: f"#{name}" for address, name in objects.names.items()}
-    return [
-        f"{root_name(place, sizes)} leads to {leads.get(address, f'{address}, region {address // sizes.words}')}"
-        for place, address in objects.roots
-    ]
+    """How the page calls each root, and where it leads."""
+    return [f"{root_name(place, sizes)} leads to {called(objects, sizes, address)}" for place, address in objects.roots]
+
+
+def deletion_labels(objects, sizes):
+    """What the page says of each object in a deletion log."""
+    return [f"The deletion log of mutator {mutator} has {called(objects, sizes, address)}" for mutator, address in objects.deleted]
 
 
 def fields_count(fields):
@@ -82,6 +90,7 @@ def worked_out(moment, sizes):
     rows, lost = shapes_of(objects)
     shown = {
         "roots": root_labels(objects, sizes), "reached": sorted(objects.reached()), "sure": objects.is_sure(), "shapes": rows, "lost": lost,
+        "deletions": deletion_labels(objects, sizes), "diamonds": sorted({address for _, address in objects.deleted}),
     }
     reached = objects.reached()
     return shown, reached == whole.reached() if objects.is_sure() else reached <= whole.reached()

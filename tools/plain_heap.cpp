@@ -30,7 +30,7 @@ constexpr std::size_t longest_line = 120;
 enum class Verb : std::uint8_t {
     New, Get, Put, PutNil, Read, Write, Move, Drop, Load, Save, Scope, Shape,
     NewWeak, GetWeak, PutWeak, PutWeakNil, Weaks,
-    Begin, Mark, Remark, Cleanup, Refine, Pause
+    Begin, Mark, Remark, Cleanup, Refine, Pause, Compact
 };
 
 // A line's step. `first` and `second` are registers or globals in the line's order, `number` is an index, a count
@@ -92,6 +92,7 @@ public:
     }
     bool global(Number& value) { return text("g") && number(value) && value < sizes_.globals; }
     bool scope() { return sizes_.format == 3 && text("scope "); }
+    bool compact() { return sizes_.format == 3 && text("compact "); }
 
 private:
     const char *at_, *end_;
@@ -185,6 +186,10 @@ bool read_collector_step(Cursor& line, Step& step) {
         step.verb = Verb::Remark;
         return line.text("remark");
     case 'c':
+        if (line.compact()) {
+            step.verb = Verb::Compact;
+            return line.number(step.number);
+        }
         step.verb = Verb::Cleanup;
         return line.text("cleanup");
     case 'p':
@@ -244,15 +249,15 @@ LineFault read_script(const std::string& text, Script& script) {
 
 // The first fault of the sizes, none if they suit.
 const char* size_fault(const Sizes& sizes) {
-    if (sizes.regions < 2 || sizes.regions > 1024) return "1 BadRegions";
-    bool is_first = sizes.format == 1;
-    Number most_words = is_first ? 4096 : 16384, most = is_first ? 1048576 : 16777216;
+    bool is_first = sizes.format == 1, is_third = sizes.format == 3;
+    if (sizes.regions < 2 || sizes.regions > (is_third ? 4096 : 1024)) return "1 BadRegions";
+    Number most_words = is_first ? 4096 : is_third ? 4194304 : 16384, most = is_first ? 1048576 : is_third ? 2147483648 : 16777216;
     if (sizes.words < 16 || sizes.words > most_words || (sizes.words & (sizes.words - 1)) != 0 ||
-        sizes.regions * sizes.words > most)
+        Word(sizes.regions) * sizes.words > most)
         return "2 BadWords";
     if (sizes.buffer < 4 || sizes.buffer > sizes.words / 2) return "3 BadBuffer";
     if (sizes.mutators < 1 || sizes.mutators > (sizes.format == 3 ? 64 : 16)) return "4 BadMutators";
-    if (sizes.card < 8 || sizes.card > 64 || (sizes.card & (sizes.card - 1)) != 0 || sizes.card > sizes.words)
+    if (sizes.card < 8 || sizes.card > (is_third ? 512 : 64) || (sizes.card & (sizes.card - 1)) != 0 || sizes.card > sizes.words)
         return "6 BadCard";
     if (sizes.globals > 65536) return "7 BadGlobals";
     if (sizes.registers < 1 || sizes.registers > 65536) return "8 BadRegisters";
@@ -369,6 +374,7 @@ Reply do_step(Heap& heap, const Step& step) {
     case Verb::Cleanup: return heap.cleanup();
     case Verb::Refine: return heap.refine(step.number);
     case Verb::Pause: return heap.pause(step.number);
+    case Verb::Compact: return heap.compact(step.number);
     }
     std::abort();
 }

@@ -22,6 +22,7 @@ using Address = std::uint32_t;
 constexpr Number card_log_length = 4;
 constexpr Number deletion_log_length = 8;
 constexpr Number inline_cards = 16;
+constexpr Number largest_object = 16777216;
 constexpr Address nowhere = ~Address(0);
 constexpr Number no_region = ~Number(0);
 
@@ -193,7 +194,7 @@ public:
 
     Reply make(Number mutator, Number target, Word pointers, Word weaks, Word data) {
         Word size = 2 + pointers + weaks + data;
-        if (size > heap_words_) return refused(Refusal::TooBig);
+        if (size > std::min<Word>(heap_words_, largest_object)) return refused(Refusal::TooBig);
         if (next_name_ == ~Word(0)) return refused(Refusal::NamesSpent);
         Address at = place(mutator, Number(size));
         if (at == nowhere) return refused(Refusal::Full);
@@ -360,11 +361,15 @@ public:
     }
 
     Reply pause(Number budget) {
-        retire_buffers();
-        current_ = no_region;
-        for (Number mutator = 0; mutator < sizes_.mutators; ++mutator) flush_card_log(mutator);
-        while (queue_count_ != 0) refine_first();
+        make_ready();
         choose(budget);
+        if (chosen_.empty()) return reply(Form::Moved);
+        return evacuate();
+    }
+
+    Reply compact(Number budget) {
+        make_ready();
+        choose_highest(budget);
         if (chosen_.empty()) return reply(Form::Moved);
         return evacuate();
     }
@@ -668,7 +673,14 @@ protected:
             if (words_[slot] != 0 && !is_reached(Address(words_[slot] - 1))) words_[slot] = 0;
     }
 
-    // The pause.
+    // The pause, and the compaction.
+
+    void make_ready() {
+        retire_buffers();
+        current_ = no_region;
+        for (Number mutator = 0; mutator < sizes_.mutators; ++mutator) flush_card_log(mutator);
+        while (queue_count_ != 0) refine_first();
+    }
 
     // Leaves the collection set in chosen_: the least live regions first, by number where they are alike, within the
     // copy limit. A row is a live bound and a region in one word.
@@ -691,6 +703,25 @@ protected:
             std::pop_heap(rows_.begin(), rows_.end(), std::greater<Word>());
             chosen_.push_back(Number(rows_.back()));
             rows_.pop_back();
+        }
+    }
+
+    // Leaves the highest ordinary regions in chosen_, none while marking runs: the longest front of them, from the highest down, whose live
+    // bounds are within the copy limit and of which the last, the k-th, lies above the free region of which 2 k - 2 are lower.
+    void choose_highest(Number budget) {
+        Word limit = std::min(Word(budget), Word(free_count_) * sizes_.words / 2);
+        chosen_.clear();
+        if (marking_) return;
+        rows_.clear();
+        for (Number number = 0; number < sizes_.regions; ++number)
+            if (regions_[number].kind == Kind::Free) rows_.push_back(number);
+        Word sum = 0;
+        for (Number number = sizes_.regions; number-- != 0;) {
+            if (regions_[number].kind != Kind::Ordinary) continue;
+            sum += live_bound(regions_[number]);
+            std::size_t place = 2 * chosen_.size();
+            if (sum > limit || place >= rows_.size() || rows_[place] > number) return;
+            chosen_.push_back(number);
         }
     }
 

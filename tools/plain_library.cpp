@@ -4,6 +4,7 @@
 //   g++ -O2 -std=c++17 -Iinclude -c tools/plain_library.cpp -o plain_library.o
 //   cc -Iinclude clients/hello.c plain_library.o -lstdc++
 
+#include <cstddef>
 #include <cstdint>
 #include <new>
 
@@ -50,6 +51,16 @@ public:
             if (length == count) return true;
         }
         return false;
+    }
+
+    // How many free regions lie side by side, at most.
+    Number free_run() const {
+        Number most = 0;
+        for (Number region = 0, length = 0; region < sizes_.regions; ++region) {
+            length = free_regions_.has(region) ? length + 1 : 0;
+            if (length > most) most = length;
+        }
+        return most;
     }
 
     Word used_words() const {
@@ -99,12 +110,12 @@ g1_answer number(const g1_heap* heap, Reader reader) {
 
 // The first size that doesn't suit, G1_DONE where all do.
 std::uint32_t size_fault(const g1_sizes& sizes) {
-    if (sizes.regions < 2 || sizes.regions > 1024) return G1_BAD_REGIONS;
-    if (sizes.words < 16 || sizes.words > 16384 || (sizes.words & (sizes.words - 1)) != 0) return G1_BAD_WORDS;
-    if (sizes.regions * sizes.words > 16777216) return G1_BAD_WORDS;
+    if (sizes.regions < 2 || sizes.regions > 4096) return G1_BAD_REGIONS;
+    if (sizes.words < 16 || sizes.words > 4194304 || (sizes.words & (sizes.words - 1)) != 0) return G1_BAD_WORDS;
+    if (Word(sizes.regions) * sizes.words > 2147483648) return G1_BAD_WORDS;
     if (sizes.buffer < 4 || sizes.buffer > sizes.words / 2) return G1_BAD_BUFFER;
     if (sizes.mutators < 1 || sizes.mutators > 64) return G1_BAD_MUTATORS;
-    if (sizes.card < 8 || sizes.card > 64 || (sizes.card & (sizes.card - 1)) != 0 || sizes.card > sizes.words) return G1_BAD_CARD;
+    if (sizes.card < 8 || sizes.card > 512 || (sizes.card & (sizes.card - 1)) != 0 || sizes.card > sizes.words) return G1_BAD_CARD;
     if (sizes.globals > 65536) return G1_BAD_GLOBALS;
     if (sizes.registers < 1 || sizes.registers > 65536) return G1_BAD_REGISTERS;
     if (sizes.globals + sizes.registers * sizes.mutators > 1048576) return G1_BAD_ROOTS;
@@ -176,6 +187,40 @@ g1_answer g1_write(g1_heap* heap, std::uint32_t mutator, std::uint32_t object, s
     return mutate(heap, mutator, object, object, [=](Heap& plain) { return plain.write(mutator, object, field, value); });
 }
 
+// Whether an object has so many data words from one on: G1_DONE, or why it hasn't.
+static g1_answer has_words(g1_heap* heap, std::uint32_t mutator, std::uint32_t object, std::uint32_t from, std::size_t count) {
+    g1_answer shape = g1_shape(heap, mutator, object);
+    if (shape.code != G1_SHAPE) return shape;
+    return answer(from <= shape.second && count <= shape.second - from ? G1_DONE : G1_NO_FIELD);
+}
+
+g1_answer g1_read_words(g1_heap* heap, std::uint32_t mutator, std::uint32_t object, std::uint32_t from, std::uint64_t* out,
+                        std::size_t count) {
+    g1_answer has = has_words(heap, mutator, object, from, count);
+    for (std::size_t i = 0; has.code == G1_DONE && i < count; ++i) out[i] = g1_read(heap, mutator, object, from + Number(i)).first;
+    return has;
+}
+
+g1_answer g1_write_words(g1_heap* heap, std::uint32_t mutator, std::uint32_t object, std::uint32_t from, const std::uint64_t* in,
+                         std::size_t count) {
+    g1_answer has = has_words(heap, mutator, object, from, count);
+    for (std::size_t i = 0; has.code == G1_DONE && i < count; ++i) g1_write(heap, mutator, object, from + Number(i), in[i]);
+    return has;
+}
+
+g1_answer g1_new_filled(g1_heap* heap, std::uint32_t mutator, std::uint32_t to, const std::uint32_t* from, std::size_t pointers,
+                        const std::uint64_t* words, std::size_t values) {
+    if (!heap->live) return answer(G1_NO_HEAP);
+    if (pointers > UINT32_MAX || values > UINT32_MAX) return answer(G1_NO_STEP);
+    for (std::size_t i = 0; i < pointers; ++i)
+        if (from[i] == to || (from[i] != G1_NIL_REGISTER && !in(heap).has_register(from[i]))) return answer(G1_NO_STEP);
+    g1_answer made = g1_new_object(heap, mutator, to, Number(pointers), Number(values));
+    if (made.code != G1_NAME) return made;
+    for (std::size_t i = 0; i < pointers; ++i) g1_put(heap, mutator, to, Number(i), from[i]);
+    for (std::size_t i = 0; i < values; ++i) g1_write(heap, mutator, to, Number(i), words[i]);
+    return made;
+}
+
 g1_answer g1_move(g1_heap* heap, std::uint32_t mutator, std::uint32_t to, std::uint32_t from) {
     return mutate(heap, mutator, to, from, [=](Heap& plain) { return plain.move(mutator, to, from); });
 }
@@ -242,8 +287,16 @@ g1_answer g1_pause(g1_heap* heap, std::uint32_t words) {
     return collect(heap, [=](Heap& plain) { return plain.pause(words); });
 }
 
+g1_answer g1_compact(g1_heap* heap, std::uint32_t words) {
+    return collect(heap, [=](Heap& plain) { return plain.compact(words); });
+}
+
 g1_answer g1_free_regions(const g1_heap* heap) {
     return number(heap, [](const Heap& plain) { return plain.free_regions(); });
+}
+
+g1_answer g1_free_run(const g1_heap* heap) {
+    return number(heap, [](const Heap& plain) { return plain.free_run(); });
 }
 
 g1_answer g1_used_words(const g1_heap* heap) {

@@ -202,7 +202,8 @@ Word collect(Heap& heap, const std::vector<std::string>& words) {
     else if (verb == "remark") heap.remark();
     else if (verb == "cleanup") heap.cleanup();
     else if (verb == "refine") heap.refine(Number(number(words[2])));
-    else return heap.pause(Number(number(words[2]))).second;
+    else if (verb == "pause") return heap.pause(Number(number(words[2]))).second;
+    else return heap.compact(Number(number(words[2]))).second;
     return 0;
 }
 

@@ -23,7 +23,7 @@ typedef struct policy_of {
 
 static inline void policy_start(g1_policy *policy, const g1_sizes *sizes)
 {
-    g1_policy start = {0, 0, 0, 0, 0, 0, 0, 0, 0, 0, 0, 0, 0, 0, 0, 0, 0, 0, 0, 0};
+    g1_policy start = {0, 0, 0, 0, 0, 0, 0, 0, 0, 0, 0, 0, 0, 0, 0, 0, 0, 0, 0, 0, 0, 0};
     start.reserve = policy_most(3, sizes->regions / 24);
     start.pause_words = 262144;
     start.mark_objects = 32768;
@@ -39,6 +39,13 @@ static inline g1_answer policy_pause(policy_of *of, uint32_t words)
     g1_answer moved = g1_pause(of->heap, words);
     of->policy->pauses++, of->policy->copied += moved.first;
     return moved;
+}
+/* A compaction of a region of words. Answers whether it took a region. */
+static inline int policy_compact(policy_of *of)
+{
+    g1_answer moved = g1_compact(of->heap, of->sizes->words);
+    of->policy->compactions++, of->policy->compacted += moved.first;
+    return moved.second != 0;
 }
 static inline void policy_remark(policy_of *of)
 {
@@ -72,7 +79,8 @@ static inline void policy_pause_young(policy_of *of)
     moved = policy_pause(of, policy->pause_words), after = policy_free(of->heap);
     policy->gained += policy_above(after, before), policy->paid += moved.first;
     uint64_t worth = (uint64_t)policy->gained * of->sizes->words;
-    if (moved.second != 0 && moved.second < policy->young && policy->paid <= worth + policy->pause_words) {
+    int is_cut_short = policy->pause_words <= 2 * moved.first;
+    if (moved.second != 0 && moved.second < policy->young && policy->paid <= worth && is_cut_short) {
         policy->young -= moved.second;
         return;
     }
@@ -180,7 +188,13 @@ static inline int policy_room(policy_of *of, uint32_t mutator, uint64_t size)
     if (policy_spared(of, mutator, size)) return 1;
     policy_whole(of);
     policy_plan_cycle(of, policy_free(of->heap));
-    return policy_spared(of, mutator, size) || taken + 2 >= of->sizes->regions;
+    if (policy_spared(of, mutator, size)) return 1;
+    if (2 * size > of->sizes->words) {
+        while (policy_compact(of))
+            if (policy_spared(of, mutator, size)) return 1;
+        if (policy_spared(of, mutator, size)) return 1;
+    }
+    return taken + 2 >= of->sizes->regions;
 }
 
 #endif

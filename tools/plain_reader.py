@@ -22,6 +22,7 @@ MUTATOR = [form_of(text) for text in MUTATOR_TEXTS]
 THIRD_MUTATOR = MUTATOR + [form_of("scope R")]
 MARK, REFINE = form_of("mark N"), form_of("refine N")
 COLLECTOR = [form_of(text) for text in COLLECTOR_TEXTS]
+THIRD_COLLECTOR = COLLECTOR + [form_of("compact N")]
 WORDS = re.compile(rb"ok|nil|refused (?:1 Nil|2 NoField|3 Full|4 TooBig|5 NamesSpent|6 MarkRunning|7 NotMarking)")
 REPLIES = [(WORDS, [])] + [form_of(text) for text in ("#L", "L", "N N", "marked N", "reclaimed N", "refined N", "moved N N")]
 
@@ -65,7 +66,7 @@ def sizes_of(line):
 def steps_of(actor, sizes):
     """The forms of an actor's steps, or None where the word is no actor."""
     if actor == b"gc":
-        return COLLECTOR
+        return THIRD_COLLECTOR if sizes.third else COLLECTOR
     if re.fullmatch(rb"m[0-7]", actor):
         return [MARK]
     if re.fullmatch(rb"f[0-7]", actor):
@@ -91,9 +92,9 @@ def event_fault(line, count, sizes):
 
 def sizes_fault(sizes):
     """The first fault of a heap line's numbers."""
-    most_words, most = (4096, 1048576) if sizes.card is None else (16384, 16777216)
+    most_words, most = (4096, 1048576) if sizes.card is None else (4194304, 2147483648) if sizes.third else (16384, 16777216)
     words, card = sizes.words, sizes.card
-    if not 2 <= sizes.regions <= 1024:
+    if not 2 <= sizes.regions <= (4096 if sizes.third else 1024):
         return "1 BadRegions"
     if words & (words - 1) or not 16 <= words <= most_words or sizes.regions * words > most:
         return "2 BadWords"
@@ -101,7 +102,7 @@ def sizes_fault(sizes):
         return "3 BadBuffer"
     if not 1 <= sizes.mutators <= (64 if sizes.third else 16):
         return "4 BadMutators"
-    if card is not None and (card not in (8, 16, 32, 64) or card > words):
+    if card is not None and (card not in (8, 16, 32, 64) + (128, 256, 512) * sizes.third or card > words):
         return "6 BadCard"
     if sizes.globals > 65536:
         return "7 BadGlobals"
@@ -139,6 +140,7 @@ def read(text):
 VERBS = "new, newweak, get, getweak, put, putweak, read, write, move, drop, load, save, shape or weaks"
 THIRD_VERBS = VERBS.replace("shape", "scope, shape")
 COLLECTOR_VERBS = "begin, mark, remark, cleanup, refine or pause"
+THIRD_COLLECTOR_VERBS = "begin, mark, remark, cleanup, refine, pause or compact"
 SIZES = ["REGIONS", "WORDS", "BUFFER", "MUTATORS", "FIRST", "CARD", "GLOBALS", "REGISTERS"]
 HEAP_WORDS = {b"heap": 5, b"heap2": 6, b"heap3": 8}
 
@@ -151,7 +153,8 @@ def places_of(texts):
 def verbs_of(actor, sizes):
     """The verbs of an actor with the forms of the words behind them, and what tells them to a reader."""
     if actor == b"gc":
-        return places_of(COLLECTOR_TEXTS), COLLECTOR_VERBS
+        third = ["compact N"] if sizes.third else []
+        return places_of([*COLLECTOR_TEXTS, *third]), THIRD_COLLECTOR_VERBS if sizes.third else COLLECTOR_VERBS
     if actor[:1] == b"m":
         return places_of(["mark N"]), "mark"
     if actor[:1] == b"f":

@@ -137,7 +137,7 @@ static void measure(uint32_t regions)
 
 int main(int count, char **words)
 {
-    printf("| Regions | Load | Share borne | Objects scanned at 60 %% | Words copied at 60 %% |\n|---|---|---|---|---|\n");
+    printf("| Regions | Load | Share sustained | Objects scanned at 60 %% | Words copied at 60 %% |\n|---|---|---|---|---|\n");
     if (count == 1) measure(64), measure(256), measure(1024);
     for (int i = 1; i < count; i++) measure((uint32_t)atoi(words[i]));
     return 0;

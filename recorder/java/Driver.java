@@ -21,8 +21,8 @@ import java.util.Map;
  *     java -XX:+UseZGC -Xmx32m -cp FOLDER Driver it.heap it.record [EARLY]
  *
  * A step `gc pause` asks for a full collection; the other steps of `gc` are passed over. A sync, as docs/CHECKING.md has it, is written
- * where a weak slot is seen cleared, after collections, and at the end. From step EARLY on one WeakReference is cleared though a register
- * holds its object, and the run ends with the next sync. Prints how many steps, collections and syncs there were, and 1 where one was
+ * where a weak slot is seen cleared, after collections, and at the end. At the first step from EARLY on where a register holds the object of
+ * a WeakReference of an object that a register holds too, it is cleared, and the run ends with a sync. Prints how many steps, collections and syncs there were, and 1 where one was
  * cleared so.
  */
 public final class Driver {
@@ -160,11 +160,15 @@ public final class Driver {
         }
     }
 
+    /** Ends the run with a sync, if a reference can be cleared early. */
+    private void endEarly() {
+        if (!clearEarly()) return;
+        cleared = true;
+        ended = true;
+        sync();
+    }
+
     private void sync() {
-        if (early > 0 && steps >= early && clearEarly()) {
-            cleared = true;
-            ended = true;
-        }
         new Sync().write();
         syncs++;
         lastSync = steps;
@@ -277,7 +281,9 @@ public final class Driver {
                     String reply = reply(m, line.split(" "));
                     tell(line, reply);
                     steps++;
-                    if (steps - lastSync >= BETWEEN_SYNCS && collections() > collected) {
+                    if (early > 0 && steps >= early) {
+                        endEarly();
+                    } else if (steps - lastSync >= BETWEEN_SYNCS && collections() > collected) {
                         collected = collections();
                         sync();
                     }

@@ -4,8 +4,8 @@
          lua5.4 recorder/lua/driver.lua incremental|generational it.heap it.record [EARLY]
 
      A step `gc pause` asks for a full collection; the other steps of `gc` are passed over. A sync, as docs/CHECKING.md has it, is written
-     where a weak slot is seen cleared, after collections, and at the end. From step EARLY on one weak slot is cleared though a register
-     holds its object, and the run ends with the next sync. Prints how many steps, collections and syncs there were, and 1 where one was
+     where a weak slot is seen cleared, after collections, and at the end. At the first step from EARLY on where a register holds what
+     a weak slot of an object holds that a register holds too, it is cleared, and the run ends with a sync. Prints how many steps, collections and syncs there were, and 1 where one was
      cleared so. Lua 5.4 alone. Data words stay texts, since numbers have a sign here. ]]
 local BETWEEN_SYNCS = 1000
 local mode, script, path, early = arg[1], arg[2], arg[3], tonumber(arg[4] or "0")
@@ -100,7 +100,6 @@ local function clear_early()
     return false
 end
 local function sync_all()
-    if early > 0 and steps >= early then cleared = clear_early() end
     write_sync()
     syncs, last_sync, seen = syncs + 1, steps, collections
 end
@@ -181,8 +180,12 @@ for line in lines:lines() do
         local reply = step[words[2]](stacks[words[1] + 0], table.unpack(words, 3))
         tell(line, reply)
         steps = steps + 1
-        if steps - last_sync >= BETWEEN_SYNCS and collections > seen then sync_all() end
-        if cleared then break end
+        if early > 0 and steps >= early then
+            cleared = clear_early()
+            if cleared then sync_all() break end
+        elseif steps - last_sync >= BETWEEN_SYNCS and collections > seen then
+            sync_all()
+        end
     elseif words[2] == "pause" then
         collectgarbage()
     end

@@ -21,19 +21,28 @@ static void is_code(const char *call, uint32_t got, uint32_t code)
 static void refuse_sizes(void)
 {
     static const struct { g1_sizes sizes; uint32_t code; } cases[] = {
-        {{1, 16, 4, 1, 0, 8, 0, 1}, G1_BAD_REGIONS}, {{1025, 15, 3, 0, 0, 7, 0, 0}, G1_BAD_REGIONS},
+        {{1, 16, 4, 1, 0, 8, 0, 1}, G1_BAD_REGIONS}, {{4097, 15, 3, 0, 0, 7, 0, 0}, G1_BAD_REGIONS},
         {{2, 15, 4, 1, 0, 8, 0, 1}, G1_BAD_WORDS}, {{2, 48, 4, 1, 0, 8, 0, 1}, G1_BAD_WORDS},
-        {{2, 32768, 4, 1, 0, 8, 0, 1}, G1_BAD_WORDS}, {{2, 16, 3, 1, 0, 8, 0, 1}, G1_BAD_BUFFER},
+        {{2, 8388608, 4, 1, 0, 8, 0, 1}, G1_BAD_WORDS}, {{513, 4194304, 4, 1, 0, 512, 0, 1}, G1_BAD_WORDS},
+        {{4096, 4194304, 4, 1, 0, 512, 0, 1}, G1_BAD_WORDS}, {{2, 1024, 4, 1, 0, 1024, 0, 1}, G1_BAD_CARD},
+        {{2, 256, 4, 1, 0, 512, 0, 1}, G1_BAD_CARD}, {{2, 16, 3, 1, 0, 8, 0, 1}, G1_BAD_BUFFER},
         {{2, 16, 9, 1, 0, 8, 0, 1}, G1_BAD_BUFFER}, {{2, 16, 4, 0, 0, 8, 0, 1}, G1_BAD_MUTATORS},
         {{2, 16, 4, 65, 0, 8, 0, 1}, G1_BAD_MUTATORS}, {{2, 16, 4, 1, 0, 12, 0, 1}, G1_BAD_CARD},
         {{2, 16, 4, 1, 0, 32, 0, 1}, G1_BAD_CARD}, {{2, 16, 4, 1, 0, 8, 65537, 1}, G1_BAD_GLOBALS},
         {{2, 16, 4, 1, 0, 8, 0, 0}, G1_BAD_REGISTERS}, {{2, 16, 4, 64, 0, 8, 0, 65536}, G1_BAD_ROOTS},
+        {{G1_MAX_REGIONS + 1, 16, 4, 1, 0, 8, 0, 1}, G1_BAD_REGIONS}, {{2, 2 * G1_MAX_REGION_WORDS, 4, 1, 0, 8, 0, 1}, G1_BAD_WORDS},
+        {{2, 16, 4, G1_MAX_MUTATORS + 1, 0, 8, 0, 1}, G1_BAD_MUTATORS}, {{2, 4096, 4, 1, 0, 2 * G1_MAX_CARD, 0, 1}, G1_BAD_CARD},
+        {{2, 16, 4, 1, 0, 8, G1_MAX_GLOBALS + 1, 1}, G1_BAD_GLOBALS}, {{2, 16, 4, 1, 0, 8, 0, G1_MAX_REGISTERS + 1}, G1_BAD_REGISTERS},
+        {{2, 16, 4, 16, 0, 8, 1, G1_MAX_ROOTS / 16}, G1_BAD_ROOTS},
+        {{G1_MAX_WORDS / G1_MAX_REGION_WORDS + 1, G1_MAX_REGION_WORDS, 4, 1, 0, 8, 0, 1}, G1_BAD_WORDS},
     };
     g1_heap heap = G1_HEAP_NONE;
     for (size_t i = 0; i < sizeof cases / sizeof *cases; i++) is_code("g1_new", g1_new(&heap, &cases[i].sizes), cases[i].code);
     is("no heap", g1_get(&heap, 0, 0, 0, 0), G1_NO_HEAP, 0, 0);
     is("no heap", g1_pause(&heap, 0), G1_NO_HEAP, 0, 0);
+    is("no heap", g1_compact(&heap, 0), G1_NO_HEAP, 0, 0);
     is("no heap", g1_free_regions(&heap), G1_NO_HEAP, 0, 0);
+    is("no heap", g1_free_run(&heap), G1_NO_HEAP, 0, 0);
     is("no heap", g1_name(&heap, 0, 0), G1_NO_HEAP, 0, 0);
     g1_free(&heap);
 }
@@ -42,7 +51,7 @@ static void refuse_numbers(g1_heap *h)
 {
     is("mutator", g1_new_object(h, 2, 0, 1, 1), G1_NO_STEP, 0, 0);
     is("register", g1_new_object(h, 0, 4, 1, 1), G1_NO_STEP, 0, 0);
-    is("weaks", g1_new_weak(h, 0, 0, 1, 256, 1), G1_NO_STEP, 0, 0);
+    is("weaks", g1_new_weak(h, 0, 0, 1, G1_MAX_WEAKS + 1, 1), G1_NO_STEP, 0, 0);
     is("register", g1_get(h, 0, 4, 0, 0), G1_NO_STEP, 0, 0);
     is("register", g1_get(h, 0, 0, UINT32_MAX, 0), G1_NO_STEP, 0, 0);
     is("register", g1_put(h, 0, 0, 0, 4), G1_NO_STEP, 0, 0);
@@ -87,10 +96,54 @@ static void steps(g1_heap *h, uint64_t name)
     is("name", g1_name(h, 0, 0), G1_NAME, name, 0);
 }
 
+/* Several data words at once: all or none, and a buffer beside which nothing is read or written. */
+static void words(g1_heap *h)
+{
+    uint64_t in[] = {7, 8, 9, 10}, out[] = {1, 2, 3, 4, 5};
+    g1_new_weak(h, 1, 0, 1, 1, 3);
+    is("write_words", g1_write_words(h, 1, 0, 0, in, 3), G1_DONE, 0, 0);
+    is("read_words", g1_read_words(h, 1, 0, 1, out + 1, 2), G1_DONE, 0, 0);
+    is_code("read_words", out[0] == 1 && out[1] == 8 && out[2] == 9 && out[3] == 4, 1);
+    is("write_words", g1_write_words(h, 1, 0, 1, in, 3), G1_NO_FIELD, 0, 0);
+    is("read", g1_read(h, 1, 0, 1), G1_WORD, 8, 0);
+    is("read_words", g1_read_words(h, 1, 0, 0, out, 4), G1_NO_FIELD, 0, 0);
+    is("read_words", g1_read_words(h, 1, 0, UINT32_MAX, out, 2), G1_NO_FIELD, 0, 0);
+    is_code("read_words", out[0] == 1 && out[1] == 8, 1);
+    is("read_words", g1_read_words(h, 1, 0, 3, out, 0), G1_DONE, 0, 0);
+    is("write_words", g1_write_words(h, 1, 0, 4, in, 0), G1_NO_FIELD, 0, 0);
+    is("read_words", g1_read_words(h, 1, 1, 0, out, 1), G1_NIL, 0, 0);
+    is("write_words", g1_write_words(h, 1, 1, 0, in, 1), G1_NIL, 0, 0);
+    is("read_words", g1_read_words(h, 1, 4, 0, out, 1), G1_NO_STEP, 0, 0);
+    is("write_words", g1_write_words(h, 2, 0, 0, in, 1), G1_NO_STEP, 0, 0);
+    g1_drop(h, 1, 0);
+}
+
+/* A new object with its fields. */
+static void filled(g1_heap *h)
+{
+    uint32_t from[] = {1, G1_NIL_REGISTER, 1}, itself[] = {1, 0}, none[] = {G1_NIL_REGISTER, 4};
+    uint64_t in[] = {7, UINT64_MAX}, name = g1_new_object(h, 1, 1, 0, 0).first;
+    is("new_filled", g1_new_filled(h, 1, 0, from, 3, in, 2), G1_NAME, name + 1, 0);
+    is("shape", g1_shape(h, 1, 0), G1_SHAPE, 3, 2);
+    is("get", g1_get(h, 1, 2, 0, 0), G1_NAME, name, 0);
+    is("get", g1_get(h, 1, 2, 0, 1), G1_NIL_VALUE, 0, 0);
+    is("get", g1_get(h, 1, 2, 0, 2), G1_NAME, name, 0);
+    is("read", g1_read(h, 1, 0, 0), G1_WORD, 7, 0);
+    is("read", g1_read(h, 1, 0, 1), G1_WORD, UINT64_MAX, 0);
+    is("new_filled", g1_new_filled(h, 1, 0, itself, 2, in, 2), G1_NO_STEP, 0, 0);
+    is("new_filled", g1_new_filled(h, 1, 0, none, 2, in, 0), G1_NO_STEP, 0, 0);
+    is("new_filled", g1_new_filled(h, 1, 4, from, 1, in, 0), G1_NO_STEP, 0, 0);
+    is("new_filled", g1_new_filled(h, 2, 0, from, 1, in, 0), G1_NO_STEP, 0, 0);
+    is("name", g1_name(h, 1, 0), G1_NAME, name + 1, 0);
+    is("new_filled", g1_new_filled(h, 1, 2, from, 0, in, 0), G1_NAME, name + 2, 0);
+    g1_scope(h, 1, 0);
+}
+
 /* The heap has 4 regions of 16 words and buffers of 8. Two objects stand in it, of 4 and of 5 words: each has a buffer, in one region. */
 static void collect(g1_heap *h, uint64_t name)
 {
     is("free regions", g1_free_regions(h), G1_NUMBER, 3, 0);
+    is("free run", g1_free_run(h), G1_NUMBER, 3, 0);
     is("used words", g1_used_words(h), G1_NUMBER, 16, 0);
     is("live words", g1_live_words(h), G1_NUMBER, 16, 0);
     is("mark", g1_mark(h, 1), G1_NOT_MARKING, 0, 0);
@@ -110,6 +163,11 @@ static void collect(g1_heap *h, uint64_t name)
     is("queued", g1_queued(h), G1_NUMBER, 0, 0);
     is("refine", g1_refine(h, 5), G1_REFINED, 0, 0);
     is("pause", g1_pause(h, 16), G1_MOVED, 9, 1);
+    is("free run", g1_free_run(h), G1_NUMBER, 2, 0);
+    is("compact", g1_compact(h, 8), G1_MOVED, 0, 0);
+    is("compact", g1_compact(h, 16), G1_MOVED, 9, 1);
+    is("free run", g1_free_run(h), G1_NUMBER, 3, 0);
+    is("compact", g1_compact(h, 16), G1_MOVED, 0, 0);
     is("free regions", g1_free_regions(h), G1_NUMBER, 3, 0);
     is("used words", g1_used_words(h), G1_NUMBER, 9, 0);
     is("read", g1_read(h, 0, 0, 0), G1_WORD, UINT64_MAX, 0);
@@ -135,8 +193,13 @@ int main(void)
     is("names spent", g1_new_object(&other, 1, 1, 0, 0), G1_NAMES_SPENT, 0, 0);
     g1_free(&one);
     is("no heap", g1_read(&one, 0, 0, 0), G1_NO_HEAP, 0, 0);
+    is("no heap", g1_read_words(&one, 0, 0, 0, &sizes.first_name, 1), G1_NO_HEAP, 0, 0);
+    is("no heap", g1_new_filled(&one, 0, 0, NULL, 0, NULL, 0), G1_NO_HEAP, 0, 0);
+    is("no heap", g1_write_words(&one, 0, 0, 0, &sizes.first_name, 1), G1_NO_HEAP, 0, 0);
     is("the other heap", g1_read(&other, 0, 0, 0), G1_WORD, UINT64_MAX, 0);
     is_code("g1_new", g1_new(&one, &sizes), G1_DONE);
+    sizes.first_name = 0, g1_free(&one), g1_new(&one, &sizes);
+    words(&one), filled(&one);
     g1_free(&one), g1_free(&one), g1_free(&other);
     if (failed == 0) puts("all calls answered as the header has it");
     return failed != 0;

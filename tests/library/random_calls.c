@@ -40,7 +40,7 @@ static void note_policy(void)
 {
     note(policy.left), note(policy.begin_at), note(policy.young_at), note(policy.span), note(policy.young), note(policy.gained);
     note(policy.wanted), note(policy.pace), note(policy.paid), note(policy.asked), note(policy.marked), note(policy.cycles);
-    note(policy.scanned), note(policy.pauses), note(policy.copied);
+    note(policy.scanned), note(policy.pauses), note(policy.copied), note(policy.compactions), note(policy.compacted);
 }
 
 static g1_answer asked(g1_heap *h, const g1_sizes *s, uint32_t m, uint32_t a)
@@ -52,11 +52,68 @@ static g1_answer asked(g1_heap *h, const g1_sizes *s, uint32_t m, uint32_t a)
     }
 }
 
+static void differ(const char *call)
+{
+    printf("%s: not as single calls\n", call);
+    exit(1);
+}
+
+/* Several data words at once, each as by a call of its own. */
+static g1_answer many_words(g1_heap *h, uint32_t m, uint32_t a, uint32_t from)
+{
+    uint64_t out[40], was[40];
+    uint32_t count = draw() % 4 == 0 ? within(40) : within(5);
+    bool writes = draw() % 2 == 0;
+    for (uint32_t i = 0; i < 40; i++) was[i] = out[i] = draw();
+    g1_answer answer = writes ? g1_write_words(h, m, a, from, out, count) : g1_read_words(h, m, a, from, out, count);
+    for (uint32_t i = 0; i < 40; i++) {
+        note(out[i]);
+        if (answer.code == G1_DONE && i < count && g1_read(h, m, a, from + i).first != out[i]) differ("words");
+        if ((writes || answer.code != G1_DONE || i >= count) && out[i] != was[i]) differ("buffer");
+    }
+    if (count != 0 && count - 1 <= UINT32_MAX - from) {
+        g1_answer last = g1_read(h, m, a, from + count - 1);
+        if (answer.code == G1_DONE ? last.code != G1_WORD : answer.code != last.code) differ("the last word");
+    }
+    return answer;
+}
+
+/* An object with its fields. */
+static g1_answer filled(g1_heap *h, const g1_sizes *s, uint32_t m, uint32_t to)
+{
+    uint32_t from[8], pointers = within(8) / (1 + within(3)), values = within(6);
+    uint64_t words[6];
+    for (uint32_t i = 0; i < 8; i++) from[i] = draw() % 4 == 0 ? G1_NIL_REGISTER : below(s->registers);
+    for (uint32_t i = 0; i < 6; i++) words[i] = draw();
+    if (draw() % 4 != 0)
+        for (uint32_t i = 0; i < 8; i++) from[i] = from[i] == to ? G1_NIL_REGISTER : from[i];
+    g1_answer answer = g1_new_filled(h, m, to, from, pointers, words, values), field;
+    if (answer.code != G1_NAME) return answer;
+    for (uint32_t i = 0; i < values; i++)
+        if (g1_read(h, m, to, i).first != words[i]) differ("new_filled");
+    if (g1_shape(h, m, to).first != pointers) differ("new_filled");
+    for (uint32_t i = 0; i < pointers; i++) {
+        if (from[i] != G1_NIL_REGISTER) field = g1_name(h, m, from[i]);
+        else field = (g1_answer){G1_NIL_VALUE, 0, 0};
+        note_answer(field);
+        for (uint32_t spare = 0; spare < s->registers; spare++) {
+            if (spare == to || g1_name(h, m, spare).code != G1_NIL_VALUE) continue;
+            g1_answer got = g1_get(h, m, spare, to, i);
+            g1_drop(h, m, spare);
+            if (got.code != field.code || got.first != field.first) differ("new_filled");
+            break;
+        }
+    }
+    return answer;
+}
+
 static g1_answer step_of_mutator(g1_heap *h, const g1_sizes *s)
 {
     uint32_t m = below(s->mutators), a = below(s->registers), b = below(s->registers), i = below(4), g = below(s->globals);
     if (by_policy && draw() % 3 == 0) return asked(h, s, m, a);
-    switch (draw() % 24) {
+    switch (draw() % 28) {
+    case 26: case 27: return filled(h, s, m, a);
+    case 24: case 25: return many_words(h, m, a, i);
     case 0: case 1: case 2: case 3: case 4: return g1_new_object(h, m, a, below(5), below(4));
     case 5: return g1_new_object(h, m, a, below(2 * s->words), below(9));
     case 6: return g1_new_weak(h, m, a, below(3), below(4), below(3));
@@ -84,8 +141,8 @@ static g1_answer step_of_collector(g1_heap *h)
     case 2: return g1_remark(h);
     case 3: return g1_cleanup(h);
     case 4: return g1_refine(h, below(20));
-    case 5: return g1_pause(h, below(200));
-    case 6: return g1_free_regions(h);
+    case 5: return draw() % 3 == 0 ? g1_compact(h, below(200)) : g1_pause(h, below(200));
+    case 6: return draw() % 2 == 0 ? g1_free_regions(h) : g1_free_run(h);
     case 7: return g1_used_words(h);
     case 8: return g1_live_words(h);
     case 9: return draw() % 2 == 0 ? g1_marking(h) : g1_grey(h);

@@ -30,34 +30,49 @@ static const char wanted[] =
     "10 0 read r0 0 = 18446744073709551615\n"
     "11 0 read r0 1 = refused 2 NoField\n"
     "12 0 shape r0 = 1 1\n"
-    "13 0 save g0 r0 = ok\n"
-    "14 0 move r1 r0 = ok\n"
-    "15 0 drop r0 = ok\n"
-    "16 0 get r0 r0 0 = refused 1 Nil\n"
-    "17 0 scope r0 = ok\n"
-    "18 0 load r1 g0 = #7\n"
-    "19 0 get r0 r1 0 = nil\n"
-    "20 0 new r0 60 3 = refused 4 TooBig\n"
-    "21 0 new r0 40 8 = refused 3 Full\n"
-    "22 gc mark 3 = refused 7 NotMarking\n"
-    "23 gc begin = ok\n"
-    "24 gc begin = refused 6 MarkRunning\n"
-    "25 gc mark 1 = ok\n"
-    "26 gc remark = marked 1\n"
-    "27 gc cleanup = reclaimed 0\n"
-    "28 gc refine 2 = refined 0\n"
-    "29 gc pause 9 = moved 1 4\n";
+    "13 0 write r0 0 7 = ok\n"
+    "14 0 write r0 2 8 = refused 2 NoField\n"
+    "15 0 read r0 0 = 7\n"
+    "16 0 read r0 4294967295 = refused 2 NoField\n"
+    "17 0 new r1 2 1 = #9\n"
+    "18 0 put r1 0 r0 = ok\n"
+    "19 0 put r1 1 nil = ok\n"
+    "20 0 write r1 0 9 = ok\n"
+    "21 0 new r1 1 60 = refused 3 Full\n"
+    "22 0 save g0 r0 = ok\n"
+    "23 0 move r1 r0 = ok\n"
+    "24 0 drop r0 = ok\n"
+    "25 0 get r0 r0 0 = refused 1 Nil\n"
+    "26 0 scope r0 = ok\n"
+    "27 0 load r1 g0 = #7\n"
+    "28 0 get r0 r1 0 = nil\n"
+    "29 0 new r0 60 3 = refused 4 TooBig\n"
+    "30 0 new r0 40 8 = refused 3 Full\n"
+    "31 gc mark 3 = refused 7 NotMarking\n"
+    "32 gc begin = ok\n"
+    "33 gc begin = refused 6 MarkRunning\n"
+    "34 gc mark 1 = ok\n"
+    "35 gc remark = marked 1\n"
+    "36 gc cleanup = reclaimed 0\n"
+    "37 gc refine 2 = refined 0\n"
+    "38 gc pause 9 = moved 1 4\n"
+    "39 gc compact 9 = moved 1 4\n";
 
 static void steps(g1_heap *h)
 {
+    uint64_t read = 0;
     g1_new_object(h, 0, 0, 1, 1), g1_new_weak(h, 0, 1, 0, 2, 0);
     g1_put(h, 0, 0, 0, 1), g1_put(h, 0, 0, 0, G1_NIL_REGISTER);
     g1_put_weak(h, 0, 1, 1, 0), g1_put_weak(h, 0, 1, 0, G1_NIL_REGISTER), g1_get_weak(h, 0, 0, 1, 1), g1_weaks(h, 0, 1);
     g1_write(h, 0, 0, 0, UINT64_MAX), g1_read(h, 0, 0, 0), g1_read(h, 0, 0, 1), g1_shape(h, 0, 0);
+    g1_write_words(h, 0, 0, 0, (uint64_t[]){7}, 1), g1_write_words(h, 0, 0, 0, (uint64_t[]){6, 7, 8}, 3);
+    g1_read_words(h, 0, 0, 0, &read, 1), g1_read_words(h, 0, 0, 1, &read, 0), g1_read_words(h, 0, 0, UINT32_MAX, &read, 1);
+    g1_new_filled(h, 0, 1, (uint32_t[]){0, G1_NIL_REGISTER}, 2, (uint64_t[]){9}, 1);
+    g1_new_filled(h, 0, 1, (uint32_t[]){0}, 1, (uint64_t[60]){0}, 60), g1_new_filled(h, 0, 1, (uint32_t[]){1}, 1, NULL, 0);
     g1_read(h, 0, 9, 0), g1_name(h, 0, 0), g1_free_regions(h);      /* no step has these numbers; readers are no steps */
     g1_save(h, 0, 0, 0), g1_move(h, 0, 1, 0), g1_drop(h, 0, 0), g1_get(h, 0, 0, 0, 0), g1_scope(h, 0, 0);
     g1_load(h, 0, 1, 0), g1_get(h, 0, 0, 1, 0), g1_new_object(h, 0, 0, 60, 3), g1_new_object(h, 0, 0, 40, 8);
-    g1_mark(h, 3), g1_begin(h), g1_begin(h), g1_mark(h, 1), g1_remark(h), g1_cleanup(h), g1_refine(h, 2), g1_pause(h, 9);
+    g1_mark(h, 3), g1_begin(h), g1_begin(h), g1_mark(h, 1), g1_remark(h), g1_cleanup(h), g1_refine(h, 2), g1_pause(h, 9), g1_compact(h, 9);
 }
 
 int main(void)
@@ -67,7 +82,7 @@ int main(void)
     size_t length = 0, before;
     if (g1_record(&heap, take, &length) != G1_NO_HEAP) return 1;
     if (g1_new(&heap, &sizes) != G1_DONE || g1_new(&other, &sizes) != G1_DONE) return 1;
-    left_lines = 30;
+    left_lines = 40;
     if (g1_record(&heap, take, &length) != G1_DONE) return 1;
     steps(&heap), steps(&other);
     if (strcmp(got, wanted) != 0) {

@@ -1,26 +1,27 @@
 -- What a placement changes.
 use Rattle.std.proofs.Common.{◌≡◌, ◌≢◌, ◌+◌, ◌-◌, ◌*◌, ◌<◌, ◌≤◌, ◌⊎◌, ◌∷◌, ◌∙◌}
 use Rattle.std.proofs.Common.{ℕ, zero, suc, Option, Some, None, List, [], length, refl, sym, ap, subst, arith, inl, inr}
-use Rattle.std.specs.Prelude.{slice_get, slice_set}
+use Rattle.std.specs.Prelude.{slice_get, slice_set, slice_index_or}
 use Rattle.std.proofs.lemmas.Bool.Decides.{leb_tells}
 use Rattle.std.proofs.lemmas.List.{length-set, get_or-set_other}
 use Rattle.std.proofs.Common.{replicate}
-use Rattle.std.proofs.lemmas.Bool.{cases_lt, cases_eq}
+use Rattle.std.proofs.lemmas.Bool.{cases_lt, cases_eq, le-leb}
 use Rattle.heap_model.proofs.Lists.{get-set_cases, get-set_same, get-set_other}
-use Rattle.regions.specs.Tiles.{Tile, Filler, tile_at, total_size}
+use Rattle.regions.specs.Tiles.{Tile, Filler, Object, tile_at, total_size}
 use Rattle.regions.specs.declared.row.Kind.TheVariants as kinds
 use Rattle.regions.specs.Walks.{AreFitting}
 use Rattle.regions.specs.Table.{Table, Free, Ordinary, nth_region, region_kind, used_of, top_of, kind_of, first_free, taken, push_tile}
-use Rattle.regions.specs.Table.{replace_tile, remainder, tile_in, object_at, HasNoForwarded, tile_object}
+use Rattle.regions.specs.Table.{replace_tile, remainder, tile_in, object_at, HasNoForwarded, tile_object, new_object}
 use Rattle.regions.proofs.Tiles.Placing.{remainder_total, remainder_positive, remainder_unmoved, Replaces, filler_replaced, Pushed}
 use Rattle.regions.proofs.Tiles.Placing.{filler_push, region_taken}
 use Rattle.regions.proofs.Tiles.Changes.{object_same}
+use Rattle.regions.proofs.Tiles.Twice.{replaced_twice, filler_fitting}
 use Rattle.regions.proofs.LongRuns.Blocks.{void_object}
 use Rattle.alloc_buffers.proofs.Above.{above_same, above_buffers, above_pushed, above_filler}
 use Rattle.alloc_buffers.specs.declared.buffers.Buffer.{Buffer}
 use Rattle.alloc_buffers.specs.declared.placement.Place.TheVariants as places
 use Rattle.alloc_buffers.specs.Placement.{Buffers, BuffersStand, HasFiller, IsPlaced, HasRoom, buffer_of, with_buffer, IsAbove, AreAbove}
-use Rattle.alloc_buffers.specs.Placement.{alone, room_for, in_new_buffer, with_filler, closed}
+use Rattle.alloc_buffers.specs.Placement.{alone, room_for, in_new_buffer, with_filler, closed, in_buffer, place_of, CanPlace, IsMadeAt}
 
 -- an open buffer is at its address
 buffer_at : (next rest : ℕ) (x : Buffer) → buffer_of next rest ≡ Some x → (x.next ≡ next) × (x.rest ≡ rest) × (0 < rest)
@@ -472,3 +473,55 @@ retired_above t b n limit is tops = record {
   tops = tops;
   buffers = λ m x e. absurd (none_open n m x (subst (λ (opens : List (Option Buffer)). slice_get opens m ≡ Some (Some x)) is e));
 }
+
+get_or-get : {A : Type 0} (xs : List A) (i : ℕ) (d x : A) → slice_get xs i ≡ Some x → slice_index_or xs i d ≡ x
+get_or-get [] i d x e = cc
+get_or-get (y ∷ xs) zero d x e = cc
+get_or-get (y ∷ xs) (suc i) d x e = get_or-get xs i d x e
+
+placed_open : (t : Table) (b : Buffers) (m size : ℕ) (x : Buffer) → 2 * size ≤ t.words_per_region
+    → slice_index_or b.open_buffers m None ≡ Some x → size ≤ x.rest → place_of t b m size ≡ Some (in_buffer t b m size x)
+placed_open t b m size x half here room = rw (le-leb (2 * size) t.words_per_region half, here, le-leb size x.rest room) refl
+
+-- an object made over the start of an open buffer's filler is made in its place
+pub inside_made : (t t' : Table) (b b' : Buffers) (m size name p weak d : ℕ) (x : Buffer) → 0 < t.words_per_region → AreFitting t
+    → CanPlace t b size → slice_get b.open_buffers m ≡ Some (Some x) → size ≤ x.rest → 2 * size ≤ t.words_per_region → size ≡ 2 + p + weak
+    + d
+    → t' ≡ replace_tile t x.next (Object (new_object name p weak d) ∷ remainder (x.rest - size))
+    → b' ≡ with_buffer b b.current m (buffer_of (x.next + size) (x.rest - size))
+    → IsMadeAt t t' b b' m size (new_object name p weak d) x.next (in_buffer t b m size x)
+inside_made t t' b b' m size name p weak d x z fitting ready opened room half long made cut =
+    let f = ready.stand.fillers m x opened in
+    let some = ready.positive in
+    let split : List Tile = Filler size ∷ remainder (x.rest - size) in
+    let left = remainder_total (x.rest - size) in
+    let total : total_size split ≡ x.rest = omega (arith, left, room) in
+    let w = filler_replaced t x.next x.rest split z fitting f.filler f.positive (some, remainder_positive (x.rest - size)) total
+    (remainder_unmoved (x.rest - size)) in
+    let here : slice_index_or b.open_buffers m None ≡ Some x = get_or-get b.open_buffers m None (Some x) opened in
+    record {
+      place = placed_open t b m size x half here room;
+      at = refl;
+      made = made ∙ sym (replaced_twice t x.next x.rest (remainder (x.rest - size)) (Filler size) (Object (new_object name p weak d))
+          f.filler);
+      buffers = cut;
+      placed = (half, split_placed t (replace_tile t x.next split) b m size x ready.stand ready.unmoved z fitting opened some room refl);
+      positive = omega (arith, w.size, z);
+      fitting = filler_fitting t x.next x.rest split z fitting f.filler f.positive (some, remainder_positive (x.rest - size)) total
+          (remainder_unmoved (x.rest - size));
+    }
+
+-- the same by other names of its address and of the filler's size
+pub inside_made_by : (t t' : Table) (b b' : Buffers) (m size name p weak d a n : ℕ) (x : Buffer) → 0 < t.words_per_region → AreFitting t
+    → CanPlace t b size → slice_get b.open_buffers m ≡ Some (Some x) → size ≤ x.rest → 2 * size ≤ t.words_per_region
+    → size ≡ 2 + p + weak + d → a ≡ x.next → n ≡ x.rest
+    → t' ≡ replace_tile t a (Object (new_object name p weak d) ∷ remainder (n - (2 + p + weak + d)))
+    → b' ≡ with_buffer b b.current m (buffer_of (x.next + size) (x.rest - size))
+    → IsMadeAt t t' b b' m size (new_object name p weak d) a (in_buffer t b m size x)
+inside_made_by t t' b b' m size name p weak d a n x z fitting ready opened room half long at_is n_is made cut =
+    let rest : n - (2 + p + weak + d) ≡ x.rest - size = omega (arith, long, n_is) in
+    let made' : t' ≡ replace_tile t x.next (Object (new_object name p weak d) ∷ remainder (x.rest - size)) =
+    made ∙ ap (λ (r : ℕ). replace_tile t a (Object (new_object name p weak d) ∷ remainder r)) rest
+    ∙ ap (λ (i : ℕ). replace_tile t i (Object (new_object name p weak d) ∷ remainder (x.rest - size))) at_is in
+    subst (λ (i : ℕ). IsMadeAt t t' b b' m size (new_object name p weak d) i (in_buffer t b m size x)) (sym at_is)
+    (inside_made t t' b b' m size name p weak d x z fitting ready opened room half long made' cut)

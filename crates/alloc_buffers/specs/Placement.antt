@@ -6,6 +6,7 @@ use Rattle.regions.specs.Tiles.{Filler, Object}
 use Rattle.regions.specs.declared.row.Kind.TheVariants as kinds
 use Rattle.regions.specs.Table.{Table, used_of, top_of, kind_of, first_free, taken, push_tile, replace_tile, remainder, tile_in, object_at}
 use Rattle.regions.specs.Table.{HasNoForwarded, first_run, is_free, with_regions, run_regions}
+use Rattle.regions.specs.Walks.{AreFitting}
 use Rattle.alloc_buffers.specs.declared.buffers.Buffer.{Buffer}
 use Rattle.alloc_buffers.specs.declared.placement.Place.{Place}
 use Rattle.alloc_buffers.specs.declared.placement.Place.TheVariants as places
@@ -183,6 +184,16 @@ CanHold t (places.Run k count) size = IsRunFor t size k count
 abbrev pub made_at : Table → Place → Stored → Table
 made_at t (places.Filler a) s = replace_tile t a (Object s ∷ [])
 made_at t (places.Run k count) s = with_regions t k count (run_regions t.words_per_region s count)
+
+-- an object is made in its place, of which p says what it is and what stood before the object did
+pub record IsMadeAt (t t' : Table) (b b' : Buffers) (m size : ℕ) (x : Stored) (a : ℕ) (p : Placement) : Type 0 where
+  pub place : place_of t b m size ≡ Some p
+  pub at : a ≡ address_of p.table p.place
+  pub made : t' ≡ made_at p.table p.place x
+  pub buffers : b' ≡ p.buffers
+  pub placed : IsPlace t p.table b p.buffers size p.place
+  pub positive : 0 < p.table.words_per_region
+  pub fitting : AreFitting p.table
 
 -- region k of t' has room for w words; t' is t, but that k may have been free
 pub record HasRoom (t t' : Table) (k w : ℕ) : Type 0 where

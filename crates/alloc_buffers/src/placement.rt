@@ -2,11 +2,12 @@
 
 ghost use Rattle.std.specs.Prelude.{◌≡◌, ◌<◌, ◌≤◌, ◌+◌, ◌-◌, ◌*◌, ◌^◌, ◌↔◌, ◌∷◌};
 ghost use Rattle.std.specs.Prelude.{length, Some, None, IfOk, OnErr, IsErr, IfSome, IfNone, slice_get};
+ghost use Rattle.heap_words.specs.Configs.{max_object_words};
 ghost use Rattle.regions.specs.Table.{used_of, kind_of, tile_in, push_tile, replace_tile, remainder};
 ghost use Rattle.regions.specs.Tiles.{Filler};
 ghost use Rattle.regions.specs.declared.row.Kind.TheVariants as kinds;
 ghost use Rattle.alloc_buffers.specs.Placement.{room_for, place_of, small_place_of, run_count, CanPlace, IsPlaced, IsPlace, HasRoom};
-ghost use Rattle.alloc_buffers.specs.Placement.{in_buffer, alone, in_new_buffer};
+ghost use Rattle.alloc_buffers.specs.Placement.{in_buffer, alone, in_new_buffer, with_buffer, buffer_of};
 
 use crate::buffers::{AllocBuffers, Buffer, open_buffer};
 use heap_words::addr::{Addr, RegionNo};
@@ -90,6 +91,7 @@ impl AllocBuffers {
     pub fn place(&mut self, table: &mut RegionTable, mutator: u32, size: u32) -> Result<Place, Full>
         requires mutator { mutator < length self.old.open_buffers }
         requires within { size ≤ length table.old.regions * table.old.words_per_region }
+        requires small { size ≤ max_object_words }
         requires ready { CanPlace table.old self.old size }
         ensures place { IfOk result (λ p. place_of table.old self.old mutator size ≡ Some
             (record { place = p; table = table.new; buffers = self.new })) }
@@ -111,6 +113,29 @@ impl AllocBuffers {
             Some(first) => Ok(Place::Run { first, count }),
             None => Err(Full),
         }
+    }
+
+    /// Cuts so many words from the start of a mutator's buffer, if it has them, and answers the buffer as it was. The table's filler
+    /// there stays whole.
+    #[inline(always)]
+    pub fn cut(&mut self, table: &RegionTable, mutator: u32, size: u32) -> Option<Buffer>
+        requires mutator { mutator < length self.old.open_buffers }
+        requires ready { CanPlace table.now self.old size }
+        ensures opened { IfSome result (λ x. slice_get self.old.open_buffers mutator ≡ Some (Some x)) }
+        ensures room { IfSome result (λ x. size ≤ x.rest) }
+        ensures cut { IfSome result (λ x. self.new
+            ≡ with_buffer self.old self.old.current mutator (buffer_of (x.next + size) (x.rest - size))) }
+        ensures same { IfNone result (self.new ≡ self.old) }
+    {
+        table.law();
+        let Some(buffer) = self.open_buffer(mutator) else {
+            return None;
+        };
+        if buffer.rest < size {
+            return None;
+        }
+        self.open_buffers[mutator as usize] = open_buffer(buffer.next + size, buffer.rest - size);
+        Some(buffer)
     }
 
     /// The place of an object of at most half a region.

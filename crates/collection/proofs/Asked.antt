@@ -1,6 +1,7 @@
 -- An object that is asked for: the collector's steps, and then the mutator's own, or none.
-use Rattle.std.proofs.Common.{◌≡◌, ◌⊎◌, ◌*◌, ◌≤◌, ◌∙◌}
+use Rattle.std.proofs.Common.{◌≡◌, ◌⊎◌, ◌≤◌, ◌∙◌}
 use Rattle.std.proofs.Common.{ℕ, inl, inr, sym, subst, refl}
+use Rattle.heap_words.specs.Configs.{object_limit}
 use Rattle.heap_words.specs.declared.config.Config.{Config}
 use Rattle.heap_steps.specs.declared.step.Event.{Event}
 use Rattle.heap_steps.specs.declared.step.Op.{Op}
@@ -40,6 +41,7 @@ module _ {W : Type 0} (sees : W → Event → W → Type 0) (most : ℕ) (op : O
           collected = subst (λ (k : CoreState). IsCollected state.graph k) (sym same) (l.collected state stands);
           small = λ leaves. absurd (l.few leaves);
           large = λ leaves. absurd (l.few leaves);
+          side_by_side = λ third leaves. absurd (l.few leaves);
         }
 
     pub room_two : ActsOn op.mutator op.action reply d c' → IsSpared d op ⊎ IsLast c op d → LeavesTwo c.config op.action
@@ -63,7 +65,7 @@ module _ {W : Type 0} (sees : W → Event → W → Type 0) (most : ℕ) (op : O
     own = inr (record {
       reply_is = refl;
       creates = λ s there. creates_by s.graph d there.shows op new (record {
-        fits = subst (λ (k : Config). asked_words op.action ≤ k.regions * k.words) (sym before.config) h.fits;
+        fits = subst (λ (k : Config). asked_words op.action ≤ object_limit k) (sym before.config) h.fits;
         named = λ e. h.named (sym before.next ∙ e);
       });
       core = refl;

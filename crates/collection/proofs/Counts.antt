@@ -90,7 +90,6 @@ pub record Taken (r f k d w s : ℕ) : Type 0 where
   pub within : w ≤ s
   pub limit : s ≤ f * r / 2
   pub empty : k ≡ 0 → s ≡ 0
-  pub one : k ≡ 1 → s < r
   pub none : w ≡ 0 → d ≡ 0
   pub full : 2 ≤ d → d * r < 2 * w
 
@@ -118,13 +117,13 @@ two_stay r f f' k d w s t e two = elim (cases_lt 1 d) [
 ]
 
 -- where no more are free than before, and no more than two, as many are as before
-pub same_stay : (r f f' k d w s : ℕ) → Taken r f k d w s → f' + d ≡ f + k → 2 ≤ f → f' ≤ f → f' ≤ 2 → f' ≡ f
-same_stay r f f' k d w s t e two gain few = elim (cases_lt 1 d) [
+pub same_stay : (r f f' k d w s : ℕ) → Taken r f k d w s → (k ≡ 1 → s < r) → f' + d ≡ f + k → 2 ≤ f → f' ≤ f → f' ≤ 2 → f' ≡ f
+same_stay r f f' k d w s t single e two gain few = elim (cases_lt 1 d) [
   | inl more ↦
       (let a = fewer r f k d w s t (omega arith) in
       let b = some_taken r f k d w s t (omega arith) in
       let one : k ≡ 1 = omega (arith, a, b, e, few) in
-      let q = t.one one in
+      let q = single one in
       let g = t.full (omega arith) in
       let h = t.within in
       let m = mul-le 2 r d r (omega arith) (omega arith) in

@@ -1,9 +1,10 @@
 -- Whether the graph creates an object.
-use Rattle.std.proofs.Common.{◌≡◌, ◌*◌, ◌^◌, ◌-◌, ◌≤◌, ◌∙◌}
+use Rattle.std.proofs.Common.{◌≡◌, ◌^◌, ◌-◌, ◌≤◌, ◌∙◌}
 use Rattle.std.proofs.Common.{ℕ, Bool, true, false, Some, inl, inr, refl, sym, ap, arith}
 use Rattle.std.specs.Prelude.{nat_lt, ◌==◌, if◌then◌else◌}
 use Rattle.std.proofs.lemmas.Bool.{cases_lt, le-ltb, lt-ltb}
 use Rattle.std.proofs.lemmas.Bool.Decides.{eqb_tells}
+use Rattle.heap_words.specs.Configs.{object_limit}
 use Rattle.heap_words.specs.Sizes.{size_of}
 use Rattle.heap_model.specs.Graph.{Graph, next_name}
 use Rattle.heap_steps.specs.declared.step.Action.{Action}
@@ -55,7 +56,7 @@ spent_named false n e = let f = e in cc
 
 module _ (g : Graph) (c : CoreState) (shows : ShowsGraph g c) where
   pub new_made : (m : ℕ) (to : Register) (counts : Counts) (weaks : ℕ)
-      → size_of counts.pointers weaks counts.values ≤ c.config.regions * c.config.words → (c.next ≡ 2 ^ 64 - 1 → ⊥)
+      → size_of counts.pointers weaks counts.values ≤ object_limit c.config → (c.next ≡ 2 ^ 64 - 1 → ⊥)
       → (made g m to counts weaks).0 ≡ replies.Named (Some (next_name g))
   new_made m to counts weaks fits names =
       made_is g m to counts weaks
@@ -70,11 +71,11 @@ module _ (g : Graph) (c : CoreState) (shows : ShowsGraph g c) where
         | inr q ↦ q.0
       ]
 
-  creates_new : (op : Op) → IsNew op.action → asked_words op.action ≤ c.config.regions * c.config.words → (c.next ≡ 2 ^ 64 - 1 → ⊥)
+  creates_new : (op : Op) → IsNew op.action → asked_words op.action ≤ object_limit c.config → (c.next ≡ 2 ^ 64 - 1 → ⊥)
       → Creates g op
   creates_new op new fits names = (new, go op.action new fits)
     where
-      go : (a : Action) → IsNew a → asked_words a ≤ c.config.regions * c.config.words
+      go : (a : Action) → IsNew a → asked_words a ≤ object_limit c.config
           → (act g op.mutator a).0 ≡ replies.Named (Some (next_name g))
       go (actions.New to counts) new fits = new_made op.mutator to counts 0 fits names
       go (actions.NewWeak to counts weaks) new fits = new_made op.mutator to counts weaks fits names
@@ -93,14 +94,14 @@ module _ (g : Graph) (c : CoreState) (shows : ShowsGraph g c) where
       go (actions.Scope a) new fits = absurd new
 
   named_fits : (m : ℕ) (to : Register) (counts : Counts) (weaks : ℕ) → (made g m to counts weaks).0 ≡ replies.Named (Some (next_name g))
-      → (size_of counts.pointers weaks counts.values ≤ c.config.regions * c.config.words) × (c.next ≡ 2 ^ 64 - 1 → ⊥)
+      → (size_of counts.pointers weaks counts.values ≤ object_limit c.config) × (c.next ≡ 2 ^ 64 - 1 → ⊥)
   named_fits m to counts weaks e = (fits, names)
     where
       by : reply_by (nat_lt g.room (size_of counts.pointers weaks counts.values)) (next_name g == 2 ^ 64 - 1) (next_name g)
           ≡ replies.Named (Some (next_name g))
       by = sym (made_is g m to counts weaks) ∙ e
 
-      fits : size_of counts.pointers weaks counts.values ≤ c.config.regions * c.config.words
+      fits : size_of counts.pointers weaks counts.values ≤ object_limit c.config
       fits = elim (cases_lt g.room (size_of counts.pointers weaks counts.values)) [
         | inl big ↦ absurd (big_named (next_name g == 2 ^ 64 - 1) (next_name g)
             (sym (ap (λ (b : Bool). reply_by b (next_name g == 2 ^ 64 - 1) (next_name g)) (lt-ltb g.room _ big)) ∙ by))
@@ -121,7 +122,7 @@ module _ (g : Graph) (c : CoreState) (shows : ShowsGraph g c) where
   pub by_creates : (op : Op) → Creates g op → IsCreatable c op.action
   by_creates op h = go op.action h.0 h.1
     where
-      packed : (a : Action) → (asked_words a ≤ c.config.regions * c.config.words) × (c.next ≡ 2 ^ 64 - 1 → ⊥) → IsCreatable c a
+      packed : (a : Action) → (asked_words a ≤ object_limit c.config) × (c.next ≡ 2 ^ 64 - 1 → ⊥) → IsCreatable c a
       packed a p = record { fits = p.0; named = p.1 }
 
       go : (a : Action) → IsNew a → (act g op.mutator a).0 ≡ replies.Named (Some (next_name g)) → IsCreatable c a

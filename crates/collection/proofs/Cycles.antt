@@ -17,7 +17,7 @@ use Rattle.object_graph.specs.State.{State}
 use Rattle.step_core.specs.Stands.{CoreState, IsCore, Stands, kept_of}
 use Rattle.step_core.specs.Answers.{Follows}
 use Rattle.step_core.specs.Cycle.{Collects, HasBegun, HasRemarked, HasCleaned}
-use Rattle.step_core.specs.Pause.{HasPaused}
+use Rattle.step_core.specs.Pause.{HasPaused, HasCompacted}
 use Rattle.collection.specs.Space.{HasReached, IsQuiet}
 use Rattle.collection.proofs.Reached.{by_reached, cleared_reached}
 use Rattle.collection.proofs.Counts.{more_free}
@@ -149,6 +149,21 @@ has_paused b (replies.Marked v) c d h = absurd h
 has_paused b (replies.Reclaimed v) c d h = absurd h
 has_paused b (replies.Refined v) c d h = absurd h
 has_paused b (replies.Refused q) c d h = absurd h
+
+pub compacted_stands : (b : ℕ) (r : Reply) (s : State) (d : CoreState) → Follows s (steps.Collector (collector.Compact b)) r d → Stands s d
+compacted_stands b r s d f = subst (λ (x : State). Stands x d) f.happens.1 f.stands
+
+pub has_compacted : (b : ℕ) (r : Reply) (c d : CoreState) → Collects (collector.Compact b) r c d
+    → (n : ℕ) × (w : ℕ) × (r ≡ replies.Moved n w) × HasCompacted b n w c d
+has_compacted b (replies.Moved n w) c d h = (n, w, refl, h)
+has_compacted b replies.Done c d h = absurd h
+has_compacted b (replies.Named v) c d h = absurd h
+has_compacted b (replies.Word v) c d h = absurd h
+has_compacted b (replies.Shape m v) c d h = absurd h
+has_compacted b (replies.Marked v) c d h = absurd h
+has_compacted b (replies.Reclaimed v) c d h = absurd h
+has_compacted b (replies.Refined v) c d h = absurd h
+has_compacted b (replies.Refused q) c d h = absurd h
 
 -- ---- how many regions are free
 free_same : (t u : Table) → length u.regions ≡ length t.regions → ((k : ℕ) → kind_of u k ≡ kind_of t k) → free_count t ≤ free_count u

@@ -11,6 +11,7 @@ use Rattle.heap_steps.specs.declared.step.Reply.TheVariants as replies
 use Rattle.heap_steps.specs.declared.step.Refusal.TheVariants as refusals
 use Rattle.step_core.specs.Stands.{CoreState, IsCore}
 use Rattle.step_core.specs.Cycle.{Collects}
+use Rattle.step_core.specs.declared.candidates.Choice.TheVariants as choices
 use Rattle.collection.proofs.Packed.{two_free}
 use Rattle.collection.proofs.Cycles.{begin_free, remark_free, clean_free}
 
@@ -108,7 +109,7 @@ module _ (c d : CoreState) (core : IsCore c) (shape : IsShaped c.table) (shape' 
   keeps (collector.Pause k) (replies.Marked v) h two = absurd h
   keeps (collector.Pause k) (replies.Reclaimed v) h two = absurd h
   keeps (collector.Pause k) (replies.Refined v) h two = absurd h
-  keeps (collector.Pause k) (replies.Moved p v) h two = two_free k p v c d core shape shape' h two
+  keeps (collector.Pause k) (replies.Moved p v) h two = two_free choices.Best k p v c d shape h two
   keeps (collector.Pause k) (replies.Refused refusals.Nil) h two = absurd h
   keeps (collector.Pause k) (replies.Refused refusals.NoField) h two = absurd h
   keeps (collector.Pause k) (replies.Refused refusals.Full) h two = absurd h
@@ -116,6 +117,21 @@ module _ (c d : CoreState) (core : IsCore c) (shape : IsShaped c.table) (shape' 
   keeps (collector.Pause k) (replies.Refused refusals.NamesSpent) h two = absurd h
   keeps (collector.Pause k) (replies.Refused refusals.MarkRunning) h two = absurd h
   keeps (collector.Pause k) (replies.Refused refusals.NotMarking) h two = absurd h
+  keeps (collector.Compact k) replies.Done h two = absurd h
+  keeps (collector.Compact k) (replies.Named v) h two = absurd h
+  keeps (collector.Compact k) (replies.Word v) h two = absurd h
+  keeps (collector.Compact k) (replies.Shape p v) h two = absurd h
+  keeps (collector.Compact k) (replies.Marked v) h two = absurd h
+  keeps (collector.Compact k) (replies.Reclaimed v) h two = absurd h
+  keeps (collector.Compact k) (replies.Refined v) h two = absurd h
+  keeps (collector.Compact k) (replies.Moved p v) h two = two_free choices.Highest k p v c d shape h two
+  keeps (collector.Compact k) (replies.Refused refusals.Nil) h two = absurd h
+  keeps (collector.Compact k) (replies.Refused refusals.NoField) h two = absurd h
+  keeps (collector.Compact k) (replies.Refused refusals.Full) h two = absurd h
+  keeps (collector.Compact k) (replies.Refused refusals.TooBig) h two = absurd h
+  keeps (collector.Compact k) (replies.Refused refusals.NamesSpent) h two = absurd h
+  keeps (collector.Compact k) (replies.Refused refusals.MarkRunning) h two = absurd h
+  keeps (collector.Compact k) (replies.Refused refusals.NotMarking) h two = absurd h
 
 -- it gives no name
 pub next_stays : (c d : CoreState) (k : CollectorStep) (r : Reply) → Collects k r c d → d.next ≡ c.next
@@ -210,3 +226,19 @@ next_stays c d (collector.Pause k) (replies.Refused refusals.TooBig) h = absurd 
 next_stays c d (collector.Pause k) (replies.Refused refusals.NamesSpent) h = absurd h
 next_stays c d (collector.Pause k) (replies.Refused refusals.MarkRunning) h = absurd h
 next_stays c d (collector.Pause k) (replies.Refused refusals.NotMarking) h = absurd h
+next_stays c d (collector.Compact k) replies.Done h = absurd h
+next_stays c d (collector.Compact k) (replies.Named v) h = absurd h
+next_stays c d (collector.Compact k) (replies.Word v) h = absurd h
+next_stays c d (collector.Compact k) (replies.Shape p v) h = absurd h
+next_stays c d (collector.Compact k) (replies.Marked v) h = absurd h
+next_stays c d (collector.Compact k) (replies.Reclaimed v) h = absurd h
+next_stays c d (collector.Compact k) (replies.Refined v) h = absurd h
+next_stays c d (collector.Compact k) (replies.Moved p v) h = ap (λ (x : CoreState). x.next) h.evacuates.same
+    ∙ ap (λ (x : CoreState). x.next) h.is_ready.same
+next_stays c d (collector.Compact k) (replies.Refused refusals.Nil) h = absurd h
+next_stays c d (collector.Compact k) (replies.Refused refusals.NoField) h = absurd h
+next_stays c d (collector.Compact k) (replies.Refused refusals.Full) h = absurd h
+next_stays c d (collector.Compact k) (replies.Refused refusals.TooBig) h = absurd h
+next_stays c d (collector.Compact k) (replies.Refused refusals.NamesSpent) h = absurd h
+next_stays c d (collector.Compact k) (replies.Refused refusals.MarkRunning) h = absurd h
+next_stays c d (collector.Compact k) (replies.Refused refusals.NotMarking) h = absurd h

@@ -3,6 +3,7 @@ use Rattle.std.proofs.Common.{◌≡◌, ◌+◌, ◌⊎◌}
 use Rattle.std.proofs.Common.{ℕ, Bool, true, false, inl, inr, sym, ap, subst, arith}
 use Rattle.std.proofs.lemmas.Bool.{cases_lt}
 use Rattle.heap_words.specs.declared.config.Config.{Config}
+use Rattle.heap_steps.specs.Actors.{IsThird}
 use Rattle.heap_steps.specs.declared.step.Action.{Action}
 use Rattle.heap_steps.specs.declared.step.Op.{Op}
 use Rattle.object_graph.specs.State.{State}
@@ -53,4 +54,8 @@ module _ {W : Type 0} (sees : W → Event → W → Type 0) (m : ℕ) (c d : Cor
             (let e = ap (λ (k : Config). k.words) before.config in omega (arith, e, small)) (before.two two));
         large = λ leaves large. w.large (subst (λ (k : Config). LeavesTwo k a) (sym before.config) leaves)
             (let e = ap (λ (k : Config). k.words) before.config in omega (arith, e, large));
+        side_by_side = λ third leaves large two.
+            w.side_by_side (subst (λ (k : Config). IsThird k.format) (sym before.config) third)
+            (subst (λ (k : Config). LeavesTwo k a) (sym before.config) leaves)
+            (let e = ap (λ (k : Config). k.words) before.config in omega (arith, e, large)) (before.two two);
       }

@@ -19,3 +19,4 @@ pub mod Created
 pub mod Uncreated
 pub mod Leaving
 pub mod Asked
+pub mod Lowered

@@ -18,7 +18,10 @@ use Rattle.heap_model.specs.Graph.{Graph}
 use Rattle.object_graph.specs.State.{State}
 use Rattle.step_core.specs.Stands.{CoreState, IsCore, Stands}
 use Rattle.step_core.specs.Measures.{sum_below}
-use Rattle.step_core.specs.Pause.{HasPaused, IsRowOf}
+use Rattle.step_core.specs.declared.candidates.Choice.{Choice}
+use Rattle.step_core.specs.declared.candidates.Choice.TheVariants as choices
+use Rattle.step_core.specs.Pause.{HasMoved, HasPaused, IsRowOf}
+use Rattle.step_core.proofs.Pauses.Chosen.{set_moves}
 use Rattle.collection.specs.Space.{run_one, run_count, ordinary_count, kept_sum, IsQuiet, IsPacked}
 use Rattle.collection.proofs.Sums.{sum_same}
 use Rattle.collection.proofs.Counts.{Taken, two_stay, same_stay, count_all}
@@ -43,7 +46,7 @@ limit_le : (words budget frees : ℕ) → copy_limit words budget frees ≤ free
 limit_le words budget frees = omega arith
 
 -- half of the free regions' words is no more than any number of 32 bits
-pub half_small : (t : Table) (budget : ℕ) → IsShaped t → 2 ^ 24 ≤ budget → free_count t * t.words_per_region / 2 ≤ budget
+pub half_small : (t : Table) (budget : ℕ) → IsShaped t → 2 ^ 30 ≤ budget → free_count t * t.words_per_region / 2 ≤ budget
 half_small t budget shape h =
     let a = count_by-le-length is_free t.regions in
     let m = mul-le (free_count t) t.words_per_region (length t.regions) t.words_per_region a (omega arith) in
@@ -52,6 +55,43 @@ half_small t budget shape h =
 
 free_run : run_one kinds.Free ≡ 0
 free_run = refl
+
+-- ---- a pause or a compaction
+module _ (which : Choice) (budget n w : ℕ) (c c' : CoreState) (shape : IsShaped c.table) (p : HasMoved which budget n w c c') where
+  same_table : p.ready.table ≡ c.table
+  same_table = ap (λ (k : CoreState). k.table) p.is_ready.same
+
+  -- what it took, and what it gave back
+  pub moved_taken : Taken c.table.words_per_region (free_count c.table) (length p.evacuates.chosen) p.evacuates.evacuated.spares.taken w
+      (live_sum p.evacuates.chosen)
+  moved_taken = record {
+    positive = shape.positive;
+    within = p.evacuates.evacuated.within;
+    limit = (let a = (set_moves which c.table c.marker.tams c.marker.bitmaps.previous c.marker.running budget p.evacuates.chosen
+        p.evacuates.choice).within in
+        let b = limit_le c.table.words_per_region budget (free_count c.table) in
+        omega (arith, a, b));
+    empty = none_sum p.evacuates.chosen;
+    none = p.evacuates.evacuated.spares.none;
+    full = λ two. (let a = p.evacuates.evacuated.spares.full two in
+        let b = ap (λ (u : Table). p.evacuates.evacuated.spares.taken * u.words_per_region) same_table in
+        omega (arith, a, b));
+  }
+
+  pub moved_counted : free_count c'.table + p.evacuates.evacuated.spares.taken ≡ free_count c.table + length p.evacuates.chosen
+  moved_counted = let a = p.evacuates.evacuated.spares.count in let b = ap free_count same_table in omega (arith, a, b)
+
+  pub two_free : 2 ≤ free_count c.table → 2 ≤ free_count c'.table
+  two_free two = two_stay c.table.words_per_region (free_count c.table) (free_count c'.table) (length p.evacuates.chosen)
+      p.evacuates.evacuated.spares.taken w (live_sum p.evacuates.chosen) moved_taken moved_counted two
+
+  pub quiet_stays : IsCore c → IsShaped c'.table → (s : State) → Stands s c' → IsQuiet s c → IsQuiet s c'
+  quiet_stays core shape' s stands q = record {
+    stands = stands;
+    exact = paused.paused_exact which budget n w c c' core shape shape' p q.exact;
+    reached = paused.paused_reached which budget n w c c' core shape shape' p q.exact s.graph q.reached;
+    runs = paused_runs which budget n w c c' core shape shape' p q.exact q.runs;
+  }
 
 module _ (budget n w : ℕ) (c c' : CoreState) (core : IsCore c) (shape : IsShaped c.table) (shape' : IsShaped c'.table)
     (p : HasPaused budget n w c c') where
@@ -74,17 +114,11 @@ module _ (budget n w : ℕ) (c c' : CoreState) (core : IsCore c) (shape : IsShap
   regions = subst (λ (u : Table). RegionsAfter chosen u t') ready_same p.evacuates.evacuated.regions
 
   taken : Taken words (free_count t) (length chosen) p.evacuates.evacuated.spares.taken w (live_sum chosen)
-  taken = record {
-    positive = shape.positive;
-    within = p.evacuates.evacuated.within;
-    limit = (let a = p.evacuates.choice.best.within in let b = limit_le words budget (free_count t) in omega (arith, a, b));
-    empty = none_sum chosen;
-    one = one_sum words chosen below;
-    none = p.evacuates.evacuated.spares.none;
-    full = λ two. (let a = p.evacuates.evacuated.spares.full two in
-        let b = ap (λ (u : Table). p.evacuates.evacuated.spares.taken * u.words_per_region) ready_same in
-        omega (arith, a, b));
-  }
+  taken = moved_taken choices.Best budget n w c c' shape p
+
+  -- a single region isn't full
+  single : length chosen ≡ 1 → live_sum chosen < words
+  single = one_sum words chosen below
     where
       below : All (λ (row : LiveRow). row.live_bound < words) chosen
       below = subst (λ (rows : List LiveRow). All (λ (row : LiveRow). row.live_bound < words) rows) (sym p.evacuates.choice.front)
@@ -94,11 +128,7 @@ module _ (budget n w : ℕ) (c c' : CoreState) (core : IsCore c) (shape : IsShap
           omega (arith, a, b))))
 
   counted : free_count t' + p.evacuates.evacuated.spares.taken ≡ free_count t + length chosen
-  counted = let a = p.evacuates.evacuated.spares.count in let b = ap free_count ready_same in omega (arith, a, b)
-
-  pub two_free : 2 ≤ free_count t → 2 ≤ free_count t'
-  two_free two = two_stay words (free_count t) (free_count t') (length chosen) p.evacuates.evacuated.spares.taken w (live_sum chosen)
-      taken counted two
+  counted = moved_counted choices.Best budget n w c c' shape p
 
   ordinary_chosen : (k : ℕ) → is_chosen chosen k ≡ true → kind_of t k ≡ kinds.Ordinary
   ordinary_chosen k e =
@@ -138,7 +168,7 @@ module _ (budget n w : ℕ) (c c' : CoreState) (core : IsCore c) (shape : IsShap
       → free_count t * words / 2 ≤ budget → IsPacked s.graph c'
   packed s q two gain few enough =
       let same = same_stay words (free_count t) (free_count t') (length chosen) p.evacuates.evacuated.spares.taken w (live_sum chosen)
-      taken counted two gain few in
+      taken single counted two gain few in
       let a = count_all t in
       let b = count_all t' in
       let d = runs_same in
@@ -153,14 +183,6 @@ module _ (budget n w : ℕ) (c c' : CoreState) (core : IsCore c) (shape : IsShap
             let j = ap (λ (m : ℕ). m * words) ordinary in
             omega (arith, h, i, j));
       }
-
-  pub quiet_stays : (s : State) → Stands s c' → IsQuiet s c → IsQuiet s c'
-  quiet_stays s stands q = record {
-    stands = stands;
-    exact = paused.paused_exact budget n w c c' core shape shape' p q.exact;
-    reached = paused.paused_reached budget n w c c' core shape shape' p q.exact s.graph q.reached;
-    runs = paused_runs budget n w c c' core shape shape' p q.exact q.runs;
-  }
 
 -- where all regions are free there is nothing to be reachable
 pub all_free : (g : Graph) (c : CoreState) → IsCore c → c.config.regions ≤ free_count c.table → IsPacked g c

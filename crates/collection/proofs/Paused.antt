@@ -26,7 +26,8 @@ use Rattle.marker.specs.declared.marker.Marker.{Marker}
 use Rattle.evacuation.specs.Evacuates.{HasEvacuated, is_chosen, set_in}
 use Rattle.evacuation.proofs.Turns.KeptObjects.{free_used}
 use Rattle.step_core.specs.Stands.{CoreState, IsCore, kept_of}
-use Rattle.step_core.specs.Pause.{HasPaused, layers_of}
+use Rattle.step_core.specs.declared.candidates.Choice.{Choice}
+use Rattle.step_core.specs.Pause.{HasMoved, layers_of}
 use Rattle.heap_words.specs.Configs.{card_words}
 use Rattle.alloc_buffers.specs.Placement.{closed}
 use Rattle.cards.specs.Cards.{clean_cards}
@@ -185,8 +186,8 @@ if_not_flag : (b : Bool) (m n : Bool) → b ≡ false → (if b then m else n) �
 if_not_flag true m n e = absurd cc
 if_not_flag false m n e = refl
 
-module _ (budget n w : ℕ) (c c' : CoreState) (core : IsCore c) (shape : IsShaped c.table) (shape' : IsShaped c'.table)
-    (p : HasPaused budget n w c c') (exact : IsExact c) where
+module _ (which : Choice) (budget n w : ℕ) (c c' : CoreState) (core : IsCore c) (shape : IsShaped c.table)
+    (shape' : IsShaped c'.table) (p : HasMoved which budget n w c c') (exact : IsExact c) where
   abbrev t : Table
   t = c.table
 

@@ -11,7 +11,8 @@ use Rattle.mark_bitmap.proofs.Ranges.{div_is}
 use Rattle.evacuation.specs.Evacuates.{is_chosen}
 use Rattle.step_core.specs.Stands.{CoreState, IsCore, kept_of}
 use Rattle.step_core.specs.Cycle.{HasCleaned, IsDead}
-use Rattle.step_core.specs.Pause.{HasPaused}
+use Rattle.step_core.specs.declared.candidates.Choice.{Choice}
+use Rattle.step_core.specs.Pause.{HasMoved}
 use Rattle.collection.specs.Space.{IsExact}
 use Rattle.collection.proofs.Exact.{kind_by, kind_free}
 use Rattle.collection.proofs.Paused as paused
@@ -65,12 +66,12 @@ place_is : (b : Bool) (x y : Option ℕ) → b ≡ false → (if b then x else y
 place_is true x y e = absurd cc
 place_is false x y e = refl
 
-module _ (budget n w : ℕ) (c c' : CoreState) (core : IsCore c) (shape : IsShaped c.table) (shape' : IsShaped c'.table)
-    (p : HasPaused budget n w c c') (exact : IsExact c) where
+module _ (which : Choice) (budget n w : ℕ) (c c' : CoreState) (core : IsCore c) (shape : IsShaped c.table)
+    (shape' : IsShaped c'.table) (p : HasMoved which budget n w c c') (exact : IsExact c) where
   pub paused_runs : AreKept c → AreKept c'
   unfolding kept_of
   paused_runs kept k e none =
-      let ev = paused.ev budget n w c c' core shape shape' p exact in
+      let ev = paused.ev which budget n w c c' core shape shape' p exact in
       let out : is_chosen p.evacuates.chosen k ≡ false = elim (cases_Bool (is_chosen p.evacuates.chosen k)) [
         | inl i ↦ absurd (free_first (sym (ev.regions.chosen k i) ∙ e))
         | inr o ↦ o

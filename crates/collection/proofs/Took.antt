@@ -77,6 +77,7 @@ step_reached s after k r h = go k r h.1
     go collector.Cleanup r h = same h
     go (collector.Refine n) r h = same h
     go (collector.Pause n) r h = same h
+    go (collector.Compact n) r h = same h
 
 pub history_reached : (s last : State) (c c' : CoreState) (es : List Event) → All IsCollectors es → IsHistory s c es last c'
     → HasReached s.graph last.graph

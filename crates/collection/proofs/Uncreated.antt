@@ -1,37 +1,24 @@
 -- An object that the graph wouldn't create takes no free region.
-use Rattle.std.proofs.Common.{◌≡◌, ◌⊎◌, ◌+◌, ◌*◌, ◌^◌, ◌-◌, ◌<◌, ◌≤◌}
-use Rattle.std.proofs.Common.{ℕ, Option, Some, None, inl, inr, refl, ap, arith}
-use Rattle.std.specs.Prelude.{if◌then◌else◌}
-use Rattle.std.proofs.lemmas.Nat.{mul-le}
-use Rattle.std.proofs.lemmas.Bool.{cases_lt, lt-leb}
+use Rattle.std.proofs.Common.{◌≡◌, ◌⊎◌, ◌+◌, ◌^◌, ◌-◌, ◌≤◌}
+use Rattle.std.proofs.Common.{ℕ, Option, Some, None, inl, inr, refl, ap, subst, arith}
 use Rattle.std.proofs.lemmas.Bool.Decides.{eqb_tells}
-use Rattle.std.proofs.Common.{Bool}
+use Rattle.heap_words.specs.declared.config.Config.{Config}
+use Rattle.heap_words.specs.Configs.{object_limit}
 use Rattle.regions.specs.Table.{free_count}
-use Rattle.alloc_buffers.specs.Placement.{Placement, place_of, run_count}
+use Rattle.alloc_buffers.specs.Placement.{Placement, place_of}
 use Rattle.heap_steps.specs.declared.step.Action.{Action}
 use Rattle.heap_steps.specs.declared.step.Action.TheVariants as actions
 use Rattle.heap_steps.specs.declared.step.Counts.{Counts}
 use Rattle.heap_steps.specs.declared.step.Op.{Op}
 use Rattle.heap_steps.specs.declared.step.Reply.{Reply}
 use Rattle.heap_steps.specs.declared.step.Reply.TheVariants as replies
+use Rattle.heap_steps.specs.declared.step.Refusal.{Refusal}
 use Rattle.object_graph.specs.Run.{IsNew}
 use Rattle.step_core.specs.Stands.{CoreState, IsCore}
+use Rattle.step_core.specs.Answers.{IsWithin}
 use Rattle.step_core.specs.Mutators.{ActsOn, HasActed, core_after, with_made}
 use Rattle.collection.specs.Rooms.{IsCreatable}
-use Rattle.collection.specs.Steps.{LeavesTwo, asked_words, regions_for}
-
--- one that is larger than the heap leaves no two regions
-big_leaves : (regions words size : ℕ) → 0 < words → regions * words < size → regions_for words size + 2 < regions → ⊥
-big_leaves regions words size some big leaves = elim (cases_lt words (2 * size)) [
-  | inl large ↦ (
-      let e = ap (λ (b : Bool). if b then 1 else run_count words size) (lt-leb (2 * size) words large) in
-      let m = mul-le (run_count words size + 1) words regions words (omega (arith, e, leaves)) (omega arith) in
-      let d : size + words - 1 < (run_count words size + 1) * words = omega (arith, some) in
-      absurd (omega (arith, m, d, big, some)))
-  | inr small ↦ (
-      let m = mul-le 1 words regions words (omega (arith, leaves)) (omega arith) in
-      absurd (omega (arith, m, small, big, some)))
-]
+use Rattle.collection.specs.Steps.{asked_words}
 
 after_next : (c : CoreState) (m : ℕ) (a : Action) → IsNew a
     → ((core_after c m a).next ≡ c.next + 1) ⊎ ((core_after c m a).table ≡ c.table)
@@ -60,31 +47,75 @@ after_next c m a new = go a new
     go (actions.Weaks a) new = absurd new
     go (actions.Scope a) new = absurd new
 
-module _ (c d : CoreState) (op : Op) (new : IsNew op.action) (core : IsCore c) (core' : IsCore d) (positive : 0 < c.config.words)
-    (leaves : LeavesTwo c.config op.action) (not : IsCreatable c op.action → ⊥) (two : 2 ≤ free_count c.table) where
-  spent : c.next ≡ 2 ^ 64 - 1
-  spent = elim (cases_lt (c.config.regions * c.config.words) (asked_words op.action)) [
-    | inl big ↦ absurd (big_leaves c.config.regions c.config.words (asked_words op.action) positive big leaves)
-    | inr fits ↦ elim (eqb_tells c.next (2 ^ 64 - 1)) [
-      | inl q ↦ q.1
-      | inr q ↦ absurd (not (record { fits = fits; named = q.1 }))
-    ]
+-- a new object that isn't refused is no larger than an object may be
+within_new : (config : Config) (a : Action) (r : Reply) → IsNew a → IsWithin config a r
+    → (asked_words a ≤ object_limit config) ⊎ ((why : Refusal) × (r ≡ replies.Refused why))
+within_new config a (replies.Refused why) new h = inr (why, refl)
+within_new config (actions.New to counts) replies.Done new h = inl h
+within_new config (actions.New to counts) (replies.Named v) new h = inl h
+within_new config (actions.New to counts) (replies.Word v) new h = inl h
+within_new config (actions.New to counts) (replies.Shape p v) new h = inl h
+within_new config (actions.New to counts) (replies.Marked v) new h = inl h
+within_new config (actions.New to counts) (replies.Reclaimed v) new h = inl h
+within_new config (actions.New to counts) (replies.Refined v) new h = inl h
+within_new config (actions.New to counts) (replies.Moved p v) new h = inl h
+within_new config (actions.NewWeak to counts weaks) replies.Done new h = inl h
+within_new config (actions.NewWeak to counts weaks) (replies.Named v) new h = inl h
+within_new config (actions.NewWeak to counts weaks) (replies.Word v) new h = inl h
+within_new config (actions.NewWeak to counts weaks) (replies.Shape p v) new h = inl h
+within_new config (actions.NewWeak to counts weaks) (replies.Marked v) new h = inl h
+within_new config (actions.NewWeak to counts weaks) (replies.Reclaimed v) new h = inl h
+within_new config (actions.NewWeak to counts weaks) (replies.Refined v) new h = inl h
+within_new config (actions.NewWeak to counts weaks) (replies.Moved p v) new h = inl h
+within_new config (actions.Get a b d) r new h = absurd new
+within_new config (actions.Put a b d) r new h = absurd new
+within_new config (actions.Read a b) r new h = absurd new
+within_new config (actions.Write a b d) r new h = absurd new
+within_new config (actions.Move a b) r new h = absurd new
+within_new config (actions.Drop a) r new h = absurd new
+within_new config (actions.Load a b) r new h = absurd new
+within_new config (actions.Save a b) r new h = absurd new
+within_new config (actions.Shape a) r new h = absurd new
+within_new config (actions.GetWeak a b d) r new h = absurd new
+within_new config (actions.PutWeak a b d) r new h = absurd new
+within_new config (actions.Weaks a) r new h = absurd new
+within_new config (actions.Scope a) r new h = absurd new
+
+module _ (c d : CoreState) (op : Op) (new : IsNew op.action) (core' : IsCore d)
+    (not : IsCreatable c op.action → ⊥) (two : 2 ≤ free_count c.table) where
+  spent : asked_words op.action ≤ object_limit c.config → c.next ≡ 2 ^ 64 - 1
+  spent fits = elim (eqb_tells c.next (2 ^ 64 - 1)) [
+    | inl q ↦ q.1
+    | inr q ↦ absurd (not (record { fits = fits; named = q.1 }))
   ]
 
-  acted : HasActed op.mutator op.action c d → 2 ≤ free_count d.table
-  acted h = elim (after_next c op.mutator op.action new) [
-    | inl more ↦ (let e = ap (λ (x : CoreState). x.next) h.core in let n = core'.names in let s = spent in absurd (omega
+  acted : asked_words op.action ≤ object_limit c.config → HasActed op.mutator op.action c d → 2 ≤ free_count d.table
+  acted fits h = elim (after_next c op.mutator op.action new) [
+    | inl more ↦ (let e = ap (λ (x : CoreState). x.next) h.core in let n = core'.names in let s = spent fits in absurd (omega
         (arith, e, n, s, more)))
     | inr same ↦ (let e = ap (λ (x : CoreState). free_count x.table) h.core in let f = ap free_count same in omega (arith, e, f, two))
   ]
 
-  pub uncreated_two : (r : Reply) → ActsOn op.mutator op.action r c d → 2 ≤ free_count d.table
-  uncreated_two (replies.Refused why) h = let e = ap (λ (x : CoreState). free_count x.table) h in omega (arith, e, two)
-  uncreated_two replies.Done h = acted h
-  uncreated_two (replies.Named v) h = acted h
-  uncreated_two (replies.Word v) h = acted h
-  uncreated_two (replies.Shape p v) h = acted h
-  uncreated_two (replies.Marked v) h = acted h
-  uncreated_two (replies.Reclaimed v) h = acted h
-  uncreated_two (replies.Refined v) h = acted h
-  uncreated_two (replies.Moved p v) h = acted h
+  -- where the object is no larger than an object may be
+  made_two : asked_words op.action ≤ object_limit c.config → (r : Reply) → ActsOn op.mutator op.action r c d → 2 ≤ free_count d.table
+  made_two fits (replies.Refused why) h = let e = ap (λ (x : CoreState). free_count x.table) h in omega (arith, e, two)
+  made_two fits replies.Done h = acted fits h
+  made_two fits (replies.Named v) h = acted fits h
+  made_two fits (replies.Word v) h = acted fits h
+  made_two fits (replies.Shape p v) h = acted fits h
+  made_two fits (replies.Marked v) h = acted fits h
+  made_two fits (replies.Reclaimed v) h = acted fits h
+  made_two fits (replies.Refined v) h = acted fits h
+  made_two fits (replies.Moved p v) h = acted fits h
+
+  refused_two : (r : Reply) (why : Refusal) → r ≡ replies.Refused why → ActsOn op.mutator op.action r c d → 2 ≤ free_count d.table
+  refused_two r why is h =
+      let same : d ≡ c = subst (λ (x : Reply). ActsOn op.mutator op.action x c d) is h in
+      let e = ap (λ (x : CoreState). free_count x.table) same in
+      omega (arith, e, two)
+
+  pub uncreated_two : (r : Reply) → IsWithin c.config op.action r → ActsOn op.mutator op.action r c d → 2 ≤ free_count d.table
+  uncreated_two r within h = elim (within_new c.config op.action r new within) [
+    | inl fits ↦ made_two fits r h
+    | inr refused ↦ refused_two r refused.0 refused.1 h
+  ]

@@ -1,20 +1,22 @@
 -- Room for an object that is asked for.
 use Rattle.std.specs.Prelude.{◌≡◌, ◌≢◌, ◌+◌, ◌-◌, ◌*◌, ◌^◌, ◌<◌, ◌≤◌, ℕ, Bool, false, Option, None, Some, nat_le}
+use Rattle.heap_words.specs.Configs.{object_limit}
 use Rattle.heap_model.specs.Graph.{Graph}
 use Rattle.heap_model.specs.Heap.{Stored}
 use Rattle.regions.specs.Table.{Table, first_run, free_count, is_free, used_of}
 use Rattle.alloc_buffers.specs.Placement.{Placement, made_at, place_of, run_count}
+use Rattle.heap_steps.specs.Actors.{IsThird}
 use Rattle.heap_steps.specs.declared.step.Action.{Action}
 use Rattle.heap_steps.specs.declared.step.Op.{Op}
 use Rattle.object_graph.specs.State.{State}
 use Rattle.step_core.specs.Stands.{CoreState, Stands}
 use Rattle.step_core.specs.Mutators.{core_after}
-use Rattle.collection.specs.Space.{IsCollected, IsPackedAt}
+use Rattle.collection.specs.Space.{IsCollected, IsPackedAt, LieBelowFree}
 use Rattle.collection.specs.Steps.{LeavesTwo, asked_words}
 
--- the graph would create the object: it isn't larger than the heap, and a name is left
+-- the graph would create the object: it isn't larger than an object may be, and a name is left
 pub record IsCreatable (c : CoreState) (a : Action) : Type 0 where
-  pub fits : asked_words a ≤ c.config.regions * c.config.words
+  pub fits : asked_words a ≤ object_limit c.config
   pub named : c.next ≢ 2 ^ 64 - 1
 
 -- whether the region that buffers are cut from has so many words left
@@ -45,8 +47,11 @@ pub record IsLast (c : CoreState) (op : Op) (c' : CoreState) : Type 0 where
 
 -- Why an object is refused as Full, of the graph as it was when it was asked for. A whole collection was just done. And if the heap has
 -- regions enough to leave two beside the object: for one of at most half a region only two are free, and more than half of the words of the
--- ordinary ones are reachable; for a larger one there is no run of free regions, or fewer than two are free beside it
+-- ordinary ones are reachable; for a larger one there is no run of free regions, or fewer than two are free beside it, and in the third
+-- format each ordinary region lies below each free one, so that objects which roots reach are all that parts free regions
 pub record IsFilled (g : Graph) (c : CoreState) (a : Action) (c' : CoreState) : Type 0 where
   pub collected : IsCollected g c'
   pub small : LeavesTwo c.config a → 2 * asked_words a ≤ c.config.words → 2 ≤ free_count c.table → IsPackedAt g c'
   pub large : LeavesTwo c.config a → c.config.words < 2 * asked_words a → HasRun c' (asked_words a) → ⊥
+  pub side_by_side : IsThird c.config.format → LeavesTwo c.config a → c.config.words < 2 * asked_words a → 2 ≤ free_count c.table
+      → LieBelowFree c'.table

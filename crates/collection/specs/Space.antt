@@ -1,5 +1,6 @@
 -- What is left where a pause frees no region.
-use Rattle.std.specs.Prelude.{◌≡◌, ◌≢◌, ℕ, ◌+◌, ◌*◌, ◌/◌, ◌<◌, ◌≤◌, false, All, List, Some, None, length, slice_get}
+use Rattle.std.specs.Prelude.{◌≡◌, ◌≢◌, ℕ, zero, suc, ◌+◌, ◌*◌, ◌/◌, ◌<◌, ◌≤◌, Bool, true, false, if◌then◌else◌, All, List, Some, None}
+use Rattle.std.specs.Prelude.{length, slice_get}
 use Rattle.heap_model.specs.Graph.{Graph, IsReachable, object_named}
 use Rattle.regions.specs.Table.{Table, free_count, kind_of}
 use Rattle.regions.specs.declared.row.Kind.{Kind}
@@ -38,6 +39,25 @@ run_one kinds.Free = 0
 run_one kinds.Ordinary = 0
 run_one kinds.First = 1
 run_one kinds.Rest = 1
+
+-- whether a region is ordinary
+abbrev pub is_ordinary : Kind → Bool
+is_ordinary kinds.Free = false
+is_ordinary kinds.Ordinary = true
+is_ordinary kinds.First = false
+is_ordinary kinds.Rest = false
+
+-- the number above the highest of the first n regions that is ordinary, 0 where none is
+abbrev pub ordinary_end_of : Table → ℕ → ℕ
+ordinary_end_of t zero = 0
+ordinary_end_of t (suc n) = if is_ordinary (kind_of t n) then suc n else ordinary_end_of t n
+
+abbrev pub ordinary_end : Table → ℕ
+ordinary_end t = ordinary_end_of t (length t.regions)
+
+-- each ordinary region lies below each free one: so from the lowest free region on all others belong to humongous objects
+abbrev pub LieBelowFree : Table → Type 0
+LieBelowFree t = (j k : ℕ) → j < k → kind_of t j ≡ kinds.Free → kind_of t k ≢ kinds.Ordinary
 
 -- how many regions are ordinary, and how many belong to humongous objects
 abbrev pub ordinary_count : Table → ℕ

@@ -6,13 +6,15 @@
 //!             look: what is due (a pause of new regions, marking, a cleanup, a pause)     }
 //!             room beside two free regions? if not, the running cycle to its end          }  each by Core::step
 //!             still not? then a whole collection                                          }
+//!             a larger object, and no run for it? then compactions, in the third format   }
 //!             room now, or a heap too small to leave two? ---- yes ----> the mutator's own step
 //!               | no
 //!             refused as Full
 //! ```
 //!
-//! `steps` takes the steps, and shows each to who watches, `whole` is the whole collection, `cycle` what is due at a look, by the `numbers`
-//! of the policy, `room` whether there is room for an object, `making` all together. `laws` has what a pause that frees no region says.
+//! `steps` takes the steps, and shows each to who watches, `whole` is the whole collection, `compaction` what makes free regions lie
+//! side by side, `cycle` what is due at a look, by the `numbers` of the policy, `room` whether there is room for an object, `making` all
+//! together. `laws` has what a pause that frees no region says.
 //!
 //! Examples of calls go on from this one, in which `rt` is a test's `HostRuntime` and `alloc` its allocator:
 //!
@@ -30,6 +32,7 @@
 //! ```
 #![tactic(auto)]
 
+mod compaction;
 mod cycle;
 mod laws;
 mod making;

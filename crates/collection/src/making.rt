@@ -1,19 +1,21 @@
 //! An object that is asked for, with the steps of the collector that are due before it.
 
-ghost use Rattle.std.specs.Prelude.{◌≡◌, ◌⊎◌, ◌+◌, ◌*◌, ◌≤◌, true, false, ℕ};
+ghost use Rattle.std.specs.Prelude.{◌≡◌, ◌⊎◌, ◌+◌, ◌*◌, ◌<◌, ◌≤◌, true, false, ℕ};
 ghost use Rattle.regions.specs.Table.{free_count};
 ghost use Rattle.object_graph.specs.State.{State};
 ghost use Rattle.object_graph.specs.Run.{IsNew};
 ghost use Rattle.step_core.specs.Stands.{Stands};
-ghost use Rattle.heap_steps.specs.Actors.{IsOp};
+ghost use Rattle.heap_steps.specs.Actors.{IsOp, IsThird};
 ghost use Rattle.heap_steps.specs.declared.step.Reply.TheVariants as replies;
 ghost use Rattle.heap_steps.specs.declared.step.Refusal.TheVariants as refusals;
 ghost use Rattle.collection.specs.Steps.{Collects, LeavesTwo, Makes, asked_words};
-ghost use Rattle.collection.specs.Rooms.{IsCreatable, IsFilled, IsLast, IsSpared};
+ghost use Rattle.collection.specs.Space.{IsQuiet, LieBelowFree};
+ghost use Rattle.collection.specs.Rooms.{HasRun, IsCreatable, IsFilled, IsLast, IsSpared};
 
+use crate::compaction::compact_for;
 use crate::cycle::{collect_due, finish_cycle};
 use crate::numbers::Policy;
-use crate::room::{has_spare, is_creatable, is_last_resort, is_spared, words_of};
+use crate::room::{has_spare, is_creatable, is_last_resort, is_spared, may_compact, words_of};
 use crate::steps::{Watch, take_own};
 use crate::whole::collect;
 use heap_steps::{Op, Refusal, Reply};
@@ -29,8 +31,37 @@ fn look<W: Watch>(core: &mut Core, policy: &mut Policy, size: u32, due: bool, wa
     }
 }
 
-/// A whole collection. Answers whether the object may be made after it: there is room beside two free regions, or the heap has too few
-/// regions to leave two.
+/// Compactions after a whole collection, which left no run for the object. Answers whether it may be made after them.
+fn compact_all<W: Watch>(
+    core: &mut Core,
+    policy: &mut Policy,
+    op: &Op,
+    size: u32,
+    watch: &mut W,
+) -> bool
+    requires third { IsThird core.old.config.format }
+    requires op { IsOp core.old.config op.now }
+    requires new { IsNew op.now.action }
+    requires size { size ≡ asked_words op.now.action }
+    requires large { core.old.config.words < 2 * size }
+    requires within { size ≤ core.old.config.regions * core.old.config.words }
+    ensures collects { Collects W.sees (core.old.config.regions + 1) core.old watch.old core.new watch.new }
+    ensures quiet { (s : State) → IsQuiet s core.old → IsQuiet s core.new }
+    ensures room { result ≡ true → IsSpared core.new op.now ⊎ (LeavesTwo core.old.config op.now.action → ⊥) }
+    ensures leaves { result ≡ false → LeavesTwo core.old.config op.now.action }
+    ensures none { result ≡ false → HasRun core.new size → ⊥ }
+    ensures below { result ≡ false → (s : State) → IsQuiet s core.old → 2 ≤ free_count core.old.table → LieBelowFree core.new.table }
+{
+    if compact_for(core, policy, op, size, watch) {
+        return true;
+    }
+    core.remembers();
+    core.shaped();
+    is_last_resort(&core.config(), &op.action, size)
+}
+
+/// A whole collection, and compactions where an object of more than half a region has no run after it. Answers whether the object may be
+/// made then: there is room beside two free regions, or the heap has too few regions to leave two.
 fn collect_all<W: Watch>(
     core: &mut Core,
     policy: &mut Policy,
@@ -42,7 +73,7 @@ fn collect_all<W: Watch>(
     requires new { IsNew op.now.action }
     requires size { size ≡ asked_words op.now.action }
     requires within { size ≤ core.old.config.regions * core.old.config.words }
-    ensures collects { Collects W.sees (4 + core.old.config.regions) core.old watch.old core.new watch.new }
+    ensures collects { Collects W.sees (5 + 2 * core.old.config.regions) core.old watch.old core.new watch.new }
     ensures room { result ≡ true → IsSpared core.new op.now ⊎ IsLast core.old op.now core.new }
     ensures leaves { result ≡ false → LeavesTwo core.old.config op.now.action }
     ensures filled { result ≡ false → (s : State) → Stands s core.old → IsFilled s.graph core.old op.now.action core.new }
@@ -53,6 +84,9 @@ fn collect_all<W: Watch>(
     core.shaped();
     if is_spared(core, op, size) {
         return true;
+    }
+    if may_compact(&core.config(), size) {
+        return compact_all(core, policy, op, size, watch);
     }
     is_last_resort(&core.config(), &op.action, size)
 }
@@ -71,7 +105,7 @@ fn make_room<W: Watch>(
     requires new { IsNew op.now.action }
     requires size { size ≡ asked_words op.now.action }
     requires within { size ≤ core.old.config.regions * core.old.config.words }
-    ensures collects { Collects W.sees (3 * core.old.config.regions + 11) core.old watch.old core.new watch.new }
+    ensures collects { Collects W.sees (4 * core.old.config.regions + 12) core.old watch.old core.new watch.new }
     ensures room { result ≡ true → IsSpared core.new op.now ⊎ IsLast core.old op.now core.new }
     ensures leaves { result ≡ false → LeavesTwo core.old.config op.now.action }
     ensures filled { result ≡ false → (s : State) → Stands s core.old → IsFilled s.graph core.old op.now.action core.new }
@@ -100,7 +134,7 @@ fn make_creatable<W: Watch>(
     requires new { IsNew op.action }
     requires size { size ≡ asked_words op.action }
     requires creatable { IsCreatable core.old op.action }
-    ensures makes { Makes W.sees (3 * core.old.config.regions + 11) op result core.old watch.old core.new watch.new }
+    ensures makes { Makes W.sees (4 * core.old.config.regions + 12) op result core.old watch.old core.new watch.new }
     ensures full { result ≡ replies.Refused refusals.Full → (s : State) → Stands s core.old
         → IsFilled s.graph core.old op.action core.new }
     ensures two { LeavesTwo core.old.config op.action → 2 ≤ free_count core.old.table → 2 ≤ free_count core.new.table }
@@ -125,7 +159,7 @@ fn make_looking<W: Watch>(
     requires op { IsOp core.old.config op }
     requires new { IsNew op.action }
     requires size { size ≡ asked_words op.action }
-    ensures makes { Makes W.sees (3 * core.old.config.regions + 11) op result core.old watch.old core.new watch.new }
+    ensures makes { Makes W.sees (4 * core.old.config.regions + 12) op result core.old watch.old core.new watch.new }
     ensures full { result ≡ replies.Refused refusals.Full → (s : State) → Stands s core.old
         → IsFilled s.graph core.old op.action core.new }
     ensures two { LeavesTwo core.old.config op.action → 2 ≤ free_count core.old.table → 2 ≤ free_count core.new.table }
@@ -142,8 +176,9 @@ fn make_looking<W: Watch>(
 /// Makes an object, with the steps of the collector that are due before it. Like any step that makes one it may be refused; as Full only
 /// after a whole collection. If the heap has regions enough to leave two beside the object, then one of at most half a region is refused as
 /// Full only where two regions are free and more than half of the words of the ordinary regions are reachable, if these are two or more;
-/// and a larger one where there is no run of free regions for it, or fewer than two are free beside it. Two regions that were free stay
-/// free then.
+/// and a larger one where there is no run of free regions for it, or fewer than two are free beside it. In the third format compactions
+/// come before that, so that from the lowest free region on only objects which roots reach part the free ones. Two regions that were free
+/// stay free then.
 ///
 /// ```rust
 /// let op = Op { mutator: 0, action: Action::New { to: r0, counts } };
@@ -153,7 +188,7 @@ fn make_looking<W: Watch>(
 pub fn make<W: Watch>(core: &mut Core, policy: &mut Policy, op: Op, watch: &mut W) -> Reply
     requires op { IsOp core.old.config op }
     requires new { IsNew op.action }
-    ensures makes { Makes W.sees (3 * core.old.config.regions + 11) op result core.old watch.old core.new watch.new }
+    ensures makes { Makes W.sees (4 * core.old.config.regions + 12) op result core.old watch.old core.new watch.new }
     ensures full { result ≡ replies.Refused refusals.Full → (s : State) → Stands s core.old
         → IsFilled s.graph core.old op.action core.new }
     ensures two { LeavesTwo core.old.config op.action → 2 ≤ free_count core.old.table → 2 ≤ free_count core.new.table }

@@ -5,7 +5,7 @@
 
 ghost use Rattle.std.specs.Prelude.{◌≡◌, ◌<◌, true};
 
-use heap_steps::Reply;
+use heap_steps::{CollectorStep, Reply};
 use heap_words::config::Config;
 
 /// A policy's numbers and counts. A client may set the first four at any time; the others are the policy's
@@ -48,6 +48,9 @@ pub struct Policy {
     /// Pauses, those of whole collections too, and the words that they copied.
     pub pauses: u64,
     pub copied: u64,
+    /// Compactions, and the words that they copied.
+    pub compactions: u64,
+    pub compacted: u64,
 }
 
 /// How many regions a pause evacuated, and how many words it copied.
@@ -91,16 +94,22 @@ impl Policy {
             scanned: 0,
             pauses: 0,
             copied: 0,
+            compactions: 0,
+            compacted: 0,
         }
     }
 
     /// Counts what a step of the collector did.
-    pub(crate) fn count(&mut self, reply: Reply) {
+    pub(crate) fn count(&mut self, step: CollectorStep, reply: Reply) {
         match reply {
             Reply::Marked(objects) => {
                 self.marked = u64::from(objects);
                 self.cycles = self.cycles.wrapping_add(1);
                 self.scanned = self.scanned.wrapping_add(u64::from(objects));
+            }
+            Reply::Moved { words, .. } if matches!(step, CollectorStep::Compact(_)) => {
+                self.compactions = self.compactions.wrapping_add(1);
+                self.compacted = self.compacted.wrapping_add(u64::from(words));
             }
             Reply::Moved { words, .. } => {
                 self.pauses = self.pauses.wrapping_add(1);
@@ -219,15 +228,16 @@ impl Policy {
         true
     }
 
-    /// Takes note of a pause of new regions. Where all are done, or these pauses brought too little, the next ones are due later; and not
-    /// before the next cycle, where more than half of what was taken was copied.
+    /// Takes note of a pause of new regions. Where its budget cut it short, and these pauses brought enough, the next look goes on with the
+    /// other new regions. Else the next ones are due later; and not before the next cycle, where more than half of what was taken was
+    /// copied.
     pub(crate) fn note_young(&mut self, config: &Config, before: u32, after: u32, reply: Reply) {
         let (regions, words) = moved(reply);
         self.gained = self.gained.saturating_add(after.saturating_sub(before));
         self.paid = self.paid.saturating_add(words);
         let worth = u64::from(self.gained) * u64::from(config.words);
-        let bearable = self.paid <= worth.saturating_add(u64::from(self.pause_words));
-        if regions != 0 && regions < self.young && bearable {
+        let is_cut_short = u64::from(self.pause_words) <= words.saturating_mul(2);
+        if regions != 0 && regions < self.young && self.paid <= worth && is_cut_short {
             self.young -= regions;
             return;
         }

@@ -1,7 +1,7 @@
 //! Whether there is room for an object that is asked for, beside two free regions.
 
 ghost use Rattle.std.specs.Prelude.{◌≡◌, ◌↔◌, ◌+◌, ◌*◌, ◌<◌, ◌≤◌, ◌^◌, IsTrue, true, false, ℕ};
-ghost use Rattle.heap_steps.specs.Actors.{IsOp};
+ghost use Rattle.heap_steps.specs.Actors.{IsOp, IsThird};
 ghost use Rattle.regions.specs.Table.{free_count};
 ghost use Rattle.object_graph.specs.Run.{IsNew};
 ghost use Rattle.alloc_buffers.specs.Placement.{run_count};
@@ -10,7 +10,7 @@ ghost use Rattle.collection.specs.Rooms.{FitsOpen, HasRun, IsCreatable, IsSpared
 
 use heap_steps::{Action, Op};
 use heap_words::addr::RegionNo;
-use heap_words::config::Config;
+use heap_words::config::{Config, Format};
 use step_core::Core;
 
 /// How many words the object has that is asked for.
@@ -25,13 +25,12 @@ pub(crate) fn words_of(action: &Action) -> u64
     }
 }
 
-/// Whether the graph would create the object: it isn't larger than the heap, and a name is left.
+/// Whether the graph would create the object: it isn't larger than an object may be, and a name is left.
 pub(crate) fn is_creatable(core: &Core, action: &Action, size: u64) -> bool
     requires { size ≡ asked_words action.now }
     ensures { IsTrue result ↔ IsCreatable core.now action.now }
 {
-    let config = core.config();
-    if u64::from(config.regions) * u64::from(config.words) < size {
+    if core.config().object_limit() < size {
         return false;
     }
     core.next_name() != u64::MAX
@@ -142,4 +141,14 @@ pub(crate) fn is_last_resort(config: &Config, action: &Action, size: u32) -> boo
         count_regions(config, size)
     };
     u64::from(taken) + 2 >= u64::from(config.regions)
+}
+
+/// Whether compactions may make a run for an object: it is one of more than half a region, and the heap's format has them.
+pub(crate) fn may_compact(config: &Config, size: u32) -> bool
+    ensures { IsTrue result ↔ ((config.now.words < 2 * size) × IsThird config.now.format) }
+{
+    match config.format {
+        Format::V3 { .. } => u64::from(config.words) < 2 * u64::from(size),
+        _ => false,
+    }
 }

@@ -4,11 +4,11 @@ ghost use Rattle.std.specs.Prelude.{◌≡◌, ◌≤◌, ℕ, ⊤};
 ghost use Rattle.regions.specs.Table.{free_count};
 ghost use Rattle.regions.specs.Shaped.{IsShaped};
 ghost use Rattle.object_graph.specs.State.{State};
-ghost use Rattle.heap_steps.specs.Actors.{IsOp};
+ghost use Rattle.heap_steps.specs.Actors.{HasCollection, IsOp};
 ghost use Rattle.heap_steps.specs.declared.step.Event.{Event};
 ghost use Rattle.heap_steps.specs.declared.step.Step.TheVariants as steps;
 ghost use Rattle.step_core.specs.Stands.{Stands, IsCore};
-ghost use Rattle.step_core.specs.Answers.{Follows};
+ghost use Rattle.step_core.specs.Answers.{Follows, IsWithin};
 ghost use Rattle.step_core.specs.Cycle.{Collects as CollectsStep};
 ghost use Rattle.step_core.specs.Mutators.{ActsOn};
 ghost use Rattle.collection.specs.Steps.{Collects, TakesOwn};
@@ -44,6 +44,7 @@ pub(crate) fn take<W: Watch>(
     step: CollectorStep,
     watch: &mut W,
 ) -> Reply
+    requires known { HasCollection core.old.config.format step }
     ensures collects { Collects W.sees 1 core.old watch.old core.new watch.new }
     ensures does { CollectsStep step result core.old core.new }
     ensures follows { (s : State) → Stands s core.old → Follows s (steps.Collector step) result core.new }
@@ -66,7 +67,7 @@ pub(crate) fn take<W: Watch>(
         reply,
     };
     watch.took(&event);
-    policy.count(reply);
+    policy.count(step, reply);
     reply
 }
 
@@ -76,6 +77,7 @@ pub(crate) fn take_own<W: Watch>(core: &mut Core, op: Op, watch: &mut W) -> Repl
     requires { IsOp core.old.config op }
     ensures own { TakesOwn W.sees op result core.old watch.old core.new watch.new }
     ensures does { ActsOn op.mutator op.action result core.old core.new }
+    ensures within { IsWithin core.old.config op.action result }
     ensures config { core.new.config ≡ core.old.config }
     ensures core { IsCore core.new }
 {

@@ -103,14 +103,16 @@ pub record IsSameBut (x y : Stored) : Type 0 where
   pub pointers : length y.pointers ≡ length x.pointers
   pub weaks : length y.weaks ≡ length x.weaks
 
--- Chosen regions are free, and free ones free or ordinary; what was free and is ordinary isn't empty, and holds live objects alone. A
--- region in use that isn't chosen is of its kind still, as many of its words are handed out, and its objects stand where they stood, the
--- same but for fields
+-- Chosen regions are free, and free ones free or ordinary; what was free and is ordinary lies below what was free and still is, isn't
+-- empty, and holds live objects alone. A region in use that isn't chosen is of its kind still, as many of its words are handed out, and
+-- its objects are where they were, the same but for fields
 pub record RegionsAfter (rows : List LiveRow) (t t' : Table) : Type 0 where
   pub size : t'.words_per_region ≡ t.words_per_region
   pub count : length t'.regions ≡ length t.regions
   pub chosen : (k : ℕ) → is_chosen rows k ≡ true → kind_of t' k ≡ kinds.Free
   pub was_free : (k : ℕ) → kind_of t k ≡ kinds.Free → (kind_of t' k ≡ kinds.Free) ⊎ (kind_of t' k ≡ kinds.Ordinary)
+  pub lowest : (j k : ℕ) → kind_of t j ≡ kinds.Free → kind_of t' j ≡ kinds.Free → kind_of t k ≡ kinds.Free
+      → kind_of t' k ≡ kinds.Ordinary → k < j
   pub filled : (k : ℕ) → kind_of t k ≡ kinds.Free → kind_of t' k ≡ kinds.Ordinary → 0 < used_of t' k
   pub live : (a : ℕ) (tile : Tile) → kind_of t (a / t.words_per_region) ≡ kinds.Free
       → tile_in t' a ≡ Some tile → (x : Stored) × (tile ≡ Object x)

@@ -75,12 +75,14 @@ pub record IsPause (p : Pause) : Type 0 where
 
 -- What became of the table so far. Chosen regions are ordinary, with objects that stood there and such as moved out of the set;
 -- a region in use that isn't chosen has its objects, the same but for the fields of kept ones; and a region that was free and isn't has
--- copies alone, one at least
+-- copies alone, one at least, and lies below those that are free still
 pub record TableStays (p : Pause) (t : Table) : Type 0 where
   pub size : t.words_per_region ≡ p.start.words_per_region
   pub count : length t.regions ≡ length p.start.regions
   pub chosen : (k : ℕ) → flag p.chosen k ≡ true → kind_of t k ≡ kinds.Ordinary
   pub was_free : (k : ℕ) → kind_of p.start k ≡ kinds.Free → (kind_of t k ≡ kinds.Free) ⊎ (kind_of t k ≡ kinds.Ordinary)
+  pub lowest : (j k : ℕ) → kind_of p.start j ≡ kinds.Free → kind_of t j ≡ kinds.Free → kind_of p.start k ≡ kinds.Free
+      → kind_of t k ≡ kinds.Ordinary → k < j
   pub kinds_same : (k : ℕ) → flag p.chosen k ≡ false → kind_of p.start k ≢ kinds.Free → kind_of t k ≡ kind_of p.start k
   pub used : (k : ℕ) → flag p.chosen k ≡ false → kind_of p.start k ≢ kinds.Free → used_of t k ≡ used_of p.start k
   pub objects : (a : ℕ) (x : Stored) → in_set p a ≡ false → object_at p.start a ≡ Some x

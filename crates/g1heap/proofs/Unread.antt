@@ -42,12 +42,12 @@ unread_view false glance given left old new err err' status unread kept tells =
 unread_view true glance given left old new err err' status unread kept tells =
     record { outcome = Err (faults.Read reads.CannotRead); views = (unread, kept); tells = tells }
 
-unread_draw : (recorded : Bool) (every : ℕ) (given left : Reader) (old new err err' : Writer) (status : ℕ)
+unread_draw : (name : List ℕ) (recorded : Bool) (every : ℕ) (given left : Reader) (old new err err' : Writer) (status : ℕ)
     → FailsToGive reads.CannotRead given left → Stays old new
-    → Tells err err' (Err (faults.Read reads.CannotRead)) status → DoesDraw recorded every given left old new err err' status
-unread_draw false every given left old new err err' status unread kept tells =
+    → Tells err err' (Err (faults.Read reads.CannotRead)) status → DoesDraw name recorded every given left old new err err' status
+unread_draw name false every given left old new err err' status unread kept tells =
     record { outcome = Err (faults.Read reads.CannotRead); draws = (unread, kept); tells = tells }
-unread_draw true every given left old new err err' status unread kept tells =
+unread_draw name true every given left old new err err' status unread kept tells =
     record { outcome = Err (faults.Read reads.CannotRead); draws = (unread, kept); tells = tells }
 
 -- the file of another task
@@ -60,7 +60,7 @@ unread_task name (Check followed) given left old new err err' status other unrea
 unread_task name (View recorded at region summary) given left old new err err' status other unread kept tells =
     unread_view recorded (glance_of at region summary) given left old new err err' status unread kept tells
 unread_task name (Draw every recorded) given left old new err err' status other unread kept tells =
-    unread_draw recorded every given left old new err err' status unread kept tells
+    unread_draw name recorded every given left old new err err' status unread kept tells
 
 -- the same where it is to be explained
 pub as_job : (name : List ℕ) (task : Task) (given left : Reader) (old new err err' : Writer) (status : ℕ)

@@ -37,23 +37,24 @@ abbrev pub DoesView : Bool → Glance → Reader → Reader → Writer → Write
 DoesView false glance given left old new err err' status = PerformsView glance given left old new err err' status
 DoesView true glance given left old new err err' status = PerformsReview glance given left old new err err' status
 
--- the life of a heap was drawn, of a record or of a script
-abbrev pub DoesDraw : Bool → ℕ → Reader → Reader → Writer → Writer → Writer → Writer → ℕ → Type 0
-DoesDraw false every given left old new err err' status = PerformsDraw every given left old new err err' status
-DoesDraw true every given left old new err err' status = PerformsRedraw every given left old new err err' status
+-- the life of a heap was drawn, of a record or of a script in a file of this name
+abbrev pub DoesDraw : List ℕ → Bool → ℕ → Reader → Reader → Writer → Writer → Writer → Writer → ℕ → Type 0
+DoesDraw name false every given left old new err err' status = PerformsDraw name every given left old new err err' status
+DoesDraw name true every given left old new err err' status = PerformsRedraw name every given left old new err err' status
 
 -- what of a heap a task views
 abbrev pub glance_of : Option ℕ → Option ℕ → Bool → Glance
 glance_of at region summary = record { at = at; region = region; summary = summary }
 
--- How a task that does a heap's steps ended, whatever is told of it: what was read, what was written, and its outcome.
-abbrev pub EndsAs : Task → Reader → Reader → Writer → Writer → Result ⊤ JobFault → Type 0
-EndsAs (Script order) given left old new outcome = EndsIn order given left old new outcome
-EndsAs (View false at region summary) given left old new outcome = Views (glance_of at region summary) given left old new outcome
-EndsAs (View true at region summary) given left old new outcome = Reviews (glance_of at region summary) given left old new outcome
-EndsAs (Draw every false) given left old new outcome = Draws every given left old new outcome
-EndsAs (Draw every true) given left old new outcome = Redraws every given left old new outcome
-EndsAs (Check followed) given left old new outcome = ⊥
+-- How a task that does a heap's steps, of a file of this name, ended, whatever is told of it: what was read, what was written, and its
+-- outcome.
+abbrev pub EndsAs : List ℕ → Task → Reader → Reader → Writer → Writer → Result ⊤ JobFault → Type 0
+EndsAs name (Script order) given left old new outcome = EndsIn order given left old new outcome
+EndsAs name (View false at region summary) given left old new outcome = Views (glance_of at region summary) given left old new outcome
+EndsAs name (View true at region summary) given left old new outcome = Reviews (glance_of at region summary) given left old new outcome
+EndsAs name (Draw every false) given left old new outcome = Draws name every given left old new outcome
+EndsAs name (Draw every true) given left old new outcome = Redraws name every given left old new outcome
+EndsAs name (Check followed) given left old new outcome = ⊥
 
 -- what a task reads a text as
 abbrev pub kind_of : Task → TextKind
@@ -79,16 +80,17 @@ counts_of _ = no_counts
 abbrev pub reader_of : List ℕ → Reader
 reader_of text = record { left = Some text; refused = false }
 
--- The task did with a text what it does with a reader of it, and its end was told and explained.
-pub record TellsOver (task : Task) (text : List ℕ) (old new err err' : Writer) (status : ℕ) : Type 0 where
+-- The task did with the text of a file of this name what it does with a reader of it, and its end was told and explained.
+pub record TellsOver (name : List ℕ) (task : Task) (text : List ℕ) (old new err err' : Writer) (status : ℕ) : Type 0 where
   pub rest : Reader
   pub outcome : Result ⊤ JobFault
-  pub ends : EndsAs task (reader_of text) rest old new outcome
+  pub ends : EndsAs name task (reader_of text) rest old new outcome
   pub tells : TellsExplained (kind_of task) text (counts_of task) err err' outcome status
 
 -- the reader gave a text, to its end, and the task was done over it
-abbrev pub DoesOver : Task → Reader → Reader → Writer → Writer → Writer → Writer → ℕ → Type 0
-DoesOver task given left old new err err' status = (text : List ℕ) × GivesAll given left text × TellsOver task text old new err err' status
+abbrev pub DoesOver : List ℕ → Task → Reader → Reader → Writer → Writer → Writer → Writer → ℕ → Type 0
+DoesOver name task given left old new err err' status =
+    (text : List ℕ) × GivesAll given left text × TellsOver name task text old new err err' status
 
 -- A file of this name could not be read, and that was told and explained; nothing was written.
 pub record IsUnread (name : List ℕ) (given left : Reader) (old new err err' : Writer) (status : ℕ) : Type 0 where
@@ -101,7 +103,7 @@ pub record IsUnread (name : List ℕ) (given left : Reader) (old new err err' : 
 -- a task was done whose faults are to be explained
 abbrev pub DoesExplained : List ℕ → Task → Reader → Reader → Writer → Writer → Writer → Writer → ℕ → Type 0
 DoesExplained name task given left old new err err' status =
-    DoesOver task given left old new err err' status ⊎ IsUnread name given left old new err err' status
+    DoesOver name task given left old new err err' status ⊎ IsUnread name given left old new err err' status
 
 -- A script was run, a record judged, a heap viewed, or its life drawn, and its end was told, and explained where that was asked for: what
 -- was read of the file of this name, what was written, what standard error took, and the status.
@@ -111,7 +113,8 @@ DoesJob (name, Check followed, explained) given left old new err err' status =
 DoesJob (name, Script order, false) given left old new err err' status = Performs order given left old new err err' status
 DoesJob (name, View recorded at region summary, false) given left old new err err' status =
     DoesView recorded (glance_of at region summary) given left old new err err' status
-DoesJob (name, Draw every recorded, false) given left old new err err' status = DoesDraw recorded every given left old new err err' status
+DoesJob (name, Draw every recorded, false) given left old new err err' status =
+    DoesDraw name recorded every given left old new err err' status
 DoesJob (name, task, true) given left old new err err' status = DoesExplained name task given left old new err err' status
 
 -- what was asked for was done, on the program's own input where the path is `-`, else on some input

@@ -15,16 +15,17 @@ use std::io::{Read, Write};
 use std::sync::Wait;
 use std::thread::Threads;
 
-/// Does a task that does a heap's steps.
+/// Does a task that does a heap's steps, of a file of this name.
 fn do_task<H: Threads + Wait + Sync, R: Read, W: Write>(
     rt: &H,
     alloc: Global,
+    name: &str,
     task: Task,
     reader: &mut WatchedReader<R>,
     out: &mut WatchedWriter<W>,
 ) -> Result<(), JobFault>
     requires { (followed : Bool) → task ≢ Check followed }
-    ensures { EndsAs task reader.old reader.new out.old out.new result }
+    ensures { EndsAs name.now task reader.old reader.new out.old out.new result }
 {
     match task {
         Task::Script(order) => do_script(rt, alloc, order, reader, out),
@@ -47,9 +48,9 @@ fn do_task<H: Threads + Wait + Sync, R: Read, W: Write>(
         }
         Task::Draw { every, recorded } => {
             if recorded {
-                draw_record(alloc, every, reader, out)
+                draw_record(alloc, name, every, reader, out)
             } else {
-                draw_script(alloc, every, reader, out)
+                draw_script(alloc, name, every, reader, out)
             }
         }
         Task::Check { .. } => unreachable!(),
@@ -127,19 +128,20 @@ fn counts_of(task: Task) -> Counts
     }
 }
 
-/// Does a task over a text, and tells and explains its end.
+/// Does a task over the text of a file of this name, and tells and explains its end.
 fn do_over<H: Threads + Wait + Sync, W: Write, E: Write>(
     rt: &H,
     alloc: Global,
+    name: &str,
     task: Task,
     text: &[u8],
     out: &mut WatchedWriter<W>,
     err: &mut WatchedWriter<E>,
 ) -> u8
     requires { (followed : Bool) → task ≢ Check followed }
-    ensures { TellsOver task text.now out.old out.new err.old err.new result }
+    ensures { TellsOver name.now task text.now out.old out.new err.old err.new result }
 {
-    let outcome = do_task(rt, alloc, task, &mut WatchedReader::new(text), out);
+    let outcome = do_task(rt, alloc, name, task, &mut WatchedReader::new(text), out);
     conclude_explained(outcome, kind_of(task), text, counts_of(task), err)
 }
 
@@ -158,7 +160,7 @@ pub(crate) fn do_explained<H: Threads + Wait + Sync, R: Read, W: Write, E: Write
     ensures { DoesExplained name.now task reader.old reader.new out.old out.new err.old err.new result }
 {
     match read_text(alloc, reader) {
-        Ok(text) => do_over(rt, alloc, task, text.as_slice(), out, err),
+        Ok(text) => do_over(rt, alloc, name, task, text.as_slice(), out, err),
         Err(fault) => conclude_unread(fault, name, reader.reason(), err),
     }
 }

@@ -85,22 +85,23 @@ fn do_view<R: Read, W: Write, E: Write>(
     }
 }
 
-/// Draws the life of a script's heap, or of a record's, and answers the program's status.
+/// Draws the life of a script's heap, or of a record's, in a file of this name, and answers the program's status.
 fn do_draw<R: Read, W: Write, E: Write>(
     alloc: Global,
+    name: &str,
     recorded: bool,
     every: u32,
     reader: &mut WatchedReader<R>,
     out: &mut WatchedWriter<W>,
     err: &mut WatchedWriter<E>,
 ) -> u8
-    ensures { DoesDraw recorded every reader.old reader.new out.old out.new err.old err.new result }
+    ensures { DoesDraw name.now recorded every reader.old reader.new out.old out.new err.old err.new result }
 {
     if recorded {
-        let drawn = draw_record(alloc, every, reader, out);
+        let drawn = draw_record(alloc, name, every, reader, out);
         conclude(drawn, err)
     } else {
-        let drawn = draw_script(alloc, every, reader, out);
+        let drawn = draw_script(alloc, name, every, reader, out);
         conclude(drawn, err)
     }
 }
@@ -136,7 +137,9 @@ fn do_plain<H: Threads + Wait + Sync, R: Read, W: Write, E: Write>(
             };
             do_view(alloc, recorded, &glance, reader, out, err)
         }
-        Task::Draw { every, recorded } => do_draw(alloc, recorded, every, reader, out, err),
+        Task::Draw { every, recorded } => {
+            do_draw(alloc, name, recorded, every, reader, out, err)
+        }
     }
 }
 

@@ -1,2 +1,5 @@
+pub mod Calls
 pub mod Handles
 pub mod Values
+pub mod Filling
+pub mod FreeRuns

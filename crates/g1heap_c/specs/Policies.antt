@@ -40,7 +40,7 @@ pub record Asks (c : CoreState) (op : Op) (answer : Answer) (after : Option Core
   pub core : CoreState
   pub tells : answer ≡ numbers reply
   pub held : after ≡ Some core
-  pub makes : MakesIn (3 * c.config.regions + 11) op reply c core
+  pub makes : MakesIn (4 * c.config.regions + 12) op reply c core
   pub full : reply ≡ replies.Refused refusals.Full → (s : State) → Stands s c → IsFilled s.graph c op.action core
   pub two : LeavesTwo c.config op.action → 2 ≤ free_count c.table → 2 ≤ free_count core.table
 

@@ -13,6 +13,7 @@ use Rattle.heap_steps.specs.declared.step.Refusal.TheVariants as refusals
 use Rattle.step_core.specs.Stands.{CoreState, Stands, ShowsGraph, name_in}
 use Rattle.step_core.specs.Answers.{Follows, IsFullStep}
 use Rattle.step_core.specs.Reclaimed.{IsReclaimed}
+use Rattle.g1heap_c.specs.FreeRuns.{IsLongestRun}
 use Rattle.step_core.specs.Cycle.{Does, MayReclaim}
 use Rattle.step_core.specs.Mutators.{register_of}
 use Rattle.step_core.specs.Fresh.{fresh_core}
@@ -67,6 +68,12 @@ Tells P (Some c) answer after = P c answer × (after ≡ Some c)
 -- a number of the core
 abbrev pub IsNumber : (CoreState → ℕ) → CoreState → Answer → Type 0
 IsNumber f c answer = answer ≡ told 10 (f c) 0
+
+-- so many regions are free side by side, and nowhere more
+pub record IsRun (c : CoreState) (answer : Answer) : Type 0 where
+  pub count : ℕ
+  pub is : answer ≡ told 10 count 0
+  pub longest : IsLongestRun c.table count
 
 -- 1 where something holds of the core, and else 0
 abbrev pub IsSign : (CoreState → Type 0) → CoreState → Answer → Type 0

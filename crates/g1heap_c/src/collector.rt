@@ -56,3 +56,11 @@ pub extern "C" fn g1_pause(alloc: Global, heap: &mut Heap, words: u32) -> Answer
 {
     take(alloc, heap, Step::Collector(CollectorStep::Pause(words)))
 }
+
+/// Live objects of the highest regions are copied down, at most so many words, and these regions are free again.
+#[unsafe(no_mangle)]
+pub extern "C" fn g1_compact(alloc: Global, heap: &mut Heap, words: u32) -> Answer
+    ensures { Takes plain heap.old.handle.core (steps.Collector (collector.Compact words)) result heap.new.handle.core }
+{
+    take(alloc, heap, Step::Collector(CollectorStep::Compact(words)))
+}

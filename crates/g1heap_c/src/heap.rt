@@ -10,8 +10,7 @@ ghost use Rattle.g1heap_c.specs.Steps.{Steps, Takes, TakesNone, plain, scanned};
 use crate::answer::{Answer, answer_of, counted, no_heap, no_step};
 use crate::handle::Handle;
 use crate::loose::Loose;
-use heap_steps::{Action, CollectorStep, Op, Step};
-use heap_words::config::Format;
+use heap_steps::{Action, CollectorStep, Op, Step, is_third};
 use std::alloc::Global;
 use std::mem::replace;
 use step_core::Core;
@@ -51,7 +50,7 @@ fn has_op(core: &Core, op: Op) -> bool
     ensures { IsTrue result ↔ IsStep core.now.config (steps.Mutator op) }
 {
     let known = match op.action {
-        Action::Scope { .. } => matches!(core.config().format, Format::V3 { .. }),
+        Action::Scope { .. } => is_third(core.config().format),
         _ => true,
     };
     known && op.is_at(&core.roots().places())
@@ -64,7 +63,7 @@ pub(crate) fn has(core: &Core, step: Step) -> bool
 {
     match step {
         Step::Mutator(op) => has_op(core, op),
-        Step::Collector(_) => true,
+        Step::Collector(collection) => collection.is_in(core.config().format),
     }
 }
 

@@ -12,14 +12,17 @@
 
 mod answer;
 pub mod collector;
+pub mod filled;
 mod handle;
 mod heap;
+pub mod laws;
 mod loose;
 pub mod making;
 pub mod mutator;
 mod noted;
 pub mod policy;
 pub mod readers;
+pub mod words;
 
 pub use answer::Answer;
 pub use handle::Handle;

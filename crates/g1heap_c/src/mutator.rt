@@ -12,7 +12,7 @@ use heap_steps::{Action, Counts, GlobalRoot, Op, Register, Step};
 use std::alloc::Global;
 
 #[inline(always)]
-fn register(number: u32) -> Register
+pub(crate) fn register(number: u32) -> Register
     ensures { result ≡ spec.register number }
 {
     Register { number }
@@ -26,7 +26,7 @@ fn global(number: u32) -> GlobalRoot
 }
 
 #[inline(always)]
-fn counts(pointers: u32, values: u32) -> Counts
+pub(crate) fn counts(pointers: u32, values: u32) -> Counts
     ensures { result ≡ spec.counts pointers values }
 {
     Counts { pointers, values }
@@ -34,7 +34,7 @@ fn counts(pointers: u32, values: u32) -> Counts
 
 /// What is stored: nil, or what a register holds.
 #[inline(always)]
-fn value(number: u32) -> Option<Register>
+pub(crate) fn value(number: u32) -> Option<Register>
     ensures { result ≡ spec.value number }
 {
     if number == u32::MAX {
@@ -45,7 +45,7 @@ fn value(number: u32) -> Option<Register>
 }
 
 #[inline(always)]
-fn by(mutator: u32, action: Action) -> Step
+pub(crate) fn by(mutator: u32, action: Action) -> Step
     ensures { result ≡ by mutator action }
 {
     Step::Mutator(Op { mutator, action })

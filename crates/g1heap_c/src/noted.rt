@@ -6,8 +6,8 @@ use crate::answer::{Answer, answer_of};
 use collection::Watch;
 use heap_steps::{CollectorStep, Event, Step};
 
-/// A step that was taken, with its answer: 0 begin, 1 mark, 2 remark, 3 cleanup, 4 refine, 5 pause, each with its number, and 6 the
-/// mutator's own.
+/// A step that was taken, with its answer: 0 begin, 1 mark, 2 remark, 3 cleanup, 4 refine, 5 pause, 6 compact, each with its number, and
+/// 7 the mutator's own.
 #[repr(C)]
 #[derive(Clone, Copy, Debug, PartialEq, Eq, Drop)]
 pub struct Entry {
@@ -32,7 +32,8 @@ fn numbers_of(step: Step) -> (u32, u32) {
         Step::Collector(CollectorStep::Cleanup) => (3, 0),
         Step::Collector(CollectorStep::Refine(cards)) => (4, cards),
         Step::Collector(CollectorStep::Pause(words)) => (5, words),
-        Step::Mutator(_) => (6, 0),
+        Step::Collector(CollectorStep::Compact(words)) => (6, words),
+        Step::Mutator(_) => (7, 0),
     }
 }
 

@@ -16,20 +16,33 @@ use heap_steps::{Action, Counts, Op, Register, Step};
 use std::alloc::Global;
 use step_core::Core;
 
-/// The step that makes the object that is asked for: a plain one where it has no weak slots.
+/// The step that makes the object that is asked for, a plain one.
 #[inline(always)]
-fn asked(mutator: u32, to: u32, pointers: u32, weaks: u8, values: u32) -> Op
+fn plain(mutator: u32, to: u32, pointers: u32, values: u32) -> Op
+    ensures op { result ≡ asked mutator to pointers 0 values }
+    ensures new { IsNew result.action }
+{
+    let to = Register { number: to };
+    let counts = Counts { pointers, values };
+    Op {
+        mutator,
+        action: Action::New { to, counts },
+    }
+}
+
+/// The step that makes the object that is asked for, one with weak slots.
+#[inline(always)]
+fn with_weaks(mutator: u32, to: u32, pointers: u32, weaks: u8, values: u32) -> Op
+    requires { 0 < weaks }
     ensures op { result ≡ asked mutator to pointers weaks values }
     ensures new { IsNew result.action }
 {
     let to = Register { number: to };
     let counts = Counts { pointers, values };
-    let action = if weaks == 0 {
-        Action::New { to, counts }
-    } else {
-        Action::NewWeak { to, counts, weaks }
-    };
-    Op { mutator, action }
+    Op {
+        mutator,
+        action: Action::NewWeak { to, counts, weaks },
+    }
 }
 
 #[inline(always)]
@@ -87,10 +100,15 @@ pub extern "C" fn g1_make(
     ensures few { weaks ≤ 255 → AsksFor heap.old.handle.core (asked mutator to pointers weaks values) result heap.new.handle.core }
     ensures many { 255 < weaks → TakesNone heap.old.handle.core result heap.new.handle.core }
 {
+    // Each call of `ask` is written out here with the kind of its action known.
+    if weaks == 0 {
+        let op = plain(mutator, to, pointers, values);
+        return ask(alloc, heap, policy, op, &mut Unwatched);
+    }
     if 255 < weaks {
         return take_none(heap);
     }
-    let op = asked(mutator, to, pointers, weaks as u8, values);
+    let op = with_weaks(mutator, to, pointers, weaks as u8, values);
     ask(alloc, heap, policy, op, &mut Unwatched)
 }
 
@@ -179,7 +197,11 @@ pub extern "C" fn g1_make_noted(
     if 255 < weaks {
         return take_none(heap);
     }
-    let op = asked(mutator, to, pointers, weaks as u8, values);
+    let op = if weaks == 0 {
+        plain(mutator, to, pointers, values)
+    } else {
+        with_weaks(mutator, to, pointers, weaks as u8, values)
+    };
     let mut notes = Notes { entries, count: 0 };
     let answer = ask(alloc, heap, policy, op, &mut notes);
     *count = notes.count;

@@ -1,15 +1,19 @@
 //! What a policy of collection steers by, a call for each. C declares these with a heap that doesn't change: what it points to is the same
 //! after the call as before.
 
-ghost use Rattle.std.specs.Prelude.{length};
+ghost use Rattle.std.specs.Prelude.{◌≡◌, ◌↔◌, ◌<◌, IsTrue, length};
 ghost use Rattle.heap_words.specs.Configs.{globals_of, registers_of};
-ghost use Rattle.regions.specs.Table.{free_count};
+ghost use Rattle.regions.specs.Table.{free_count, kind_of};
+ghost use Rattle.regions.specs.declared.row.Kind.TheVariants as kinds;
 ghost use Rattle.step_core.specs.Measures.{used_words, live_words, HasGrey};
-ghost use Rattle.g1heap_c.specs.Steps.{Tells, IsNumber, IsSign, IsMarking, IsName};
+ghost use Rattle.g1heap_c.specs.Steps.{Tells, IsNumber, IsRun, IsSign, IsMarking, IsName};
+ghost use Rattle.g1heap_c.specs.FreeRuns.{IsLongestRun};
 
 use crate::answer::{Answer, answer_of, no_heap, no_step, number};
 use crate::heap::{Heap, handle_of, take_out};
 use heap_steps::{Register, Reply};
+use heap_words::addr::RegionNo;
+use regions::{Kind, RegionTable};
 use std::alloc::Global;
 use step_core::Core;
 
@@ -23,6 +27,46 @@ pub extern "C" fn g1_free_regions(alloc: Global, heap: &mut Heap) -> Answer
     }
     let core = take_out(alloc, &mut heap.handle);
     let answer = number(u64::from(core.free_regions()));
+    heap.handle = handle_of(core);
+    answer
+}
+
+/// Whether a region is free.
+#[inline(always)]
+fn is_free(table: &RegionTable, region: RegionNo) -> bool
+    requires { region < length table.now.regions }
+    ensures { IsTrue result ↔ (kind_of table.now region ≡ kinds.Free) }
+{
+    matches!(table.kind(region), Kind::Free)
+}
+
+/// How many free regions lie side by side, at most.
+fn longest_run(table: &RegionTable) -> u32
+    ensures { IsLongestRun table.now result }
+{
+    let mut longest = 0u32;
+    let mut last = 0u32;
+    for number in 0..table.region_count() {
+        if is_free(table, RegionNo::new(number)) {
+            last += 1;
+            longest = longest.max(last);
+        } else {
+            last = 0;
+        }
+    }
+    longest
+}
+
+/// How many free regions lie side by side, at most.
+#[unsafe(no_mangle)]
+pub extern "C" fn g1_free_run(alloc: Global, heap: &mut Heap) -> Answer
+    ensures { Tells IsRun heap.old.handle.core result heap.new.handle.core }
+{
+    if !heap.live {
+        return no_heap();
+    }
+    let core = take_out(alloc, &mut heap.handle);
+    let answer = number(u64::from(longest_run(core.table())));
     heap.handle = handle_of(core);
     answer
 }

@@ -62,7 +62,7 @@ function pauseEvents(life) {
   const events = [];
   life.moments.forEach((moment, place) => {
     const step = collectorStepAt(life, place);
-    if (step && step.verb === "pause") events.push(moment.event);
+    if (step && movesObjects(step)) events.push(moment.event);
   });
   return events;
 }

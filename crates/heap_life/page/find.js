@@ -21,16 +21,6 @@ function putAddress(event) {
   }, 200);
 }
 
-// The name of the page's own file, where the address has one.
-function fileName() {
-  const last = window.location.pathname.split("/").pop();
-  try {
-    return decodeURIComponent(last);
-  } catch (refused) {
-    return last;
-  }
-}
-
 // The last moment that isn't after an event.
 function momentOfEvent(life, event) {
   let low = 0;

@@ -26,11 +26,16 @@ function readEvent(line) {
   return { count: Number(words[0]), actor: words[1], verb: words[2], step, reply: line.slice(equals + 3), collector };
 }
 
+// The name of the script's file, or of the record's: each byte of it but letters, digits and some signs is % and two digits to the base 16.
+function readFileName(word) {
+  return word === "-" ? "standard input" : decodeURIComponent(word);
+}
+
 const MOMENT = ["event", "handedOut", "live", "free", "queued", "dirty", "copied", "marking", "scanned"];
 
 // A moment's numbers.
 function readMoment(words) {
-  const moment = { nextName: words[10], current: null, buffers: [], queue: [], logs: [], roots: [] };
+  const moment = { nextName: words[10], current: null, buffers: [], queue: [], logs: [], deletions: [], roots: [] };
   MOMENT.forEach((field, place) => { moment[field] = Number(words[place + 1]); });
   if (words[11] !== "-") moment.current = Number(words[11]);
   return moment;
@@ -42,6 +47,7 @@ function readOfMoment(moment, words) {
   if (words[0] === "b") moment.buffers.push({ mutator: numbers[0], at: numbers[1], left: numbers[2] });
   if (words[0] === "q") moment.queue = numbers;
   if (words[0] === "l") moment.logs.push({ mutator: numbers[0], cards: numbers.slice(1) });
+  if (words[0] === "d") moment.deletions.push({ mutator: numbers[0], addresses: numbers.slice(1) });
   if (words[0] === "n") {
     for (let at = 0; at + 1 < numbers.length; at += 2) moment.roots.push({ place: numbers[at], address: numbers[at + 1] });
   }
@@ -102,7 +108,8 @@ const FREE = readRow(["r 0 f"]);
 function readLife(recordText, lifeText) {
   const record = linesOf(recordText);
   const life = {
-    sizes: readSizes(record[0]), events: new Map(), moments: [], rows: [], pace: null, eventCount: 0, tilesEnd: null, tells: false,
+    file: "", sizes: readSizes(record[0]), events: new Map(), moments: [], rows: [], pace: null, eventCount: 0,
+    tilesEnd: null, tells: false,
   };
   for (const line of record.slice(1)) {
     const event = readEvent(line);
@@ -113,7 +120,8 @@ function readLife(recordText, lifeText) {
   for (const line of linesOf(lifeText)) {
     const words = line.split(" ");
     const moment = life.moments[life.moments.length - 1];
-    if (words[0] === "card") life.sizes.card = Number(words[1]);
+    if (words[0] === "file") life.file = readFileName(words[1]);
+    else if (words[0] === "card") life.sizes.card = Number(words[1]);
     else if (words[0] === "roots") [life.sizes.globals, life.sizes.registers] = words.slice(1).map(Number);
     else if (words[0] === "pace") life.pace = { every: Number(words[1]), stride: Number(words[2]), small: words[3] === "1" };
     else if (words[0] === "events") life.eventCount = Number(words[1]);
@@ -244,7 +252,12 @@ function reclaimedAt(life, moment) {
   return regions;
 }
 
-// What a pause did: the regions that it emptied, the regions that it copied into, and the copies where the file tells tiles.
+// Whether a step of the collector moves objects.
+function movesObjects(step) {
+  return step.verb === "pause" || step.verb === "compact";
+}
+
+// What a pause or a compaction did: the regions that it emptied, the regions that it copied into, and the copies where the file tells tiles.
 function pauseAt(life, moment) {
   const set = reclaimedAt(life, moment);
   const into = [];

@@ -10,28 +10,39 @@ function aboutTold(life, view, show) {
   return make("p", { class: "note" }, said, button);
 }
 
-// A root as a button that leads to its object, or to its region where the object isn't told.
+// A button that leads to the object of a place `{ address, name }`, or to its region where the object isn't told. `called` is how the place
+// is called, `word` the same in short.
+function leadButton(life, view, place, { word, called, ...attributes }, choose, open) {
+  const region = Math.floor(place.address / life.sizes.words);
+  const tile = place.name === null ? null : placesAt(life, view.moment).get(place.name).tile;
+  const label = tile === null || labelOf(tile) === null ? "" : ` ${labelOf(tile)}`;
+  const leads = tile === null ? `${place.address}, region ${region}` : `#${place.name}${label}`;
+  return make(
+    "button",
+    {
+      class: `root ${tile !== null && view.name === place.name ? "chosen" : ""}`,
+      type: "button",
+      "aria-label": `${called} ${leads}`,
+      onclick: () => (tile === null ? open(region) : choose(place.name)),
+      ...attributes,
+    },
+    word === "" ? null : make("b", {}, word),
+    word === "" ? leads : ` ${leads}`,
+  );
+}
+
+// A root as a button.
 function rootButton(life, view, root, choose, open) {
   const { sizes } = life;
   const at = root.place - sizes.globals;
   const word = at < 0 ? `g${root.place}` : `r${at % sizes.registers}`;
-  const region = Math.floor(root.address / sizes.words);
-  const tile = root.name === null ? null : placesAt(life, view.moment).get(root.name).tile;
-  const label = tile === null || labelOf(tile) === null ? "" : ` ${labelOf(tile)}`;
-  const leads = tile === null ? `${root.address}, region ${region}` : `#${root.name}${label}`;
-  return make(
-    "button",
-    {
-      class: `root ${tile !== null && view.name === root.name ? "chosen" : ""}`,
-      type: "button",
-      "data-place": root.place,
-      "data-stop": `root ${root.place}`,
-      "aria-label": `${rootName(life, root.place)} leads to ${leads}`,
-      onclick: () => (tile === null ? open(region) : choose(root.name)),
-    },
-    make("b", {}, word),
-    ` ${leads}`,
-  );
+  const called = `${rootName(life, root.place)} leads to`;
+  return leadButton(life, view, root, { word, called, "data-place": root.place, "data-stop": `root ${root.place}` }, choose, open);
+}
+
+// Lines of buttons, one for each mutator that has some, with its head.
+function linesOfMutators(buttons, head) {
+  return [...buttons].map(([mutator, own]) => make("div", { class: "roots" }, make("span", { class: "whose" }, head(mutator)), own));
 }
 
 // The panel of globals and of each mutator's registers.
@@ -42,18 +53,31 @@ function aboutRoots(life, view, choose, open) {
   for (const root of roots) {
     const mutator = root.place < globals ? -1 : Math.floor((root.place - globals) / registers);
     if (!groups.has(mutator)) groups.set(mutator, []);
-    groups.get(mutator).push(root);
+    groups.get(mutator).push(rootButton(life, view, root, choose, open));
   }
-  const lines = [...groups].map(([mutator, own]) => make(
-    "div",
-    { class: "roots" },
-    make("span", { class: "whose" }, mutator < 0 ? "Globals" : mutators > 1 ? `Mutator ${mutator}` : "Registers"),
-    own.map((root) => rootButton(life, view, root, choose, open)),
-  ));
+  const lines = linesOfMutators(groups, (mutator) => (mutator < 0 ? "Globals" : mutators > 1 ? `Mutator ${mutator}` : "Registers"));
   const all = globals + mutators * registers;
   const rest = roots.length >= MOST_ROOTS ? `The first ${MOST_ROOTS} that aren't nil; the file has no more.`
     : roots.length ? `The other ${grouped(all - roots.length)} are nil.` : `All ${grouped(all)} are nil.`;
   return make("div", { class: "card" }, make("h3", {}, "Registers and globals"), lines, make("p", { class: "rest" }, rest));
+}
+
+// The panel of the deletion logs; nothing where no marking runs.
+function aboutDeletions(life, view, choose, open) {
+  if (!life.moments[view.moment].marking) return null;
+  const groups = new Map();
+  for (const logged of deletionsAt(life, view.moment)) {
+    const { mutator } = logged;
+    if (!groups.has(mutator)) groups.set(mutator, []);
+    const own = groups.get(mutator);
+    const called = `The deletion log of mutator ${mutator} has`;
+    const stop = `deletion ${mutator} ${own.length}`;
+    own.push(leadButton(life, view, logged, { word: "", called, "data-log": mutator, "data-stop": stop }, choose, open));
+  }
+  const lines = linesOfMutators(groups, (mutator) => `Mutator ${mutator}`);
+  const taken = "Marking takes a log once it is full, and all of them at its end.";
+  const rest = groups.size ? `What was overwritten, or read from a weak slot. ${taken}` : `Each is empty. ${taken}`;
+  return make("div", { class: "card marking" }, make("h3", {}, "Deletion logs"), lines, make("p", { class: "rest" }, rest));
 }
 
 // A count with its words.

@@ -87,6 +87,27 @@ function drawDirty(lanes, view) {
   moment.logs.forEach((log) => log.cards.forEach((card) => dot(card, "logged")));
 }
 
+// The outline of a diamond around a point.
+function diamond(x, y, radius) {
+  return `M${x - radius} ${y}L${x} ${y - radius}L${x + radius} ${y}L${x} ${y + radius}z`;
+}
+
+// A diamond at each object that is in a mutator's deletion log.
+function drawDeletions(lanes, view) {
+  const { words } = lanes.life.sizes;
+  const radius = lanes.layout.tall > 20 ? 6 : 4;
+  const mutators = new Map();
+  for (const { mutator, address } of deletionsAt(lanes.life, view.moment)) {
+    mutators.set(address, (mutators.get(address) || new Set()).add(mutator));
+  }
+  for (const [address, own] of mutators) {
+    const region = Math.floor(address / words);
+    const at = lanes.point(region, address - region * words, "middle");
+    const mark = shape("path", { class: "deleted", d: diamond(at.x + radius + 2, at.y, radius), "data-address": address }, lanes.over);
+    shape("title", { text: `In the deletion log of mutator ${listOf([...own])}` }, mark);
+  }
+}
+
 // What a region held a moment ago, pale.
 function drawGhost(lanes, view, region, style) {
   const { life, layout } = lanes;
@@ -121,7 +142,7 @@ function drawCopies(lanes, copies) {
 function drawStep(lanes, view) {
   const step = collectorStepAt(lanes.life, view.moment);
   if (!step) return;
-  if (step.verb === "pause") {
+  if (movesObjects(step)) {
     const pause = pauseAt(lanes.life, view.moment);
     pause.set.forEach((region) => drawGhost(lanes, view, region, "evacuated"));
     drawCopies(lanes, pause.copies);
@@ -176,6 +197,7 @@ function drawOver(lanes, view) {
   drawBuffers(lanes, view);
   drawStep(lanes, view);
   drawDirty(lanes, view);
+  drawDeletions(lanes, view);
   drawSet(lanes, view);
   drawPointers(lanes, view);
 }

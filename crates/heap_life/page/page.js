@@ -76,13 +76,13 @@ function drawPanels() {
   fill("what", aboutStep(life, view.moment));
   fill("object", view.name === null ? null : aboutObject(life, view, show, () => chooseName(null), chooseName));
   fill("region", view.region === null ? null : aboutRegion(life, view, chooseName, () => openRegion(null)));
-  fill("roots", aboutRoots(life, view, chooseName, openRegion));
+  fill("roots", aboutRoots(life, view, chooseName, openRegion), aboutDeletions(life, view, chooseName, openRegion));
   fill("objects", aboutObjects(life, view));
 }
 
 function draw() {
   const step = collectorStepAt(life, view.moment);
-  view.fresh = step && step.verb === "pause" ? dirtyAt(life, view.moment) : [];
+  view.fresh = step && movesObjects(step) ? dirtyAt(life, view.moment) : [];
   lanes.draw(view);
   moveCurves(view.moment);
   describeMoment();
@@ -288,12 +288,10 @@ function describeSizes() {
   at("thinned").textContent = said.length ? `Thinned: ${said.join("; ")}.` : "";
 }
 
-// The page's file names the life, in the title and in the heading.
+// The script's file names the life: its path in the heading, the last part of it in the title.
 function describeFile() {
-  const name = fileName();
-  if (!name) return;
-  document.title = `${name}: the life of a heap`;
-  at("title").replaceChildren("The life of a heap: ", make("span", { class: "file" }, name));
+  document.title = `${life.file.split("/").pop()}: the life of a heap`;
+  at("title").replaceChildren("The life of a heap: ", make("bdi", { class: "file" }, life.file));
 }
 
 function legendItem(drawIt, text) {
@@ -341,6 +339,7 @@ function markItems() {
     legendItem(dot("queued"), "dirty card, queued"),
     legendItem(dot("logged"), "in a log"),
     legendItem(dot("fresh"), "made dirty by the pause"),
+    legendItem((svg) => shape("path", { class: "deleted", d: diamond(13, 9, 6) }, svg), "object in a deletion log"),
     legendItem((svg) => shape("path", { class: "run", d: "M2 8v5h22v-5" }, svg), "run of one humongous object"),
     legendItem((svg) => shape("rect", { ...frame, class: "evacuated" }, svg), "evacuated by the pause"),
     legendItem((svg) => shape("rect", { ...frame, class: "freed" }, svg), "freed by cleanup"),

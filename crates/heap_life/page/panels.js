@@ -200,7 +200,7 @@ function aboutRefine(life, moment) {
 function aboutStep(life, moment) {
   const step = collectorStepAt(life, moment);
   if (!step) return null;
-  const about = step.verb === "pause" ? aboutPause(life, moment)
+  const about = movesObjects(step) ? aboutPause(life, moment)
     : step.verb === "cleanup" ? aboutCleanup(life, moment)
       : step.verb === "refine" ? aboutRefine(life, moment)
         : aboutMarking(life, moment, step.verb);

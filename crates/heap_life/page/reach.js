@@ -4,11 +4,22 @@
 
 const MOST_ROOTS = 64;
 
-// The objects that roots name: `[{ place, address, name }]`, the name null where no object is told at the address.
-function rootsAt(life, moment) {
+// Places with the name of the object at each one's address, null where none is told there.
+function withNames(life, moment, places) {
   const names = new Map();
   for (const [name, { address }] of placesAt(life, moment)) names.set(address, name);
-  return life.moments[moment].roots.map(({ place, address }) => ({ place, address, name: names.has(address) ? names.get(address) : null }));
+  return places.map((place) => ({ ...place, name: names.has(place.address) ? names.get(place.address) : null }));
+}
+
+// The objects that roots name: `[{ place, address, name }]`, the name null where no object is told at the address.
+function rootsAt(life, moment) {
+  return withNames(life, moment, life.moments[moment].roots);
+}
+
+// The objects in the deletion logs, each as often as it is there: `[{ mutator, address, name }]`.
+function deletionsAt(life, moment) {
+  const logged = life.moments[moment].deletions.flatMap(({ mutator, addresses }) => addresses.map((address) => ({ mutator, address })));
+  return withNames(life, moment, logged);
 }
 
 // How many regions have objects that aren't told at a moment.

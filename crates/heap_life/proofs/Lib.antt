@@ -3,6 +3,7 @@ pub mod Moments
 mod Rates
 pub mod Courses
 mod Drawn
+mod FileNames
 mod Redrawn
 pub mod Putting
 pub mod NamedRoots

@@ -13,6 +13,7 @@ use Rattle.heap_words.specs.declared.config.Config.{Config}
 use Rattle.heap_steps.specs.Actors.{IsStep, IsStepOf}
 use Rattle.heap_steps.specs.declared.step.Actor.{Actor}
 use Rattle.heap_steps.specs.declared.step.Actor.TheVariants as actors
+use Rattle.heap_steps.specs.declared.step.CollectorStep.TheVariants as collector
 use Rattle.heap_steps.specs.declared.step.Step.{Step}
 use Rattle.heap_steps.specs.declared.step.Step.TheVariants as steps
 use Rattle.step_core.proofs.Cores.Following.{grown}
@@ -186,7 +187,16 @@ is_step config (actors.Mutator m) (steps.Mutator o) h = h.1
 is_step config actors.Collector (steps.Mutator o) h = absurd h
 is_step config (actors.Marker i) (steps.Mutator o) h = absurd h
 is_step config (actors.Refiner i) (steps.Mutator o) h = absurd h
-is_step config actor (steps.Collector k) h = tt
+is_step config actor (steps.Collector collector.Begin) h = tt
+is_step config actor (steps.Collector (collector.Mark k)) h = tt
+is_step config actor (steps.Collector collector.Remark) h = tt
+is_step config actor (steps.Collector collector.Cleanup) h = tt
+is_step config actor (steps.Collector (collector.Refine k)) h = tt
+is_step config actor (steps.Collector (collector.Pause k)) h = tt
+is_step config (actors.Mutator m) (steps.Collector (collector.Compact k)) h = absurd h
+is_step config actors.Collector (steps.Collector (collector.Compact k)) h = h
+is_step config (actors.Marker i) (steps.Collector (collector.Compact k)) h = absurd h
+is_step config (actors.Refiner i) (steps.Collector (collector.Compact k)) h = absurd h
 
 pub grown_at : {A : Type 0} (f : Event → A) (es : List Event) (new : Event) (xs : List Event) (i : ℕ) (e : Event)
     → map f es ≡ take i (map f xs) → i < length xs → slice_get xs i ≡ Some e → f new ≡ f e

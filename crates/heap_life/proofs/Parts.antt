@@ -105,7 +105,7 @@ in_heap t k shaped known = go (nth_region t k) refl
     go (Rest n) e = rw e (omega arith)
 
 pub part_fits : (c : CoreState) (p : Part) (k : ℕ) → IsShaped c.table → k < length c.table.regions
-    → words_in c p (placed (k * c.table.words_per_region) (tiles_of c.table k)) ≤ 16777216
+    → words_in c p (placed (k * c.table.words_per_region) (tiles_of c.table k)) ≤ 2147483648
 part_fits c p k shaped known =
     let a = within_sizes c p (placed (k * c.table.words_per_region) (tiles_of c.table k)) in
     let b = placed_sizes (k * c.table.words_per_region) (tiles_of c.table k) in

@@ -7,6 +7,7 @@ pub mod Tolds
 pub mod Tellers
 pub mod Lives
 pub mod Courses
+pub mod FileNames
 pub mod Pages
 pub mod Drawings
 pub mod Redrawings

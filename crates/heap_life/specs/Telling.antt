@@ -3,6 +3,7 @@ use Rattle.std.specs.Prelude.{◌==◌, ℕ, zero, suc, min, if◌then◌else◌
 use Rattle.std.specs.Prelude.{length, take, codes, flat_map, slice_get, slice_index_or}
 use Rattle.script_text.specs.Texts.{spaced_number}
 use Rattle.alloc_buffers.specs.declared.buffers.Buffer.{Buffer}
+use Rattle.satb_log.specs.Logs as logs
 use Rattle.step_core.specs.Stands.{CoreState}
 use Rattle.heap_life.specs.Paces.{one_if}
 use Rattle.heap_life.specs.declared.life.Moment.{Moment}
@@ -49,6 +50,13 @@ log_text m log = if length log == 0 then [] else codes "l" ++ spaced_number m ++
 abbrev pub log_of : CoreState → ℕ → List ℕ
 log_of c m = log_text m (slice_index_or c.cards.logs m [])
 
+-- the addresses in a mutator's deletion log, in the order in which they were logged; nothing where it is empty
+abbrev pub deletions_text : ℕ → List ℕ → List ℕ
+deletions_text m log = if length log == 0 then [] else codes "d" ++ spaced_number m ++ flat_map spaced_number log ++ codes "\n"
+
+abbrev pub deletions_of : CoreState → ℕ → List ℕ
+deletions_of c m = deletions_text m (logs.log_of c.marker.logs m)
+
 -- the places of roots that aren't nil, counted from a place on, and where they lead
 abbrev pub named : ℕ → List (Option ℕ) → List (ℕ × ℕ)
 named place [] = []
@@ -68,4 +76,4 @@ roots_text ws = codes "n" ++ flat_map root_text (take 64 (named 0 ws)) ++ codes 
 
 abbrev pub heap_text : CoreState → Moment → List ℕ
 heap_text c m = totals_text m ++ state_text c ++ text_below (buffer_of c) c.config.mutators ++ queue_text c.cards.queue
-    ++ text_below (log_of c) c.config.mutators ++ roots_text c.roots
+    ++ text_below (log_of c) c.config.mutators ++ text_below (deletions_of c) c.config.mutators ++ roots_text c.roots

@@ -15,24 +15,24 @@ use script_text::{WatchedReader, WatchedWriter, write_bytes};
 use std::alloc::Global;
 use std::io::{Read, Write};
 
-/// The page of a new heap's life over the steps of events.
-fn page_over(alloc: Global, events: &Record, every: u32) -> Result<Vec<u8>, RunFault>
-    ensures page { IfOk result (λ page. (life : Life) × IsLifeOf every events.now life × IsPageOf life page.items) }
+/// The page of a new heap's life over the steps of events, drawn of a file of this name.
+fn page_over(alloc: Global, name: &str, events: &Record, every: u32) -> Result<Vec<u8>, RunFault>
+    ensures page { IfOk result (λ page. (life : Life) × IsLifeOf every events.now life × IsPageOf name.now life page.items) }
     ensures fault { IfErr result (IsRunFault events.now.config) }
 {
     let life = match live(alloc, events, every) {
         Ok(life) => life,
         Err(fault) => return Err(fault),
     };
-    match page_of(alloc, &life) {
+    match page_of(alloc, name, &life) {
         Ok(page) => Ok(page),
         Err(_) => Err(RunFault::NoMemory),
     }
 }
 
-/// The page of a new heap's life over the steps of a plan.
-fn page_over_plan(alloc: Global, plan: &Plan, every: u32) -> Result<Vec<u8>, RunFault>
-    ensures page { IfOk result (λ page. IsPageOfPlan every plan.now page.items) }
+/// The page of a new heap's life over the steps of a plan, drawn of a file of this name.
+fn page_over_plan(alloc: Global, name: &str, plan: &Plan, every: u32) -> Result<Vec<u8>, RunFault>
+    ensures page { IfOk result (λ page. IsPageOfPlan name.now every plan.now page.items) }
     ensures fault { IfErr result (IsRunFault plan.now.config) }
 {
     let config = plan.config();
@@ -42,22 +42,23 @@ fn page_over_plan(alloc: Global, plan: &Plan, every: u32) -> Result<Vec<u8>, Run
     let Ok(events) = planned(alloc, plan) else {
         return Err(RunFault::NoMemory);
     };
-    page_over(alloc, &events, every)
+    page_over(alloc, name, &events, every)
 }
 
 /// Reads a script to the end of input, does its steps in their order in a new heap, and writes the page of the heap's life, with a moment
 /// each `every` events, and before and behind each step of the collector, or fewer where they would be too many. Nothing is written before
-/// the page is whole.
+/// the page is whole. The page tells `name` as the name of the script's file; any name is safe.
 pub fn draw_script<R: Read, W: Write>(
     alloc: Global,
+    name: &str,
     every: u32,
     reader: &mut WatchedReader<R>,
     writer: &mut WatchedWriter<W>,
 ) -> Result<(), JobFault>
-    ensures { Draws every reader.old reader.new writer.old writer.new result }
+    ensures { Draws name.now every reader.old reader.new writer.old writer.new result }
 {
     let plan = read_plan(alloc, reader)?;
-    let page = match page_over_plan(alloc, &plan, every) {
+    let page = match page_over_plan(alloc, name, &plan, every) {
         Ok(page) => page,
         Err(fault) => return Err(JobFault::Run(fault)),
     };

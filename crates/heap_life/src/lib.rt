@@ -14,6 +14,7 @@
 
 mod course;
 mod draw;
+mod file_name;
 mod life;
 mod moment_text;
 mod numbers;
@@ -27,6 +28,7 @@ mod shares;
 mod tile_text;
 
 pub use draw::draw_script;
+pub use file_name::name_law;
 pub use life::{Life, Moment, live, planned};
 pub use numbers::{Numbers, numbers_of};
 pub use pace::Pace;

@@ -5,14 +5,16 @@
 //!   b MUTATOR ADDRESS LEFT                                                                  an open buffer
 //!   q CARDS                                                                                 the queue of refinement, from its front
 //!   l MUTATOR CARDS                                                                         a card log
-//!   n PLACE NAME ..                                                                         roots that aren't nil
+//!   d MUTATOR ADDRESSES                                                                     a deletion log
+//!   n PLACE ADDRESS ..                                                                      roots that aren't nil
 //!   r ..                                                                                    regions, as `region_text` has them
 //! ```
 
 ghost use Rattle.std.specs.Prelude.{◌≡◌, ◌<◌, ◌≤◌, ◌&&◌, ℕ, [], None, Some, All, IfOk};
 ghost use Rattle.std.specs.Prelude.{length, take, flat_map, slice_index_or, nat_le};
 ghost use Rattle.script_text.specs.Texts.{Adds, spaced_number};
-ghost use Rattle.heap_life.specs.Telling.{buffer_of, current_text, heap_text, log_of, queue_text, roots_text, state_text};
+ghost use Rattle.satb_log.specs.Logs as deletion_logs;
+ghost use Rattle.heap_life.specs.Telling.{buffer_of, current_text, deletions_of, heap_text, log_of, queue_text, roots_text, state_text};
 ghost use Rattle.heap_life.specs.RegionTexts.{region_text};
 ghost use Rattle.heap_life.specs.Tolds.{TellsRegion, TellsRegions, end_text};
 ghost use Rattle.heap_life.specs.Telling.{named, root_at, root_text, text_below, totals_text};
@@ -23,6 +25,7 @@ use alloc_buffers::AllocBuffers;
 use cards::CardTable;
 use heap_words::addr::RegionNo;
 use root_table::Roots;
+use satb_log::logs::DeletionLogs;
 use script_text::Text;
 use std::alloc::{AllocError, Global};
 use step_core::Core;
@@ -157,6 +160,41 @@ fn put_logs(core: &Core, text: &mut Text)
     }
 }
 
+/// Adds the addresses of a mutator's deletion log.
+fn put_deleted(logs: &DeletionLogs, text: &mut Text, mutator: u32)
+    requires { mutator < length logs.now }
+    ensures { Adds text.old (flat_map spaced_number (deletion_logs.log_of logs.now mutator)) text.new }
+{
+    for place in 0..logs.len(mutator) {
+        text.put_number(u64::from(logs.logged(mutator, place).word()));
+    }
+}
+
+/// Adds a mutator's deletion log, if it isn't empty.
+fn put_deletion_log(core: &Core, text: &mut Text, mutator: u32)
+    requires { mutator < core.now.config.mutators }
+    ensures { Adds text.old (deletions_of core.now mutator) text.new }
+{
+    core.remembers();
+    let logs = &core.marker().logs;
+    if logs.len(mutator) == 0 {
+        return;
+    }
+    text.put("d");
+    text.put_number(u64::from(mutator));
+    put_deleted(logs, text, mutator);
+    text.put("\n");
+}
+
+/// Adds the deletion logs.
+fn put_deletion_logs(core: &Core, text: &mut Text)
+    ensures { Adds text.old (text_below (deletions_of core.now) core.now.config.mutators) text.new }
+{
+    for mutator in 0..core.config().mutators {
+        put_deletion_log(core, text, mutator);
+    }
+}
+
 /// Adds a root, unless it is nil, by its place and where it leads.
 fn put_root(roots: &Roots, text: &mut Text, place: usize)
     requires { place < length roots.now.words }
@@ -202,6 +240,7 @@ fn put_heap(core: &Core, text: &mut Text, moment: &Moment)
     put_buffers(core, text);
     put_queue(core, text);
     put_logs(core, text);
+    put_deletion_logs(core, text);
     put_roots(core, text);
 }
 

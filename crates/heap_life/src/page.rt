@@ -5,6 +5,7 @@ ghost use Rattle.script_text.specs.Records.{record_text};
 ghost use Rattle.script_text.specs.Texts.{Adds};
 ghost use Rattle.heap_life.specs.Pages.{IsPageOf, facts_text, pace_text, sizes_text};
 
+use crate::file_name::put_file;
 use crate::life::{Life, Moment};
 use crate::pace::Pace;
 use crate::page_parts::{
@@ -98,23 +99,25 @@ fn put_pace(text: &mut Text, pace: &Pace, events: u64)
     text.put("\n");
 }
 
-/// Adds what the page says of itself first: the words of a card, the roots, the pace, how many events there are.
-fn put_facts(text: &mut Text, life: &Life)
-    ensures { Adds text.old (facts_text life.now) text.new }
+/// Adds what the page says of itself first: the name of its script's file, the words of a card, the roots, the pace, how many events there
+/// are.
+fn put_facts(text: &mut Text, name: &str, life: &Life)
+    ensures { Adds text.old (facts_text name.now life.now) text.new }
 {
     let config = life.history.config();
     let events = life.history.events();
+    put_file(text, name);
     put_sizes(text, &config);
     put_pace(text, &life.pace, events.len() as u64);
 }
 
 /// What stands between the record's lines and the moments'.
-fn text_between(alloc: Global, life: &Life) -> Result<Vec<u8>, AllocError>
-    ensures { IfOk result (λ text. (front : List ℕ) × (text.items ≡ front ++ facts_text life.now)) }
+fn text_between(alloc: Global, name: &str, life: &Life) -> Result<Vec<u8>, AllocError>
+    ensures { IfOk result (λ text. (front : List ℕ) × (text.items ≡ front ++ facts_text name.now life.now)) }
 {
     let mut text = Text::new(alloc);
     text.put(BETWEEN);
-    put_facts(&mut text, life);
+    put_facts(&mut text, name, life);
     text.into_bytes()
 }
 
@@ -159,12 +162,12 @@ fn joined(
     Ok(page)
 }
 
-/// The page of a life.
-pub fn page_of(alloc: Global, life: &Life) -> Result<Vec<u8>, AllocError>
-    ensures { IfOk result (λ page. IsPageOf life.now page.items) }
+/// The page of a life, drawn of a file of this name, which may be any.
+pub fn page_of(alloc: Global, name: &str, life: &Life) -> Result<Vec<u8>, AllocError>
+    ensures { IfOk result (λ page. IsPageOf name.now life.now page.items) }
 {
     let lines = lines_of(alloc, life)?;
-    let between = text_between(alloc, life)?;
+    let between = text_between(alloc, name, life)?;
     let behind = text_behind(alloc)?;
     joined(
         alloc,

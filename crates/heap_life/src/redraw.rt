@@ -11,9 +11,14 @@ use script_text::{WatchedReader, WatchedWriter, write_bytes};
 use std::alloc::Global;
 use std::io::{Read, Write};
 
-/// The page of a new heap's life over the steps of a record, whose replies have to be the heap's.
-fn page_over_history(alloc: Global, history: &Record, every: u32) -> Result<Vec<u8>, JobFault>
-    ensures page { IfOk result (λ page. IsPageOfHistory every history.now page.items) }
+/// The page of a new heap's life over the steps of a record, whose replies have to be the heap's, drawn of a file of this name.
+fn page_over_history(
+    alloc: Global,
+    name: &str,
+    history: &Record,
+    every: u32,
+) -> Result<Vec<u8>, JobFault>
+    ensures page { IfOk result (λ page. IsPageOfHistory name.now every history.now page.items) }
     ensures fault { IfErr result (IsHistoryFault history.now) }
 {
     let life = match live(alloc, history, every) {
@@ -23,7 +28,7 @@ fn page_over_history(alloc: Global, history: &Record, every: u32) -> Result<Vec<
     if let Some(place) = first_other(history.events(), life.history.events()) {
         return Err(JobFault::Differs(place as u64 + 1));
     }
-    match page_of(alloc, &life) {
+    match page_of(alloc, name, &life) {
         Ok(page) => Ok(page),
         Err(_) => Err(JobFault::Run(RunFault::NoMemory)),
     }
@@ -34,14 +39,15 @@ fn page_over_history(alloc: Global, history: &Record, every: u32) -> Result<Vec<
 /// is written before the page is whole.
 pub fn draw_record<R: Read, W: Write>(
     alloc: Global,
+    name: &str,
     every: u32,
     reader: &mut WatchedReader<R>,
     writer: &mut WatchedWriter<W>,
 ) -> Result<(), JobFault>
-    ensures { Redraws every reader.old reader.new writer.old writer.new result }
+    ensures { Redraws name.now every reader.old reader.new writer.old writer.new result }
 {
     let history = read_record(alloc, reader)?;
-    let page = match page_over_history(alloc, &history, every) {
+    let page = match page_over_history(alloc, name, &history, every) {
         Ok(page) => page,
         Err(fault) => return Err(fault),
     };

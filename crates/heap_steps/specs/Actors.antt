@@ -10,6 +10,7 @@ use Rattle.heap_steps.specs.declared.step.Action.TheVariants as actions
 use Rattle.heap_steps.specs.declared.step.Op.{Op}
 use Rattle.heap_steps.specs.declared.step.Actor.{Actor}
 use Rattle.heap_steps.specs.declared.step.Actor.TheVariants as actors
+use Rattle.heap_steps.specs.declared.step.CollectorStep.{CollectorStep}
 use Rattle.heap_steps.specs.declared.step.CollectorStep.TheVariants as collector
 use Rattle.heap_steps.specs.declared.step.Step.{Step}
 use Rattle.heap_steps.specs.declared.step.Step.TheVariants as steps
@@ -29,23 +30,28 @@ pub record EventList : Type 0 where
 abbrev pub step_in : Event → Step
 step_in e = e.step
 
--- the format has frames of registers, which a scope leaves
-abbrev pub HasFrames : Format → Type 0
-HasFrames (V3 card globals registers) = Unit {0}
-HasFrames _ = ⊥
+-- the third format, which alone has frames of registers, which a scope leaves, and compactions
+abbrev pub IsThird : Format → Type 0
+IsThird (V3 card globals registers) = Unit {0}
+IsThird _ = ⊥
 
 -- the format has the action
 abbrev pub HasAction : Format → Action → Type 0
-HasAction f (actions.Scope from) = HasFrames f
+HasAction f (actions.Scope from) = IsThird f
 HasAction f _ = Unit {0}
 
--- the same as a test
-abbrev pub has_frames : Format → Bool
-has_frames (V3 card globals registers) = true
-has_frames _ = false
+-- the format has the collector's step
+abbrev pub HasCollection : Format → CollectorStep → Type 0
+HasCollection f (collector.Compact b) = IsThird f
+HasCollection f _ = Unit {0}
+
+-- the same as tests
+abbrev pub is_third : Format → Bool
+is_third (V3 card globals registers) = true
+is_third _ = false
 
 abbrev pub has_action : Format → Action → Bool
-has_action f (actions.Scope from) = has_frames f
+has_action f (actions.Scope from) = is_third f
 has_action f _ = true
 
 -- whether a heap of these sizes has each root that the action names, and their format the action
@@ -57,20 +63,20 @@ pub record IsOp (c : Config) (o : Op) : Type 0 where
   pub at : IsOpAt (places_of c) o
   pub known : HasAction c.format o.action
 
--- a step of a plan: such a one of a mutator, or the collector's
+-- a step of a plan: such a one of a mutator, or one of the collector's that the format has
 abbrev pub IsStep : Config → Step → Type 0
 IsStep c (steps.Mutator o) = IsOp c o
-IsStep c (steps.Collector k) = Unit {0}
+IsStep c (steps.Collector k) = HasCollection c.format k
 
 -- each is a step of a plan
 abbrev pub AreSteps : Config → List Step → Type 0
 AreSteps c ss = All (IsStep c) ss
 
--- a step of the actor: a mutator takes its own, the collector any of the collector's, a background marker marks, a
--- background refiner refines
+-- a step of the actor: a mutator takes its own, the collector any of the collector's that the format has, a background marker
+-- marks, a background refiner refines
 abbrev pub IsStepOf : Config → Actor → Step → Type 0
 IsStepOf c (actors.Mutator m) (steps.Mutator o) = (o.mutator ≡ m) × IsOp c o
-IsStepOf c actors.Collector (steps.Collector k) = Unit {0}
+IsStepOf c actors.Collector (steps.Collector k) = HasCollection c.format k
 IsStepOf c (actors.Marker i) (steps.Collector (collector.Mark k)) = i < 8
 IsStepOf c (actors.Refiner i) (steps.Collector (collector.Refine k)) = i < 8
 IsStepOf c _ _ = ⊥

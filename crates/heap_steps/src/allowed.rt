@@ -2,7 +2,7 @@
 
 ghost use Rattle.std.specs.Prelude.{◌≡◌, ◌↔◌, ◌<◌, ◌&&◌, ℕ, IsTrue};
 ghost use Rattle.heap_steps.specs.Roots.{has_register, has_global, has_value, names_roots, IsOpAt};
-ghost use Rattle.heap_steps.specs.Actors.{has_action, allows, IsOp, IsStep, IsEvent};
+ghost use Rattle.heap_steps.specs.Actors.{has_action, is_third, allows, HasCollection, IsOp, IsStep, IsEvent};
 
 use crate::step::{Action, Actor, CollectorStep, Event, GlobalRoot, Op, Register, Step};
 use heap_words::config::{Config, Format};
@@ -45,6 +45,36 @@ fn is_value(value: Option<Register>, places: &Places) -> bool
     }
 }
 
+/// Whether a heap line's format is the third.
+///
+/// ```rust
+/// assert!(rt; !is_third(config.format));
+/// ```
+#[inline(always)]
+pub fn is_third(format: Format) -> bool
+    ensures { result ≡ is_third format }
+{
+    matches!(format, Format::V3 { .. })
+}
+
+impl CollectorStep {
+    /// Whether a heap line's format has the step.
+    ///
+    /// ```rust
+    /// assert!(rt; CollectorStep::Pause(8).is_in(config.format));
+    /// assert!(rt; !CollectorStep::Compact(8).is_in(config.format)); // the third format alone has it
+    /// ```
+    #[inline(always)]
+    pub fn is_in(self, format: Format) -> bool
+        ensures { IsTrue result ↔ HasCollection format self }
+    {
+        match self {
+            CollectorStep::Compact(_) => is_third(format),
+            _ => true,
+        }
+    }
+}
+
 impl Action {
     /// Whether there is each register and global that the action names.
     #[inline(always)]
@@ -77,7 +107,7 @@ impl Action {
         ensures { result ≡ has_action format self }
     {
         match self {
-            Action::Scope { .. } => matches!(format, Format::V3 { .. }),
+            Action::Scope { .. } => is_third(format),
             _ => true,
         }
     }
@@ -121,8 +151,8 @@ impl Op {
 }
 
 impl Step {
-    /// Whether a plan of these sizes may have the step: each of the collector's, and those of mutators whose number, registers and
-    /// globals the sizes allow.
+    /// Whether a plan of these sizes may have the step: each of the collector's that the format has, and those of mutators whose
+    /// number, registers and globals the sizes allow.
     ///
     /// ```rust
     /// assert!(rt; Step::Mutator(op).is_in(&config));
@@ -134,7 +164,7 @@ impl Step {
     {
         match self {
             Step::Mutator(op) => op.is_in(config),
-            Step::Collector(_) => true,
+            Step::Collector(collection) => collection.is_in(config.format),
         }
     }
 }
@@ -153,7 +183,7 @@ impl Event {
             (Actor::Mutator(mutator), Step::Mutator(op)) => {
                 op.mutator == mutator && op.is_in(config)
             }
-            (Actor::Collector, Step::Collector(_)) => true,
+            (Actor::Collector, Step::Collector(collection)) => collection.is_in(config.format),
             (Actor::Marker(number), Step::Collector(CollectorStep::Mark(_))) => number < 8,
             (Actor::Refiner(number), Step::Collector(CollectorStep::Refine(_))) => number < 8,
             _ => false,

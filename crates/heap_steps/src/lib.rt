@@ -30,6 +30,7 @@ mod fault;
 mod record;
 mod step;
 
+pub use allowed::is_third;
 pub use fault::{RunFault, run_fault};
 pub use record::{Plan, Record};
 pub use step::{

@@ -146,6 +146,9 @@ pub enum CollectorStep {
     Refine(u32),
     /// Live objects are copied out of some regions, at most so many words, and these regions are reclaimed.
     Pause(u32),
+    /// Live objects of the highest ordinary regions are copied down into the lowest free ones, at most so many words, and these regions
+    /// are reclaimed, so that free regions lie side by side.
+    Compact(u32),
 }
 
 /// A step of a mutator or of the collector.
@@ -166,7 +169,7 @@ pub enum Refusal {
     NoField,
     /// There is no room for the new object now.
     Full,
-    /// The new object is larger than the heap.
+    /// The new object is larger than the heap, or than an object may be.
     TooBig,
     /// No names are left.
     NamesSpent,
@@ -193,7 +196,7 @@ pub enum Reply {
     Reclaimed(u32),
     /// How many cards were refined.
     Refined(u32),
-    /// How many regions a pause reclaimed, and how many words it copied.
+    /// How many regions a pause or a compaction reclaimed, and how many words it copied.
     Moved { regions: u32, words: u32 },
     /// The step changed nothing.
     Refused(Refusal),

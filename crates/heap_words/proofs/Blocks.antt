@@ -119,3 +119,11 @@ put_back ws new count len n block e is h =
     let all : take len (new ++ drop (length new) ws) ≡ new = take_at new (drop (length new) ws) len (long ∙ sym e) in
     let zeros : List ℕ = replicate {A = ℕ} (count - length ws) 0 in
     rw (all, long) (ap (λ (xs : List ℕ). xs ++ zeros) is ∙ sym (put_front ws zeros n block (omega arith)))
+
+-- a block copied into the middle of words
+pub copied_in : (ws new block : List ℕ) (at n : ℕ) → at + length block ≤ length ws → n ≡ length block → new ≡ block
+    → take at ws ++ (new ++ drop n (drop at ws)) ≡ put ws at block
+copied_in ws new block at n h n_is is =
+    let rest : drop n (drop at ws) ≡ drop (at + length block) ws =
+    ap (λ (m : ℕ). drop m (drop at ws)) n_is ∙ drop-drop (length block) at ws in
+    rw (is, rest) (sym (put_whole ws at block (omega arith)))

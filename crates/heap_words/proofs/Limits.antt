@@ -1,16 +1,18 @@
 -- What is known of sizes that suit: the limits of all formats, and that a region is a whole number of cards.
-use Rattle.std.proofs.Common.{◌≡◌, ◌⊎◌, ℕ, ◌*◌, ◌/◌, ◌≤◌, [], ◌∷◌, refl, arith, inl, inr}
-use Rattle.std.specs.Prelude.{◌%◌, IsTrue, count_ones, Contains}
+use Rattle.std.proofs.Common.{◌≡◌, ℕ, ◌*◌, ◌/◌, ◌≤◌, ◌<◌, ◌+◌, zero, suc, refl, subst, ◌∙◌, arith, inl, inr}
+use Rattle.std.specs.Prelude.{◌%◌, IsTrue, count_ones}
 use Rattle.std.specs.Int.{is_power_of_two}
 use Rattle.std.proofs.lemmas.Nat.{zero_from_ones}
 use Rattle.std.proofs.lemmas.Bool.{cases_eq}
 use Rattle.std.proofs.lemmas.Grind.{common_steps}
 use Rattle.std.proofs.lemmas.Bool.Decides.{nat_tests}
+use Rattle.std.proofs.Math.Arith.{mod-mul}
 use lib.Count.{ones_step}
 use Rattle.heap_words.specs.declared.config.Config.{Config}
 use Rattle.heap_words.specs.declared.config.Format.{Format}
 use Rattle.heap_words.specs.declared.config.Format.TheVariants.{V1, V2, V3}
-use Rattle.heap_words.specs.Configs.{max_region_words, max_words, max_mutators, region_limit, heap_limit, mutator_limit, card_words, Suits}
+use Rattle.heap_words.specs.Configs.{max_region_words, max_words, max_mutators, region_limit, heap_limit, mutator_limit}
+use Rattle.heap_words.specs.Configs.{card_words, card_limit, Suits}
 
 below_limits : (f : Format) → (region_limit f ≤ max_region_words) × (heap_limit f ≤ max_words)
 below_limits V1 = (omega arith, omega arith)
@@ -44,61 +46,40 @@ half n one le =
 one_bit : (n : ℕ) → IsTrue (is_power_of_two n) → count_ones n ≡ 1
 one_bit n p = grind (arith, common_steps, nat_tests)
 
--- a card's length
-is_length : (n : ℕ) → Contains (8 ∷ 16 ∷ 32 ∷ 64 ∷ []) n → (n ≡ 8) ⊎ (n ≡ 16) ⊎ (n ≡ 32) ⊎ (n ≡ 64)
-is_length n c = grind (arith, common_steps)
-
-length_power : (n : ℕ) → Contains (8 ∷ 16 ∷ 32 ∷ 64 ∷ []) n → IsTrue (is_power_of_two n)
-unfolding lib.Count.ones
-length_power n c = elim (is_length n c) [
-  | inl e ↦ rw e refl
-  | inr (inl e) ↦ rw e refl
-  | inr (inr (inl e)) ↦ rw e refl
-  | inr (inr (inr e)) ↦ rw e refl
-]
-
--- a power of two of words is a whole number of cards that are no longer
-whole_cards : (n card : ℕ) → IsTrue (is_power_of_two n) → Contains (8 ∷ 16 ∷ 32 ∷ 64 ∷ []) card → card ≤ n → n ≡ n / card * card
-whole_cards n card p c le =
-    elim (is_length card c) [
-      | inl e ↦ rw e (
-          let a = half n (one_bit n p) (omega arith) in
-          let b = half (n / 2) a.1 (omega arith) in
-          let d = half (n / 2 / 2) b.1 (omega arith) in
-          omega (arith, a.0, b.0, d.0))
-      | inr (inl e) ↦ rw e (
-          let a = half n (one_bit n p) (omega arith) in
-          let b = half (n / 2) a.1 (omega arith) in
-          let d = half (n / 2 / 2) b.1 (omega arith) in
-          let f = half (n / 2 / 2 / 2) d.1 (omega (arith, a.0, b.0, d.0)) in
-          omega (arith, a.0, b.0, d.0, f.0))
-      | inr (inr (inl e)) ↦ rw e (
-          let a = half n (one_bit n p) (omega arith) in
-          let b = half (n / 2) a.1 (omega arith) in
-          let d = half (n / 2 / 2) b.1 (omega arith) in
-          let f = half (n / 2 / 2 / 2) d.1 (omega (arith, a.0, b.0, d.0)) in
-          let g = half (n / 2 / 2 / 2 / 2) f.1 (omega (arith, a.0, b.0, d.0, f.0)) in
-          omega (arith, a.0, b.0, d.0, f.0, g.0))
-      | inr (inr (inr e)) ↦ rw e (
-          let a = half n (one_bit n p) (omega arith) in
-          let b = half (n / 2) a.1 (omega arith) in
-          let d = half (n / 2 / 2) b.1 (omega arith) in
-          let f = half (n / 2 / 2 / 2) d.1 (omega (arith, a.0, b.0, d.0)) in
-          let g = half (n / 2 / 2 / 2 / 2) f.1 (omega (arith, a.0, b.0, d.0, f.0)) in
-          let h = half (n / 2 / 2 / 2 / 2 / 2) g.1 (omega (arith, a.0, b.0, d.0, f.0, g.0)) in
-          omega (arith, a.0, b.0, d.0, f.0, g.0, h.0))
+-- of two powers of two the smaller divides the larger
+divides : (f n m : ℕ) → 0 < m → m ≤ f → count_ones n ≡ 1 → count_ones m ≡ 1 → m ≤ n → n % m ≡ 0
+divides zero n m some le a b within = absurd (omega arith)
+divides (suc f) n m some le a b within =
+    elim (cases_eq m 1) [
+      | inl e ↦ rw e (omega arith)
+      | inr ne ↦ (
+          let two : 2 ≤ m = omega arith in
+          let hm = half m b two in
+          let hn = half n a (omega arith) in
+          let less = divides f (n / 2) (m / 2) (omega arith) (omega arith) hn.1 hm.1 (omega arith) in
+          let whole : m / 2 * 2 ≡ m = omega (arith, hm.0) in
+          let split = mod-mul n {m = m / 2} {c = 2} (omega arith) (omega arith) in
+          let none : n / 2 % (m / 2) * 2 + n % 2 ≡ 0 = rw (less, hn.0) refl in
+          subst (λ (k : ℕ). n % k ≡ 0) whole (split ∙ none))
     ]
 
+-- a power of two of words is a whole number of cards that are no longer
+whole_cards : (n card : ℕ) → IsTrue (is_power_of_two n) → IsTrue (is_power_of_two card) → 0 < card → card ≤ n → n ≡ n / card * card
+whole_cards n card p q some le =
+    let none = divides card n card some (omega arith) (one_bit n p) (one_bit card q) le in omega (arith, none, some)
+
 pub card_power : (c : Config) → Suits c → IsTrue (is_power_of_two (card_words c))
-card_power c suits = length_power (card_words c) suits.card.length
+card_power c suits = suits.card.power
 
 pub region_cards : (c : Config) → Suits c → c.words ≡ c.words / card_words c * card_words c
-region_cards c suits = whole_cards c.words (card_words c) suits.words.power suits.card.length suits.card.at_most
+region_cards c suits =
+    let least = suits.card.at_least in
+    whole_cards c.words (card_words c) suits.words.power suits.card.power (omega arith) suits.card.at_most
 
-pub card_between : (c : Config) → Suits c → (8 ≤ card_words c) × (card_words c ≤ 64)
-card_between c suits = elim (is_length (card_words c) suits.card.length) [
-  | inl e ↦ (omega arith, omega arith)
-  | inr (inl e) ↦ (omega arith, omega arith)
-  | inr (inr (inl e)) ↦ (omega arith, omega arith)
-  | inr (inr (inr e)) ↦ (omega arith, omega arith)
-]
+longest_card : (f : Format) → card_limit f ≤ 512
+longest_card V1 = omega arith
+longest_card (V2 card) = omega arith
+longest_card (V3 card globals registers) = omega arith
+
+pub card_between : (c : Config) → Suits c → (8 ≤ card_words c) × (card_words c ≤ 512)
+card_between c suits = let longest = longest_card c.format in let most = suits.card.longest in (suits.card.at_least, omega arith)

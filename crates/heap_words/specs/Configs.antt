@@ -1,5 +1,5 @@
 -- The sizes that a heap can have.
-use Rattle.std.specs.Prelude.{ℕ, ◌+◌, ◌*◌, ◌^◌, ◌≤◌, [], ◌∷◌, Contains, IsTrue}
+use Rattle.std.specs.Prelude.{ℕ, ◌+◌, ◌*◌, ◌^◌, ◌≤◌, min, IsTrue}
 use Rattle.std.specs.Int.{is_power_of_two}
 use Rattle.heap_words.specs.declared.config.Config.{Config}
 use Rattle.heap_words.specs.declared.config.Format.{Format}
@@ -8,15 +8,19 @@ use Rattle.heap_words.specs.declared.config.NewFault.{NewFault}
 use Rattle.heap_words.specs.declared.config.NewFault.TheVariants.{BadRegions, BadWords, BadBuffer, BadMutators}
 use Rattle.heap_words.specs.declared.config.NewFault.TheVariants.{NoMemory, BadCard, BadGlobals, BadRegisters, BadRoots}
 
--- the most regions that a heap has, the most words of a region, and of a heap
+-- the most regions of any format, the most words of a region, and of a heap
 abbrev pub max_regions : ℕ
-max_regions = 1024
+max_regions = 2 ^ 12
 
 abbrev pub max_region_words : ℕ
-max_region_words = 2 ^ 14
+max_region_words = 2 ^ 22
 
 abbrev pub max_words : ℕ
-max_words = 2 ^ 24
+max_words = 2 ^ 31
+
+-- the most words of an object: so its header can say its counts
+abbrev pub max_object_words : ℕ
+max_object_words = 2 ^ 24
 
 -- the most mutators of any format
 abbrev pub max_mutators : ℕ
@@ -32,16 +36,21 @@ max_registers = 2 ^ 16
 abbrev pub max_roots : ℕ
 max_roots = 2 ^ 20
 
--- the most words of a region, and of a heap, and the most mutators that a heap line of the format may ask for
+-- the most words of a region, and of a heap, the most regions and the most mutators that a heap line of the format may ask for
 abbrev pub region_limit : Format → ℕ
 region_limit V1 = 2 ^ 12
-region_limit (V2 card) = max_region_words
+region_limit (V2 card) = 2 ^ 14
 region_limit (V3 card globals registers) = max_region_words
 
 abbrev pub heap_limit : Format → ℕ
 heap_limit V1 = 2 ^ 20
-heap_limit (V2 card) = max_words
+heap_limit (V2 card) = 2 ^ 24
 heap_limit (V3 card globals registers) = max_words
+
+abbrev pub count_limit : Format → ℕ
+count_limit V1 = 1024
+count_limit (V2 card) = 1024
+count_limit (V3 card globals registers) = max_regions
 
 abbrev pub mutator_limit : Format → ℕ
 mutator_limit V1 = 16
@@ -50,7 +59,7 @@ mutator_limit (V3 card globals registers) = max_mutators
 
 pub record HasRegions (c : Config) : Type 0 where
   pub at_least : 2 ≤ c.regions
-  pub at_most : c.regions ≤ max_regions
+  pub at_most : c.regions ≤ count_limit c.format
 
 pub record HasWords (c : Config) : Type 0 where
   pub power : IsTrue (is_power_of_two c.words)
@@ -76,10 +85,22 @@ card_length (V3 card globals registers) = card
 abbrev pub card_words : Config → ℕ
 card_words c = card_length c.format
 
--- a card has 8, 16, 32 or 64 words, and at most a region
+-- the longest card of the format
+abbrev pub card_limit : Format → ℕ
+card_limit V1 = 8
+card_limit (V2 card) = 64
+card_limit (V3 card globals registers) = 512
+
+-- a card has a power of two of words, 8 or more, and at most a region
 pub record HasCard (c : Config) : Type 0 where
-  pub length : Contains (8 ∷ 16 ∷ 32 ∷ 64 ∷ []) (card_words c)
+  pub power : IsTrue (is_power_of_two (card_words c))
+  pub at_least : 8 ≤ card_words c
+  pub longest : card_words c ≤ card_limit c.format
   pub at_most : card_words c ≤ c.words
+
+-- the most words of an object
+abbrev pub object_limit : Config → ℕ
+object_limit c = min (c.regions * c.words) max_object_words
 
 -- how many globals there are, and how many registers each mutator has
 abbrev pub globals_in : Format → ℕ

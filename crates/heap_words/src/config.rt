@@ -2,14 +2,15 @@
 
 ghost use Rattle.std.specs.Prelude.{◌≡◌, ◌↔◌, ◌≤◌, ◌*◌, ◌/◌, IsOk, IsErr, IfErr, IsTrue};
 ghost use Rattle.std.specs.Int.{is_power_of_two};
-ghost use Rattle.heap_words.specs.Configs.{max_region_words, max_words, max_mutators, region_limit, heap_limit, mutator_limit};
-ghost use Rattle.heap_words.specs.Configs.{card_length, globals_in, registers_in, card_words, globals_of, registers_of, Suits};
+ghost use Rattle.heap_words.specs.Configs.{max_region_words, max_words, max_mutators, region_limit, heap_limit, count_limit, mutator_limit};
+ghost use Rattle.heap_words.specs.Configs.{card_length, card_limit, card_words, object_limit, globals_in, registers_in};
+ghost use Rattle.heap_words.specs.Configs.{globals_of, registers_of, Suits};
 ghost use Rattle.heap_words.specs.Configs.{HasRegions, HasWords, HasBuffer, HasMutators, HasCard, IsFirstFault};
 
 use thiserror::Error;
 
-/// The most regions that a heap has.
-const MAX_REGIONS: u32 = 1024;
+/// The most words that an object has, so that its header can say its counts.
+const MAX_OBJECT_WORDS: u64 = 1 << 24;
 
 /// The most globals that a heap has.
 const MAX_GLOBALS: u32 = 1 << 16;
@@ -31,7 +32,8 @@ pub enum Format {
         /// How many words a card has.
         card: u32,
     },
-    /// The line `heap3`: words and cards as with `heap2`; up to 64 mutators, and as many globals and registers as it says.
+    /// The line `heap3`: up to 4,096 regions, 4,194,304 words a region and 2,147,483,648 in all; up to 64 mutators, and as many globals and
+    /// registers as it says.
     V3 {
         /// How many words a card has.
         card: u32,
@@ -49,17 +51,40 @@ impl Format {
     {
         match self {
             Format::V1 => 1 << 12,
-            Format::V2 { .. } | Format::V3 { .. } => 1 << 14,
+            Format::V2 { .. } => 1 << 14,
+            Format::V3 { .. } => 1 << 22,
         }
     }
 
     /// The most words that a heap has.
-    fn heap_limit(self) -> u32
+    fn heap_limit(self) -> u64
         ensures { result ≡ heap_limit self }
     {
         match self {
             Format::V1 => 1 << 20,
-            Format::V2 { .. } | Format::V3 { .. } => 1 << 24,
+            Format::V2 { .. } => 1 << 24,
+            Format::V3 { .. } => 1 << 31,
+        }
+    }
+
+    /// The most regions that a heap has.
+    fn count_limit(self) -> u32
+        ensures { result ≡ count_limit self }
+    {
+        match self {
+            Format::V1 | Format::V2 { .. } => 1024,
+            Format::V3 { .. } => 4096,
+        }
+    }
+
+    /// The most words that a card has.
+    fn card_limit(self) -> u32
+        ensures { result ≡ card_limit self }
+    {
+        match self {
+            Format::V1 => 8,
+            Format::V2 { .. } => 64,
+            Format::V3 { .. } => 512,
         }
     }
 
@@ -124,7 +149,7 @@ pub struct Config {
 /// Why a heap could not be made.
 #[derive(Clone, Copy, Debug, PartialEq, Eq, Error)]
 pub enum NewFault {
-    /// There are 2 to 1,024 regions.
+    /// There are 2 to 1,024 regions, or to 4,096 in the third format.
     #[error("1 BadRegions")]
     BadRegions,
     /// A region has a power of two of words, 16 or more, and the heap at most the words of its format.
@@ -139,7 +164,7 @@ pub enum NewFault {
     /// Memory was refused.
     #[error("5 NoMemory")]
     NoMemory,
-    /// A card has 8, 16, 32 or 64 words, and at most a region.
+    /// A card has 8, 16, 32 or 64 words, in the third format also 128, 256 or 512, and at most a region.
     #[error("6 BadCard")]
     BadCard,
     /// There are at most 65,536 globals.
@@ -174,7 +199,7 @@ impl Config {
         ensures first { IfErr result (IsFirstFault self.now) }
         ensures not { IsErr result → Suits self.now → ⊥ }
     {
-        if self.regions < 2 || MAX_REGIONS < self.regions {
+        if self.regions < 2 || self.format.count_limit() < self.regions {
             return Err(NewFault::BadRegions);
         }
         if !self.words.is_power_of_two()
@@ -183,7 +208,7 @@ impl Config {
         {
             return Err(NewFault::BadWords);
         }
-        if self.format.heap_limit() < self.regions * self.words {
+        if self.format.heap_limit() < u64::from(self.regions) * u64::from(self.words) {
             return Err(NewFault::BadWords);
         }
         if self.buffer < 4 || self.words / 2 < self.buffer {
@@ -193,7 +218,11 @@ impl Config {
             return Err(NewFault::BadMutators);
         }
         let card = self.card_words();
-        if !matches!(card, 8 | 16 | 32 | 64) || self.words < card {
+        if !card.is_power_of_two()
+            || card < 8
+            || self.format.card_limit() < card
+            || self.words < card
+        {
             return Err(NewFault::BadCard);
         }
         Ok(())
@@ -229,6 +258,14 @@ impl Config {
         ensures { result ≡ card_words self.now }
     {
         self.format.card_length()
+    }
+
+    /// The most words that an object has: those of the heap, and no more than a header can say.
+    pub fn object_limit(&self) -> u64
+        ensures { result ≡ object_limit self.now }
+    {
+        let words = u64::from(self.regions) * u64::from(self.words);
+        words.min(MAX_OBJECT_WORDS)
     }
 
     /// How many globals there are.

@@ -81,6 +81,14 @@ fn copy_within(words: &mut [u64], from: usize, to: usize, size: usize)
     }
 }
 
+/// Copies words into a slice, in place of those from one on.
+fn copy_to(words: &mut [u64], at: usize, block: &[u64])
+    requires { at + length block.now ≤ length words.old }
+    ensures { words.new ≡ put words.old at block.now }
+{
+    words[at..at + block.len()].copy_from_slice(block);
+}
+
 /// The counts of an object's header, none of another one's.
 fn counts_in(word: u64) -> Option<HeaderCounts>
     ensures { result ≡ counts_of (header_of word) }
@@ -235,6 +243,17 @@ impl Words {
         object.field(fields) + field as usize
     }
 
+    /// Where a data word of the object at an address is. One is there, so its header isn't looked at for that.
+    #[inline(always)]
+    fn value_place(&self, object: Addr, field: u32) -> usize
+        requires at { object < self.now.written }
+        requires object { IsSome (counts_of (header_at self.now.all object)) }
+        ensures { result ≡ field_word object (field_count_at self.now.all object) + field }
+    {
+        let fields = fields_in(self.items[object.word() as usize]);
+        object.field(fields) + field as usize
+    }
+
     /// A data word of the object at an address, counted from 0 behind its fields. One is there, so its header isn't looked at for that.
     pub fn value(&self, object: Addr, field: u32) -> u64
         requires within { field_word object (field_count_at self.now.all object) + field < self.now.written }
@@ -254,6 +273,29 @@ impl Words {
     {
         let at = self.data_place(object, field);
         self.items[at] = value;
+    }
+
+    /// Copies data words of the object at an address, counted from 0, from one on: as many as there is room for.
+    pub fn values(&self, object: Addr, from: u32, out: &mut [u64])
+        requires at { object < self.now.written }
+        requires object { IsSome (counts_of (header_at self.now.all object)) }
+        requires within { field_word object (field_count_at self.now.all object) + from + length out.old ≤ self.now.written }
+        ensures { out.new ≡ take (length out.old) (drop (field_word object (field_count_at self.now.all object) + from) self.now.all) }
+    {
+        let at = self.value_place(object, from);
+        out.copy_from_slice(&self.items[at..at + out.len()]);
+    }
+
+    /// Sets data words of the object at an address, from one on.
+    pub fn set_values(&mut self, object: Addr, from: u32, values: &[u64])
+        requires at { object < self.old.written }
+        requires object { IsSome (counts_of (header_at self.old.all object)) }
+        requires within { field_word object (field_count_at self.old.all object) + from + length values.now ≤ self.old.written }
+        ensures all { self.new.all ≡ put self.old.all (field_word object (field_count_at self.old.all object) + from) values.now }
+        ensures written { self.new.written ≡ self.old.written }
+    {
+        let at = self.value_place(object, from);
+        copy_to(&mut self.items, at, values);
     }
 
     /// Writes an object whose pointers and weak slots are nil and whose data words are 0.

@@ -36,6 +36,7 @@ form_text collector.Remark = codes "marked N or refused 7 NotMarking"
 form_text collector.Cleanup = codes "reclaimed N or refused 6 MarkRunning"
 form_text (collector.Refine k) = codes "refined N"
 form_text (collector.Pause b) = codes "moved N W"
+form_text (collector.Compact b) = codes "moved N W"
 
 -- what the graph gives for a step
 abbrev pub given_text : Given → List ℕ

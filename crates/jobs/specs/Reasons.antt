@@ -22,17 +22,21 @@ use Rattle.jobs.specs.declared.causes.Counts.{Counts}
 
 -- the word of a heap line that a heap can't have, and which it may have in this format
 abbrev pub sizes_hint : Format → NewFault → List ℕ
-sizes_hint format sizes.BadRegions = codes "word 2: 2 to 1024"
+sizes_hint V1 sizes.BadRegions = codes "word 2: 2 to 1024"
+sizes_hint (V2 card) sizes.BadRegions = codes "word 2: 2 to 1024"
+sizes_hint (V3 card globals registers) sizes.BadRegions = codes "word 2: 2 to 4096"
 sizes_hint V1 sizes.BadWords = codes "word 3: a power of two, 16 to 4096, and at most 1048576 words in all regions"
 sizes_hint (V2 card) sizes.BadWords = codes "word 3: a power of two, 16 to 16384, and at most 16777216 words in all regions"
 sizes_hint (V3 card globals registers) sizes.BadWords =
-    codes "word 3: a power of two, 16 to 16384, and at most 16777216 words in all regions"
+    codes "word 3: a power of two, 16 to 4194304, and at most 2147483648 words in all regions"
 sizes_hint format sizes.BadBuffer = codes "word 4: 4 or more, and at most half the words of a region"
 sizes_hint V1 sizes.BadMutators = codes "word 5: 1 to 16"
 sizes_hint (V2 card) sizes.BadMutators = codes "word 5: 1 to 16"
 sizes_hint (V3 card globals registers) sizes.BadMutators = codes "word 5: 1 to 64"
 sizes_hint format sizes.NoMemory = codes "the system has too little memory for a heap of these sizes"
-sizes_hint format sizes.BadCard = codes "word 7: 8, 16, 32 or 64, and at most the words of a region"
+sizes_hint V1 sizes.BadCard = codes "word 7: 8, 16, 32 or 64, and at most the words of a region"
+sizes_hint (V2 card) sizes.BadCard = codes "word 7: 8, 16, 32 or 64, and at most the words of a region"
+sizes_hint (V3 card globals registers) sizes.BadCard = codes "word 7: a power of two, 8 to 512, and at most the words of a region"
 sizes_hint format sizes.BadGlobals = codes "word 8: 0 to 65536"
 sizes_hint format sizes.BadRegisters = codes "word 9: 1 to 65536"
 sizes_hint format sizes.BadRoots = codes "words 8 and 9: at most 1048576 roots in all, GLOBALS + REGISTERS * MUTATORS"

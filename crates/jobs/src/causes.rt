@@ -40,12 +40,18 @@ fn sizes_hint(format: Format, fault: NewFault) -> &'static [u8]
     ensures short { length result.now ≤ 120 }
 {
     match fault {
-        NewFault::BadRegions => b"word 2: 2 to 1024",
+        NewFault::BadRegions => match format {
+            Format::V1 | Format::V2 { .. } => b"word 2: 2 to 1024",
+            Format::V3 { .. } => b"word 2: 2 to 4096",
+        },
         NewFault::BadWords => match format {
             Format::V1 =>
                 b"word 3: a power of two, 16 to 4096, and at most 1048576 words in all regions",
-            Format::V2 { .. } | Format::V3 { .. } => {
+            Format::V2 { .. } => {
                 b"word 3: a power of two, 16 to 16384, and at most 16777216 words in all regions"
+            }
+            Format::V3 { .. } => {
+                b"word 3: a power of two, 16 to 4194304, and at most 2147483648 words in all regions"
             }
         },
         NewFault::BadBuffer => b"word 4: 4 or more, and at most half the words of a region",
@@ -54,7 +60,14 @@ fn sizes_hint(format: Format, fault: NewFault) -> &'static [u8]
             Format::V3 { .. } => b"word 5: 1 to 64",
         },
         NewFault::NoMemory => b"the system has too little memory for a heap of these sizes",
-        NewFault::BadCard => b"word 7: 8, 16, 32 or 64, and at most the words of a region",
+        NewFault::BadCard => match format {
+            Format::V1 | Format::V2 { .. } => {
+                b"word 7: 8, 16, 32 or 64, and at most the words of a region"
+            }
+            Format::V3 { .. } => {
+                b"word 7: a power of two, 8 to 512, and at most the words of a region"
+            }
+        },
         NewFault::BadGlobals => b"word 8: 0 to 65536",
         NewFault::BadRegisters => b"word 9: 1 to 65536",
         NewFault::BadRoots => {

@@ -37,6 +37,7 @@ fn form_text(step: CollectorStep) -> &'static [u8]
         CollectorStep::Cleanup => b"reclaimed N or refused 6 MarkRunning",
         CollectorStep::Refine(_) => b"refined N",
         CollectorStep::Pause(_) => b"moved N W",
+        CollectorStep::Compact(_) => b"moved N W",
     }
 }
 

@@ -13,6 +13,7 @@ use Rattle.mark_bitmap.specs.Tops.{Tops, is_in_region, with_bottom}
 use Rattle.mark_bitmap.specs.Kept.{MarksObjects}
 use Rattle.mark_bitmap.proofs.ObjectLaws.{reset_objects}
 use Rattle.mark_bitmap.proofs.Ranges.{other_region}
+use Rattle.mark_bitmap.proofs.LiveWords.{words_none}
 use Rattle.marker.specs.Stands.{MarkerStands, CanFollow}
 use Rattle.marker.specs.Live.{LiveCounts, CountsWords, with_none}
 use Rattle.marker.specs.declared.marker.Marker.{Marker}
@@ -174,3 +175,12 @@ released_stands t m k z st off ordinary none none' low low' =
     (low_tops t m.tams.previous m.bitmaps.previous k st.previous low) (low_tops t m.tams.next m.bitmaps.next k st.next low')
     (stays_marked t m.bitmaps.previous k z none) (stays_marked t m.bitmaps.next k z none') (words_marked t m.bitmaps.previous k z none)
     (words_marked t m.bitmaps.next k z none') (λ on. absurd (let e = off in cc)))
+
+-- where no word of a region is counted none of its addresses is marked
+pub none_counted : (t : Table) (tops : List ℕ) (marks : List Bool) (counts : List ℕ) (k from to : ℕ) → MarksObjects t tops marks
+    → CountsWords t marks counts → k < length t.regions → from ≡ k * t.words_per_region
+    → to ≡ k * t.words_per_region + t.words_per_region → get_or counts k 0 ≡ 0
+    → (a : ℕ) → from ≤ a → a < to → is_marked marks a ≡ false
+none_counted t tops marks counts k from to m c known low high none a l h =
+    words_none t tops marks t.words_per_region (k * t.words_per_region) a m (sym (c.each k known) ∙ none) (omega (arith, l, low))
+    (omega (arith, h, high))

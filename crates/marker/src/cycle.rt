@@ -6,7 +6,7 @@ ghost use Rattle.heap_model.specs.Graph.{Graph};
 ghost use Rattle.heap_model.specs.Heap.{Shows, IsClosed};
 ghost use Rattle.heap_model.specs.Marking.{KeepsSnapshot, Begins, IsSaved};
 ghost use Rattle.regions.specs.Table.{top_of};
-ghost use Rattle.mark_bitmap.specs.Marks.{is_marked, marked_count};
+ghost use Rattle.mark_bitmap.specs.Marks.{is_between, is_marked, marked_count};
 ghost use Rattle.mark_bitmap.specs.Tops.{exchanged, is_in_region, with_bottom};
 ghost use Rattle.satb_log.specs.Logs.{log_of};
 ghost use Rattle.marker.specs.Views.{heap_of, marking_of, with_roles_exchanged};
@@ -63,6 +63,19 @@ fn past_marked(marks: &Marks, words: &[Ptr], from: usize) -> usize
         place += 1;
     }
     place
+}
+
+/// Clears the addresses from `from` up to `to`, which is not one of them, where so many words are marked: none of them is where no word is,
+/// and so none is looked at.
+fn clear_counted(marks: &mut Marks, words: u32, from: Addr, to: Addr)
+    requires within { to ≤ length marks.old }
+    requires counted { words ≡ 0 → (a : ℕ) → from ≤ a → a < to → is_marked marks.old a ≡ false }
+    ensures len { length marks.new ≡ length marks.old }
+    ensures marks { (a : ℕ) → is_marked marks.new a ≡ (if is_between from to a then false else is_marked marks.old a) }
+{
+    if words != 0 {
+        marks.clear_range(from, to);
+    }
 }
 
 impl Marker {
@@ -255,8 +268,10 @@ impl Marker {
         let bottom = region.number() * words;
         let from = Addr::new(bottom);
         let to = Addr::new(bottom + words);
-        self.bitmaps.previous.clear_range(from, to);
-        self.bitmaps.next.clear_range(from, to);
+        let previous = self.live.previous(region);
+        clear_counted(&mut self.bitmaps.previous, previous, from, to);
+        let next = self.live.next(region);
+        clear_counted(&mut self.bitmaps.next, next, from, to);
         self.tams.reset(region, from);
         self.live.forget(region);
     }

@@ -80,6 +80,14 @@ impl LiveWords {
         self.previous[region.number() as usize]
     }
 
+    /// The words of the region's objects that are marked of the other role: of the marking that runs, or of the one before.
+    pub(crate) fn next(&self, region: RegionNo) -> u32
+        requires { region < length self.now.next }
+        ensures { result ≡ slice_index self.now.next region }
+    {
+        self.next[region.number() as usize]
+    }
+
     /// Marking begins: nothing is marked.
     pub(crate) fn restart(&mut self)
         ensures next { self.new.next ≡ replicate (length self.old.next) 0 }

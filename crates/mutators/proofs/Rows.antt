@@ -122,7 +122,7 @@ own_line config k s line = subst (λ (a : Actor). IsOwn config a s) line.1 (own 
   where
     own : (s : Step) → IsStep config s → IsOwn config (actor_of s) s
     own (steps.Mutator o) yet = (refl, yet)
-    own (steps.Collector c) yet = tt
+    own (steps.Collector c) yet = yet
 
 pub line_at : (d : JournalState) (k : ℕ) (s : Step) → Keeps d → k ≤ mutators_of d → next_at d k ≡ Some s → IsLine d.core.config k s
 line_at d k s was below next =

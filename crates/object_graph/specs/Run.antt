@@ -28,6 +28,7 @@ IsCollectorReply collector.Cleanup (replies.Reclaimed n) = Unit {0}
 IsCollectorReply collector.Cleanup (replies.Refused refusals.MarkRunning) = Unit {0}
 IsCollectorReply (collector.Refine k) (replies.Refined n) = Unit {0}
 IsCollectorReply (collector.Pause k) (replies.Moved n w) = Unit {0}
+IsCollectorReply (collector.Compact k) (replies.Moved n w) = Unit {0}
 IsCollectorReply _ _ = ⊥
 
 -- the action asks for an object

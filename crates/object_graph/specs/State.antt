@@ -1,7 +1,8 @@
 -- The graph of a heap and the snapshot of its marking, and the state of a new heap.
-use Rattle.std.specs.Prelude.{◌≡◌, ◌*◌, ◌-◌, ◌<◌, ◌≤◌, ◌^◌, if◌then◌else◌}
+use Rattle.std.specs.Prelude.{◌≡◌, ◌-◌, ◌<◌, ◌≤◌, ◌^◌, if◌then◌else◌}
 use Rattle.std.specs.Prelude.{ℕ, List, Option, Some, None, length, slice_get, slice_index_or, replicate, [], nat_lt}
 use Rattle.heap_words.specs.declared.config.Config.{Config}
+use Rattle.heap_words.specs.Configs.{object_limit}
 use Rattle.heap_model.specs.Graph.{Graph, Object, next_name, object_fields}
 use Rattle.root_table.specs.Bounds.{AreBounded}
 pub use Rattle.heap_model.specs.Graph.{root_places, register_place, with_root, with_nil_roots}
@@ -39,7 +40,7 @@ pub record State : Type 0 where
 -- the graph of a new heap: no objects, and each root nil
 abbrev pub first_graph : Config → Graph
 first_graph c = record {
-  room = c.regions * c.words;
+  room = object_limit c;
   first_name = c.first_name;
   places = places_of c;
   objects = [];

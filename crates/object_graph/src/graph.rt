@@ -471,9 +471,10 @@ impl Graph {
         ensures { IfOk result (λ g. g ≡ first_graph config.now) }
     {
         let places = Places::of(config);
+        let first_name = config.first_name;
         Ok(Graph {
-            room: u64::from(config.regions) * u64::from(config.words),
-            first_name: config.first_name,
+            room: config.object_limit(),
+            first_name,
             places,
             objects: Objects::new(alloc),
             roots: vec![in alloc; Pointer::nil(); places.count()]?,

@@ -229,6 +229,6 @@ fn is_collector_reply(step: CollectorStep, reply: Reply) -> bool
             Reply::Reclaimed(_) | Reply::Refused(Refusal::MarkRunning)
         ),
         CollectorStep::Refine(_) => matches!(reply, Reply::Refined(_)),
-        CollectorStep::Pause(_) => matches!(reply, Reply::Moved { .. }),
+        CollectorStep::Pause(_) | CollectorStep::Compact(_) => matches!(reply, Reply::Moved { .. }),
     }
 }

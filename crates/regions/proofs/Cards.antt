@@ -2,3 +2,4 @@ pub mod FirstTile
 pub mod CardStarts
 pub mod FirstTiles
 pub mod Entries
+pub mod ValueRuns

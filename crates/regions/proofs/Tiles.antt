@@ -23,3 +23,4 @@ pub mod Holders
 pub mod WeakStarts
 pub mod Within
 pub mod Apart
+pub mod Twice

@@ -166,6 +166,11 @@ set_value_of t a i v (Some s) = put_object t a (record s { values = slice_set s.
 unfoldable pub set_value : Table → ℕ → ℕ → ℕ → Table
 set_value t a i v = set_value_of t a i v (object_at t a)
 
+-- the table with data words of the object at the address changed, one after another from one on
+abbrev pub set_values : Table → ℕ → ℕ → List ℕ → Table
+set_values t a i [] = t
+set_values t a i (v ∷ vs) = set_values (set_value t a i v) a (suc i) vs
+
 -- the region is ordinary
 abbrev pub IsOrdinary : Region → Type 0
 IsOrdinary Free = ⊥

@@ -1,8 +1,8 @@
 //! Reads and writes of objects: each is one access to a word or two, and no walk.
-ghost use Rattle.std.specs.Prelude.{◌≡◌, ◌<◌, length, slice_get, Some, IsSome, IfSome};
+ghost use Rattle.std.specs.Prelude.{◌≡◌, ◌<◌, ◌≤◌, ◌+◌, length, take, drop, slice_get, Some, IsSome, IfSome};
 ghost use Rattle.heap_words.specs.Contents.{header_at, counts_of, pointer_count_at, field_count_at};
 ghost use Rattle.regions.specs.Table.{object_at, object_words, pointers_at, weaks_at, fields_at, values_at, set_pointer};
-ghost use Rattle.regions.specs.Table.{set_weak, set_field, set_value, tile_in, moved_to};
+ghost use Rattle.regions.specs.Table.{set_weak, set_field, set_value, set_values, tile_in, moved_to};
 ghost use Rattle.regions.specs.Rows.{header_target, sizes_in, weak_count, value_count};
 
 use crate::table::RegionTable;
@@ -183,6 +183,24 @@ impl RegionTable {
         ensures { self.new ≡ set_value self.old object field value }
     {
         self.words.set_value(object, field, value);
+    }
+
+    /// Copies data words of the object at an address, from one on: as many as there is room for.
+    pub fn get_values(&self, object: Addr, from: u32, out: &mut [u64])
+        requires object { IsSome (object_at self.now object) }
+        requires within { from + length out.old ≤ length (values_at self.now object) }
+        ensures { out.new ≡ take (length out.old) (drop from (values_at self.now object)) }
+    {
+        self.words.values(object, from, out);
+    }
+
+    /// Stores data words in the object at an address, from one on.
+    pub fn set_values(&mut self, object: Addr, from: u32, values: &[u64])
+        requires object { IsSome (object_at self.old object) }
+        requires within { from + length values.now ≤ length (values_at self.old object) }
+        ensures { self.new ≡ set_values self.old object from values.now }
+    {
+        self.words.set_values(object, from, values);
     }
 
     /// Where the tile at an address went, if it is an object that was forwarded.

@@ -43,13 +43,13 @@ taken_of c (actors.Mutator m) ws = do
   a ← allowed_of c ws
   Some (steps.Mutator (record { mutator = m; action = a }))
 taken_of c actors.Collector ws = do
-  k ← collection_of ws
+  k ← collection_of c.format ws
   Some (steps.Collector k)
 taken_of c (actors.Marker i) ws = do
-  k ← collection_of ws
+  k ← collection_of c.format ws
   marker_step k
 taken_of c (actors.Refiner i) ws = do
-  k ← collection_of ws
+  k ← collection_of c.format ws
   refiner_step k
 
 -- the refusal, if this is its number

@@ -53,6 +53,7 @@ CollectionFits collector.Remark = Unit {0}
 CollectionFits collector.Cleanup = Unit {0}
 CollectionFits (collector.Refine k) = k ≤ small
 CollectionFits (collector.Pause b) = b ≤ small
+CollectionFits (collector.Compact b) = b ≤ small
 
 abbrev pub StepFits : Step → Type 0
 StepFits (steps.Mutator o) = Fits o.action

@@ -1,7 +1,8 @@
 -- The words of the line at a text's front, from a place on.
 use Rattle.std.specs.Prelude.{◌≡◌, ◌+◌, ◌≤◌, ◌<◌, ◌-◌, ◌∷◌, ◌++◌, [], ℕ, Bool, true, false, List, take, drop, slice_index, codes}
 use Rattle.heap_words.specs.declared.config.Config.{Config}
-use Rattle.heap_steps.specs.Actors.{IsOp, IsStepOf, IsEvent}
+use Rattle.heap_words.specs.declared.config.Format.{Format}
+use Rattle.heap_steps.specs.Actors.{HasCollection, IsOp, IsStepOf, IsEvent}
 use Rattle.heap_steps.specs.declared.step.Action.{Action}
 use Rattle.heap_steps.specs.declared.step.CollectorStep.{CollectorStep}
 use Rattle.heap_steps.specs.declared.step.Actor.{Actor}
@@ -54,10 +55,11 @@ pub record IsAction (c : Config) (text : List ℕ) (left : List (List ℕ)) (a :
   pub owned : (m : ℕ) → m < c.mutators → IsOp c (record { mutator = m; action = a })
   pub ends : EndsAt text past more
 
--- the words that are left of a line are those of one of the collector's steps, and more where these follow
+-- the words that are left of a line are those of one of the collector's steps, one of every format, and more where these follow
 pub record IsCollection (text : List ℕ) (left : List (List ℕ)) (k : CollectorStep) (past : ℕ) (more : Bool) : Type 0 where
   pub words : left ≡ collection_words k ++ words_behind text past more
   pub fits : CollectionFits k
+  pub known : (f : Format) → HasCollection f k
   pub ends : EndsAt text past more
 
 -- from a place on a line has an actor, one of the collector's steps that this actor takes in any heap, and more words

@@ -3,7 +3,7 @@ use Rattle.std.specs.Prelude.{◌≡◌, ℕ, ◌+◌, ◌-◌, Bool, true, fals
 use Rattle.std.specs.Fmt.{decimal}
 use Rattle.heap_words.specs.declared.config.Config.{Config}
 use Rattle.heap_words.specs.Configs.{globals_of, registers_of}
-use Rattle.heap_steps.specs.Actors.{has_frames}
+use Rattle.heap_steps.specs.Actors.{is_third}
 use Rattle.script_text.specs.declared.fault.Kind.{Kind}
 use Rattle.script_text.specs.declared.fault.Kind.TheVariants as kinds
 use Rattle.script_text.specs.declared.fault.LineFault.{LineFault}
@@ -17,33 +17,34 @@ use Rattle.script_text.specs.Places.{stop_in, heap_stop_in, no_sizes}
 
 -- the words for a place, before the limit that a heap's sizes set
 abbrev pub place_words : Place → Bool → List ℕ
-place_words (places.Count n) frames = codes "the count "
-place_words places.ScriptActor frames = codes "gc, or a mutator below "
-place_words places.RecordActor frames = codes "gc, m0 to m7, f0 to f7, or a mutator below "
+place_words (places.Count n) third = codes "the count "
+place_words places.ScriptActor third = codes "gc, or a mutator below "
+place_words places.RecordActor third = codes "gc, m0 to m7, f0 to f7, or a mutator below "
 place_words places.Action true = codes
     "new, newweak, get, getweak, put, putweak, read, write, move, drop, load, save, scope, shape or weaks"
 place_words places.Action false = codes "new, newweak, get, getweak, put, putweak, read, write, move, drop, load, save, shape or weaks"
-place_words places.Collection frames = codes "begin, mark, remark, cleanup, refine or pause"
-place_words places.Marking frames = codes "mark"
-place_words places.Refining frames = codes "refine"
-place_words places.Register frames = codes "a register below r"
-place_words places.Global frames = codes "a global below g"
-place_words places.Value frames = codes "nil or a register below r"
-place_words places.Small frames = codes "a number up to 4294967295"
-place_words places.Large frames = codes "a number up to 18446744073709551615"
-place_words places.Weaks frames = codes "a number up to 255"
-place_words places.Equals frames = codes "= and a reply"
-place_words places.Reply frames = codes "a reply, such as ok, nil, #3, 7, 1 2 or refused 1 Nil"
-place_words places.End frames = codes "the line's end"
-place_words places.Heap frames = codes "heap, heap2 or heap3"
-place_words places.Regions frames = codes "REGIONS, a number up to 4294967295"
-place_words places.RegionWords frames = codes "WORDS, a number up to 4294967295"
-place_words places.Buffer frames = codes "BUFFER, a number up to 4294967295"
-place_words places.Mutators frames = codes "MUTATORS, a number up to 4294967295"
-place_words places.FirstName frames = codes "FIRST, a number up to 18446744073709551615"
-place_words places.Card frames = codes "CARD, a number up to 4294967295"
-place_words places.Globals frames = codes "GLOBALS, a number up to 4294967295"
-place_words places.Registers frames = codes "REGISTERS, a number up to 4294967295"
+place_words places.Collection true = codes "begin, mark, remark, cleanup, refine, pause or compact"
+place_words places.Collection false = codes "begin, mark, remark, cleanup, refine or pause"
+place_words places.Marking third = codes "mark"
+place_words places.Refining third = codes "refine"
+place_words places.Register third = codes "a register below r"
+place_words places.Global third = codes "a global below g"
+place_words places.Value third = codes "nil or a register below r"
+place_words places.Small third = codes "a number up to 4294967295"
+place_words places.Large third = codes "a number up to 18446744073709551615"
+place_words places.Weaks third = codes "a number up to 255"
+place_words places.Equals third = codes "= and a reply"
+place_words places.Reply third = codes "a reply, such as ok, nil, #3, 7, 1 2 or refused 1 Nil"
+place_words places.End third = codes "the line's end"
+place_words places.Heap third = codes "heap, heap2 or heap3"
+place_words places.Regions third = codes "REGIONS, a number up to 4294967295"
+place_words places.RegionWords third = codes "WORDS, a number up to 4294967295"
+place_words places.Buffer third = codes "BUFFER, a number up to 4294967295"
+place_words places.Mutators third = codes "MUTATORS, a number up to 4294967295"
+place_words places.FirstName third = codes "FIRST, a number up to 18446744073709551615"
+place_words places.Card third = codes "CARD, a number up to 4294967295"
+place_words places.Globals third = codes "GLOBALS, a number up to 4294967295"
+place_words places.Registers third = codes "REGISTERS, a number up to 4294967295"
 
 -- the count, or the limit that the sizes of a heap set to a place
 abbrev pub limit_text : Config → Place → List ℕ
@@ -57,7 +58,7 @@ limit_text c _ = []
 
 -- what may stand at a place
 abbrev pub place_text : Config → Place → List ℕ
-place_text c place = place_words place (has_frames c.format) ++ limit_text c place
+place_text c place = place_words place (is_third c.format) ++ limit_text c place
 
 -- a word that doesn't fit, and what may stand in its place
 abbrev pub stop_text : Config → Stop → List ℕ

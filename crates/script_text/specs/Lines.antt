@@ -39,7 +39,7 @@ unfoldable pub step_of : Config → List (List ℕ) → Result Step Kind
 step_of c [] = Err kinds.BadActor
 step_of c (actor ∷ rest) =
     if bytes_eq actor (codes "gc") then (do
-      k ← or_fault (collection_of rest) kinds.BadStep
+      k ← or_fault (collection_of c.format rest) kinds.BadStep
       Ok (steps.Collector k))
     else (do
       m ← mutator_of c actor

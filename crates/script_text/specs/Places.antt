@@ -6,7 +6,7 @@ use Rattle.std.specs.Str.{bytes_eq}
 use Rattle.heap_words.specs.declared.config.Config.{Config}
 use Rattle.heap_words.specs.declared.config.Format.TheVariants.{V1}
 use Rattle.heap_words.specs.Configs.{globals_of, registers_of}
-use Rattle.heap_steps.specs.Actors.{has_frames}
+use Rattle.heap_steps.specs.Actors.{is_third}
 use Rattle.heap_steps.specs.declared.step.Actor.{Actor}
 use Rattle.heap_steps.specs.declared.step.Actor.TheVariants as actors
 use Rattle.script_text.specs.declared.fault.Kind.{Kind}
@@ -33,7 +33,7 @@ actor_in Script c word =
 
 -- what may stand behind a mutator's verb; nothing, if the word is none
 unfoldable pub action_form : Bool → List ℕ → Option (List Place)
-action_form frames verb =
+action_form third verb =
     if bytes_eq verb (codes "new") then Some (places.Register ∷ places.Small ∷ places.Small ∷ [])
     else if bytes_eq verb (codes "newweak") then Some (places.Register ∷ places.Small ∷ places.Weaks ∷ places.Small ∷ [])
     else if bytes_eq verb (codes "get") then Some (places.Register ∷ places.Register ∷ places.Small ∷ [])
@@ -48,18 +48,19 @@ action_form frames verb =
     else if bytes_eq verb (codes "drop") then Some (places.Register ∷ [])
     else if bytes_eq verb (codes "shape") then Some (places.Register ∷ [])
     else if bytes_eq verb (codes "weaks") then Some (places.Register ∷ [])
-    else if bytes_eq verb (codes "scope") then (if frames then Some (places.Register ∷ []) else None)
+    else if bytes_eq verb (codes "scope") then (if third then Some (places.Register ∷ []) else None)
     else None
 
 -- the same of the collector's
-unfoldable pub collection_form : List ℕ → Option (List Place)
-collection_form verb =
+unfoldable pub collection_form : Bool → List ℕ → Option (List Place)
+collection_form third verb =
     if bytes_eq verb (codes "begin") then Some []
     else if bytes_eq verb (codes "mark") then Some (places.Small ∷ [])
     else if bytes_eq verb (codes "remark") then Some []
     else if bytes_eq verb (codes "cleanup") then Some []
     else if bytes_eq verb (codes "refine") then Some (places.Small ∷ [])
     else if bytes_eq verb (codes "pause") then Some (places.Small ∷ [])
+    else if bytes_eq verb (codes "compact") then (if third then Some (places.Small ∷ []) else None)
     else None
 
 -- where a verb of the actor stands
@@ -71,11 +72,11 @@ verb_place (actors.Refiner i) = places.Refining
 
 -- what may stand behind a verb at such a place; nothing, if the word is no verb there
 abbrev pub form_at : Bool → Place → List ℕ → Option (List Place)
-form_at frames places.Action verb = action_form frames verb
-form_at frames places.Collection verb = collection_form verb
-form_at frames places.Marking verb = if bytes_eq verb (codes "mark") then Some (places.Small ∷ []) else None
-form_at frames places.Refining verb = if bytes_eq verb (codes "refine") then Some (places.Small ∷ []) else None
-form_at frames _ verb = None
+form_at third places.Action verb = action_form third verb
+form_at third places.Collection verb = collection_form third verb
+form_at third places.Marking verb = if bytes_eq verb (codes "mark") then Some (places.Small ∷ []) else None
+form_at third places.Refining verb = if bytes_eq verb (codes "refine") then Some (places.Small ∷ []) else None
+form_at third _ verb = None
 
 -- what may stand behind the heap line's first word; nothing, if it is no format's
 unfoldable pub heap_form : List ℕ → Option (List Place)
@@ -101,8 +102,8 @@ fits_word c places.FirstName word = is_some (number_of large word)
 fits_word c places.Weaks word = is_some (number_of most_weaks word)
 fits_word c places.Equals word = bytes_eq word (codes "=")
 fits_word c places.Heap word = is_some (heap_form word)
-fits_word c places.Action word = is_some (action_form (has_frames c.format) word)
-fits_word c places.Collection word = is_some (collection_form word)
+fits_word c places.Action word = is_some (action_form (is_third c.format) word)
+fits_word c places.Collection word = is_some (collection_form (is_third c.format) word)
 fits_word c places.Marking word = bytes_eq word (codes "mark")
 fits_word c places.Refining word = bytes_eq word (codes "refine")
 fits_word c places.Reply word = false
@@ -126,7 +127,7 @@ abbrev pub verb_places : Config → Option Actor → List (List ℕ) → List Pl
 verb_places c None words end = []
 verb_places c (Some actor) [] end = verb_place actor ∷ []
 verb_places c (Some actor) (verb ∷ rest) end =
-    verb_place actor ∷ behind_verb (form_at (has_frames c.format) (verb_place actor) verb) end
+    verb_place actor ∷ behind_verb (form_at (is_third c.format) (verb_place actor) verb) end
 
 -- the place of an actor
 abbrev pub actor_place : TextKind → Place

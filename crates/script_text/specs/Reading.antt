@@ -6,7 +6,7 @@ use Rattle.std.specs.Str.Parse.{digits_value}
 use Rattle.heap_words.specs.declared.config.Config.{Config}
 use Rattle.heap_words.specs.declared.config.Format.{Format}
 use Rattle.heap_words.specs.declared.config.Format.TheVariants.{V1, V2, V3}
-use Rattle.heap_steps.specs.Actors.{allows}
+use Rattle.heap_steps.specs.Actors.{allows, is_third}
 use Rattle.heap_steps.specs.declared.step.Register.{Register}
 use Rattle.heap_steps.specs.declared.step.GlobalRoot.{GlobalRoot}
 use Rattle.heap_steps.specs.declared.step.Action.{Action}
@@ -200,13 +200,18 @@ allowed_in c read = do
 unfoldable pub allowed_of : Config → List (List ℕ) → Option Action
 allowed_of c ws = allowed_in c (action_of ws)
 
-unfoldable pub collection_of : List (List ℕ) → Option CollectorStep
-collection_of (verb ∷ []) =
+-- a step of the collector that is a verb alone
+abbrev pub lone_collection_of : List ℕ → Option CollectorStep
+lone_collection_of verb =
     if bytes_eq verb (codes "begin") then Some collector.Begin
     else if bytes_eq verb (codes "remark") then Some collector.Remark
     else if bytes_eq verb (codes "cleanup") then Some collector.Cleanup
     else None
-collection_of (verb ∷ a ∷ []) =
+
+-- a step of the collector, if the format has it
+unfoldable pub collection_of : Format → List (List ℕ) → Option CollectorStep
+collection_of f (verb ∷ []) = lone_collection_of verb
+collection_of f (verb ∷ a ∷ []) =
     if bytes_eq verb (codes "mark") then (do
       k ← number_of small a
       Some (collector.Mark k))
@@ -216,8 +221,11 @@ collection_of (verb ∷ a ∷ []) =
     else if bytes_eq verb (codes "pause") then (do
       b ← number_of small a
       Some (collector.Pause b))
+    else if bytes_eq verb (codes "compact") then (if is_third f then (do
+      b ← number_of small a
+      Some (collector.Compact b)) else None)
     else None
-collection_of _ = None
+collection_of f _ = None
 
 -- the sizes that five words give, behind the verb of the format
 unfoldable pub sizes_in : Format → List ℕ → List ℕ → List ℕ → List ℕ → List ℕ → Option Config

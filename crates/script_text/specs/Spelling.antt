@@ -50,6 +50,7 @@ collection_words collector.Remark = codes "remark" ∷ []
 collection_words collector.Cleanup = codes "cleanup" ∷ []
 collection_words (collector.Refine k) = codes "refine" ∷ decimal k ∷ []
 collection_words (collector.Pause b) = codes "pause" ∷ decimal b ∷ []
+collection_words (collector.Compact b) = codes "compact" ∷ decimal b ∷ []
 
 abbrev pub step_words : Step → List (List ℕ)
 step_words (steps.Mutator o) = decimal o.mutator ∷ action_words o.action

@@ -21,14 +21,15 @@ use crate::places::{Place, Stop, TextKind, heap_stop_in, no_sizes, stop_in};
 use crate::read::script::heap_line;
 use crate::read::words::split_line;
 use crate::write::bytes::{put_byte, put_number, put_text};
-use heap_words::config::{Config, Format};
+use heap_steps::is_third;
+use heap_words::config::Config;
 
 /// The room that the reason of a line's fault needs.
 pub const REASON_ROOM: usize = 480;
 
 /// The words that say what may stand at a place, before the limit that a heap's sizes set, if they do.
-fn place_words(place: Place, frames: bool) -> &'static [u8]
-    ensures words { result.now ≡ place_words place frames }
+fn place_words(place: Place, third: bool) -> &'static [u8]
+    ensures words { result.now ≡ place_words place third }
     ensures short { length result.now ≤ 110 }
 {
     match place {
@@ -36,12 +37,17 @@ fn place_words(place: Place, frames: bool) -> &'static [u8]
         Place::ScriptActor => b"gc, or a mutator below ",
         Place::RecordActor => b"gc, m0 to m7, f0 to f7, or a mutator below ",
         Place::Action => {
-            if frames {
+            if third {
                 return b"new, newweak, get, getweak, put, putweak, read, write, move, drop, load, save, scope, shape or weaks";
             }
             b"new, newweak, get, getweak, put, putweak, read, write, move, drop, load, save, shape or weaks"
         }
-        Place::Collection => b"begin, mark, remark, cleanup, refine or pause",
+        Place::Collection => {
+            if third {
+                return b"begin, mark, remark, cleanup, refine, pause or compact";
+            }
+            b"begin, mark, remark, cleanup, refine or pause"
+        }
         Place::Marking => b"mark",
         Place::Refining => b"refine",
         Place::Register => b"a register below r",
@@ -71,8 +77,7 @@ fn put_place(buffer: &mut [u8], at: usize, config: &Config, place: Place) -> usi
     ensures put { take result buffer.new ≡ take at buffer.old ++ place_text config.now place }
     ensures end { result ≤ at + 130 }
 {
-    let frames = matches!(config.format, Format::V3 { .. });
-    let at = put_text(buffer, at, place_words(place, frames));
+    let at = put_text(buffer, at, place_words(place, is_third(config.format)));
     match place {
         Place::Count(count) => put_number(buffer, at, count),
         Place::ScriptActor | Place::RecordActor => {

@@ -2,7 +2,7 @@
 
 ghost use Rattle.std.specs.Prelude.{◌≡◌, ◌+◌, ◌^◌, ◌<◌, ◌≤◌, ◌++◌, ℕ, List, Some, IfErr, IfOk, IfSome, length, map, option_map, take, drop};
 ghost use Rattle.heap_words.specs.declared.config.Config.{Config};
-ghost use Rattle.heap_steps.specs.Actors.{has_frames};
+ghost use Rattle.heap_steps.specs.Actors.{is_third};
 ghost use Rattle.script_text.specs.declared.places.Place.{Place};
 ghost use Rattle.script_text.specs.Places.{actor_in, action_form, collection_form, verb_place, form_at, heap_form, fits_word, fits};
 ghost use Rattle.script_text.specs.Places.{actor_place, step_places, first_misfit, stop_in, no_sizes, heap_stop_in};
@@ -11,7 +11,7 @@ use crate::read::events::actor;
 use crate::read::replies::reply;
 use crate::read::steps::mutator;
 use crate::read::words::{global, is_word, number, register, small_number};
-use heap_steps::Actor;
+use heap_steps::{Actor, is_third};
 use heap_words::config::{Config, Format};
 
 /// What a text is read as.
@@ -96,8 +96,8 @@ fn actor_in(kind: TextKind, config: &Config, word: &[u8]) -> Option<Actor>
 
 /// What may stand behind a mutator's verb. `None`: the word is none.
 #[tactic(auto, unfolding(crate::specs::Places::action_form))]
-fn action_form(frames: bool, verb: &[u8]) -> Option<&'static [Place]>
-    ensures form { option_map (λ form. form.now) result ≡ action_form frames verb.now }
+fn action_form(third: bool, verb: &[u8]) -> Option<&'static [Place]>
+    ensures form { option_map (λ form. form.now) result ≡ action_form third verb.now }
     ensures short { IfSome result (λ form. length form.now ≤ 8) }
 {
     if is_word(verb, b"new") {
@@ -129,7 +129,7 @@ fn action_form(frames: bool, verb: &[u8]) -> Option<&'static [Place]>
     } else if is_word(verb, b"weaks") {
         Some(&[Place::Register])
     } else if is_word(verb, b"scope") {
-        if frames {
+        if third {
             Some(&[Place::Register])
         } else {
             None
@@ -141,8 +141,8 @@ fn action_form(frames: bool, verb: &[u8]) -> Option<&'static [Place]>
 
 /// The same of a verb of the collector.
 #[tactic(auto, unfolding(crate::specs::Places::collection_form))]
-fn collection_form(verb: &[u8]) -> Option<&'static [Place]>
-    ensures form { option_map (λ form. form.now) result ≡ collection_form verb.now }
+fn collection_form(third: bool, verb: &[u8]) -> Option<&'static [Place]>
+    ensures form { option_map (λ form. form.now) result ≡ collection_form third verb.now }
     ensures short { IfSome result (λ form. length form.now ≤ 8) }
 {
     if is_word(verb, b"begin") {
@@ -157,6 +157,8 @@ fn collection_form(verb: &[u8]) -> Option<&'static [Place]>
         Some(&[Place::Small])
     } else if is_word(verb, b"pause") {
         Some(&[Place::Small])
+    } else if is_word(verb, b"compact") {
+        if third { Some(&[Place::Small]) } else { None }
     } else {
         None
     }
@@ -175,13 +177,13 @@ fn verb_place(actor: Actor) -> Place
 }
 
 /// What may stand behind a verb at such a place. `None`: the word is no verb there.
-fn form_at(frames: bool, place: Place, verb: &[u8]) -> Option<&'static [Place]>
-    ensures form { option_map (λ form. form.now) result ≡ form_at frames place verb.now }
+fn form_at(third: bool, place: Place, verb: &[u8]) -> Option<&'static [Place]>
+    ensures form { option_map (λ form. form.now) result ≡ form_at third place verb.now }
     ensures short { IfSome result (λ form. length form.now ≤ 8) }
 {
     match place {
-        Place::Action => action_form(frames, verb),
-        Place::Collection => collection_form(verb),
+        Place::Action => action_form(third, verb),
+        Place::Collection => collection_form(third, verb),
         Place::Marking => {
             if is_word(verb, b"mark") {
                 Some(&[Place::Small])
@@ -239,13 +241,6 @@ fn heap_form(verb: &[u8]) -> Option<&'static [Place]>
     }
 }
 
-/// Whether a heap's steps leave frames of registers.
-fn has_frames(config: &Config) -> bool
-    ensures { result ≡ has_frames config.now.format }
-{
-    matches!(config.format, Format::V3 { .. })
-}
-
 /// Whether a word is a register of these sizes.
 fn is_register(config: &Config, word: &[u8]) -> bool
     ensures { result ≡ fits_word config.now Place.Register word.now }
@@ -296,8 +291,8 @@ fn fits_word(config: &Config, place: Place, word: &[u8]) -> bool
         Place::Weaks => number(word, 255).is_some(),
         Place::Equals => is_word(word, b"="),
         Place::Heap => heap_form(word).is_some(),
-        Place::Action => action_form(has_frames(config), word).is_some(),
-        Place::Collection => collection_form(word).is_some(),
+        Place::Action => action_form(is_third(config.format), word).is_some(),
+        Place::Collection => collection_form(is_third(config.format), word).is_some(),
         Place::Marking => is_word(word, b"mark"),
         Place::Refining => is_word(word, b"refine"),
         Place::Reply | Place::End => false,
@@ -397,7 +392,7 @@ fn step_stop(
             place,
         });
     };
-    let Some(form) = form_at(has_frames(config), place, verb) else {
+    let Some(form) = form_at(is_third(config.format), place, verb) else {
         return Some(Stop {
             word: from + 1,
             place,

@@ -12,3 +12,4 @@ pub mod Acted
 pub mod Collecting
 pub mod Collected
 pub mod Beginning
+pub mod Words

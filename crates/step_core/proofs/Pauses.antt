@@ -1,6 +1,7 @@
 pub mod Rows
 pub mod Others
 pub mod Chosen
+pub mod Highest
 pub mod Refined
 pub mod Ready
 pub mod CopiedNames

@@ -1,5 +1,7 @@
 -- What a step answers, in the words of the graph.
-use Rattle.std.specs.Prelude.{◌≡◌, ℕ, Some, None}
+use Rattle.std.specs.Prelude.{◌≡◌, ◌≤◌, ℕ, ⊤, Some, None}
+use Rattle.heap_words.specs.declared.config.Config.{Config}
+use Rattle.heap_words.specs.Configs.{object_limit}
 use Rattle.heap_words.specs.Sizes.{size_of}
 use Rattle.heap_model.specs.Graph.{Graph, next_name}
 use Rattle.object_graph.specs.Machine.{Outcome, act}
@@ -46,6 +48,18 @@ pub record RepliesFull (g : Graph) (m : ℕ) (a : Action) (c : CoreState) (reply
   pub reply_is : reply ≡ replies.Refused refusals.Full
   pub full : IsFull g m a c
   pub same : c' ≡ c
+
+-- an object is no larger than an object may be, unless it is refused
+abbrev pub IsWithin : Config → Action → Reply → Type 0
+IsWithin config a (replies.Refused why) = ⊤
+IsWithin config (actions.New to counts) _ = size_of counts.pointers 0 counts.values ≤ object_limit config
+IsWithin config (actions.NewWeak to counts weaks) _ = size_of counts.pointers weaks counts.values ≤ object_limit config
+IsWithin config _ _ = ⊤
+
+-- the same of a step: the collector makes no object
+abbrev pub IsWithinStep : Config → Step → Reply → Type 0
+IsWithinStep config (steps.Mutator o) reply = IsWithin config o.action reply
+IsWithinStep config (steps.Collector k) reply = ⊤
 
 -- the step takes the state to another one, for which the core stands
 pub record Follows (s : State) (step : Step) (reply : Reply) (c : CoreState) : Type 0 where

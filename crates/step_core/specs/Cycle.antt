@@ -34,7 +34,9 @@ use Rattle.region_choice.specs.declared.LiveRow.{LiveRow}
 use Rattle.evacuation.specs.Evacuates.{is_chosen}
 use Rattle.step_core.specs.Reclaimed.{IsReclaimed}
 use Rattle.step_core.specs.Refining.{HasRefined}
-use Rattle.step_core.specs.Pause.{HasPaused, IsChosen}
+use Rattle.step_core.specs.declared.candidates.Choice.{Choice}
+use Rattle.step_core.specs.declared.candidates.Choice.TheVariants as choices
+use Rattle.step_core.specs.Pause.{HasPaused, HasCompacted, IsSetOf}
 
 -- an ordinary region of which nothing is live, and from which no objects are cut now
 pub record IsDeadRegion (c : CoreState) (k : ℕ) : Type 0 where
@@ -163,6 +165,7 @@ Collects collector.Cleanup (replies.Reclaimed n) c c' = (c.marker.running ≡ fa
 Collects collector.Cleanup (replies.Refused refusals.MarkRunning) c c' = (c.marker.running ≡ true) × (c' ≡ c)
 Collects (collector.Refine k) (replies.Refined n) c c' = HasRefined k n c c'
 Collects (collector.Pause budget) (replies.Moved n w) c c' = HasPaused budget n w c c'
+Collects (collector.Compact budget) (replies.Moved n w) c c' = HasCompacted budget n w c c'
 Collects _ _ _ _ = ⊥
 
 -- the heap's sizes stay, and each region in use stays in use
@@ -175,13 +178,13 @@ abbrev pub Does : Step → Reply → CoreState → CoreState → Type 0
 Does (steps.Mutator o) reply c c' = ActsOn o.mutator o.action reply c c'
 Does (steps.Collector k) reply c c' = Collects k reply c c'
 
--- a region of the collection set of a pause with this budget
-pub record IsInSet (budget : ℕ) (c : CoreState) (k : ℕ) : Type 0 where
+-- a region of the collection set of a pause, or of a compaction, with this budget
+pub record IsInSet (which : Choice) (budget : ℕ) (c : CoreState) (k : ℕ) : Type 0 where
   pub chosen : List LiveRow
-  pub choice : IsChosen c.table c.marker.tams c.marker.bitmaps.previous c.marker.running budget chosen
+  pub choice : IsSetOf which c.table c.marker.tams c.marker.bitmaps.previous c.marker.running budget chosen
   pub inside : is_chosen chosen k ≡ true
 
--- what a step may reclaim: a cleanup dead regions, a pause its collection set, any other step nothing
+-- what a step may reclaim: a cleanup dead regions, a pause and a compaction their collection sets, any other step nothing
 abbrev pub MayReclaim : Step → CoreState → ℕ → Type 0
 MayReclaim (steps.Mutator o) c k = ⊥
 MayReclaim (steps.Collector collector.Begin) c k = ⊥
@@ -189,4 +192,5 @@ MayReclaim (steps.Collector (collector.Mark n)) c k = ⊥
 MayReclaim (steps.Collector collector.Remark) c k = ⊥
 MayReclaim (steps.Collector collector.Cleanup) c k = IsDead c k
 MayReclaim (steps.Collector (collector.Refine n)) c k = ⊥
-MayReclaim (steps.Collector (collector.Pause budget)) c k = IsInSet budget c k
+MayReclaim (steps.Collector (collector.Pause budget)) c k = IsInSet choices.Best budget c k
+MayReclaim (steps.Collector (collector.Compact budget)) c k = IsInSet choices.Highest budget c k

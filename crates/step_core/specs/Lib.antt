@@ -9,3 +9,4 @@ pub mod Pause
 pub mod Cycle
 pub mod Cleaning
 pub mod Histories
+pub mod Words

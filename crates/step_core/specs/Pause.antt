@@ -1,6 +1,6 @@
--- What a pause does to a core, exactly.
+-- What a pause and a compaction do to a core, exactly.
 use Rattle.std.specs.Prelude.{◌≡◌, ◌↔◌, ◌==◌, ◌+◌, ◌*◌, ◌<◌, ◌≤◌, ◌∷◌, ◌++◌, if◌then◌else◌}
-use Rattle.std.specs.Prelude.{ℕ, All, Bool, true, Option, None, List, [], IsSorted, Some}
+use Rattle.std.specs.Prelude.{ℕ, All, Bool, true, false, Option, None, List, [], IsSorted, Some}
 use Rattle.std.specs.Prelude.{length, drop, take, count_by, slice_get, slice_index}
 use Rattle.heap_words.specs.Sizes.{size_of}
 use Rattle.heap_words.specs.Configs.{card_words}
@@ -17,6 +17,8 @@ use Rattle.cards.specs.Cards.{clean_cards, flushed}
 use Rattle.region_choice.specs.declared.LiveRow.{LiveRow}
 use Rattle.region_choice.specs.Choice.{copy_limit, live_sum, row_cmp, ComeFirst, IsBestWithin}
 use Rattle.evacuation.specs.Evacuates.{Layers, HasEvacuated, is_chosen, set_in}
+use Rattle.step_core.specs.declared.candidates.Choice.{Choice}
+use Rattle.step_core.specs.declared.candidates.Choice.TheVariants as choices
 use Rattle.step_core.specs.Stands.{CoreState, heap_of, ShowsGraph}
 use Rattle.step_core.specs.Reclaimed.{IsReclaimed}
 use Rattle.step_core.specs.Refining.{GainsCards}
@@ -69,6 +71,35 @@ pub record IsChosen (t : Table) (tams : Tops) (previous : List Bool) (running : 
   pub next : All (λ row. copy_limit t.words_per_region budget (count_by is_free t.regions) < live_sum chosen + row.live_bound)
       (drop (length chosen) rows)
   pub best : IsBestWithin t.words_per_region (copy_limit t.words_per_region budget (count_by is_free t.regions)) rows chosen
+
+-- how many free regions lie below a region
+abbrev pub free_below : Table → ℕ → ℕ
+free_below t k = count_by is_free (take k t.regions)
+
+-- the rows of the highest ordinary regions: with a region each ordinary one above it has a row
+pub record AreHighest (t : Table) (tops : List ℕ) (marks : List Bool) (rows : List LiveRow) : Type 0 where
+  pub are_rows : AreRowsOf t tops marks rows
+  pub none_left_out : All (λ row. (k : ℕ) → row.region < k → kind_of t k ≡ kinds.Ordinary → is_chosen rows k ≡ true) rows
+
+-- The live words of the rows' regions are within a limit, and each copy of them goes down: k regions need at most 2 k - 1 destinations,
+-- and so many regions are free below each of them
+pub record GoesDown (t : Table) (limit : ℕ) (rows : List LiveRow) : Type 0 where
+  pub within : live_sum rows ≤ limit
+  pub below : All (λ row. 2 * length rows ≤ free_below t row.region + 1) rows
+
+-- The rows of the regions that a compaction chooses: the highest ordinary ones, full ones too, as many as go down within the copy limit,
+-- so that the next one wouldn't; and none while marking runs
+pub record IsCompacted (t : Table) (tams : Tops) (previous : List Bool) (running : Bool) (budget : ℕ) (chosen : List LiveRow) : Type 0 where
+  pub highest : AreHighest t tams.previous previous chosen
+  pub down : GoesDown t (copy_limit t.words_per_region budget (count_by is_free t.regions)) chosen
+  pub waits : running ≡ true → chosen ≡ []
+  pub next : running ≡ false → (row : LiveRow) → AreHighest t tams.previous previous (chosen ++ row ∷ [])
+      → GoesDown t (copy_limit t.words_per_region budget (count_by is_free t.regions)) (chosen ++ row ∷ []) → ⊥
+
+-- the rows of the collection set: of a pause, or of a compaction
+abbrev pub IsSetOf : Choice → Table → Tops → List Bool → Bool → ℕ → List LiveRow → Type 0
+IsSetOf choices.Best t tams previous running budget chosen = IsChosen t tams previous running budget chosen
+IsSetOf choices.Highest t tams previous running budget chosen = IsCompacted t tams previous running budget chosen
 
 -- No buffer is open and no region current. Every listed card is refined: no card is dirty, and the sets gained what these cards lead into.
 -- Nothing else changed
@@ -124,11 +155,11 @@ layers_of c = record {
   roots = c.roots;
 }
 
--- The chosen regions, n of them, are the best within the limit, and are reclaimed, and no others. What is reached in them, w words, at most
--- the budget, is evacuated from the core that was made ready, and nothing else of it changes
-pub record EvacuatesBest (budget n w : ℕ) (c ready c' : CoreState) : Type 0 where
+-- The chosen regions, n of them, are those of the collection set, and are reclaimed, and no others. What is reached in them, w words, at
+-- most the budget, is evacuated from the core that was made ready, and nothing else of it changes
+pub record EvacuatesSet (which : Choice) (budget n w : ℕ) (c ready c' : CoreState) : Type 0 where
   pub chosen : List LiveRow
-  pub choice : IsChosen c.table c.marker.tams c.marker.bitmaps.previous c.marker.running budget chosen
+  pub choice : IsSetOf which c.table c.marker.tams c.marker.bitmaps.previous c.marker.running budget chosen
   pub regions : n ≡ length chosen
   pub within : w ≤ budget
   pub names : (g : Graph) → ShowsGraph g c → AreCopiedNames g (set_in c.table.words_per_region chosen) (heap_of c) w
@@ -138,8 +169,15 @@ pub record EvacuatesBest (budget n w : ℕ) (c ready c' : CoreState) : Type 0 wh
   pub counts : AreForgotten chosen ready.marker.live c'.marker.live
   pub evacuated : HasEvacuated chosen (card_words c.config) w (layers_of ready) (layers_of c')
 
--- a pause: all is made ready, then the best regions are evacuated
-pub record HasPaused (budget n w : ℕ) (c c' : CoreState) : Type 0 where
+-- all is made ready, then the regions of the collection set are evacuated
+pub record HasMoved (which : Choice) (budget n w : ℕ) (c c' : CoreState) : Type 0 where
   pub ready : CoreState
   pub is_ready : IsReady c ready
-  pub evacuates : EvacuatesBest budget n w c ready c'
+  pub evacuates : EvacuatesSet which budget n w c ready c'
+
+-- a pause moves the best regions, a compaction the highest
+abbrev pub HasPaused : ℕ → ℕ → ℕ → CoreState → CoreState → Type 0
+HasPaused budget n w c c' = HasMoved choices.Best budget n w c c'
+
+abbrev pub HasCompacted : ℕ → ℕ → ℕ → CoreState → CoreState → Type 0
+HasCompacted budget n w c c' = HasMoved choices.Highest budget n w c c'

@@ -3,7 +3,7 @@ use Rattle.std.specs.Prelude.{◌≡◌, ◌-◌, ◌*◌, ◌/◌, ◌^◌, ◌
 use Rattle.std.specs.Prelude.{ℕ, ⊤, List, Option, Some, None, length, slice_get, slice_index, true, false}
 use Rattle.std.specs.List.{AllZip}
 use Rattle.heap_words.specs.declared.config.Config.{Config}
-use Rattle.heap_words.specs.Configs.{Suits, card_words}
+use Rattle.heap_words.specs.Configs.{Suits, card_words, object_limit}
 use Rattle.heap_model.specs.Graph.{Graph, Object, Places, next_name, object_named, IsReachable, IsSound}
 use Rattle.heap_model.specs.Heap.{Heap, Stored, Shows, IsShown, IsRoot, StandsOnce}
 use Rattle.heap_model.specs.Marking.{Marking, KeepsSnapshot}
@@ -63,7 +63,7 @@ RemembersFields c = Remembers c.table.words_per_region (kept_of c) (card_words c
 
 -- the heap shows the graph, whose next name is the core's
 pub record ShowsGraph (g : Graph) (c : CoreState) : Type 0 where
-  pub room : g.room ≡ c.config.regions * c.config.words
+  pub room : g.room ≡ object_limit c.config
   pub places : g.places ≡ places_of c.config
   pub next : next_name g ≡ c.next
   pub shows : Shows g (heap_of c)

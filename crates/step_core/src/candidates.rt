@@ -1,4 +1,4 @@
-//! The regions that a pause may reclaim, and the choice among them.
+//! The regions that a pause may reclaim, and the choice among them; and which regions are evacuated.
 //!
 //! ```text
 //!   region       0        1         2         3        4        idle: candidates 0 2      marking runs: 2
@@ -13,12 +13,20 @@ ghost use Rattle.std.specs.Vec.{vec_capacity};
 ghost use Rattle.mark_bitmap.specs.Live.{live_bound_of};
 ghost use Rattle.marker.specs.Stands.{MarkerStands};
 ghost use Rattle.region_choice.specs.Choice.{copy_limit, live_sum, row_cmp, ComeFirst, IsBestWithin};
-ghost use Rattle.step_core.specs.Pause.{IsCandidate, AreCandidatesWithin, IsChosen};
+ghost use Rattle.step_core.specs.Pause.{IsCandidate, AreCandidatesWithin, IsChosen, IsSetOf};
 
+use crate::highest::choose_highest;
 use heap_words::addr::RegionNo;
 use marker::Marker;
 use region_choice::{LiveRow, choose, limit_of};
 use regions::{Kind, RegionTable};
+
+/// Which regions are evacuated: those that free the most, by a pause, or the highest, by a compaction.
+#[derive(Clone, Copy, Debug, PartialEq, Eq)]
+pub enum Choice {
+    Best,
+    Highest,
+}
 
 /// The live bound of a region that is a candidate, where it is at most so many words, fewer than a region has. It is looked up, and
 /// costs no walk.
@@ -139,4 +147,26 @@ pub(crate) fn choose_regions(
     let limit = limit_of(words, u64::from(budget), free) as u32;
     find_candidates(table, marker, limit, rows);
     choose_rows(rows, words, budget, free)
+}
+
+/// Puts the collection set to the front of the rows. The result is how many regions it has.
+pub(crate) fn choose_set(
+    choice: Choice,
+    table: &RegionTable,
+    marker: &Marker,
+    rows: &mut Vec<LiveRow>,
+    budget: u32,
+) -> usize
+    requires stands { MarkerStands table.now marker.now }
+    requires room { length table.now.regions ≤ vec_capacity rows.old }
+    ensures count { result ≤ length rows.new.items }
+    ensures few { result ≤ length table.now.regions }
+    ensures chosen { IsSetOf choice table.now marker.now.tams marker.now.bitmaps.previous marker.now.running budget
+        (take result rows.new.items) }
+    ensures room { vec_capacity rows.new ≡ vec_capacity rows.old }
+{
+    match choice {
+        Choice::Best => choose_regions(table, marker, rows, budget),
+        Choice::Highest => choose_highest(table, marker, rows, budget),
+    }
 }

@@ -23,9 +23,9 @@
 //! stands, whole and once, in regions in use.
 //!
 //! `mutator` has the mutator's steps, `barrier` what a store and a weak read do beside, `cycle` the steps of marking, `cleanup` the
-//! reclaiming, `refine` refinement, `candidates` the choice of what a pause evacuates, `pause` the pause, `step` any step, `runs` a list of
-//! them, `readers` what is read of a core from outside, `names` which object starts at an address, `measures` what a policy of collection
-//! asks of it, `layers` the parts that a new core is made of.
+//! reclaiming, `refine` refinement, `candidates` the choice of what a pause evacuates, `highest` of what a compaction does, `pause` both of
+//! them, `step` any step, `runs` a list of them, `words` several data words at once, `readers` what is read of a core from outside, `names`
+//! which object starts at an address, `measures` what a policy of collection asks of it, `layers` the parts that a new core is made of.
 //!
 //! A field is read or written in constant time: no step tests or walks its region to see that an address is an object.
 //!
@@ -51,6 +51,7 @@ mod candidates;
 mod cleanup;
 mod cycle;
 mod heap;
+mod highest;
 mod layers;
 mod measures;
 mod mutator;
@@ -60,7 +61,9 @@ mod readers;
 mod refine;
 mod runs;
 mod step;
+mod words;
 
+pub use candidates::Choice;
 pub use heap::Core;
 pub use names::object_name;
 pub use runs::{run, run_to_core};

@@ -1,6 +1,7 @@
 //! The mutator's steps.
 
-ghost use Rattle.std.specs.Prelude.{◌≡◌, ℕ, ◌<◌, ◌↔◌, ◌≢◌, ◌⊎◌, Option, Some};
+ghost use Rattle.std.specs.Prelude.{◌≡◌, ℕ, ◌<◌, ◌≤◌, ◌*◌, ◌↔◌, ◌≢◌, ◌⊎◌, Option, Some, None, IfSome, IfNone, IfOk, IsErr, OnErr, length};
+ghost use Rattle.heap_words.specs.Configs.{max_object_words};
 ghost use Rattle.heap_words.specs.Sizes.{size_of};
 ghost use Rattle.heap_model.specs.Graph.{Graph};
 ghost use Rattle.heap_model.specs.Heap.{IsShown};
@@ -12,17 +13,16 @@ ghost use Rattle.object_graph.specs.Machine.{stored};
 ghost use Rattle.heap_steps.specs.declared.step.Reply.TheVariants as replies;
 ghost use Rattle.heap_steps.specs.declared.step.Refusal.TheVariants as refusals;
 ghost use Rattle.regions.specs.Table.{new_object};
-ghost use Rattle.alloc_buffers.specs.Placement.{address_of, CanHold, made_at};
+ghost use Rattle.alloc_buffers.specs.Placement.{address_of, place_of, CanHold, CanPlace, IsMadeAt, Placement, made_at};
 ghost use Rattle.step_core.specs.Stands.{ShowsGraph, KeepsFrom, Stands, heap_of, IsWordOf, IsRootWord};
-ghost use Rattle.step_core.specs.Answers.{Acts, HasNoPlace, IsFull, RepliesFull, Follows};
+ghost use Rattle.step_core.specs.Answers.{Acts, HasNoPlace, IsFull, IsWithin, RepliesFull, Follows};
 ghost use Rattle.step_core.specs.Mutators.{ActsOn, value_of, weaks_made};
 ghost use Rattle.step_core.specs.Cycle.{LeavesRegions};
 
 use crate::heap::Core;
-use alloc_buffers::Place;
+use alloc_buffers::{AllocBuffers, Full, Place};
 use heap_steps::{Action, Counts, GlobalRoot, Op, Refusal, Register, Reply};
 use heap_words::addr::{Addr, Ptr};
-use heap_words::config::Config;
 use heap_words::header::{Count, FillerSize, HeaderCounts};
 use regions::RegionTable;
 
@@ -45,6 +45,114 @@ fn make(table: &mut RegionTable, place: Place, name: u64, counts: HeaderCounts) 
             table.make_run(first, count, name, counts);
             Addr::new(first.number() * words)
         }
+    }
+}
+
+/// The counts of an object as its header has them.
+#[inline(always)]
+fn header_counts(counts: Counts, weaks: u8) -> HeaderCounts
+    requires { size_of counts.pointers weaks counts.values ≤ max_object_words }
+    ensures pointers { result.pointers ≡ counts.pointers }
+    ensures weaks { result.weaks ≡ weaks }
+    ensures values { result.values ≡ counts.values }
+{
+    HeaderCounts {
+        pointers: Count::new(counts.pointers),
+        weaks,
+        values: Count::new(counts.values),
+    }
+}
+
+/// Makes an object in the mutator's buffer, if that has room: it is written over the start of what is left of the buffer.
+#[inline(always)]
+fn make_inside(
+    table: &mut RegionTable,
+    buffers: &mut AllocBuffers,
+    mutator: u32,
+    size: u32,
+    name: u64,
+    counts: Counts,
+    weaks: u8,
+) -> Option<Addr>
+    requires mutator { mutator < length buffers.old.open_buffers }
+    requires within { size ≤ length table.old.regions * table.old.words_per_region }
+    requires small { size ≤ max_object_words }
+    requires ready { CanPlace table.old buffers.old size }
+    requires size { size ≡ size_of counts.pointers weaks counts.values }
+    ensures made { IfSome result (λ a. (p : Placement) × IsMadeAt table.old table.new buffers.old buffers.new mutator size
+        (new_object name counts.pointers weaks counts.values) a p) }
+    ensures table_same { IfNone result (table.new ≡ table.old) }
+    ensures buffers_same { IfNone result (buffers.new ≡ buffers.old) }
+{
+    table.law();
+    if table.words_per_region() < 2 * size {
+        return None;
+    }
+    let open = buffers.cut(table, mutator, size)?;
+    let at = Addr::new(open.next);
+    table.make_object(
+        at,
+        FillerSize::new(open.rest),
+        name,
+        header_counts(counts, weaks),
+    );
+    Some(at)
+}
+
+/// Makes an object in its place.
+#[inline(always)]
+fn make_in_place(
+    table: &mut RegionTable,
+    buffers: &mut AllocBuffers,
+    mutator: u32,
+    size: u32,
+    name: u64,
+    counts: Counts,
+    weaks: u8,
+) -> Result<Addr, Full>
+    requires mutator { mutator < length buffers.old.open_buffers }
+    requires within { size ≤ length table.old.regions * table.old.words_per_region }
+    requires small { size ≤ max_object_words }
+    requires ready { CanPlace table.old buffers.old size }
+    requires size { size ≡ size_of counts.pointers weaks counts.values }
+    ensures made { IfOk result (λ a. (p : Placement) × IsMadeAt table.old table.new buffers.old buffers.new mutator size
+        (new_object name counts.pointers weaks counts.values) a p) }
+    ensures full { IsErr result ↔ (place_of table.old buffers.old mutator size ≡ None) }
+    ensures table_same { OnErr result (table.new ≡ table.old) }
+    ensures buffers_same { OnErr result (buffers.new ≡ buffers.old) }
+{
+    let Ok(place) = buffers.place(table, mutator, size) else {
+        return Err(Full);
+    };
+    table.law();
+    Ok(make(table, place, name, header_counts(counts, weaks)))
+}
+
+/// Makes a new object, and answers its address.
+#[inline(always)]
+fn create(
+    table: &mut RegionTable,
+    buffers: &mut AllocBuffers,
+    mutator: u32,
+    size: u32,
+    name: u64,
+    counts: Counts,
+    weaks: u8,
+) -> Result<Addr, Full>
+    requires mutator { mutator < length buffers.old.open_buffers }
+    requires within { size ≤ length table.old.regions * table.old.words_per_region }
+    requires small { size ≤ max_object_words }
+    requires ready { CanPlace table.old buffers.old size }
+    requires size { size ≡ size_of counts.pointers weaks counts.values }
+    ensures made { IfOk result (λ a. (p : Placement) × IsMadeAt table.old table.new buffers.old buffers.new mutator size
+        (new_object name counts.pointers weaks counts.values) a p) }
+    ensures full { IsErr result ↔ (place_of table.old buffers.old mutator size ≡ None) }
+    ensures table_same { OnErr result (table.new ≡ table.old) }
+    ensures buffers_same { OnErr result (buffers.new ≡ buffers.old) }
+{
+    match make_inside(table, buffers, mutator, size, name, counts, weaks) {
+        Some(at) => Ok(at),
+        None => make_in_place(table, buffers, mutator, size, name, counts, weaks),
     }
 }
 
@@ -306,27 +414,29 @@ impl Core {
         ensures leaves { LeavesRegions self.old self.new }
         ensures full { HasNoPlace self.old mutator (size_of counts.pointers weaks counts.values) → (name : Option ℕ)
             → result ≢ replies.Named name }
+        ensures within { IsWithin self.old.config (actions.NewWeak to counts weaks) result }
     {
         let size = counts.size(weaks);
-        let Config { regions, words, .. } = self.config;
-        if u64::from(regions) * u64::from(words) < size {
+        if self.config.object_limit() < size {
             return Reply::Refused(Refusal::TooBig);
         }
         if self.next == u64::MAX {
             return Reply::Refused(Refusal::NamesSpent);
         }
         self.table.law();
-        let Ok(place) = self.buffers.place(&mut self.table, mutator, size as u32) else {
+        let name = self.next;
+        let table = &mut self.table;
+        let Ok(at) = create(
+            table,
+            &mut self.buffers,
+            mutator,
+            size as u32,
+            name,
+            counts,
+            weaks,
+        ) else {
             return Reply::Refused(Refusal::Full);
         };
-        let name = self.next;
-        self.table.law();
-        let counts = HeaderCounts {
-            pointers: Count::new(counts.pointers),
-            weaks,
-            values: Count::new(counts.values),
-        };
-        let at = make(&mut self.table, place, name, counts);
         self.roots.set_register(mutator, to.number, Some(at));
         self.next += 1;
         Reply::Named(Some(name))
@@ -341,6 +451,7 @@ impl Core {
             → (result ≡ replies.Refused refusals.Full) ↔ IsFull s.graph op.mutator op.action self.old }
         ensures after { ActsOn op.mutator op.action result self.old self.new }
         ensures leaves { LeavesRegions self.old self.new }
+        ensures within { IsWithin self.old.config op.action result }
     {
         let mutator = op.mutator;
         match op.action {

@@ -1,9 +1,10 @@
-//! A pause: the best of the candidates are evacuated and reclaimed, within a budget of words.
+//! A pause and a compaction: the regions of a collection set are evacuated and reclaimed, within a budget of words.
 //!
 //! ```text
 //!   close          no buffer is open, and no region is current
 //!   refine all     every dirty card is refined: what leads into a region is covered by its set
-//!   choose         the candidates with the least live words, within the budget and the free regions
+//!   choose         within the budget and the free regions, a pause the candidates with the least live words,
+//!                  a compaction the highest ordinary regions, if all copies go down
 //!   evacuate       what is reached in them is copied into free regions, and they are released
 //! ```
 
@@ -12,9 +13,9 @@ ghost use Rattle.heap_model.specs.Graph.{Graph};
 ghost use Rattle.alloc_buffers.specs.Placement.{closed};
 ghost use Rattle.cards.specs.Cards.{is_dirty};
 ghost use Rattle.step_core.specs.Stands.{ShowsGraph, KeepsFrom};
-ghost use Rattle.step_core.specs.Pause.{AreForgotten, IsReady, EvacuatesBest, HasPaused};
+ghost use Rattle.step_core.specs.Pause.{AreForgotten, IsReady, EvacuatesSet, HasCompacted, HasMoved, HasPaused};
 
-use crate::candidates::choose_regions;
+use crate::candidates::{Choice, choose_set};
 use crate::heap::Core;
 use evacuation::{Moved, evacuate};
 use marker::live::LiveWords;
@@ -45,17 +46,17 @@ impl Core {
         self.cards.law();
     }
 
-    /// The best of the candidates are evacuated, where nothing is dirty.
-    fn evacuate_best(&mut self, budget: u32) -> Moved
+    /// The regions of the collection set are evacuated, where nothing is dirty.
+    fn evacuate_set(&mut self, choice: Choice, budget: u32) -> Moved
         requires clean { (card : ℕ) → is_dirty self.old.cards card ≡ false }
         requires closed { self.old.buffers ≡ closed self.old.buffers.words (length self.old.buffers.open_buffers) }
         ensures shows { (g : Graph) → ShowsGraph g self.old → ShowsGraph g self.new }
         ensures keeps { (s : Graph) → KeepsFrom s self.old → KeepsFrom s self.new }
-        ensures evacuates { EvacuatesBest budget result.regions result.words self.old self.old self.new }
+        ensures evacuates { EvacuatesSet choice budget result.regions result.words self.old self.old self.new }
         ensures few { result.regions < 2 ^ 32 }
     {
         self.table.law();
-        let count = choose_regions(&self.table, &self.marker, &mut self.rows, budget);
+        let count = choose_set(choice, &self.table, &self.marker, &mut self.rows, budget);
         forget_counts(&mut self.marker.live, &self.rows[..count]);
         evacuate(
             &mut self.table,
@@ -70,6 +71,17 @@ impl Core {
         )
     }
 
+    /// All is made ready, and the regions of the collection set are evacuated.
+    fn move_set(&mut self, choice: Choice, budget: u32) -> Moved
+        ensures shows { (g : Graph) → ShowsGraph g self.old → ShowsGraph g self.new }
+        ensures keeps { (s : Graph) → KeepsFrom s self.old → KeepsFrom s self.new }
+        ensures moved { HasMoved choice budget result.regions result.words self.old self.new }
+        ensures few { result.regions < 2 ^ 32 }
+    {
+        self.make_ready();
+        self.evacuate_set(choice, budget)
+    }
+
     /// A pause.
     pub(crate) fn pause(&mut self, budget: u32) -> Moved
         ensures shows { (g : Graph) → ShowsGraph g self.old → ShowsGraph g self.new }
@@ -77,7 +89,16 @@ impl Core {
         ensures paused { HasPaused budget result.regions result.words self.old self.new }
         ensures few { result.regions < 2 ^ 32 }
     {
-        self.make_ready();
-        self.evacuate_best(budget)
+        self.move_set(Choice::Best, budget)
+    }
+
+    /// A compaction.
+    pub(crate) fn compact(&mut self, budget: u32) -> Moved
+        ensures shows { (g : Graph) → ShowsGraph g self.old → ShowsGraph g self.new }
+        ensures keeps { (s : Graph) → KeepsFrom s self.old → KeepsFrom s self.new }
+        ensures compacted { HasCompacted budget result.regions result.words self.old self.new }
+        ensures few { result.regions < 2 ^ 32 }
+    {
+        self.move_set(Choice::Highest, budget)
     }
 }

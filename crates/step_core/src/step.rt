@@ -7,7 +7,7 @@ ghost use Rattle.heap_steps.specs.declared.step.Reply.TheVariants as replies;
 ghost use Rattle.heap_steps.specs.declared.step.Refusal.TheVariants as refusals;
 ghost use Rattle.object_graph.specs.State.{State};
 ghost use Rattle.step_core.specs.Stands.{Stands};
-ghost use Rattle.step_core.specs.Answers.{Follows, IsFullStep};
+ghost use Rattle.step_core.specs.Answers.{Follows, IsFullStep, IsWithinStep};
 ghost use Rattle.step_core.specs.Reclaimed.{IsReclaimed};
 ghost use Rattle.step_core.specs.Cycle.{Collects, Does, MayReclaim};
 
@@ -57,13 +57,20 @@ impl Core {
                     words: moved.words,
                 }
             }
+            CollectorStep::Compact(budget) => {
+                let moved = self.compact(budget);
+                Reply::Moved {
+                    regions: moved.regions as u32,
+                    words: moved.words,
+                }
+            }
         }
     }
 
     /// Does a step. The reply is one that the graph and its snapshot give, and the core stands for those after it. It is Full exactly
     /// where the graph would create an object and the heap has no place for it; a step of the collector is refused exactly
     /// where marking runs and it mustn't, or doesn't and it must. Regions are reclaimed by a cleanup, those that
-    /// hold nothing live, and by a pause, those that it evacuates. No step takes memory.
+    /// hold nothing live, and by a pause or a compaction, those that it evacuates. No step takes memory.
     ///
     /// ```rust
     /// assert_eq!(rt; core.step(new), Reply::Named(Some(0)));
@@ -77,6 +84,7 @@ impl Core {
         ensures does { Does step result self.old self.new }
         ensures reclaims { (k : ℕ) → IsReclaimed self.old.table self.new.table k → MayReclaim step self.old k }
         ensures full { (s : State) → Stands s self.old → (result ≡ replies.Refused refusals.Full) ↔ IsFullStep s.graph step self.old }
+        ensures within { IsWithinStep self.old.config step result }
         ensures config { self.new.config ≡ self.old.config }
     {
         match step {

@@ -141,9 +141,15 @@ fn every_action(rt: HostRuntime) -> Result<(), Fail> {
     Ok(())
 }
 
-/// A step of the collector.
+/// A step of the collector. One that the heap's format hasn't is told as Full, which no step of the collector is.
 pub(crate) fn collect(core: &mut Core, step: CollectorStep) -> Reply {
-    core.step(Step::Collector(step))
+    let taken = Step::Collector(step);
+    let config = core.config();
+    if taken.is_in(&config) {
+        core.step(taken)
+    } else {
+        Reply::Refused(Refusal::Full)
+    }
 }
 
 /// A mutator's action, None for one that the heap's sizes don't allow.

@@ -1,13 +1,13 @@
 //! The lines of a small life, written by hand, and its page.
 
-use heap_life::{live, page_of, planned};
+use heap_life::{live, name_law, page_of, planned};
 use script_text::parse;
 use std::alloc::Global;
 use std::process::Abort;
 use std::test::Fail;
 
-/// The page of a script.
-fn page_of_script(alloc: Global, script: &str) -> Result<Vec<u8>, Fail> {
+/// The page of a script, drawn of a file of this name.
+fn page_of_script(alloc: Global, name: &str, script: &str) -> Result<Vec<u8>, Fail> {
     let Ok(plan) = parse(alloc, script.as_bytes()) else {
         return Err(Fail::from("this is a script"));
     };
@@ -17,7 +17,7 @@ fn page_of_script(alloc: Global, script: &str) -> Result<Vec<u8>, Fail> {
     let Ok(life) = live(alloc, &events, 1) else {
         return Err(Fail::from("a life"));
     };
-    Ok(page_of(alloc, &life)?)
+    Ok(page_of(alloc, name, &life)?)
 }
 
 /// How often a text stands in another one.
@@ -40,6 +40,7 @@ gc remark
 gc pause 8
 ";
     let lines = "\
+file %3C/script%3E%20%22%C3%BC%22.heap
 card 8
 roots 16 8
 pace 1 1 1
@@ -82,7 +83,8 @@ r 0 f
 r 1 o 4 0 0 4 0 4 0
 o 0 0 n - ; ; 0
 </script>";
-    let page = page_of_script(rt.alloc(), script)?;
+    name_law();
+    let page = page_of_script(rt.alloc(), "</script> \"ü\".heap", script)?;
     assert_eq!(rt; count_in(page.as_slice(), lines.as_bytes()), 1);
     assert_eq!(rt;
         count_in(page.as_slice(), b"6 gc pause 8 = moved 1 4\n</script>"),
@@ -90,5 +92,37 @@ o 0 0 n - ; ; 0
     );
     assert!(rt; page.as_slice().starts_with(b"<!doctype html>"));
     assert!(rt; page.as_slice().ends_with(b"</html>\n"));
+    Ok(())
+}
+
+/// While marking runs two mutators overwrite the pointers that name the second object: its address is in the log of each.
+#[test]
+fn deletion_logs(rt: HostRuntime) -> Result<(), Fail> {
+    let script = "\
+heap 2 16 8 2 0
+0 new r0 2 0
+0 new r1 0 1
+0 put r0 0 r1
+0 put r0 1 r1
+0 drop r1
+0 save g0 r0
+1 load r0 g0
+gc begin
+0 put r0 0 nil
+1 put r0 1 nil
+";
+    let lines = "
+m 10 8 8 1 0 0 0 1 0 2 0
+d 0 4
+d 1 4
+n 0 0 16 0 24 0
+r 0 o 8 0 0 7 1 8 0 8 1
+o 0 0 ng - - ; ;
+o 4 1 nu ; ; 0
+x 7 1
+</script>";
+    let page = page_of_script(rt.alloc(), "first.heap", script)?;
+    assert_eq!(rt; count_in(page.as_slice(), lines.as_bytes()), 1);
+    assert_eq!(rt; count_in(page.as_slice(), b"\nd "), 3);
     Ok(())
 }

@@ -1,11 +1,12 @@
 -- A copy, as copying sees it.
 use Rattle.std.proofs.Common.{◌≡◌, ◌+◌, ◌*◌, ◌/◌, ◌<◌, ◌≤◌, ◌⊎◌, ◌∙◌}
 use Rattle.std.proofs.Common.{ℕ, true, false, List, Option, Some, None, length, refl, sym, ap, subst, inl, inr, arith}
-use Rattle.std.specs.Prelude.{slice_get}
-use Rattle.std.proofs.lemmas.Bool.{cases_eq}
+use Rattle.std.specs.Prelude.{slice_get, ◌≢◌}
+use Rattle.std.proofs.lemmas.Bool.{cases_eq, cases_lt}
+use Rattle.std.proofs.lemmas.List.Quantifiers.{position-Some}
 use Rattle.heap_model.specs.Heap.{Stored}
 use Rattle.regions.specs.Tiles.{Object, Forwarded, tile_size}
-use Rattle.regions.specs.Table.{Table, is_free, kind_of, moved_to, object_at, nth_region, tile_in, used_of}
+use Rattle.regions.specs.Table.{Free, Table, first_free, is_free, kind_of, moved_to, object_at, nth_region, tile_in, used_of}
 use Rattle.regions.specs.Rows.{kind_is_free}
 use Rattle.regions.specs.Shaped.{IsShaped}
 use Rattle.regions.specs.declared.row.Kind.TheVariants as kinds
@@ -30,6 +31,17 @@ free_kind t k e = free_by_kind t k ∙ ap kind_is_free e
 
 ordinary_kind : (t : Table) (k : ℕ) → kind_of t k ≡ kinds.Ordinary → is_free (nth_region t k) ≡ false
 ordinary_kind t k e = free_by_kind t k ∙ ap kind_is_free e
+
+-- another free region lies above the lowest one
+below_free : (t : Table) (k j : ℕ) → first_free t ≡ Some k → kind_of t j ≡ kinds.Free → j ≢ k → k < j
+unfolding nth_region
+below_free t k j e free apart = elim (cases_lt j k) [
+  | inl less ↦
+      let lower = (position-Some is_free t.regions k Free e).2 j less in
+      let is = free_kind t j free in
+      absurd (cc)
+  | inr le ↦ omega (arith, le, apart)
+]
 
 module _ (p : Pause) (q : IsPause p) (t t' : Table) (d d' : Places) (turn : IsTurn p t d) (shaped : IsShaped t) (from to : ℕ) (x : Stored)
     (inside : in_set p from ≡ true) (at : kept_now p t from ≡ Some x) (small : 2 * tile_size (Object x) ≤ p.start.words_per_region)
@@ -166,6 +178,22 @@ module _ (p : Pause) (q : IsPause p) (t t' : Table) (d d' : Places) (turn : IsTu
   from_used : kind_of p.start (from / p.start.words_per_region) ≡ kinds.Free → ⊥
   from_used f = let o = q.ordinary (from / p.start.words_per_region) inside in let n : kinds.Ordinary ≡ kinds.Free = sym o ∙ f in absurd cc
 
+  -- a destination lies below each region that was free and still is
+  lowest : (j m : ℕ) → kind_of p.start j ≡ kinds.Free → kind_of t' j ≡ kinds.Free → kind_of p.start m ≡ kinds.Free
+      → kind_of t' m ≡ kinds.Ordinary → m < j
+  lowest j m fj free fm o =
+      let apart : j ≢ k = λ e. (let a : kinds.Ordinary ≡ kinds.Free = sym w.ordinary ∙ sym (ap (kind_of t') e) ∙ free in cc) in
+      let was : kind_of t j ≡ kinds.Free = sym (w.kinds_same j apart) ∙ free in
+      elim (cases_eq m k) [
+        | inl same ↦ subst (λ (i : ℕ). i < j) (sym same) (elim c.opens.how [
+          | inl g ↦
+              let l : d.last ≡ Some k = ap (λ (y : Places). y.last) (sym g.1) ∙ c.opens.last in
+              turn.table.lowest j k fj was fresh.0 (turn.taken k (turn.copying.last k l)).1
+          | inr g ↦ below_free t k j g.0.lowest was apart
+        ])
+        | inr other ↦ turn.table.lowest j m fj was fm (sym (w.kinds_same m other) ∙ o)
+      ]
+
   pub copy_stays : TableStays p t'
   copy_stays =
       let s = turn.table in
@@ -177,6 +205,7 @@ module _ (p : Pause) (q : IsPause p) (t t' : Table) (d d' : Places) (turn : IsTu
           | inl e ↦ inr (ap (kind_of t') e ∙ w.ordinary)
           | inr e ↦ elim (s.was_free j f) [ inl g ↦ inl (w.kinds_same j e ∙ g) | inr g ↦ inr (w.kinds_same j e ∙ g) ]
         ];
+        lowest = lowest;
         kinds_same = λ j i n. w.kinds_same j (λ e. n (ap (kind_of p.start) e ∙ fresh.0)) ∙ s.kinds_same j i n;
         used = λ j i n. w.used_same j (λ e. n (ap (kind_of p.start) e ∙ fresh.0)) ∙ s.used j i n;
         objects = λ a y out e. let (z, f, same) = s.objects a y out e in (z, outside_same a z out f, same);

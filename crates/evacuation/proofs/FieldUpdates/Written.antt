@@ -68,6 +68,7 @@ module _ (p : Pause) (q : IsPause p) (t t' : Table) (d : Places) (turn : IsTurn 
         count = w.count ∙ s.count;
         chosen = λ k e. w.kinds k ∙ s.chosen k e;
         was_free = λ k e. elim (s.was_free k e) [ inl f ↦ inl (w.kinds k ∙ f) | inr f ↦ inr (w.kinds k ∙ f) ];
+        lowest = λ j k fj free f o. s.lowest j k fj (sym (w.kinds j) ∙ free) f (sym (w.kinds k) ∙ o);
         kinds_same = λ k e n. w.kinds k ∙ s.kinds_same k e n;
         used = λ k e n. w.used k ∙ s.used k e n;
         objects = λ a x o e.

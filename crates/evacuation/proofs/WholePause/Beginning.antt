@@ -77,6 +77,7 @@ module _ (p : Pause) (q : IsPause p) (room : 2 * (space p p.start).left ≤ free
     count = refl;
     chosen = q.ordinary;
     was_free = λ k e. inl e;
+    lowest = λ j k fj free f o. absurd (free_ordinary (sym f ∙ o));
     kinds_same = λ k e m. refl;
     used = λ k e m. refl;
     objects = λ a x o e. (x, e, record { name = refl; values = refl; pointers = refl; weaks = refl });

@@ -171,6 +171,8 @@ module _ (h : Layers) (rows : List LiveRow) (cw : ℕ) (can : CanEvacuate h rows
     chosen = λ k e. kind_free t2 k (rel.gone k e);
     was_free = λ k f. let s = kind_by t1 t2 k (rel.others k (not_chosen k f)) in
         elim (turn.table.was_free k f) [ inl e ↦ inl (s ∙ e) | inr e ↦ inr (s ∙ e) ];
+    lowest = λ j k fj free f o. turn.table.lowest j k fj (sym (kind_by t1 t2 j (rel.others j (not_chosen j fj))) ∙ free) f
+        (sym (kind_by t1 t2 k (rel.others k (not_chosen k f))) ∙ o);
     filled = λ k f o.
         let out = rel.others k (not_chosen k f) in
         let b = turn.table.filled k f (sym (kind_by t1 t2 k out) ∙ o) in

@@ -150,6 +150,7 @@ text.small { font-size: 12px; }\n\
 .dirty { fill: var(--dirty); stroke: var(--ink); stroke-width: 1.2; pointer-events: none; }\n\
 .dirty.logged { fill: var(--paper); }\n\
 .dirty.fresh { fill: var(--pause); }\n\
+.deleted { fill: var(--paper); stroke: var(--ink); stroke-width: 2; pointer-events: none; }\n\
 .greys { fill: var(--grey); stroke: var(--ink); stroke-width: 0.8; pointer-events: none; }\n\
 .tag { font-size: 12px; pointer-events: none; }\n\
 .arrow { fill: none; stroke: var(--ink); stroke-width: 1.8; pointer-events: none; marker-end: url(#head); }\n\
@@ -166,6 +167,7 @@ text.small { font-size: 12px; }\n\
 }\n\
 #objects { margin-top: 10px; }\n\
 #roots { margin-top: 10px; }\n\
+#roots .card + .card { margin-top: 10px; }\n\
 .roots { display: flex; flex-wrap: wrap; align-items: center; gap: 5px; margin-bottom: 6px; }\n\
 .roots .whose { min-width: 6.2em; color: var(--soft); }\n\
 .root { min-height: 26px; padding: 0 7px; color: var(--link); text-decoration: underline; }\n\

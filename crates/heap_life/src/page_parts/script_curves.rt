@@ -68,7 +68,7 @@ function pauseEvents(life) {\n\
 \x20 const events = [];\n\
 \x20 life.moments.forEach((moment, place) => {\n\
 \x20   const step = collectorStepAt(life, place);\n\
-\x20   if (step && step.verb === \"pause\") events.push(moment.event);\n\
+\x20   if (step && movesObjects(step)) events.push(moment.event);\n\
 \x20 });\n\
 \x20 return events;\n\
 }\n\

@@ -27,16 +27,6 @@ function putAddress(event) {\n\
 \x20 }, 200);\n\
 }\n\
 \n\
-// The name of the page's own file, where the address has one.\n\
-function fileName() {\n\
-\x20 const last = window.location.pathname.split(\"/\").pop();\n\
-\x20 try {\n\
-\x20   return decodeURIComponent(last);\n\
-\x20 } catch (refused) {\n\
-\x20   return last;\n\
-\x20 }\n\
-}\n\
-\n\
 // The last moment that isn't after an event.\n\
 function momentOfEvent(life, event) {\n\
 \x20 let low = 0;\n\

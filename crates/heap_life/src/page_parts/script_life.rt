@@ -33,11 +33,17 @@ function readEvent(line) {\n\
 \x20 return { count: Number(words[0]), actor: words[1], verb: words[2], step, reply: line.slice(equals + 3), collector };\n\
 }\n\
 \n\
+// The name of the script's file, or of the record's: each byte of it but letters, digits and some signs is % and two digits to \
+the base 16.\n\
+function readFileName(word) {\n\
+\x20 return word === \"-\" ? \"standard input\" : decodeURIComponent(word);\n\
+}\n\
+\n\
 const MOMENT = [\"event\", \"handedOut\", \"live\", \"free\", \"queued\", \"dirty\", \"copied\", \"marking\", \"scanned\"];\n\
 \n\
 // A moment's numbers.\n\
 function readMoment(words) {\n\
-\x20 const moment = { nextName: words[10], current: null, buffers: [], queue: [], logs: [], roots: [] };\n\
+\x20 const moment = { nextName: words[10], current: null, buffers: [], queue: [], logs: [], deletions: [], roots: [] };\n\
 \x20 MOMENT.forEach((field, place) => { moment[field] = Number(words[place + 1]); });\n\
 \x20 if (words[11] !== \"-\") moment.current = Number(words[11]);\n\
 \x20 return moment;\n\
@@ -49,6 +55,7 @@ function readOfMoment(moment, words) {\n\
 \x20 if (words[0] === \"b\") moment.buffers.push({ mutator: numbers[0], at: numbers[1], left: numbers[2] });\n\
 \x20 if (words[0] === \"q\") moment.queue = numbers;\n\
 \x20 if (words[0] === \"l\") moment.logs.push({ mutator: numbers[0], cards: numbers.slice(1) });\n\
+\x20 if (words[0] === \"d\") moment.deletions.push({ mutator: numbers[0], addresses: numbers.slice(1) });\n\
 \x20 if (words[0] === \"n\") {\n\
 \x20   for (let at = 0; at + 1 < numbers.length; at += 2) moment.roots.push({ place: numbers[at], address: numbers[at + 1] });\n\
 \x20 }\n\
@@ -109,8 +116,8 @@ const FREE = readRow([\"r 0 f\"]);\n\
 function readLife(recordText, lifeText) {\n\
 \x20 const record = linesOf(recordText);\n\
 \x20 const life = {\n\
-\x20   sizes: readSizes(record[0]), events: new Map(), moments: [], rows: [], pace: null, eventCount: 0, tilesEnd: null, tells: fal\
-se,\n\
+\x20   file: \"\", sizes: readSizes(record[0]), events: new Map(), moments: [], rows: [], pace: null, eventCount: 0,\n\
+\x20   tilesEnd: null, tells: false,\n\
 \x20 };\n\
 \x20 for (const line of record.slice(1)) {\n\
 \x20   const event = readEvent(line);\n\
@@ -121,7 +128,8 @@ se,\n\
 \x20 for (const line of linesOf(lifeText)) {\n\
 \x20   const words = line.split(\" \");\n\
 \x20   const moment = life.moments[life.moments.length - 1];\n\
-\x20   if (words[0] === \"card\") life.sizes.card = Number(words[1]);\n\
+\x20   if (words[0] === \"file\") life.file = readFileName(words[1]);\n\
+\x20   else if (words[0] === \"card\") life.sizes.card = Number(words[1]);\n\
 \x20   else if (words[0] === \"roots\") [life.sizes.globals, life.sizes.registers] = words.slice(1).map(Number);\n\
 \x20   else if (words[0] === \"pace\") life.pace = { every: Number(words[1]), stride: Number(words[2]), small: words[3] === \"1\" }\
 ;\n\
@@ -254,7 +262,13 @@ function reclaimedAt(life, moment) {\n\
 \x20 return regions;\n\
 }\n\
 \n\
-// What a pause did: the regions that it emptied, the regions that it copied into, and the copies where the file tells tiles.\n\
+// Whether a step of the collector moves objects.\n\
+function movesObjects(step) {\n\
+\x20 return step.verb === \"pause\" || step.verb === \"compact\";\n\
+}\n\
+\n\
+// What a pause or a compaction did: the regions that it emptied, the regions that it copied into, and the copies where the fil\
+e tells tiles.\n\
 function pauseAt(life, moment) {\n\
 \x20 const set = reclaimedAt(life, moment);\n\
 \x20 const into = [];\n\

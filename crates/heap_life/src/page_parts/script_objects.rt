@@ -17,28 +17,42 @@ function aboutTold(life, view, show) {\n\
 \x20 return make(\"p\", { class: \"note\" }, said, button);\n\
 }\n\
 \n\
-// A root as a button that leads to its object, or to its region where the object isn't told.\n\
+// A button that leads to the object of a place `{ address, name }`, or to its region where the object isn't told. `called` is h\
+ow the place\n\
+// is called, `word` the same in short.\n\
+function leadButton(life, view, place, { word, called, ...attributes }, choose, open) {\n\
+\x20 const region = Math.floor(place.address / life.sizes.words);\n\
+\x20 const tile = place.name === null ? null : placesAt(life, view.moment).get(place.name).tile;\n\
+\x20 const label = tile === null || labelOf(tile) === null ? \"\" : ` ${labelOf(tile)}`;\n\
+\x20 const leads = tile === null ? `${place.address}, region ${region}` : `#${place.name}${label}`;\n\
+\x20 return make(\n\
+\x20   \"button\",\n\
+\x20   {\n\
+\x20     class: `root ${tile !== null && view.name === place.name ? \"chosen\" : \"\"}`,\n\
+\x20     type: \"button\",\n\
+\x20     \"aria-label\": `${called} ${leads}`,\n\
+\x20     onclick: () => (tile === null ? open(region) : choose(place.name)),\n\
+\x20     ...attributes,\n\
+\x20   },\n\
+\x20   word === \"\" ? null : make(\"b\", {}, word),\n\
+\x20   word === \"\" ? leads : ` ${leads}`,\n\
+\x20 );\n\
+}\n\
+\n\
+// A root as a button.\n\
 function rootButton(life, view, root, choose, open) {\n\
 \x20 const { sizes } = life;\n\
 \x20 const at = root.place - sizes.globals;\n\
 \x20 const word = at < 0 ? `g${root.place}` : `r${at % sizes.registers}`;\n\
-\x20 const region = Math.floor(root.address / sizes.words);\n\
-\x20 const tile = root.name === null ? null : placesAt(life, view.moment).get(root.name).tile;\n\
-\x20 const label = tile === null || labelOf(tile) === null ? \"\" : ` ${labelOf(tile)}`;\n\
-\x20 const leads = tile === null ? `${root.address}, region ${region}` : `#${root.name}${label}`;\n\
-\x20 return make(\n\
-\x20   \"button\",\n\
-\x20   {\n\
-\x20     class: `root ${tile !== null && view.name === root.name ? \"chosen\" : \"\"}`,\n\
-\x20     type: \"button\",\n\
-\x20     \"data-place\": root.place,\n\
-\x20     \"data-stop\": `root ${root.place}`,\n\
-\x20     \"aria-label\": `${rootName(life, root.place)} leads to ${leads}`,\n\
-\x20     onclick: () => (tile === null ? open(region) : choose(root.name)),\n\
-\x20   },\n\
-\x20   make(\"b\", {}, word),\n\
-\x20   ` ${leads}`,\n\
-\x20 );\n\
+\x20 const called = `${rootName(life, root.place)} leads to`;\n\
+\x20 return leadButton(life, view, root, { word, called, \"data-place\": root.place, \"data-stop\": `root ${root.place}` }, choose\
+, open);\n\
+}\n\
+\n\
+// Lines of buttons, one for each mutator that has some, with its head.\n\
+function linesOfMutators(buttons, head) {\n\
+\x20 return [...buttons].map(([mutator, own]) => make(\"div\", { class: \"roots\" }, make(\"span\", { class: \"whose\" }, head(muta\
+tor)), own));\n\
 }\n\
 \n\
 // The panel of globals and of each mutator's registers.\n\
@@ -49,18 +63,34 @@ function aboutRoots(life, view, choose, open) {\n\
 \x20 for (const root of roots) {\n\
 \x20   const mutator = root.place < globals ? -1 : Math.floor((root.place - globals) / registers);\n\
 \x20   if (!groups.has(mutator)) groups.set(mutator, []);\n\
-\x20   groups.get(mutator).push(root);\n\
+\x20   groups.get(mutator).push(rootButton(life, view, root, choose, open));\n\
 \x20 }\n\
-\x20 const lines = [...groups].map(([mutator, own]) => make(\n\
-\x20   \"div\",\n\
-\x20   { class: \"roots\" },\n\
-\x20   make(\"span\", { class: \"whose\" }, mutator < 0 ? \"Globals\" : mutators > 1 ? `Mutator ${mutator}` : \"Registers\"),\n\
-\x20   own.map((root) => rootButton(life, view, root, choose, open)),\n\
-\x20 ));\n\
+\x20 const lines = linesOfMutators(groups, (mutator) => (mutator < 0 ? \"Globals\" : mutators > 1 ? `Mutator ${mutator}` : \"Regist\
+ers\"));\n\
 \x20 const all = globals + mutators * registers;\n\
 \x20 const rest = roots.length >= MOST_ROOTS ? `The first ${MOST_ROOTS} that aren't nil; the file has no more.`\n\
 \x20   : roots.length ? `The other ${grouped(all - roots.length)} are nil.` : `All ${grouped(all)} are nil.`;\n\
 \x20 return make(\"div\", { class: \"card\" }, make(\"h3\", {}, \"Registers and globals\"), lines, make(\"p\", { class: \"rest\" }\
+, rest));\n\
+}\n\
+\n\
+// The panel of the deletion logs; nothing where no marking runs.\n\
+function aboutDeletions(life, view, choose, open) {\n\
+\x20 if (!life.moments[view.moment].marking) return null;\n\
+\x20 const groups = new Map();\n\
+\x20 for (const logged of deletionsAt(life, view.moment)) {\n\
+\x20   const { mutator } = logged;\n\
+\x20   if (!groups.has(mutator)) groups.set(mutator, []);\n\
+\x20   const own = groups.get(mutator);\n\
+\x20   const called = `The deletion log of mutator ${mutator} has`;\n\
+\x20   const stop = `deletion ${mutator} ${own.length}`;\n\
+\x20   own.push(leadButton(life, view, logged, { word: \"\", called, \"data-log\": mutator, \"data-stop\": stop }, choose, open));\
+\n\
+\x20 }\n\
+\x20 const lines = linesOfMutators(groups, (mutator) => `Mutator ${mutator}`);\n\
+\x20 const taken = \"Marking takes a log once it is full, and all of them at its end.\";\n\
+\x20 const rest = groups.size ? `What was overwritten, or read from a weak slot. ${taken}` : `Each is empty. ${taken}`;\n\
+\x20 return make(\"div\", { class: \"card marking\" }, make(\"h3\", {}, \"Deletion logs\"), lines, make(\"p\", { class: \"rest\" }\
 , rest));\n\
 }\n\
 \n\

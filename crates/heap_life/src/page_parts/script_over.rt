@@ -98,6 +98,28 @@ function drawDirty(lanes, view) {\n\
 \x20 moment.logs.forEach((log) => log.cards.forEach((card) => dot(card, \"logged\")));\n\
 }\n\
 \n\
+// The outline of a diamond around a point.\n\
+function diamond(x, y, radius) {\n\
+\x20 return `M${x - radius} ${y}L${x} ${y - radius}L${x + radius} ${y}L${x} ${y + radius}z`;\n\
+}\n\
+\n\
+// A diamond at each object that is in a mutator's deletion log.\n\
+function drawDeletions(lanes, view) {\n\
+\x20 const { words } = lanes.life.sizes;\n\
+\x20 const radius = lanes.layout.tall > 20 ? 6 : 4;\n\
+\x20 const mutators = new Map();\n\
+\x20 for (const { mutator, address } of deletionsAt(lanes.life, view.moment)) {\n\
+\x20   mutators.set(address, (mutators.get(address) || new Set()).add(mutator));\n\
+\x20 }\n\
+\x20 for (const [address, own] of mutators) {\n\
+\x20   const region = Math.floor(address / words);\n\
+\x20   const at = lanes.point(region, address - region * words, \"middle\");\n\
+\x20   const mark = shape(\"path\", { class: \"deleted\", d: diamond(at.x + radius + 2, at.y, radius), \"data-address\": address }\
+, lanes.over);\n\
+\x20   shape(\"title\", { text: `In the deletion log of mutator ${listOf([...own])}` }, mark);\n\
+\x20 }\n\
+}\n\
+\n\
 // What a region held a moment ago, pale.\n\
 function drawGhost(lanes, view, region, style) {\n\
 \x20 const { life, layout } = lanes;\n\
@@ -132,7 +154,7 @@ function drawCopies(lanes, copies) {\n\
 function drawStep(lanes, view) {\n\
 \x20 const step = collectorStepAt(lanes.life, view.moment);\n\
 \x20 if (!step) return;\n\
-\x20 if (step.verb === \"pause\") {\n\
+\x20 if (movesObjects(step)) {\n\
 \x20   const pause = pauseAt(lanes.life, view.moment);\n\
 \x20   pause.set.forEach((region) => drawGhost(lanes, view, region, \"evacuated\"));\n\
 \x20   drawCopies(lanes, pause.copies);\n\
@@ -192,6 +214,7 @@ function drawOver(lanes, view) {\n\
 \x20 drawBuffers(lanes, view);\n\
 \x20 drawStep(lanes, view);\n\
 \x20 drawDirty(lanes, view);\n\
+\x20 drawDeletions(lanes, view);\n\
 \x20 drawSet(lanes, view);\n\
 \x20 drawPointers(lanes, view);\n\
 }\n";

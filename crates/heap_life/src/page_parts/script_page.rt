@@ -83,13 +83,13 @@ function drawPanels() {\n\
 \x20 fill(\"what\", aboutStep(life, view.moment));\n\
 \x20 fill(\"object\", view.name === null ? null : aboutObject(life, view, show, () => chooseName(null), chooseName));\n\
 \x20 fill(\"region\", view.region === null ? null : aboutRegion(life, view, chooseName, () => openRegion(null)));\n\
-\x20 fill(\"roots\", aboutRoots(life, view, chooseName, openRegion));\n\
+\x20 fill(\"roots\", aboutRoots(life, view, chooseName, openRegion), aboutDeletions(life, view, chooseName, openRegion));\n\
 \x20 fill(\"objects\", aboutObjects(life, view));\n\
 }\n\
 \n\
 function draw() {\n\
 \x20 const step = collectorStepAt(life, view.moment);\n\
-\x20 view.fresh = step && step.verb === \"pause\" ? dirtyAt(life, view.moment) : [];\n\
+\x20 view.fresh = step && movesObjects(step) ? dirtyAt(life, view.moment) : [];\n\
 \x20 lanes.draw(view);\n\
 \x20 moveCurves(view.moment);\n\
 \x20 describeMoment();\n\
@@ -297,12 +297,10 @@ and refine\"}`;\n\
 \x20 at(\"thinned\").textContent = said.length ? `Thinned: ${said.join(\"; \")}.` : \"\";\n\
 }\n\
 \n\
-// The page's file names the life, in the title and in the heading.\n\
+// The script's file names the life: its path in the heading, the last part of it in the title.\n\
 function describeFile() {\n\
-\x20 const name = fileName();\n\
-\x20 if (!name) return;\n\
-\x20 document.title = `${name}: the life of a heap`;\n\
-\x20 at(\"title\").replaceChildren(\"The life of a heap: \", make(\"span\", { class: \"file\" }, name));\n\
+\x20 document.title = `${life.file.split(\"/\").pop()}: the life of a heap`;\n\
+\x20 at(\"title\").replaceChildren(\"The life of a heap: \", make(\"bdi\", { class: \"file\" }, life.file));\n\
 }\n\
 \n\
 function legendItem(drawIt, text) {\n\
@@ -350,6 +348,7 @@ function markItems() {\n\
 \x20   legendItem(dot(\"queued\"), \"dirty card, queued\"),\n\
 \x20   legendItem(dot(\"logged\"), \"in a log\"),\n\
 \x20   legendItem(dot(\"fresh\"), \"made dirty by the pause\"),\n\
+\x20   legendItem((svg) => shape(\"path\", { class: \"deleted\", d: diamond(13, 9, 6) }, svg), \"object in a deletion log\"),\n\
 \x20   legendItem((svg) => shape(\"path\", { class: \"run\", d: \"M2 8v5h22v-5\" }, svg), \"run of one humongous object\"),\n\
 \x20   legendItem((svg) => shape(\"rect\", { ...frame, class: \"evacuated\" }, svg), \"evacuated by the pause\"),\n\
 \x20   legendItem((svg) => shape(\"rect\", { ...frame, class: \"freed\" }, svg), \"freed by cleanup\"),\n\

@@ -212,7 +212,7 @@ function aboutRefine(life, moment) {\n\
 function aboutStep(life, moment) {\n\
 \x20 const step = collectorStepAt(life, moment);\n\
 \x20 if (!step) return null;\n\
-\x20 const about = step.verb === \"pause\" ? aboutPause(life, moment)\n\
+\x20 const about = movesObjects(step) ? aboutPause(life, moment)\n\
 \x20   : step.verb === \"cleanup\" ? aboutCleanup(life, moment)\n\
 \x20     : step.verb === \"refine\" ? aboutRefine(life, moment)\n\
 \x20       : aboutMarking(life, moment, step.verb);\n\

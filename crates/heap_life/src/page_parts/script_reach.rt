@@ -11,12 +11,23 @@ t here, of\n\
 \n\
 const MOST_ROOTS = 64;\n\
 \n\
-// The objects that roots name: `[{ place, address, name }]`, the name null where no object is told at the address.\n\
-function rootsAt(life, moment) {\n\
+// Places with the name of the object at each one's address, null where none is told there.\n\
+function withNames(life, moment, places) {\n\
 \x20 const names = new Map();\n\
 \x20 for (const [name, { address }] of placesAt(life, moment)) names.set(address, name);\n\
-\x20 return life.moments[moment].roots.map(({ place, address }) => ({ place, address, name: names.has(address) ? names.get(address\
-) : null }));\n\
+\x20 return places.map((place) => ({ ...place, name: names.has(place.address) ? names.get(place.address) : null }));\n\
+}\n\
+\n\
+// The objects that roots name: `[{ place, address, name }]`, the name null where no object is told at the address.\n\
+function rootsAt(life, moment) {\n\
+\x20 return withNames(life, moment, life.moments[moment].roots);\n\
+}\n\
+\n\
+// The objects in the deletion logs, each as often as it is there: `[{ mutator, address, name }]`.\n\
+function deletionsAt(life, moment) {\n\
+\x20 const logged = life.moments[moment].deletions.flatMap(({ mutator, addresses }) => addresses.map((address) => ({ mutator, addre\
+ss })));\n\
+\x20 return withNames(life, moment, logged);\n\
 }\n\
 \n\
 // How many regions have objects that aren't told at a moment.\n\

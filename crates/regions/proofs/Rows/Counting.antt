@@ -4,7 +4,7 @@ use Rattle.std.proofs.Common.{ℕ, zero, suc, Bool, true, false, List, [], lengt
 use Rattle.std.proofs.Common.{arith, cond}
 use Rattle.std.specs.List.{sum_by, count_by}
 use Rattle.std.proofs.lemmas.List.{length-append, length-take, length-drop, length-replicate, drop-drop, take_all}
-use Rattle.std.proofs.lemmas.List.Sums.{sum_by-append, sum_by-cons, sum_by-set, sum_by-take-drop}
+use Rattle.std.proofs.lemmas.List.Sums.{count_by-le-length, sum_by-append, sum_by-cons, sum_by-set, sum_by-take-drop}
 use Rattle.std.proofs.lemmas.List.Folds.{sum_by-replicate}
 use lib.Seq.{paste}
 use Rattle.regions.specs.Table.{Table, Region, is_free, free_count, front_count, kind_of, IsReleasable}
@@ -142,6 +142,17 @@ count_released rows rows' k at m n number h f at_is room m_is c e p =
       frees m,
       count_written rows rows' (replicate m free_row) at m number room (length-replicate {A = Row} m free_row) e p,
     )
+
+-- and so they are as many as rows at most
+pub few_released : (rows rows' : List Row) (k at m n number : ℕ) → k < length rows → free (get_or rows k free_row) ≡ false → at ≡ k
+    → at + m ≤ length rows → m ≡ suc (front_count rest (drop (suc k) rows)) → n ≡ free_row_count rows
+    → number ≡ length rows → rows' ≡ paste rows at (replicate m free_row) m → n + m ≤ number
+few_released rows rows' k at m n number h f at_is room m_is c e p =
+    let left : List Row = take number (rows' ++ drop (length rows') rows) in
+    let more : n + m ≡ free_row_count left = count_released rows rows' k at m n number h f at_is room m_is c e p in
+    let few : free_row_count left ≤ length left = count_by-le-length (λ row. kind_is_free row.kind) left in
+    let short = length-take number (rows' ++ drop (length rows') rows) in
+    omega (arith, more, few, short)
 
 -- ---- a run is made
 front_frees : (m : ℕ) (rows : List Row) → FreeFront m rows → free_row_count (take m rows) ≡ m

@@ -9,7 +9,6 @@ use Rattle.regions.specs.Table.{Table, Region, Free, Ordinary, First, region_kin
 use Rattle.regions.specs.Table.{tile_in, region_at, object_at}
 use Rattle.regions.specs.Walks.{tiles_of, region_tiles}
 use Rattle.regions.specs.Shaped.{IsShaped}
-use Rattle.regions.specs.declared.row.Kind.{Kind}
 use Rattle.regions.specs.declared.row.Kind.TheVariants as kinds
 use Rattle.regions.proofs.Tiles.Placing.{tile_at-end}
 use Rattle.regions.proofs.Tiles.Steps.{used_total}

@@ -209,9 +209,10 @@ filler_filled size words rows t x name p weak d n at rest more made new g e h n_
     elim (place_of (sizes_in words) size words rows x (Filler n) (ap (λ (u : Table). tile_in u x) e ∙ h)) [
       | inl q ↦
           let fits = tile_fits size words rows x (Filler n) g q in
+          let short = tile_short size words rows x (Filler n) g q in
           let w : ℕ = header_word (headers.Object p weak d) in
           let f = filled (sizes_in words) words x w name p weak d rest
-          (header_of-word (headers.Object p weak d) (small_p, small_w, small_d)) (omega arith) (omega (arith, g.small)) in
+          (header_of-word (headers.Object p weak d) (small_p, small_w, small_d)) (omega arith) (omega (arith, short, g.region_size.1)) in
           let b : IsBlock (sizes_in words) f.block n (Object (new_object name p weak d) ∷ remainder rest) =
           subst (λ (m : ℕ). IsBlock (sizes_in words) f.block m (Object (new_object name p weak d) ∷ remainder rest)) (sym n_is)
           f.is_block in

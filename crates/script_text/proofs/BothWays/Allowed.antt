@@ -6,7 +6,7 @@ use Rattle.heap_words.specs.Configs.{globals_of, registers_of}
 use Rattle.heap_words.specs.declared.config.Config.{Config}
 use Rattle.heap_words.specs.declared.config.Format.{Format}
 use Rattle.heap_words.specs.declared.config.Format.TheVariants.{V1, V2, V3}
-use Rattle.heap_steps.specs.Actors.{HasFrames, has_frames, allows, IsOp}
+use Rattle.heap_steps.specs.Actors.{IsThird, is_third, allows, IsOp}
 use Rattle.heap_steps.specs.declared.step.Action.{Action}
 use Rattle.heap_steps.specs.declared.step.Action.TheVariants as actions
 use Rattle.heap_steps.specs.declared.step.Op.{Op}
@@ -43,15 +43,15 @@ both_again a k b n h =
 one_again : (a k : ℕ) → a < k → ((nat_lt a k && true) && true) ≡ true
 one_again a k lt = true_both (nat_lt a k && true) true (below_again a k true lt refl) refl
 
-frames : (f : Format) → has_frames f ≡ true → HasFrames f
-frames V1 e = absurd cc
-frames (V2 card) e = absurd cc
-frames (V3 card globals registers) e = tt
+pub third : (f : Format) → is_third f ≡ true → IsThird f
+third V1 e = absurd cc
+third (V2 card) e = absurd cc
+third (V3 card globals registers) e = tt
 
-frames_again : (f : Format) → HasFrames f → has_frames f ≡ true
-frames_again V1 h = absurd h
-frames_again (V2 card) h = absurd h
-frames_again (V3 card globals registers) h = refl
+pub third_again : (f : Format) → IsThird f → is_third f ≡ true
+third_again V1 h = absurd h
+third_again (V2 card) h = absurd h
+third_again (V3 card globals registers) h = refl
 
 -- a mutator may do what the sizes allow
 op_is : (c : Config) (m : ℕ) (a : Action) → m < c.mutators → allows c a ≡ true → IsOp c (record { mutator = m; action = a })
@@ -97,8 +97,8 @@ op_is c m (actions.PutWeak object i (Some r)) few e =
 op_is c m (actions.Weaks object) few e =
     record { at = record { mutator = few; roots = below object.number (registers_of c) true e }; known = tt }
 op_is c m (actions.Scope from) few e =
-    let tests = both_true (nat_lt from.number (registers_of c)) (has_frames c.format) e in
-    record { at = record { mutator = few; roots = ltb-true from.number (registers_of c) tests.0 }; known = frames c.format tests.1 }
+    let tests = both_true (nat_lt from.number (registers_of c)) (is_third c.format) e in
+    record { at = record { mutator = few; roots = ltb-true from.number (registers_of c) tests.0 }; known = third c.format tests.1 }
 
 -- and the sizes allow what it may do
 op_again : (c : Config) (m : ℕ) (a : Action) → IsOp c (record { mutator = m; action = a }) → allows c a ≡ true
@@ -119,7 +119,7 @@ op_again c m (actions.PutWeak object i None) h = one_again object.number (regist
 op_again c m (actions.PutWeak object i (Some r)) h = both_again object.number (registers_of c) r.number (registers_of c) h.at.roots
 op_again c m (actions.Weaks object) h = below_again object.number (registers_of c) true h.at.roots refl
 op_again c m (actions.Scope from) h =
-    below_again from.number (registers_of c) (has_frames c.format) h.at.roots (frames_again c.format h.known)
+    below_again from.number (registers_of c) (is_third c.format) h.at.roots (third_again c.format h.known)
 
 guarded : (b : Bool) (x y : Action) → cond b (Some x) None ≡ Some y → (b ≡ true) × (x ≡ y)
 guarded true x y e = (refl, cc)

@@ -136,6 +136,7 @@ marked c i ws collector.Remark s known spelled fits e = absurd (no_step s e)
 marked c i ws collector.Cleanup s known spelled fits e = absurd (no_step s e)
 marked c i ws (collector.Refine n) s known spelled fits e = absurd (no_step s e)
 marked c i ws (collector.Pause n) s known spelled fits e = absurd (no_step s e)
+marked c i ws (collector.Compact n) s known spelled fits e = absurd (no_step s e)
 
 refined : (c : Config) (i : ℕ) (ws : List (List ℕ)) (k : CollectorStep) (s : Step) → i < 8 → ws ≡ collection_words k → CollectionFits k
     → refiner_step k ≡ Some s → IsTaken c (actors.Refiner i) ws s
@@ -147,6 +148,7 @@ refined c i ws collector.Cleanup s known spelled fits e = absurd (no_step s e)
 refined c i ws (collector.Refine n) s known spelled fits e =
     same_step c (actors.Refiner i) ws (steps.Collector (collector.Refine n)) s spelled known fits e
 refined c i ws (collector.Pause n) s known spelled fits e = absurd (no_step s e)
+refined c i ws (collector.Compact n) s known spelled fits e = absurd (no_step s e)
 
 taken_is : (c : Config) (a : Actor) (ws : List (List ℕ)) (s : Step) → KnownActor c a → taken_of c a ws ≡ Some s → IsTaken c a ws s
 unfolding taken_of
@@ -155,16 +157,16 @@ taken_is c (actors.Mutator m) ws s known e =
     let is = allowed_is c m ws read.0 known read.1 in
     same_step c (actors.Mutator m) ws (steps.Mutator (record { mutator = m; action = read.0 })) s is.spelled (refl, is.owned) is.fits read.2
 taken_is c actors.Collector ws s known e =
-    let read = option_bind (collection_of ws) (λ k. Some (steps.Collector k)) s e in
-    let is = collection_is ws read.0 read.1 in
-    same_step c actors.Collector ws (steps.Collector read.0) s is.spelled tt is.fits read.2
+    let read = option_bind (collection_of c.format ws) (λ k. Some (steps.Collector k)) s e in
+    let is = collection_is c.format ws read.0 read.1 in
+    same_step c actors.Collector ws (steps.Collector read.0) s is.spelled is.known is.fits read.2
 taken_is c (actors.Marker i) ws s known e =
-    let read = option_bind (collection_of ws) marker_step s e in
-    let is = collection_is ws read.0 read.1 in
+    let read = option_bind (collection_of c.format ws) marker_step s e in
+    let is = collection_is c.format ws read.0 read.1 in
     marked c i ws read.0 s known is.spelled is.fits read.2
 taken_is c (actors.Refiner i) ws s known e =
-    let read = option_bind (collection_of ws) refiner_step s e in
-    let is = collection_is ws read.0 read.1 in
+    let read = option_bind (collection_of c.format ws) refiner_step s e in
+    let is = collection_is c.format ws read.0 read.1 in
     refined c i ws read.0 s known is.spelled is.fits read.2
 
 -- an event, and the words behind its count
@@ -276,6 +278,7 @@ some_body (steps.Collector collector.Remark) = (_, _, refl)
 some_body (steps.Collector collector.Cleanup) = (_, _, refl)
 some_body (steps.Collector (collector.Refine k)) = (_, _, refl)
 some_body (steps.Collector (collector.Pause b)) = (_, _, refl)
+some_body (steps.Collector (collector.Compact b)) = (_, _, refl)
 
 pub some_reply : (r : Reply) → (x : List ℕ) × (xs : List (List ℕ)) × (reply_words r ≡ x ∷ xs)
 some_reply replies.Done = (_, _, refl)

@@ -98,6 +98,7 @@ body_plain (steps.Collector collector.Remark) fits = plain1 _ refl
 body_plain (steps.Collector collector.Cleanup) fits = plain1 _ refl
 body_plain (steps.Collector (collector.Refine k)) fits = plain2 _ _ refl (plain_small k fits)
 body_plain (steps.Collector (collector.Pause b)) fits = plain2 _ _ refl (plain_small b fits)
+body_plain (steps.Collector (collector.Compact b)) fits = plain2 _ _ refl (plain_small b fits)
 
 -- how long the parts of a line are
 body_long : (s : Step) → StepFits s → length (spaced (body_words s)) ≤ 49
@@ -108,6 +109,7 @@ body_long (steps.Collector collector.Remark) fits = omega arith
 body_long (steps.Collector collector.Cleanup) fits = omega arith
 body_long (steps.Collector (collector.Refine k)) fits = omega (arith, two_long (codes "refine") (decimal k), small_long k fits)
 body_long (steps.Collector (collector.Pause b)) fits = omega (arith, two_long (codes "pause") (decimal b), small_long b fits)
+body_long (steps.Collector (collector.Compact b)) fits = omega (arith, two_long (codes "compact") (decimal b), small_long b fits)
 
 refused_long : (why : Refusal) → nat_le (length (spaced (codes "refused" ∷ refusal_words why))) 32 ≡ true
 refused_long refusals.Nil = refl
@@ -229,17 +231,18 @@ is_own c (actors.Mutator m) (steps.Mutator o) h fits = record {
 }
 is_own c (actors.Mutator m) (steps.Collector k) h fits = absurd h
 is_own c actors.Collector (steps.Mutator o) h fits = absurd h
-is_own c actors.Collector (steps.Collector k) h fits = record { known = tt; again = rw (collection_again k fits) refl }
+is_own c actors.Collector (steps.Collector k) h fits = record { known = tt; again = rw (collection_again c.format k h fits) refl }
 is_own c (actors.Marker i) (steps.Mutator o) h fits = absurd h
 is_own c (actors.Marker i) (steps.Collector collector.Begin) h fits = absurd h
 is_own c (actors.Marker i) (steps.Collector (collector.Mark k)) h fits = record {
   known = h;
-  again = rw (collection_again (collector.Mark k) fits) refl;
+  again = rw (collection_again c.format (collector.Mark k) tt fits) refl;
 }
 is_own c (actors.Marker i) (steps.Collector collector.Remark) h fits = absurd h
 is_own c (actors.Marker i) (steps.Collector collector.Cleanup) h fits = absurd h
 is_own c (actors.Marker i) (steps.Collector (collector.Refine k)) h fits = absurd h
 is_own c (actors.Marker i) (steps.Collector (collector.Pause b)) h fits = absurd h
+is_own c (actors.Marker i) (steps.Collector (collector.Compact b)) h fits = absurd h
 is_own c (actors.Refiner i) (steps.Mutator o) h fits = absurd h
 is_own c (actors.Refiner i) (steps.Collector collector.Begin) h fits = absurd h
 is_own c (actors.Refiner i) (steps.Collector (collector.Mark k)) h fits = absurd h
@@ -247,9 +250,10 @@ is_own c (actors.Refiner i) (steps.Collector collector.Remark) h fits = absurd h
 is_own c (actors.Refiner i) (steps.Collector collector.Cleanup) h fits = absurd h
 is_own c (actors.Refiner i) (steps.Collector (collector.Refine k)) h fits = record {
   known = h;
-  again = rw (collection_again (collector.Refine k) fits) refl;
+  again = rw (collection_again c.format (collector.Refine k) tt fits) refl;
 }
 is_own c (actors.Refiner i) (steps.Collector (collector.Pause b)) h fits = absurd h
+is_own c (actors.Refiner i) (steps.Collector (collector.Compact b)) h fits = absurd h
 
 longer : (x : List ℕ) (xs ws : List (List ℕ)) → ws ≡ x ∷ xs → 1 ≤ length ws
 longer x xs ws e = let count : length ws ≡ length (x ∷ xs) = ap length e in omega arith

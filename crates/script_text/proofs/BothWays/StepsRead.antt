@@ -67,13 +67,13 @@ join_words : (a b : List ℕ) (ws vs : List (List ℕ)) → a ≡ b → ws ≡ v
 join_words a b ws vs p q = cc
 
 collector_read : (c : Config) (actor : List ℕ) (rest : List (List ℕ)) (s : Step) → bytes_eq actor (codes "gc") ≡ true
-    → (or_fault (collection_of rest) kinds.BadStep >>= λ k. Ok (steps.Collector k)) ≡ Ok s → IsRead c (actor ∷ rest) s
+    → (or_fault (collection_of c.format rest) kinds.BadStep >>= λ k. Ok (steps.Collector k)) ≡ Ok s → IsRead c (actor ∷ rest) s
 collector_read c actor rest s gc e =
-    let read = result_bind (or_fault (collection_of rest) kinds.BadStep) (λ k. Ok (steps.Collector k)) s e in
-    let step = collection_is rest read.0 (or_fault_is (collection_of rest) kinds.BadStep read.0 read.1) in
+    let read = result_bind (or_fault (collection_of c.format rest) kinds.BadStep) (λ k. Ok (steps.Collector k)) s e in
+    let step = collection_is c.format rest read.0 (or_fault_is (collection_of c.format rest) kinds.BadStep read.0 read.1) in
     subst (IsRead c (actor ∷ rest)) (step_ok (steps.Collector read.0) s read.2) (record {
       spelled = join_words actor (codes "gc") rest (collection_words read.0) ((bytes_eq-Decides actor (codes "gc")).0 gc) step.spelled;
-      owned = tt;
+      owned = step.known;
       fits = step.fits;
     })
 
@@ -98,7 +98,7 @@ step_is : (c : Config) (ws : List (List ℕ)) (s : Step) → step_of c ws ≡ Ok
 unfolding step_of
 step_is c [] s e = absurd cc
 step_is c (actor ∷ rest) s e =
-    elim (either (bytes_eq actor (codes "gc")) (or_fault (collection_of rest) kinds.BadStep >>= λ k. Ok (steps.Collector k))
+    elim (either (bytes_eq actor (codes "gc")) (or_fault (collection_of c.format rest) kinds.BadStep >>= λ k. Ok (steps.Collector k))
     (mutator_of c actor >>= λ m. or_fault (allowed_of c rest) kinds.BadStep >>= λ a. Ok (mutator_step m a)) s e) [
       | inl h ↦ collector_read c actor rest s h.0 h.1
       | inr h ↦ mutator_read c actor rest s h.1

@@ -11,7 +11,7 @@ use Rattle.std.proofs.lemmas.List.Elements.{All-nil, All-cons, All-append}
 use Rattle.heap_words.specs.declared.config.Config.{Config}
 use Rattle.heap_words.specs.declared.config.Format.{Format}
 use Rattle.heap_words.specs.declared.config.Format.TheVariants.{V1, V2, V3}
-use Rattle.heap_steps.specs.Actors.{IsOp, IsStep}
+use Rattle.heap_steps.specs.Actors.{HasCollection, IsOp, IsStep}
 use Rattle.heap_steps.specs.declared.step.Action.{Action}
 use Rattle.heap_steps.specs.declared.step.Action.TheVariants as actions
 use Rattle.heap_steps.specs.declared.step.CollectorStep.{CollectorStep}
@@ -25,7 +25,7 @@ use Rattle.script_text.specs.Fits.{Fits, CollectionFits, StepFits, FormatFits, C
 use Rattle.script_text.specs.Spelling.{action_words, collection_words, step_words, verb_of, size_words, format_words, heap_words, spaced}
 use Rattle.script_text.specs.Lines.{or_fault, words_of, mutator_of, step_of, step_line_of, heap_line_of}
 use Rattle.script_text.proofs.Parts.Numbers.{number_of_some, first_is_digit}
-use Rattle.script_text.proofs.BothWays.Allowed.{allowed_again}
+use Rattle.script_text.proofs.BothWays.Allowed.{allowed_again, third_again}
 use Rattle.script_text.proofs.BothWays.Lengths.{spaced_next, spaced_behind, four_long, small_long, action_long}
 use Rattle.script_text.proofs.Parts.Spelled.{IsWord, AreWords, literal, number_word, small_word, register_is_word, global_is_word}
 use Rattle.script_text.proofs.Parts.Spelled.{value_is_word, word1, word2, word3, word4, word5, words_again, spaced_short, no_feed}
@@ -76,6 +76,7 @@ collection_is_words collector.Remark fits = word1 _ (literal (codes "remark") re
 collection_is_words collector.Cleanup fits = word1 _ (literal (codes "cleanup") refl refl)
 collection_is_words (collector.Refine k) fits = word2 _ _ (literal (codes "refine") refl refl) (small_word k fits)
 collection_is_words (collector.Pause b) fits = word2 _ _ (literal (codes "pause") refl refl) (small_word b fits)
+collection_is_words (collector.Compact b) fits = word2 _ _ (literal (codes "compact") refl refl) (small_word b fits)
 
 pub few_collection_words : (k : CollectorStep) → length (collection_words k) ≤ 4
 few_collection_words collector.Begin = omega arith
@@ -84,15 +85,19 @@ few_collection_words collector.Remark = omega arith
 few_collection_words collector.Cleanup = omega arith
 few_collection_words (collector.Refine k) = omega arith
 few_collection_words (collector.Pause b) = omega arith
+few_collection_words (collector.Compact b) = omega arith
 
-pub collection_again : (k : CollectorStep) → CollectionFits k → collection_of (collection_words k) ≡ Some k
+pub collection_again : (f : Format) (k : CollectorStep) → HasCollection f k → CollectionFits k
+    → collection_of f (collection_words k) ≡ Some k
 unfolding collection_of
-collection_again collector.Begin fits = refl
-collection_again (collector.Mark k) fits = rw (number_of_some small (decimal k) k (omega arith) refl fits) refl
-collection_again collector.Remark fits = refl
-collection_again collector.Cleanup fits = refl
-collection_again (collector.Refine k) fits = rw (number_of_some small (decimal k) k (omega arith) refl fits) refl
-collection_again (collector.Pause b) fits = rw (number_of_some small (decimal b) b (omega arith) refl fits) refl
+collection_again f collector.Begin known fits = refl
+collection_again f (collector.Mark k) known fits = rw (number_of_some small (decimal k) k (omega arith) refl fits) refl
+collection_again f collector.Remark known fits = refl
+collection_again f collector.Cleanup known fits = refl
+collection_again f (collector.Refine k) known fits = rw (number_of_some small (decimal k) k (omega arith) refl fits) refl
+collection_again f (collector.Pause b) known fits = rw (number_of_some small (decimal b) b (omega arith) refl fits) refl
+collection_again f (collector.Compact b) known fits =
+    rw (third_again f known, number_of_some small (decimal b) b (omega arith) refl fits) refl
 
 false_by : (b : Bool) → (b ≡ true → ⊥) → b ≡ false
 false_by true never = absurd (never refl)
@@ -123,21 +128,22 @@ unfolding step_line_of
 op_line_again c line o short words few known fits =
     rw (le-ltb 120 (length line) short) (ap (step_of c) words ∙ op_again c o few known fits)
 
-gc_again : (c : Config) (k : CollectorStep) → CollectionFits k → step_of c (codes "gc" ∷ collection_words k) ≡ Ok (steps.Collector k)
+gc_again : (c : Config) (k : CollectorStep) → HasCollection c.format k → CollectionFits k
+    → step_of c (codes "gc" ∷ collection_words k) ≡ Ok (steps.Collector k)
 unfolding step_of
-gc_again c k fits = rw (collection_again k fits) refl
+gc_again c k known fits = rw (collection_again c.format k known fits) refl
 
 -- the line of a collector's step, by its words
 pub gc_line_again : (c : Config) (line : List ℕ) (k : CollectorStep) → length line ≤ 120 → words_of line ≡ codes "gc" ∷ collection_words k
-    → CollectionFits k → step_line_of c line ≡ Ok (steps.Collector k)
+    → HasCollection c.format k → CollectionFits k → step_line_of c line ≡ Ok (steps.Collector k)
 unfolding step_line_of
-gc_line_again c line k short words fits = rw (le-ltb 120 (length line) short) (ap (step_of c) words ∙ gc_again c k fits)
+gc_line_again c line k short words known fits = rw (le-ltb 120 (length line) short) (ap (step_of c) words ∙ gc_again c k known fits)
 
 step_again : (c : Config) (s : Step) → c.mutators ≤ small → IsStep c s → StepFits s → step_of c (step_words s) ≡ Ok s
 step_again c (steps.Mutator o) few known fits =
     let who : o.mutator < c.mutators = known.at.mutator in
     op_again c o (omega arith) known fits
-step_again c (steps.Collector k) few known fits = gc_again c k fits
+step_again c (steps.Collector k) few known fits = gc_again c k known fits
 
 step_is_words : (c : Config) (s : Step) → c.mutators ≤ small → IsStep c s → StepFits s → AreWords (step_words s)
 step_is_words c (steps.Mutator o) few known fits =

@@ -6,7 +6,7 @@ use Rattle.std.specs.Str.{bytes_eq}
 use Rattle.std.proofs.lemmas.Slice.Eq.{bytes_eq-Decides}
 use Rattle.heap_words.specs.declared.config.Config.{Config}
 use Rattle.heap_words.specs.Configs.{globals_of, registers_of}
-use Rattle.heap_steps.specs.Actors.{allows, has_frames}
+use Rattle.heap_steps.specs.Actors.{allows, is_third}
 use Rattle.heap_steps.specs.declared.step.Register.{Register}
 use Rattle.heap_steps.specs.declared.step.GlobalRoot.{GlobalRoot}
 use Rattle.heap_steps.specs.declared.step.CollectorStep.{CollectorStep}
@@ -277,7 +277,7 @@ weaks_fits c (a ∷ b ∷ d ∷ []) = no1 (fits_word c places.Register a)
 weaks_fits c (a ∷ b ∷ d ∷ e ∷ []) = no1 (fits_word c places.Register a)
 weaks_fits c (a ∷ b ∷ d ∷ e ∷ g ∷ rest) = no1 (fits_word c places.Register a)
 
-pub scope_fits : (c : Config) → has_frames c.format ≡ true → (args : List (List ℕ))
+pub scope_fits : (c : Config) → is_third c.format ≡ true → (args : List (List ℕ))
     → is_some (allowed_of c (codes "scope" ∷ args)) ≡ all_fit c (places.Register ∷ places.End ∷ []) args
 unfolding allowed_of action_of longest_action_of long_action_of pair_action_of lone_action_of scope_of
 scope_fits c frames [] = refl
@@ -291,10 +291,10 @@ scope_fits c frames (a ∷ b ∷ d ∷ e ∷ g ∷ rest) = no1 (fits_word c plac
 -- what reading a mutator's step has to do with its words' places
 abbrev pub ReadsBy : Config → List ℕ → List (List ℕ) → Type 0
 ReadsBy c verb args = is_some (allowed_of c (verb ∷ args))
-    ≡ all_fit c (places.Action ∷ behind_verb (action_form (has_frames c.format) verb) (places.End ∷ [])) (verb ∷ args)
+    ≡ all_fit c (places.Action ∷ behind_verb (action_form (is_third c.format) verb) (places.End ∷ [])) (verb ∷ args)
 
 -- a scope where no format has it
-scope_less : (c : Config) (args : List (List ℕ)) → has_frames c.format ≡ false → is_some (allowed_of c (codes "scope" ∷ args)) ≡ false
+scope_less : (c : Config) (args : List (List ℕ)) → is_third c.format ≡ false → is_some (allowed_of c (codes "scope" ∷ args)) ≡ false
 unfolding allowed_of action_of longest_action_of long_action_of pair_action_of lone_action_of scope_of
 scope_less c [] e = refl
 scope_less c (a ∷ []) e = go (register_of a)
@@ -370,9 +370,9 @@ weaks_literal c args = weaks_fits c args
 
 scope_literal : (c : Config) (args : List (List ℕ)) → ReadsBy c (codes "scope") args
 unfolding action_form
-scope_literal c args = go (has_frames c.format) refl
+scope_literal c args = go (is_third c.format) refl
   where
-    go : (b : Bool) → has_frames c.format ≡ b → ReadsBy c (codes "scope") args
+    go : (b : Bool) → is_third c.format ≡ b → ReadsBy c (codes "scope") args
     go true e = scope_fits c e args ∙ ap (λ (b : Bool). is_some (if b then Some (places.Register ∷ []) else None)
         && all_fit c (behind_verb (if b then Some (places.Register ∷ []) else None) (places.End ∷ [])) args) (sym e)
     go false e = scope_less c args e ∙ ap (λ (b : Bool). is_some (if b then Some (places.Register ∷ []) else None)
@@ -460,7 +460,7 @@ after_15 : (c : Config) (verb : List ℕ) (args : List (List ℕ))
 after_15 c verb args e1 e2 e3 e4 e5 e6 e7 e8 e9 e10 e11 e12 e13 e14 e15 =
     none_of c verb args e1 e2 e3 e4 e5 e6 e7 e8 e9 e10 e11 e12 e13 e14 e15
     ∙ sym (ap (λ (form : Option (List Place)). is_some form && all_fit c (behind_verb form (places.End ∷ [])) args)
-    (no_form (has_frames c.format) verb e1 e2 e3 e4 e5 e6 e7 e8 e9 e10 e11 e12 e13 e14 e15))
+    (no_form (is_third c.format) verb e1 e2 e3 e4 e5 e6 e7 e8 e9 e10 e11 e12 e13 e14 e15))
 
 after_14 : (c : Config) (verb : List ℕ) (args : List (List ℕ))
     → bytes_eq verb (codes "new") ≡ false

@@ -4,6 +4,7 @@ use Rattle.std.specs.Prelude.{◌&&◌, ◌+◌, ◌↔◌, Result, codes, is_so
 use Rattle.std.specs.Str.{bytes_eq}
 use Rattle.std.proofs.lemmas.Slice.Eq.{bytes_eq-Decides}
 use Rattle.heap_words.specs.declared.config.Config.{Config}
+use Rattle.heap_steps.specs.Actors.{is_third}
 use Rattle.heap_steps.specs.declared.step.Actor.TheVariants as actors
 use Rattle.heap_steps.specs.declared.step.CollectorStep.TheVariants as collector
 use Rattle.heap_steps.specs.declared.step.Step.{Step}
@@ -19,8 +20,8 @@ use Rattle.script_text.specs.Reading.{number_of, small, allowed_of, action_of, c
 use Rattle.script_text.proofs.Reading.Fitting.{after_0, all_fit, numbered}
 
 abbrev CollectsBy : Config → List ℕ → List (List ℕ) → Type 0
-CollectsBy c verb args = is_some (collection_of (verb ∷ args))
-    ≡ all_fit c (places.Collection ∷ behind_verb (collection_form verb) (places.End ∷ [])) (verb ∷ args)
+CollectsBy c verb args = is_some (collection_of c.format (verb ∷ args))
+    ≡ all_fit c (places.Collection ∷ behind_verb (collection_form (is_third c.format) verb) (places.End ∷ [])) (verb ∷ args)
 
 no1 : (x : Bool) → false ≡ x && false
 no1 true = refl
@@ -62,6 +63,15 @@ pause_fits c [] = refl
 pause_fits c (a ∷ []) = numbered collector.Pause (number_of small a)
 pause_fits c (a ∷ b ∷ rest) = no1 (is_some (number_of small a))
 
+compact_fits : (c : Config) (b : Bool) → is_third c.format ≡ b → (args : List (List ℕ)) → CollectsBy c (codes "compact") args
+unfolding collection_of collection_form
+compact_fits c true e [] = rw e refl
+compact_fits c true e (a ∷ []) = rw e (numbered collector.Compact (number_of small a))
+compact_fits c true e (a ∷ b ∷ rest) = rw e (no1 (is_some (number_of small a)))
+compact_fits c false e [] = rw e refl
+compact_fits c false e (a ∷ []) = rw e refl
+compact_fits c false e (a ∷ b ∷ rest) = rw e refl
+
 none_of : (c : Config) (verb : List ℕ) (args : List (List ℕ))
     → bytes_eq verb (codes "begin") ≡ false
     → bytes_eq verb (codes "mark") ≡ false
@@ -69,24 +79,41 @@ none_of : (c : Config) (verb : List ℕ) (args : List (List ℕ))
     → bytes_eq verb (codes "cleanup") ≡ false
     → bytes_eq verb (codes "refine") ≡ false
     → bytes_eq verb (codes "pause") ≡ false
-    → is_some (collection_of (verb ∷ args)) ≡ false
+    → bytes_eq verb (codes "compact") ≡ false
+    → is_some (collection_of c.format (verb ∷ args)) ≡ false
 unfolding collection_of
-none_of c verb [] e1 e2 e3 e4 e5 e6 = rw (e1, e3, e4) refl
-none_of c verb (a ∷ []) e1 e2 e3 e4 e5 e6 = rw (e2, e5, e6) refl
-none_of c verb (a ∷ b ∷ rest) e1 e2 e3 e4 e5 e6 = refl
+none_of c verb [] e1 e2 e3 e4 e5 e6 e7 = rw (e1, e3, e4) refl
+none_of c verb (a ∷ []) e1 e2 e3 e4 e5 e6 e7 = rw (e2, e5, e6, e7) refl
+none_of c verb (a ∷ b ∷ rest) e1 e2 e3 e4 e5 e6 e7 = refl
 
-no_form : (verb : List ℕ)
+no_form : (third : Bool) (verb : List ℕ)
     → bytes_eq verb (codes "begin") ≡ false
     → bytes_eq verb (codes "mark") ≡ false
     → bytes_eq verb (codes "remark") ≡ false
     → bytes_eq verb (codes "cleanup") ≡ false
     → bytes_eq verb (codes "refine") ≡ false
     → bytes_eq verb (codes "pause") ≡ false
-    → collection_form verb ≡ None
+    → bytes_eq verb (codes "compact") ≡ false
+    → collection_form third verb ≡ None
 unfolding collection_form
-no_form verb e1 e2 e3 e4 e5 e6 = rw (e1, e2, e3, e4, e5, e6) refl
+no_form third verb e1 e2 e3 e4 e5 e6 e7 = rw (e1, e2, e3, e4, e5, e6, e7) refl
 
-after_6 : (c : Config) (verb : List ℕ) (args : List (List ℕ))
+after_7 : (c : Config) (verb : List ℕ) (args : List (List ℕ))
+    → bytes_eq verb (codes "begin") ≡ false
+    → bytes_eq verb (codes "mark") ≡ false
+    → bytes_eq verb (codes "remark") ≡ false
+    → bytes_eq verb (codes "cleanup") ≡ false
+    → bytes_eq verb (codes "refine") ≡ false
+    → bytes_eq verb (codes "pause") ≡ false
+    → bytes_eq verb (codes "compact") ≡ false
+    → CollectsBy c verb args
+after_7 c verb args e1 e2 e3 e4 e5 e6 e7 =
+    none_of c verb args e1 e2 e3 e4 e5 e6 e7
+    ∙ sym (ap (λ (form : Option (List Place)). is_some form && all_fit c (behind_verb form (places.End ∷ [])) args)
+    (no_form (is_third c.format) verb
+    e1 e2 e3 e4 e5 e6 e7))
+
+after_6_of : (c : Config) (verb : List ℕ) (args : List (List ℕ))
     → bytes_eq verb (codes "begin") ≡ false
     → bytes_eq verb (codes "mark") ≡ false
     → bytes_eq verb (codes "remark") ≡ false
@@ -94,10 +121,13 @@ after_6 : (c : Config) (verb : List ℕ) (args : List (List ℕ))
     → bytes_eq verb (codes "refine") ≡ false
     → bytes_eq verb (codes "pause") ≡ false
     → CollectsBy c verb args
-after_6 c verb args e1 e2 e3 e4 e5 e6 =
-    none_of c verb args e1 e2 e3 e4 e5 e6
-    ∙ sym (ap (λ (form : Option (List Place)). is_some form && all_fit c (behind_verb form (places.End ∷ [])) args) (no_form verb e1 e2 e3
-    e4 e5 e6))
+after_6_of c verb args e1 e2 e3 e4 e5 e6 = go (bytes_eq verb (codes "compact")) refl
+  where
+    go : (b : Bool) → bytes_eq verb (codes "compact") ≡ b → CollectsBy c verb args
+    go true e =
+        subst (λ (v : List ℕ). CollectsBy c v args) (sym ((bytes_eq-Decides verb (codes "compact")).0 e))
+        (compact_fits c (is_third c.format) refl args)
+    go false e = after_7 c verb args e1 e2 e3 e4 e5 e6 e
 
 after_5_of : (c : Config) (verb : List ℕ) (args : List (List ℕ))
     → bytes_eq verb (codes "begin") ≡ false
@@ -110,7 +140,7 @@ after_5_of c verb args e1 e2 e3 e4 e5 = go (bytes_eq verb (codes "pause")) refl
   where
     go : (b : Bool) → bytes_eq verb (codes "pause") ≡ b → CollectsBy c verb args
     go true e = subst (λ (v : List ℕ). CollectsBy c v args) (sym ((bytes_eq-Decides verb (codes "pause")).0 e)) (pause_fits c args)
-    go false e = after_6 c verb args e1 e2 e3 e4 e5 e
+    go false e = after_6_of c verb args e1 e2 e3 e4 e5 e
 
 after_4_of : (c : Config) (verb : List ℕ) (args : List (List ℕ))
     → bytes_eq verb (codes "begin") ≡ false
@@ -175,13 +205,13 @@ step_fits c [] = refl
 step_fits c (actor ∷ rest) = go (bytes_eq actor (codes "gc")) (mutator_of c actor) rest
   where
     go : (gc : Bool) (m : Result ℕ Kind) (rest : List (List ℕ))
-        → is_some (when_read (if gc then (or_fault (collection_of rest) kinds.BadStep >>= λ k. Ok (steps.Collector k))
+        → is_some (when_read (if gc then (or_fault (collection_of c.format rest) kinds.BadStep >>= λ k. Ok (steps.Collector k))
         else (m >>= λ m. or_fault (allowed_of c rest) kinds.BadStep >>= λ a. Ok (steps.Mutator (record { mutator = m; action = a })))))
         ≡ is_some (if gc then Some actors.Collector else option_map actors.Mutator (when_read m))
         && all_fit c (verb_places c (if gc then Some actors.Collector else option_map actors.Mutator (when_read m)) rest (places.End ∷ []))
         rest
     go true m [] = refl
-    go true m (verb ∷ args) = read_part (collection_of (verb ∷ args)) steps.Collector kinds.BadStep ∙ after_0_of c verb args
+    go true m (verb ∷ args) = read_part (collection_of c.format (verb ∷ args)) steps.Collector kinds.BadStep ∙ after_0_of c verb args
     go false (Ok m) [] = refl
     go false (Ok m) (verb ∷ args) =
         read_part (allowed_of c (verb ∷ args)) (λ a. steps.Mutator (record { mutator = m; action = a })) kinds.BadStep ∙ after_0 c verb args

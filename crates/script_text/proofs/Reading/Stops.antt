@@ -49,8 +49,8 @@ unfolding step_of
 step_never c [] = never_err kinds.BadActor (λ e. cc)
 step_never c (actor ∷ rest) =
     never_cond (bytes_eq actor (codes "gc")) _ _
-    (never_bind (or_fault (collection_of rest) kinds.BadStep) (λ k. Ok (steps.Collector k))
-    (never_or (collection_of rest) kinds.BadStep (λ e. cc)) (λ k. never_ok (steps.Collector k)))
+    (never_bind (or_fault (collection_of c.format rest) kinds.BadStep) (λ k. Ok (steps.Collector k))
+    (never_or (collection_of c.format rest) kinds.BadStep (λ e. cc)) (λ k. never_ok (steps.Collector k)))
     (never_bind (mutator_of c actor)
     (λ m. or_fault (allowed_of c rest) kinds.BadStep >>= λ a. Ok (steps.Mutator (record { mutator = m; action = a })))
     (mutator_never c actor)

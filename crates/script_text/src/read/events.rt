@@ -78,11 +78,11 @@ fn taken(config: &Config, actor: Actor, words: &[&[u8]]) -> Option<Step>
             Some(Step::Mutator(Op { mutator, action }))
         }
         Actor::Collector => {
-            let collection = collection(words)?;
+            let collection = collection(config.format, words)?;
             Some(Step::Collector(collection))
         }
-        Actor::Marker(_) => marker_step(collection(words)?),
-        Actor::Refiner(_) => refiner_step(collection(words)?),
+        Actor::Marker(_) => marker_step(collection(config.format, words)?),
+        Actor::Refiner(_) => refiner_step(collection(config.format, words)?),
     }
 }
 

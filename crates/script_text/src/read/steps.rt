@@ -4,14 +4,15 @@ ghost use Rattle.std.specs.Prelude.{◌≡◌, ◌<◌, ◌∷◌, [], Some, map
 ghost use Rattle.script_text.specs.Reading.{new_of, get_of, put_of, write_of, read_of, move_of, drop_of, load_of, save_of, shape_of};
 ghost use Rattle.script_text.specs.Reading.{new_weak_of, get_weak_of, put_weak_of, weaks_of, scope_of};
 ghost use Rattle.script_text.specs.Reading.{longest_action_of, long_action_of, pair_action_of, lone_action_of, action_of};
-ghost use Rattle.script_text.specs.Reading.{allowed_in, allowed_of, collection_of};
+ghost use Rattle.script_text.specs.Reading.{allowed_in, allowed_of, lone_collection_of, collection_of};
 ghost use Rattle.script_text.specs.Lines.{mutator_of, step_of};
+ghost use Rattle.heap_words.specs.declared.config.Format.{Format};
 ghost use Rattle.heap_steps.specs.Actors.{IsStep};
 
 use crate::fault::Kind;
 use crate::read::words::{global, is_word, number, register, small_number, value};
-use heap_steps::{Action, CollectorStep, Counts, Op, Step};
-use heap_words::config::Config;
+use heap_steps::{Action, CollectorStep, Counts, Op, Step, is_third};
+use heap_words::config::{Config, Format};
 
 /// The action, where heaps of these sizes have it. Each action asks it where it is made, so that one test of its own is left of this.
 #[inline(always)]
@@ -318,9 +319,8 @@ pub(crate) fn allowed<const CALLER: usize>(config: &Config, words: &[&[u8]]) -> 
 }
 
 /// A step of the collector that is a verb alone.
-#[tactic(auto, unfolding(crate::specs::Reading::collection_of))]
 fn lone_collection(verb: &[u8]) -> Option<CollectorStep>
-    ensures { result ≡ collection_of (verb.now ∷ []) }
+    ensures { result ≡ lone_collection_of verb.now }
 {
     if is_word(verb, b"begin") {
         Some(CollectorStep::Begin)
@@ -333,10 +333,10 @@ fn lone_collection(verb: &[u8]) -> Option<CollectorStep>
     }
 }
 
-/// A step of the collector that has a number.
+/// A step of the collector that has a number, if the format has it.
 #[tactic(auto, unfolding(crate::specs::Reading::collection_of))]
-fn pair_collection(verb: &[u8], a: &[u8]) -> Option<CollectorStep>
-    ensures { result ≡ collection_of (verb.now ∷ a.now ∷ []) }
+fn pair_collection(format: Format, verb: &[u8], a: &[u8]) -> Option<CollectorStep>
+    ensures { result ≡ collection_of format (verb.now ∷ a.now ∷ []) }
 {
     if is_word(verb, b"mark") {
         let units = small_number(a)?;
@@ -347,19 +347,25 @@ fn pair_collection(verb: &[u8], a: &[u8]) -> Option<CollectorStep>
     } else if is_word(verb, b"pause") {
         let budget = small_number(a)?;
         Some(CollectorStep::Pause(budget))
+    } else if is_word(verb, b"compact") {
+        if !is_third(format) {
+            return None;
+        }
+        let budget = small_number(a)?;
+        Some(CollectorStep::Compact(budget))
     } else {
         None
     }
 }
 
-/// A step of the collector.
+/// A step of the collector, if the format has it.
 #[tactic(auto, unfolding(crate::specs::Reading::collection_of))]
-pub(crate) fn collection(words: &[&[u8]]) -> Option<CollectorStep>
-    ensures { result ≡ collection_of (map (λ w. w.now) words.now) }
+pub(crate) fn collection(format: Format, words: &[&[u8]]) -> Option<CollectorStep>
+    ensures { result ≡ collection_of format (map (λ w. w.now) words.now) }
 {
     match words {
         [verb] => lone_collection(verb),
-        [verb, a] => pair_collection(verb, a),
+        [verb, a] => pair_collection(format, verb, a),
         _ => None,
     }
 }
@@ -390,7 +396,7 @@ pub(crate) fn step(config: &Config, words: &[&[u8]]) -> Result<Step, Kind>
         return Err(Kind::BadActor);
     };
     if is_word(actor, b"gc") {
-        let Some(collection) = collection(rest) else {
+        let Some(collection) = collection(config.format, rest) else {
             return Err(Kind::BadStep);
         };
         return Ok(Step::Collector(collection));

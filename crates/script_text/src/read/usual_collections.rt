@@ -6,7 +6,7 @@
 //!   9 f1 refine 2 = refined 0\n        of an actor in the background
 //! ```
 //!
-//! Of any other line nothing is told here, and its words are parted first.
+//! Of any other line nothing is told here, and its words are parted first: so of `compact`, which the third format alone has.
 
 ghost use Rattle.std.specs.Prelude.{◌≡◌, ◌≤◌, ◌<◌, IfSome, Ok, length};
 ghost use Rattle.heap_words.specs.declared.config.Config.{Config};

@@ -278,6 +278,10 @@ fn put_collection(buffer: &mut [u8], at: usize, collection: CollectorStep) -> us
             let at = put_literal(buffer, at, b"pause ");
             put_small(buffer, at, budget)
         }
+        CollectorStep::Compact(budget) => {
+            let at = put_literal(buffer, at, b"compact ");
+            put_small(buffer, at, budget)
+        }
     }
 }
 

@@ -126,6 +126,9 @@ fn collection_fits(step: CollectorStep)
         CollectorStep::Pause(budget) => {
             let _ = budget;
         }
+        CollectorStep::Compact(budget) => {
+            let _ = budget;
+        }
     }
 }
 

@@ -182,12 +182,13 @@ creates_run t b n k count x shaped none stand run =
     }
 
 -- a new object is made in its place
-pub creates : (t t1 : Table) (b b1 : Buffers) (place : Place) (n name p weak d : ℕ) → IsShaped t → IsShaped t1 → HasNoForwarded t
+pub creates : (t t1 : Table) (b b1 : Buffers) (place : Place) (n name p weak d : ℕ) → IsShaped t → 0 < t1.words_per_region
+    → AreFitting t1 → HasNoForwarded t
     → BuffersStand t b → IsPlace t t1 b b1 n place → n ≡ 2 + p + weak + d
     → Creates t (made_at t1 place (new_object name p weak d)) b b1 (address_of t1 place) (new_object name p weak d)
-creates t t1 b b1 (places.Filler a) n name p weak d shaped shaped1 none stand is size =
-    creates_small t t1 b b1 a n name p weak d shaped1.positive shaped1.fitting is.0 is.1 size
-creates t t1 b b1 (places.Run k count) n name p weak d shaped shaped1 none stand is size =
+creates t t1 b b1 (places.Filler a) n name p weak d shaped z fitting none stand is size =
+    creates_small t t1 b b1 a n name p weak d z fitting is.0 is.1 size
+creates t t1 b b1 (places.Run k count) n name p weak d shaped z fitting none stand is size =
     subst (λ (u : Table). Creates t (with_regions u k count (run_regions u.words_per_region (new_object name p weak d) count)) b b1
     (k * u.words_per_region) (new_object name p weak d)) (sym is.1.table)
     (subst (λ (c : Buffers). Creates t (with_regions t k count (run_regions t.words_per_region (new_object name p weak d) count)) b c

@@ -15,8 +15,9 @@ use Rattle.step_core.specs.Answers.{Follows}
 use Rattle.step_core.specs.Reclaimed.{IsReclaimed}
 use Rattle.step_core.specs.Cycle.{Collects, MayReclaim, HasBegun, HasMarked, HasRemarked, HasCleaned, ShowsCleared}
 use Rattle.step_core.specs.Refining.{HasRefined}
-use Rattle.step_core.specs.Pause.{HasPaused}
-use Rattle.step_core.proofs.Cores.Collecting.{stays, begins, ends, marked_running, cleaned_running, refined_running, paused_running}
+use Rattle.step_core.specs.declared.candidates.Choice.TheVariants as choices
+use Rattle.step_core.specs.Pause.{HasPaused, HasCompacted}
+use Rattle.step_core.proofs.Cores.Collecting.{stays, begins, ends, marked_running, cleaned_running, refined_running, moved_running}
 
 -- the promises of a step of the collector
 pub record Collected (k : CollectorStep) (r : Reply) (c c' : CoreState) : Type 0 where
@@ -101,7 +102,19 @@ pub paused : (k : CollectorStep) (budget n w : ℕ) (c c' : CoreState) → k ≡
     → ((g : Graph) → ShowsGraph g c → ShowsGraph g c') → ((s : Graph) → KeepsFrom s c → KeepsFrom s c') → HasPaused budget n w c c'
     → Collected k (replies.Moved n w) c c'
 paused k budget n w c c' e shows keeps h = at_step k (collector.Pause budget) (replies.Moved n w) c c' e (record {
-  follows = λ s st. stays s (collector.Pause budget) (replies.Moved n w) c c' st tt refl (paused_running budget n w c c' h) shows keeps;
+  follows = λ s st. stays s (collector.Pause budget) (replies.Moved n w) c c' st tt refl (moved_running choices.Best budget n w c c' h)
+      shows keeps;
+  collects = h;
+  reclaims = λ i x. record { chosen = h.evacuates.chosen; choice = h.evacuates.choice; inside = (h.evacuates.reclaimed i).0 x };
+  config = ap (λ (d : CoreState). d.config) h.evacuates.same ∙ ap (λ (d : CoreState). d.config) h.is_ready.same;
+})
+
+pub compacted : (k : CollectorStep) (budget n w : ℕ) (c c' : CoreState) → k ≡ collector.Compact budget
+    → ((g : Graph) → ShowsGraph g c → ShowsGraph g c') → ((s : Graph) → KeepsFrom s c → KeepsFrom s c') → HasCompacted budget n w c c'
+    → Collected k (replies.Moved n w) c c'
+compacted k budget n w c c' e shows keeps h = at_step k (collector.Compact budget) (replies.Moved n w) c c' e (record {
+  follows = λ s st. stays s (collector.Compact budget) (replies.Moved n w) c c' st tt refl
+      (moved_running choices.Highest budget n w c c' h) shows keeps;
   collects = h;
   reclaims = λ i x. record { chosen = h.evacuates.chosen; choice = h.evacuates.choice; inside = (h.evacuates.reclaimed i).0 x };
   config = ap (λ (d : CoreState). d.config) h.evacuates.same ∙ ap (λ (d : CoreState). d.config) h.is_ready.same;

@@ -11,7 +11,8 @@ use Rattle.heap_steps.specs.declared.step.Reply.TheVariants as replies
 use Rattle.marker.specs.declared.marker.Marker.{Marker}
 use Rattle.step_core.specs.Stands.{CoreState, ShowsGraph, KeepsFrom, KeepsFor, Stands}
 use Rattle.step_core.specs.Cycle.{HasCleaned, HasMarked, ShowsCleared}
-use Rattle.step_core.specs.Pause.{HasPaused}
+use Rattle.step_core.specs.declared.candidates.Choice.{Choice}
+use Rattle.step_core.specs.Pause.{HasMoved}
 use Rattle.step_core.specs.Refining.{HasRefined}
 use Rattle.step_core.specs.Answers.{Follows}
 use Rattle.step_core.proofs.Cores.Following.{follows_by}
@@ -63,6 +64,7 @@ cleaned_running n c c' h = ap (λ (m : Marker). m.running) h.changes.marker
 pub refined_running : (k n : ℕ) (c c' : CoreState) → HasRefined k n c c' → c'.marker.running ≡ c.marker.running
 refined_running k n c c' h = ap (λ (d : CoreState). d.marker.running) h.same
 
-pub paused_running : (budget n w : ℕ) (c c' : CoreState) → HasPaused budget n w c c' → c'.marker.running ≡ c.marker.running
-paused_running budget n w c c' h =
+pub moved_running : (which : Choice) (budget n w : ℕ) (c c' : CoreState) → HasMoved which budget n w c c'
+    → c'.marker.running ≡ c.marker.running
+moved_running which budget n w c c' h =
     ap (λ (m : Marker). m.running) h.evacuates.marker ∙ ap (λ (d : CoreState). d.marker.running) h.is_ready.same

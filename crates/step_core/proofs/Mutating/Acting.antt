@@ -1,10 +1,10 @@
 -- A step's reply, and what the core shows after it.
-use Rattle.std.proofs.Common.{◌≡◌, ℕ, ◌+◌, ◌-◌, ◌*◌, ◌<◌, ◌≤◌, Option, Some, None, List, length, get_or, refl, sym, ◌∙◌, ap, subst}
+use Rattle.std.proofs.Common.{◌≡◌, ℕ, ◌+◌, ◌-◌, ◌<◌, ◌≤◌, Option, Some, None, List, length, get_or, refl, sym, ◌∙◌, ap, subst}
 use Rattle.std.specs.Prelude.{slice_get, slice_set}
 use Rattle.std.specs.List.{AllZip}
 use Rattle.heap_model.specs.Graph.{Graph, Object, Places, object_named, with_changed}
 use Rattle.heap_model.specs.Heap.{Stored, IsShown, ObjectSet}
-use Rattle.heap_words.specs.declared.config.Config.{Config}
+use Rattle.heap_words.specs.Configs.{object_limit}
 use Rattle.std.proofs.lemmas.List.{length-set}
 use Rattle.std.proofs.lemmas.Option.{slice_get-get_or}
 use Rattle.heap_model.proofs.Changed.{root_set_shows, object_set_shows}
@@ -36,6 +36,23 @@ on_found : (g : Graph) (c : CoreState) (s : ShowsGraph g c) (m a : ℕ) (r : Reg
     (h : HasObject g c (register_place (places_of c.config) m r.number) a) → on_object g m r f ≡ f h.stored.name h.object
 on_found g c s m a r f h = ap (λ (p : Places). on_name g (root_at g (register_place p m r.number)) f) s.places
     ∙ ap (λ (o : Option ℕ). on_name g o f) h.root ∙ ap (λ (o : Option Object). on_contents g o (f h.stored.name)) h.found
+
+-- a register that is nil names no object
+nil_object : (g : Graph) (c : CoreState) → ShowsGraph g c → (m : ℕ) (r : Register) (f : ℕ → Object → Outcome)
+    → Leads c (register_place (places_of c.config) m r.number) None → on_object g m r f ≡ refused g refusals.Nil
+nil_object g c s m r f l =
+    ap (λ (p : Places). on_name g (root_at g (register_place p m r.number)) f) s.places ∙ ap (λ (o : Option ℕ). on_name g o f) (l g s)
+
+pub read_nil : (g : Graph) (c : CoreState) → ShowsGraph g c → (m : ℕ) (object : Register) (i : ℕ)
+    → Leads c (register_place (places_of c.config) m object.number) None → Acts g m (actions.Read object i) (replies.Refused refusals.Nil) c
+read_nil g c s m object i l =
+    acts_by g m (actions.Read object i) (replies.Refused refusals.Nil) c (refused g refusals.Nil) (nil_object g c s m object _ l) refl s
+
+pub write_nil : (g : Graph) (c : CoreState) → ShowsGraph g c → (m : ℕ) (object : Register) (i v : ℕ)
+    → Leads c (register_place (places_of c.config) m object.number) None
+    → Acts g m (actions.Write object i v) (replies.Refused refusals.Nil) c
+write_nil g c s m object i v l =
+    acts_by g m (actions.Write object i v) (replies.Refused refusals.Nil) c (refused g refusals.Nil) (nil_object g c s m object _ l) refl s
 
 -- the core with another word in a root place
 abbrev pub with_root_word : CoreState → ℕ → Option ℕ → CoreState
@@ -78,7 +95,7 @@ pub object_shows : (g : Graph) (c c' : CoreState) (a : ℕ) (x y : Stored) (o p 
     → AllZip (IsShown (heap_of c)) y.weaks p.weaks → y.values ≡ p.values
     → ShowsGraph (with_changed g x.name p) c'
 object_shows g c c' a x y o p s same set named pointers weaks values = record {
-  room = s.room ∙ sym (ap (λ (k : Config). k.regions * k.words) same.config);
+  room = s.room ∙ sym (ap object_limit same.config);
   places = s.places ∙ sym (ap places_of same.config);
   next = ap (λ n. g.first_name + n) (length-set g.objects (x.name - g.first_name) p) ∙ s.next ∙ sym same.next;
   shows = object_set_shows g (heap_of c) (heap_of c') s.shows a x y o p set named pointers weaks values;

@@ -7,6 +7,7 @@ use Rattle.std.specs.List.{AllZip}
 use Rattle.std.proofs.lemmas.Grind.{common_steps}
 use Rattle.std.proofs.lemmas.Bool.Decides.{nat_tests}
 use Rattle.std.proofs.lemmas.List.{length-set, length-append}
+use Rattle.heap_words.specs.Configs.{object_limit}
 use Rattle.heap_model.specs.Graph.{Graph, Object, Places, IsReachable, next_name, with_object}
 use Rattle.heap_model.specs.Heap.{Heap, Stored, IsShown, ObjectAdded}
 use Rattle.heap_model.specs.Kept.{kept_by}
@@ -70,7 +71,7 @@ above_below words tops a z above = lt-not (above (a / words) (omega arith) (omeg
 
 module _ (k : CoreState) (m : ℕ) (to : Register) (t2 : Table) (b1 : Buffers) (a p weak d : ℕ)
     (core : IsCore k) (makes : Creates k.table t2 k.buffers b1 a (new_object k.next p weak d))
-    (room : 2 + p + weak + d ≤ k.config.regions * k.config.words) (names : k.next ≢ 2 ^ 64 - 1) where
+    (room : 2 + p + weak + d ≤ object_limit k.config) (names : k.next ≢ 2 ^ 64 - 1) where
   words : t2.words_per_region ≡ k.table.words_per_region
   words = makes.region_size
 

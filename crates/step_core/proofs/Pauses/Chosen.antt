@@ -12,11 +12,13 @@ use Rattle.regions.specs.Table.{Table, is_free, kind_of}
 use Rattle.regions.specs.declared.row.Kind.TheVariants as kinds
 use Rattle.mark_bitmap.specs.Tops.{Tops}
 use Rattle.region_choice.specs.declared.LiveRow.{LiveRow}
-use Rattle.region_choice.specs.Choice.{live_sum}
+use Rattle.region_choice.specs.Choice.{copy_limit, live_sum}
 use Rattle.marker.specs.Live.{LiveCounts, with_none}
 use Rattle.evacuation.specs.Evacuates.{is_chosen, AreDistinct}
 use Rattle.evacuation.proofs.WholePause.ChosenReleased.{chosen_more}
-use Rattle.step_core.specs.Pause.{IsRowOf, IsCandidate, IsCandidateRow, IsChosen, AreForgotten}
+use Rattle.step_core.specs.declared.candidates.Choice.{Choice}
+use Rattle.step_core.specs.declared.candidates.Choice.TheVariants as choices
+use Rattle.step_core.specs.Pause.{IsRowOf, AreRowsOf, IsCandidateRow, IsChosen, IsCompacted, IsSetOf, AreForgotten}
 
 -- the first of two lists
 All_left : (P : LiveRow → Type 0) (xs ys : List LiveRow) → All P (xs ++ ys) → All P xs
@@ -64,6 +66,13 @@ distinct_at (z ∷ rows) (suc i) (suc j) x y once ex ey e = ap suc (distinct_at 
 distinct_by : (rows : List LiveRow) → CountsOnce rows → AreDistinct rows
 distinct_by rows once = λ i j x y ex ey e. distinct_at rows i j x y once ex ey e
 
+-- Regions that may be evacuated together: ordinary ones, each once, with their live bounds, which are within the copy limit; and while
+-- marking runs, all of each was made since it began
+pub record MayMove (t : Table) (tams : Tops) (previous : List Bool) (running : Bool) (budget : ℕ) (chosen : List LiveRow) : Type 0 where
+  pub rows : AreRowsOf t tams.previous previous chosen
+  pub all_new : running ≡ true → All (λ row. slice_index tams.next row.region ≡ row.region * t.words_per_region) chosen
+  pub within : live_sum chosen ≤ copy_limit t.words_per_region budget (count_by is_free t.regions)
+
 module _ (t : Table) (tams : Tops) (previous : List Bool) (running : Bool) (budget : ℕ) (chosen : List LiveRow)
     (choice : IsChosen t tams previous running budget chosen) where
   -- what holds of all candidates' rows holds of the chosen ones
@@ -71,48 +80,82 @@ module _ (t : Table) (tams : Tops) (previous : List Bool) (running : Bool) (budg
   of_chosen P a =
       All_left P chosen choice.best.part.rest (All-permutation P choice.rows (chosen ++ choice.best.part.rest) choice.best.part.whole a)
 
-  pub chosen_rows : All (IsRowOf t tams.previous previous) chosen
-  chosen_rows = of_chosen (IsRowOf t tams.previous previous) choice.candidates.are_rows.each
+  best_rows : All (IsRowOf t tams.previous previous) chosen
+  best_rows = of_chosen (IsRowOf t tams.previous previous) choice.candidates.are_rows.each
 
-  pub chosen_candidates : All (IsCandidateRow t tams previous running (length t.regions)) chosen
-  chosen_candidates = of_chosen (IsCandidateRow t tams previous running (length t.regions)) choice.candidates.each
+  best_candidates : All (IsCandidateRow t tams previous running (length t.regions)) chosen
+  best_candidates = of_chosen (IsCandidateRow t tams previous running (length t.regions)) choice.candidates.each
 
-  chosen_once : (k : ℕ) → count_by (λ row. row.region == k) chosen ≤ 1
-  chosen_once k =
+  best_once : (k : ℕ) → count_by (λ row. row.region == k) chosen ≤ 1
+  best_once k =
       let whole = sum_by-IsPermutation (bit k) choice.rows (chosen ++ choice.best.part.rest) choice.best.part.whole in
       let parts = sum_by-append (bit k) chosen choice.best.part.rest in
       omega (arith, whole, parts, choice.candidates.are_rows.once k)
 
+  -- what a pause chooses may be moved
+  best_moves : MayMove t tams previous running budget chosen
+  best_moves = record {
+    rows = record { each = best_rows; once = best_once };
+    all_new = λ run i d lt. (best_candidates i d lt).candidate.all_new run;
+    within = choice.best.within;
+  }
+
+-- and so may the highest regions
+highest_moves : (t : Table) (tams : Tops) (previous : List Bool) (running : Bool) (budget : ℕ) (chosen : List LiveRow)
+    → IsCompacted t tams previous running budget chosen → MayMove t tams previous running budget chosen
+highest_moves t tams previous running budget chosen h = record {
+  rows = h.highest.are_rows;
+  all_new = λ run. subst (λ (rows : List LiveRow). All (λ row. slice_index tams.next row.region ≡ row.region * t.words_per_region) rows)
+      (sym (h.waits run)) (λ i d lt. absurd (omega (arith, lt)));
+  within = h.down.within;
+}
+
+-- so may what either chooses
+pub set_moves : (which : Choice) (t : Table) (tams : Tops) (previous : List Bool) (running : Bool) (budget : ℕ) (chosen : List LiveRow)
+    → IsSetOf which t tams previous running budget chosen → MayMove t tams previous running budget chosen
+set_moves choices.Best t tams previous running budget chosen h = best_moves t tams previous running budget chosen h
+set_moves choices.Highest t tams previous running budget chosen h = highest_moves t tams previous running budget chosen h
+
+module _ (t : Table) (tams : Tops) (previous : List Bool) (running : Bool) (budget : ℕ) (chosen : List LiveRow)
+    (may : MayMove t tams previous running budget chosen) where
+  pub chosen_rows : All (IsRowOf t tams.previous previous) chosen
+  chosen_rows = may.rows.each
+
   pub chosen_distinct : AreDistinct chosen
-  chosen_distinct = distinct_by chosen chosen_once
+  chosen_distinct = distinct_by chosen may.rows.once
 
   -- the copies have room, and are within the budget
   pub chosen_room : 2 * live_sum chosen ≤ count_by is_free t.regions * t.words_per_region
-  chosen_room = let within = choice.best.within in omega (arith, within)
+  chosen_room = let within = may.within in omega (arith, within)
 
   pub chosen_within : live_sum chosen ≤ budget
-  chosen_within = let within = choice.best.within in omega (arith, within)
+  chosen_within = let within = may.within in omega (arith, within)
 
   -- the row of a chosen region
-  pub record ChosenRow (k : ℕ) : Type 0 where
-    pub row : LiveRow
-    pub region : row.region ≡ k
-    pub candidate : IsCandidate t tams previous running row.region
-    pub known : row.region < length t.regions
+  record ChosenRow (k : ℕ) : Type 0 where
+    row : LiveRow
+    region : row.region ≡ k
+    is_row : IsRowOf t tams.previous previous row
+    all_new : running ≡ true → slice_index tams.next row.region ≡ row.region * t.words_per_region
 
-  pub chosen_row : (k : ℕ) → is_chosen chosen k ≡ true → ChosenRow k
+  chosen_row : (k : ℕ) → is_chosen chosen k ≡ true → ChosenRow k
   chosen_row k e =
       let (i, x, lt, is, p) = Any-from_list_any (λ (row : LiveRow). row.region == k) chosen e in
-      let c = subst (λ (r : LiveRow). IsCandidateRow t tams previous running (length t.regions) r) is (chosen_candidates i x lt) in
-      record { row = x; region = eqb-true x.region k p; candidate = c.candidate; known = c.below }
+      record {
+        row = x;
+        region = eqb-true x.region k p;
+        is_row = subst (IsRowOf t tams.previous previous) is (may.rows.each i x lt);
+        all_new = λ run. subst (λ (r : LiveRow). slice_index tams.next r.region ≡ r.region * t.words_per_region) is
+            (may.all_new run i x lt);
+      }
 
   pub chosen_ordinary : (k : ℕ) → is_chosen chosen k ≡ true → kind_of t k ≡ kinds.Ordinary
-  chosen_ordinary k e = let r = chosen_row k e in ap (kind_of t) (sym r.region) ∙ r.candidate.ordinary
+  chosen_ordinary k e = let r = chosen_row k e in ap (kind_of t) (sym r.region) ∙ r.is_row.ordinary
 
   pub chosen_new : (k : ℕ) → running ≡ true → is_chosen chosen k ≡ true → slice_index tams.next k ≡ k * t.words_per_region
   chosen_new k run e =
       let r = chosen_row k e in
-      ap (λ (j : ℕ). slice_index tams.next j) (sym r.region) ∙ r.candidate.all_new run ∙ ap (λ (j : ℕ). j * t.words_per_region) r.region
+      ap (λ (j : ℕ). slice_index tams.next j) (sym r.region) ∙ r.all_new run ∙ ap (λ (j : ℕ). j * t.words_per_region) r.region
 
 -- one region more is forgotten
 more_cases : (xs ys : List LiveRow) (q j : ℕ) (was now old : List ℕ)

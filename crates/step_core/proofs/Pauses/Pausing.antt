@@ -2,7 +2,7 @@
 use Rattle.std.proofs.Common.{◌≡◌, ◌+◌, ◌*◌, ◌/◌, ◌<◌, ◌≤◌, ◌&&◌, ◌∙◌}
 use Rattle.std.proofs.Common.{ℕ, Bool, true, false, not, List, Option, Some, length, get_or, refl, sym, ap, subst, arith, inl, inr}
 use Rattle.std.specs.Prelude.{All, ◌↔◌, slice_index, nat_lt, if◌then◌else◌}
-use Rattle.std.proofs.lemmas.Bool.{cases_lt, cases_Bool}
+use Rattle.std.proofs.lemmas.Bool.{cases_lt, cases_Bool, ltb-true}
 use Rattle.std.proofs.lemmas.Grind.{common_steps}
 use Rattle.std.proofs.lemmas.Bool.Decides.{nat_tests}
 use Rattle.std.proofs.lemmas.List.{get_or_past}
@@ -35,11 +35,12 @@ use Rattle.marker.specs.declared.marker.Marker.{Marker}
 use Rattle.region_choice.specs.declared.LiveRow.{LiveRow}
 use Rattle.evacuation.specs.Rooms.{RoomSizes}
 use Rattle.evacuation.specs.Evacuates.{CanEvacuate, HasEvacuated, IsRow, IsNewSet, IsSameBut, MarksAfter, is_chosen, set_in}
-use Rattle.heap_words.specs.Configs.{card_words}
+use Rattle.heap_words.specs.Configs.{card_words, object_limit}
 use Rattle.step_core.proofs.Mutating.Noting.{cards_a_region}
 use Rattle.step_core.specs.Stands.{places_of, CoreState, kept_of, heap_of, marking_of, ShowsGraph, KeepsFrom, LayersFit, IsCore}
 use Rattle.step_core.specs.Reclaimed.{IsReclaimed}
-use Rattle.step_core.specs.Pause.{IsChosen, IsRowOf, IsCandidateRow, IsReady, AreForgotten, EvacuatesBest, HasPaused, layers_of}
+use Rattle.step_core.specs.declared.candidates.Choice.{Choice}
+use Rattle.step_core.specs.Pause.{IsSetOf, IsRowOf, IsReady, AreForgotten, EvacuatesSet, HasMoved, layers_of}
 use Rattle.heap_words.specs.declared.config.Config.{Config}
 use Rattle.step_core.proofs.Pauses.CopiedNames.{copied_names}
 use Rattle.step_core.proofs.Cores.Layers.{follows_of}
@@ -47,7 +48,7 @@ use Rattle.step_core.proofs.Pauses.Ready.{ready_config, ready_table, ready_marke
 use Rattle.step_core.proofs.Pauses.Refined.{can_scan}
 use Rattle.step_core.proofs.Cores.Sizes.{some_words}
 use Rattle.step_core.proofs.Mutating.Small.{words_are, ordinary_known}
-use Rattle.step_core.proofs.Pauses.Chosen.{chosen_rows, chosen_candidates, chosen_distinct}
+use Rattle.step_core.proofs.Pauses.Chosen.{MayMove, set_moves, chosen_rows, chosen_distinct}
 use Rattle.step_core.proofs.Pauses.Chosen.{chosen_room, chosen_within, chosen_ordinary, chosen_new}
 
 -- there is a flag for each card
@@ -59,9 +60,12 @@ cards_room k core =
 All_to : (P Q : LiveRow → Type 0) → ((x : LiveRow) → P x → Q x) → (rows : List LiveRow) → All P rows → All Q rows
 All_to P Q f rows a = λ i d lt. f (get_or rows i d) (a i d lt)
 
-module _ (k : CoreState) (core : IsCore k) (budget : ℕ) (chosen : List LiveRow)
-    (choice : IsChosen k.table k.marker.tams k.marker.bitmaps.previous k.marker.running budget chosen)
+module _ (k : CoreState) (core : IsCore k) (which : Choice) (budget : ℕ) (chosen : List LiveRow)
+    (choice : IsSetOf which k.table k.marker.tams k.marker.bitmaps.previous k.marker.running budget chosen)
     (clean : (card : ℕ) → is_dirty k.cards card ≡ false) where
+  may : MayMove k.table k.marker.tams k.marker.bitmaps.previous k.marker.running budget chosen
+  may = set_moves which k.table k.marker.tams k.marker.bitmaps.previous k.marker.running budget chosen choice
+
   words : ℕ
   words = k.table.words_per_region
 
@@ -81,16 +85,16 @@ module _ (k : CoreState) (core : IsCore k) (budget : ℕ) (chosen : List LiveRow
     clean = clean;
     remembers = core.remembers;
     each_row = All_to (IsRowOf k.table k.marker.tams.previous k.marker.bitmaps.previous) (IsRow (layers_of k)) row_of chosen
-        (chosen_rows k.table k.marker.tams k.marker.bitmaps.previous k.marker.running budget chosen choice);
-    distinct = chosen_distinct k.table k.marker.tams k.marker.bitmaps.previous k.marker.running budget chosen choice;
-    room = chosen_room k.table k.marker.tams k.marker.bitmaps.previous k.marker.running budget chosen choice;
+        (chosen_rows k.table k.marker.tams k.marker.bitmaps.previous k.marker.running budget chosen may);
+    distinct = chosen_distinct k.table k.marker.tams k.marker.bitmaps.previous k.marker.running budget chosen may;
+    room = chosen_room k.table k.marker.tams k.marker.bitmaps.previous k.marker.running budget chosen may;
   }
 
   -- each chosen region is one of which words are counted
   pub chosen_known : (counts : List ℕ) → length counts ≡ length k.table.regions → All (λ row. row.region < length counts) chosen
   chosen_known counts count = All_to (IsRowOf k.table k.marker.tams.previous k.marker.bitmaps.previous) (λ row. row.region < length counts)
       (λ x r. omega (arith, r.known, count)) chosen
-      (chosen_rows k.table k.marker.tams k.marker.bitmaps.previous k.marker.running budget chosen choice)
+      (chosen_rows k.table k.marker.tams k.marker.bitmaps.previous k.marker.running budget chosen may)
 
   pub next_count : length k.marker.live.next ≡ length k.table.regions
   next_count = core.layers.marker.live_next.each_region
@@ -145,7 +149,7 @@ module _ (k : CoreState) (core : IsCore k) (budget : ℕ) (chosen : List LiveRow
         → (j : ℕ) → is_chosen chosen j ≡ true → slice_index tops' j ≡ j * k.table.words_per_region
     tops_chosen tops tops' marks marks' m count j inside =
         let known = ordinary_known k.table j
-        (chosen_ordinary k.table k.marker.tams k.marker.bitmaps.previous k.marker.running budget chosen choice j inside) in
+        (chosen_ordinary k.table k.marker.tams k.marker.bitmaps.previous k.marker.running budget chosen may j inside) in
         m.each_top j (omega (arith, count, known))
         ∙ ap (λ (b : Bool). if b then j * k.table.words_per_region else slice_index tops j) inside
 
@@ -154,7 +158,7 @@ module _ (k : CoreState) (core : IsCore k) (budget : ℕ) (chosen : List LiveRow
         elim (cases_Bool (is_chosen chosen j)) [
           | inl inside ↦
               tops_chosen k.marker.tams.next tams.next k.marker.bitmaps.next bm.next ev.next core.layers.marker.next.each_region j inside
-              ∙ sym (chosen_new k.table k.marker.tams k.marker.bitmaps.previous k.marker.running budget chosen choice j run inside)
+              ∙ sym (chosen_new k.table k.marker.tams k.marker.bitmaps.previous k.marker.running budget chosen may j run inside)
           | inr out ↦ tops_left k.marker.tams.next tams.next k.marker.bitmaps.next bm.next ev.next core.layers.marker.next.each_region j out
         ]
 
@@ -172,7 +176,7 @@ module _ (k : CoreState) (core : IsCore k) (budget : ℕ) (chosen : List LiveRow
         elim (cases_Bool (is_marked k.marker.bitmaps.next a)) [
           | inl marked ↦
               let below = core.layers.marker.next.below a marked in
-              let bottom = chosen_new k.table k.marker.tams k.marker.bitmaps.previous k.marker.running budget chosen choice
+              let bottom = chosen_new k.table k.marker.tams k.marker.bitmaps.previous k.marker.running budget chosen may
               (a / k.table.words_per_region) run inside in
               let z = some_words k core in
               absurd (not_below a (slice_index k.marker.tams.next (a / k.table.words_per_region)) below (omega (arith, bottom)))
@@ -180,7 +184,7 @@ module _ (k : CoreState) (core : IsCore k) (budget : ℕ) (chosen : List LiveRow
         ]
       where
         not_below : (x top : ℕ) → nat_lt x top ≡ true → top ≤ x → ⊥
-        not_below x top e le = grind (arith, common_steps, nat_tests)
+        not_below x top e le = let lt = ltb-true x top e in omega (arith, lt, le)
 
     marks_same : k.marker.running ≡ true → (a : ℕ) → is_marked bm.next a ≡ is_marked k.marker.bitmaps.next a
     marks_same run a =
@@ -194,9 +198,7 @@ module _ (k : CoreState) (core : IsCore k) (budget : ℕ) (chosen : List LiveRow
     same_marking run = record { old = old_same run; marked = marks_same run; scanned = λ a. refl; logged = λ a. (λ x. x, λ x. x) }
 
     all_new : k.marker.running ≡ true → IsNewSet (layers_of k) chosen
-    all_new run = All_to (IsCandidateRow k.table k.marker.tams k.marker.bitmaps.previous k.marker.running (length k.table.regions))
-        (λ row. slice_index k.marker.tams.next row.region ≡ row.region * k.table.words_per_region) (λ x c. c.candidate.all_new run) chosen
-        (chosen_candidates k.table k.marker.tams k.marker.bitmaps.previous k.marker.running budget chosen choice)
+    all_new run = may.all_new run
 
     pub paused_keeps : (s : Graph) → KeepsFrom s k → KeepsFrom s after
     unfolding kept_of
@@ -353,20 +355,20 @@ module _ (k : CoreState) (core : IsCore k) (budget : ℕ) (chosen : List LiveRow
         ],
         λ inside. record {
           used = λ free. (let ordinary =
-              chosen_ordinary k.table k.marker.tams k.marker.bitmaps.previous k.marker.running budget chosen choice j inside in
+              chosen_ordinary k.table k.marker.tams k.marker.bitmaps.previous k.marker.running budget chosen may j inside in
               cc);
           free = ev.regions.chosen j inside;
         },
       )
 
-      evacuates_best : r ≡ k.room → n ≡ k.row_room → (m : ℕ) → m ≡ length chosen → EvacuatesBest budget m w k k after
+      evacuates_set : r ≡ k.room → n ≡ k.row_room → (m : ℕ) → m ≡ length chosen → EvacuatesSet which budget m w k k after
       unfolding kept_of
-      evacuates_best room_same rows_same m count = record {
+      evacuates_set room_same rows_same m count = record {
         chosen = chosen;
         choice = choice;
         regions = count;
         within = (let most = ev.within in
-            let le = chosen_within k.table k.marker.tams k.marker.bitmaps.previous k.marker.running budget chosen choice in
+            let le = chosen_within k.table k.marker.tams k.marker.bitmaps.previous k.marker.running budget chosen may in
             omega (arith, most, le));
         names = λ g s. copied_names g (heap_of k) s.shows (set_in k.table.words_per_region chosen) w ev.words_are;
         reclaimed = reclaimed;
@@ -377,29 +379,39 @@ module _ (k : CoreState) (core : IsCore k) (budget : ℕ) (chosen : List LiveRow
       }
 
       pub evacuates_from : r ≡ k.room → n ≡ k.row_room → (c : CoreState) → k ≡ c → (m : ℕ)
-          → m ≡ length chosen → EvacuatesBest budget m w c c after
+          → m ≡ length chosen → EvacuatesSet which budget m w c c after
       evacuates_from room_same rows_same c e m count =
-          subst (λ (d : CoreState). EvacuatesBest budget m w d d after) e (evacuates_best room_same rows_same m count)
+          subst (λ (d : CoreState). EvacuatesSet which budget m w d d after) e (evacuates_set room_same rows_same m count)
 
 -- what was made ready shows what it showed
 still_shows : (c k : CoreState) → IsReady c k → (g : Graph) → ShowsGraph g c → ShowsGraph g k
 unfolding kept_of
 still_shows c k ready g s = record {
-  room = s.room ∙ sym (ap (λ (x : Config). x.regions * x.words) (ready_config c k ready));
+  room = s.room ∙ sym (ap object_limit (ready_config c k ready));
   places = s.places ∙ sym (ap places_of (ready_config c k ready));
   next = s.next ∙ sym (ready_next c k ready);
   shows = rw (ready_table c k ready, ready_marker c k ready, ready_roots c k ready) s.shows;
 }
 
--- a pause after all was made ready is a pause
-pub paused_ready : (c k c' : CoreState) (budget n w : ℕ) → IsReady c k → EvacuatesBest budget n w k k c' → HasPaused budget n w c c'
+-- the set of what was made ready is that of what was
+set_was : (which : Choice) (c k : CoreState) (budget : ℕ) (chosen : List LiveRow) → IsReady c k
+    → IsSetOf which k.table k.marker.tams k.marker.bitmaps.previous k.marker.running budget chosen
+    → IsSetOf which c.table c.marker.tams c.marker.bitmaps.previous c.marker.running budget chosen
+set_was which c k budget chosen ready h =
+    subst (λ (m : Marker). IsSetOf which c.table m.tams m.bitmaps.previous m.running budget chosen) (ready_marker c k ready)
+    (subst (λ (t : Table). IsSetOf which t k.marker.tams k.marker.bitmaps.previous k.marker.running budget chosen) (ready_table c k ready)
+    h)
+
+-- what is moved after all was made ready
+pub moved_ready : (which : Choice) (c k c' : CoreState) (budget n w : ℕ) → IsReady c k → EvacuatesSet which budget n w k k c'
+    → HasMoved which budget n w c c'
 unfolding kept_of
-paused_ready c k c' budget n w ready p = record {
+moved_ready which c k c' budget n w ready p = record {
   ready = k;
   is_ready = ready;
   evacuates = record {
     chosen = p.chosen;
-    choice = rw (ready_table c k ready, ready_marker c k ready) at p.choice;
+    choice = set_was which c k budget p.chosen ready p.choice;
     regions = p.regions;
     within = p.within;
     names = λ g s. rw (ready_table c k ready, ready_marker c k ready, ready_roots c k ready) at (p.names g (still_shows c k ready g s));

@@ -21,7 +21,6 @@ returns-then-not-is_creatable-clause-full g c e s stands =
 
 pub returns-then-not-is_creatable-clause-two : goal.returns-then-not-is_creatable-clause-two
 returns-then-not-is_creatable-clause-two g c leaves two =
-    uncreated_two c.args.core.now c.take_own.new.core c.args.op c.requires.new c.remembers.ensures.core c.take_own.ensures.core
-    (let e = c.remembers.ensures.core.layers.region_size in let f = c.shaped.ensures.positive in omega (arith, e, f)) leaves
+    uncreated_two c.args.core.now c.take_own.new.core c.args.op c.requires.new c.take_own.ensures.core
     (λ h. clash c.is_creatable.result (c.is_creatable.ensures.1 h) c.if-not-is_creatable.true) two
-    c.take_own.result c.take_own.ensures.does
+    c.take_own.result c.take_own.ensures.within c.take_own.ensures.does

@@ -51,7 +51,7 @@ pub returns-clause-collects : goal.returns-clause-collects
 returns-clause-collects g c =
     let e = ap (λ (x : Config). x.regions) c.look.ensures.config in
     let f = ap (λ (x : Config). x.regions) c.finish_cycle.ensures.config in
-    chain g.W.Watch.sees (7 + 2 * c.args.core.now.config.regions) (4 + c.finish_cycle.new.core.config.regions) _
+    chain g.W.Watch.sees (7 + 2 * c.args.core.now.config.regions) (5 + 2 * c.finish_cycle.new.core.config.regions) _
     c.args.core.now c.finish_cycle.new.core c.collect_all.new.core c.args.watch.now c.finish_cycle.new.watch c.collect_all.new.watch
     (omega (arith, e, f))
     (chain g.W.Watch.sees (c.args.core.now.config.regions + 5) (2 + c.look.new.core.config.regions) (7 + 2 * c.args.core.now.config.regions)

@@ -1,5 +1,4 @@
-use Rattle.std.proofs.Common.{[], ◌∷◌, refl, arith}
-use Rattle.marker.proofs.Logs.{contained}
+use Rattle.std.proofs.Common.{refl, arith}
 use Rattle.marking_tests.proofs.cycles.sizes.Goals as goal
 
 pub returns-clause-suits : goal.returns-clause-suits
@@ -9,7 +8,7 @@ returns-clause-suits c = record {
   words = record { power = refl; at_least = omega arith; at_most = omega arith; in_all = omega arith };
   buffer = record { at_least = omega arith; at_most = omega arith };
   mutators = record { at_least = omega arith; at_most = omega arith };
-  card = record { length = contained (8 ∷ 16 ∷ 32 ∷ 64 ∷ []) 0 8 refl; at_most = omega arith };
+  card = record { power = refl; at_least = omega arith; longest = omega arith; at_most = omega arith };
   globals = omega arith;
   registers = record { at_least = omega arith; at_most = omega arith };
   roots = omega arith;

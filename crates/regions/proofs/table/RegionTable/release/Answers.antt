@@ -5,7 +5,7 @@ use Rattle.regions.specs.Table.{front_count}
 use Rattle.regions.proofs.LongRuns.RunGone.{rest, release_by, release_room, rows_small}
 use Rattle.regions.proofs.Rows.UsedBelow.{used_written}
 use Rattle.regions.proofs.Tiles.Making.{known}
-use Rattle.regions.proofs.Rows.Counting.{count_released, release_used}
+use Rattle.regions.proofs.Rows.Counting.{count_released, few_released, release_used}
 use Rattle.regions.proofs.Cards.Entries.{flag_count, region_words, release_sound}
 use Rattle.regions.proofs.Tiles.WeakStarts.{clears}
 use Rattle.regions.proofs.table.RegionTable.release.Goals as goal
@@ -23,6 +23,23 @@ overflow_add-rests c =
     c.rests_from-rests.ensures ∙ ap (λ (rs : List Row). front_count rest (drop (c.number-at.result + 1) rs)) c.deref.ensures.value
     ∙ ap (λ (j : ℕ). front_count rest (drop j c.self.inside.rows.items)) at in
     omega (arith, count, room, rows_small _ _ _ c.self.invariant.table)
+
+-- all free regions are among the rows
+pub overflow_add-self-2 : goal.overflow_add-self-2
+overflow_add-self-2 c =
+    let at : c.number-at.result + 1 ≡ suc c.args.region = omega (arith, c.number-at.ensures) in
+    let count : c.rests_from-rests.result ≡ front_count rest (drop (suc c.args.region) c.self.inside.rows.items) =
+    c.rests_from-rests.ensures ∙ ap (λ (rs : List Row). front_count rest (drop (c.number-at.result + 1) rs)) c.deref.ensures.value
+    ∙ ap (λ (j : ℕ). front_count rest (drop j c.self.inside.rows.items)) at in
+    let total : c.rests_from-rests.result + 1 ≡ suc (front_count rest (drop (suc c.args.region) c.self.inside.rows.items)) =
+    omega (arith, count) in
+    let number : c.self.inside.rows.len ≡ length c.self.inside.rows.items = omega arith in
+    let rows = rw c.deref_mut.ensures.value at c.write_free.ensures in
+    let room = release_room _ _ _ _ _ c.self.invariant.table c.self.view_is c.requires.known c.requires.releasable c.requires.untargeted in
+    let n = known _ _ _ _ _ c.self.view_is c.requires.known in
+    let few = few_released _ _ _ _ _ _ _ n.in_rows (release_used _ _ _ _ _ n c.requires.releasable)
+    c.number-at.ensures (omega (arith, room, count, c.number-at.ensures)) total c.self.invariant.free_is number rows in
+    omega (arith, few, number, rows_small _ _ _ c.self.invariant.table)
 
 pub write_free-requires : goal.write_free-requires
 write_free-requires c =

@@ -17,4 +17,7 @@ returns-clause-step c = λ config.
     let words : words_of (line_of text) ≡ codes "gc" ∷ collection_words last.collection =
     c.in_ok-at.ensures.words
     ∙ ap (λ (ws : List (List ℕ)). codes "gc" ∷ ws) (ends.words ∙ append-nil (collection_words last.collection)) in
-    gc_line_again config (line_of text) last.collection short words ends.fits
+    gc_line_again config (line_of text) last.collection short words (ends.known config.format) ends.fits
+
+pub returns-clause-known : goal.returns-clause-known
+returns-clause-known c = λ config. c.in_ok-collection.ensures.known config.format

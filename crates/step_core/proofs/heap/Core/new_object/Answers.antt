@@ -5,68 +5,65 @@ use Rattle.step_core.specs.Stands.{CoreState, ShowsGraph, KeepsFrom}
 use Rattle.step_core.proofs.Cores.Added.{creates}
 use Rattle.step_core.proofs.Mutating.Creating.{new_acts, new_kept, new_keeps, new_leaves}
 use Rattle.step_core.proofs.Mutating.Done.{made_in_place, has_place}
+use Rattle.heap_words.specs.Configs.{object_limit}
 use Rattle.step_core.proofs.heap.Core.new_object.Goals as goal
 
 pub invariant_of-self-2 : goal.invariant_of-self-2
 invariant_of-self-2 c =
-    let made = rw (c.new.ensures, c.new-2.ensures) at c.make-at.ensures.made in
-    let words : c.from.result * c.from-2.result ≡ c.self.inside.config.regions * c.self.inside.config.words =
-    ap (λ (n : ℕ). n * c.from-2.result) c.from.ensures ∙ ap (λ (n : ℕ). c.self.inside.config.regions * n) c.from-2.ensures in
+    let m = c.in-Ok.ensures.made.1 in
+    let words : c.object_limit.result ≡ object_limit c.self.inside.config = c.object_limit.ensures in
     let layers = c.self.invariant.layers in
-    let w = creates _ _ _ _ c.in-Ok.place _ c.self.inside.next c.args.counts.pointers c.args.weaks c.args.counts.values c.law.ensures
-    c.law-2.ensures layers.unmoved layers.buffers c.in-Ok.ensures.placed (omega (arith, c.size-size.ensures)) in
-    rw (c.set_register.ensures, register_there _ c.self.invariant c.args.mutator c.args.to.number, c.make-at.ensures.at, made)
+    let w = creates _ _ _ _ _ _ c.self.inside.next c.args.counts.pointers c.args.weaks c.args.counts.values c.law.ensures
+    m.positive m.fitting layers.unmoved layers.buffers m.placed (omega (arith, c.size-size.ensures)) in
+    rw (c.set_register.ensures, register_there _ c.self.invariant c.args.mutator c.args.to.number, m.at, m.made, m.buffers)
     (new_kept _ c.args.mutator c.args.to _ _ _ c.args.counts.pointers c.args.weaks c.args.counts.values c.self.invariant w
     (omega (arith, words, c.size-size.ensures)) c.if-self.false)
 
 pub returns-clause-acts : goal.returns-clause-acts
 returns-clause-acts c = λ g s.
-    let made = rw (c.new.ensures, c.new-2.ensures) at c.make-at.ensures.made in
-    let words : c.from.result * c.from-2.result ≡ c.self.inside.config.regions * c.self.inside.config.words =
-    ap (λ (n : ℕ). n * c.from-2.result) c.from.ensures ∙ ap (λ (n : ℕ). c.self.inside.config.regions * n) c.from-2.ensures in
+    let m = c.in-Ok.ensures.made.1 in
+    let words : c.object_limit.result ≡ object_limit c.self.inside.config = c.object_limit.ensures in
     let layers = c.self.invariant.layers in
-    let w = creates _ _ _ _ c.in-Ok.place _ c.self.inside.next c.args.counts.pointers c.args.weaks c.args.counts.values c.law.ensures
-    c.law-2.ensures layers.unmoved layers.buffers c.in-Ok.ensures.placed (omega (arith, c.size-size.ensures)) in
+    let w = creates _ _ _ _ _ _ c.self.inside.next c.args.counts.pointers c.args.weaks c.args.counts.values c.law.ensures
+    m.positive m.fitting layers.unmoved layers.buffers m.placed (omega (arith, c.size-size.ensures)) in
     let s' = subst (λ (d : CoreState). ShowsGraph g d) (sym c.self.view_is) s in
-    inl (rw (c.set_register.ensures, register_there _ c.self.invariant c.args.mutator c.args.to.number, c.make-at.ensures.at, made)
+    inl (rw (c.set_register.ensures, register_there _ c.self.invariant c.args.mutator c.args.to.number, m.at, m.made, m.buffers)
     (new_acts _ c.args.mutator c.args.to _ _ _ c.args.counts.pointers c.args.weaks c.args.counts.values c.self.invariant w
     (omega (arith, words, c.size-size.ensures)) c.if-self.false g s'))
 
 pub returns-clause-keeps : goal.returns-clause-keeps
 returns-clause-keeps c = λ s f.
-    let made = rw (c.new.ensures, c.new-2.ensures) at c.make-at.ensures.made in
-    let words : c.from.result * c.from-2.result ≡ c.self.inside.config.regions * c.self.inside.config.words =
-    ap (λ (n : ℕ). n * c.from-2.result) c.from.ensures ∙ ap (λ (n : ℕ). c.self.inside.config.regions * n) c.from-2.ensures in
+    let m = c.in-Ok.ensures.made.1 in
+    let words : c.object_limit.result ≡ object_limit c.self.inside.config = c.object_limit.ensures in
     let layers = c.self.invariant.layers in
-    let w = creates _ _ _ _ c.in-Ok.place _ c.self.inside.next c.args.counts.pointers c.args.weaks c.args.counts.values c.law.ensures
-    c.law-2.ensures layers.unmoved layers.buffers c.in-Ok.ensures.placed (omega (arith, c.size-size.ensures)) in
+    let w = creates _ _ _ _ _ _ c.self.inside.next c.args.counts.pointers c.args.weaks c.args.counts.values c.law.ensures
+    m.positive m.fitting layers.unmoved layers.buffers m.placed (omega (arith, c.size-size.ensures)) in
     let f' = subst (λ (d : CoreState). KeepsFrom s d) (sym c.self.view_is) f in
-    rw (c.set_register.ensures, register_there _ c.self.invariant c.args.mutator c.args.to.number, c.make-at.ensures.at, made)
+    rw (c.set_register.ensures, register_there _ c.self.invariant c.args.mutator c.args.to.number, m.at, m.made, m.buffers)
     (new_keeps _ c.args.mutator c.args.to _ _ _ c.args.counts.pointers c.args.weaks c.args.counts.values c.self.invariant w
     (omega (arith, words, c.size-size.ensures)) c.if-self.false s f')
 
 pub returns-clause-leaves : goal.returns-clause-leaves
 returns-clause-leaves c =
-    let made = rw (c.new.ensures, c.new-2.ensures) at c.make-at.ensures.made in
-    let words : c.from.result * c.from-2.result ≡ c.self.inside.config.regions * c.self.inside.config.words =
-    ap (λ (n : ℕ). n * c.from-2.result) c.from.ensures ∙ ap (λ (n : ℕ). c.self.inside.config.regions * n) c.from-2.ensures in
+    let m = c.in-Ok.ensures.made.1 in
+    let words : c.object_limit.result ≡ object_limit c.self.inside.config = c.object_limit.ensures in
     let layers = c.self.invariant.layers in
-    let w = creates _ _ _ _ c.in-Ok.place _ c.self.inside.next c.args.counts.pointers c.args.weaks c.args.counts.values c.law.ensures
-    c.law-2.ensures layers.unmoved layers.buffers c.in-Ok.ensures.placed (omega (arith, c.size-size.ensures)) in
-    rw (c.set_register.ensures, register_there _ c.self.invariant c.args.mutator c.args.to.number, c.make-at.ensures.at, made)
+    let w = creates _ _ _ _ _ _ c.self.inside.next c.args.counts.pointers c.args.weaks c.args.counts.values c.law.ensures
+    m.positive m.fitting layers.unmoved layers.buffers m.placed (omega (arith, c.size-size.ensures)) in
+    rw (c.set_register.ensures, register_there _ c.self.invariant c.args.mutator c.args.to.number, m.at, m.made, m.buffers)
     (new_leaves _ c.args.mutator c.args.to _ _ _ c.args.counts.pointers c.args.weaks c.args.counts.values c.self.invariant w
     (omega (arith, words, c.size-size.ensures)) c.if-self.false _ c.self.view_is)
 
 pub returns-clause-after : goal.returns-clause-after
 returns-clause-after c =
-    let made = rw (c.new.ensures, c.new-2.ensures) at c.make-at.ensures.made in
-    rw (c.set_register.ensures, register_there _ c.self.invariant c.args.mutator c.args.to.number, c.make-at.ensures.at, made)
+    let m = c.in-Ok.ensures.made.1 in
+    rw (c.set_register.ensures, register_there _ c.self.invariant c.args.mutator c.args.to.number, m.at, m.made, m.buffers)
     (made_in_place _ _ c.args.mutator c.args.to c.args.counts c.args.weaks c.size-size.result _ _ _ c.self.view_is
-    c.in-Ok.ensures.place c.size-size.ensures)
+    m.place c.size-size.ensures)
 
 pub returns-clause-full : goal.returns-clause-full
 returns-clause-full c =
-    λ none name e. has_place _ _ c.args.mutator c.size-size.result _ _ c.self.view_is c.in-Ok.ensures.place c.size-size.ensures none
+    λ none name e. has_place _ _ c.args.mutator c.size-size.result _ _ c.self.view_is c.in-Ok.ensures.made.1.place c.size-size.ensures none
 
 pub set_register-requires-clause-mutator : goal.set_register-requires-clause-mutator
 set_register-requires-clause-mutator c =

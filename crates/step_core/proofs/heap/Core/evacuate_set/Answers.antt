@@ -6,13 +6,13 @@ use Rattle.step_core.proofs.Mutating.Reading.{AllZip-length}
 use Rattle.step_core.proofs.Cycles.Cycling.{to_fields}
 use Rattle.step_core.proofs.Pauses.Pausing.{can_evacuate, chosen_known, next_count, cards_room}
 use Rattle.step_core.proofs.Pauses.Pausing.{paused_shows, paused_keeps, paused_kept, evacuates_from}
-use Rattle.step_core.proofs.heap.Core.evacuate_best.Goals as goal
+use Rattle.step_core.proofs.heap.Core.evacuate_set.Goals as goal
 
 pub evacuate-requires-clause-can : goal.evacuate-requires-clause-can
 evacuate-requires-clause-can c =
     let clean = to_fields _ _ c.self.view_is (λ d. (card : ℕ) → is_dirty d.cards card ≡ false) c.requires.clean in
     rw (c.card_words.ensures, c.deref-2.ensures.value)
-    (can_evacuate _ c.self.invariant c.args.budget _ c.choose_regions-count.ensures.chosen clean)
+    (can_evacuate _ c.self.invariant c.args.choice c.args.budget _ c.choose_set-count.ensures.chosen clean)
 
 pub evacuate-requires-clause-each_region : goal.evacuate-requires-clause-each_region
 evacuate-requires-clause-each_region c = c.self.invariant.room.regions ∙ sym c.self.invariant.layers.region_count
@@ -24,15 +24,15 @@ pub forget_counts-requires-clause-previous : goal.forget_counts-requires-clause-
 forget_counts-requires-clause-previous c =
     let clean = to_fields _ _ c.self.view_is (λ d. (card : ℕ) → is_dirty d.cards card ≡ false) c.requires.clean in
     rw c.deref.ensures.value
-    (chosen_known _ c.self.invariant c.args.budget _ c.choose_regions-count.ensures.chosen clean _
+    (chosen_known _ c.self.invariant c.args.choice c.args.budget _ c.choose_set-count.ensures.chosen clean _
     c.self.invariant.layers.marker.live.each_region)
 
 pub forget_counts-requires-clause-next : goal.forget_counts-requires-clause-next
 forget_counts-requires-clause-next c =
     let clean = to_fields _ _ c.self.view_is (λ d. (card : ℕ) → is_dirty d.cards card ≡ false) c.requires.clean in
     rw c.deref.ensures.value
-    (chosen_known _ c.self.invariant c.args.budget _ c.choose_regions-count.ensures.chosen clean _
-    (next_count _ c.self.invariant c.args.budget _ c.choose_regions-count.ensures.chosen clean))
+    (chosen_known _ c.self.invariant c.args.choice c.args.budget _ c.choose_set-count.ensures.chosen clean _
+    (next_count _ c.self.invariant c.args.choice c.args.budget _ c.choose_set-count.ensures.chosen clean))
 
 pub invariant_of-self : goal.invariant_of-self
 invariant_of-self c =
@@ -42,8 +42,8 @@ invariant_of-self c =
     let e = c.evacuate.ensures in
     let ev = rw (c.card_words.ensures, c.deref-2.ensures.value) at e.evacuated in
     let places = sym (AllZip-length _ _ _ ev.relocates.roots) in
-    rw e.places (paused_kept _ c.self.invariant c.args.budget _ c.choose_regions-count.ensures.chosen clean _ _ _ _ _ _ _ _ _ _ ev
-    (rw c.deref.ensures.value at c.forget_counts.ensures) closed_all e.room c.choose_regions-count.ensures.room places)
+    rw e.places (paused_kept _ c.self.invariant c.args.choice c.args.budget _ c.choose_set-count.ensures.chosen clean _ _ _ _ _ _ _ _ _ _ ev
+    (rw c.deref.ensures.value at c.forget_counts.ensures) closed_all e.room c.choose_set-count.ensures.room places)
 
 pub returns-clause-shows : goal.returns-clause-shows
 returns-clause-shows c =
@@ -53,7 +53,8 @@ returns-clause-shows c =
     let e = c.evacuate.ensures in
     let ev = rw (c.card_words.ensures, c.deref-2.ensures.value) at e.evacuated in
     let places = sym (AllZip-length _ _ _ ev.relocates.roots) in
-    λ g' s. rw e.places (paused_shows _ c.self.invariant c.args.budget _ c.choose_regions-count.ensures.chosen clean _ _ _ _ _ _ _ _ _ _ ev
+    λ g' s. rw e.places (paused_shows _ c.self.invariant c.args.choice c.args.budget _ c.choose_set-count.ensures.chosen clean _ _ _ _ _ _
+    _ _ _ _ ev
     (rw c.deref.ensures.value at c.forget_counts.ensures) g' (to_fields _ _ c.self.view_is (λ d. ShowsGraph g' d) s))
 
 pub returns-clause-keeps : goal.returns-clause-keeps
@@ -64,7 +65,8 @@ returns-clause-keeps c =
     let e = c.evacuate.ensures in
     let ev = rw (c.card_words.ensures, c.deref-2.ensures.value) at e.evacuated in
     let places = sym (AllZip-length _ _ _ ev.relocates.roots) in
-    λ s f. rw e.places (paused_keeps _ c.self.invariant c.args.budget _ c.choose_regions-count.ensures.chosen clean _ _ _ _ _ _ _ _ _ _ ev
+    λ s f. rw e.places (paused_keeps _ c.self.invariant c.args.choice c.args.budget _ c.choose_set-count.ensures.chosen clean _ _ _ _ _ _
+    _ _ _ _ ev
     (rw c.deref.ensures.value at c.forget_counts.ensures) s (to_fields _ _ c.self.view_is (λ d. KeepsFrom s d) f))
 
 pub returns-clause-evacuates : goal.returns-clause-evacuates
@@ -75,6 +77,7 @@ returns-clause-evacuates c =
     let e = c.evacuate.ensures in
     let ev = rw (c.card_words.ensures, c.deref-2.ensures.value) at e.evacuated in
     let places = sym (AllZip-length _ _ _ ev.relocates.roots) in
-    rw e.places (evacuates_from _ c.self.invariant c.args.budget _ c.choose_regions-count.ensures.chosen clean _ _ _ _ _ _ _ _ _ _ ev
-    (rw c.deref.ensures.value at c.forget_counts.ensures) closed_all e.room c.choose_regions-count.ensures.room _ c.self.view_is _
-    (e.regions ∙ ap (λ xs. length (take c.choose_regions-count.result xs)) c.deref-2.ensures.value))
+    rw e.places (evacuates_from _ c.self.invariant c.args.choice c.args.budget _ c.choose_set-count.ensures.chosen clean _ _ _ _ _ _ _ _ _
+    _ ev
+    (rw c.deref.ensures.value at c.forget_counts.ensures) closed_all e.room c.choose_set-count.ensures.room _ c.self.view_is _
+    (e.regions ∙ ap (λ xs. length (take c.choose_set-count.result xs)) c.deref-2.ensures.value))

@@ -1,0 +1,16 @@
+use Rattle.std.proofs.Common.{◌≤◌, ◌-◌}
+use Rattle.object_graph.specs.State.{State}
+use Rattle.collection.specs.Space.{IsQuiet, ordinary_end}
+use Rattle.collection.specs.Steps.{Collects}
+use Rattle.collection.proofs.compaction.compact_for.Given as goal
+
+abbrev pub invariant-compactions : goal.invariant-compactions
+invariant-compactions g l = record {
+  collects : Collects g.W.Watch.sees (ordinary_end l.initial.core.table - ordinary_end l.core.table) l.initial.core l.initial.watch l.core
+      l.watch;
+  falls : ordinary_end l.core.table ≤ ordinary_end l.initial.core.table;
+  quiet : (s : State) → IsQuiet s l.initial.core → IsQuiet s l.core;
+}
+
+abbrev pub decreases-compactions : goal.decreases-compactions
+decreases-compactions g l = ordinary_end l.core.table

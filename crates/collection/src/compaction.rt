@@ -1,0 +1,73 @@
+//! Compactions, until an object of more than half a region has a run of free regions, or nothing is left to move down.
+
+ghost use Rattle.std.specs.Prelude.{◌≡◌, ◌+◌, ◌*◌, ◌<◌, ◌≤◌, true, false, ℕ};
+ghost use Rattle.heap_steps.specs.Actors.{IsThird, IsOp};
+ghost use Rattle.heap_steps.specs.declared.step.Reply.TheVariants as replies;
+ghost use Rattle.regions.specs.Table.{free_count};
+ghost use Rattle.object_graph.specs.State.{State};
+ghost use Rattle.object_graph.specs.Run.{IsNew};
+ghost use Rattle.collection.specs.Space.{IsQuiet, LieBelowFree, ordinary_end};
+ghost use Rattle.collection.specs.Steps.{Collects, asked_words};
+ghost use Rattle.collection.specs.Rooms.{HasRun, IsSpared};
+
+use crate::numbers::Policy;
+use crate::room::is_spared;
+use crate::steps::{Watch, take};
+use heap_steps::{CollectorStep, Op, Reply};
+use step_core::Core;
+
+/// Whether a compaction took a region, by its reply.
+fn took_some(reply: Reply) -> bool
+    ensures some { result ≡ true → (n w : ℕ) → reply ≡ replies.Moved n w → 0 < n }
+    ensures none { result ≡ false → (n w : ℕ) → reply ≡ replies.Moved n w → n ≡ 0 }
+{
+    match reply {
+        Reply::Moved { regions, .. } => regions != 0,
+        _ => false,
+    }
+}
+
+/// A compaction of a region of words, which takes one destination at most. Answers whether it took any region: then no ordinary region is
+/// as high as the highest was, else each lies below each free one.
+fn compact_once<W: Watch>(core: &mut Core, policy: &mut Policy, watch: &mut W) -> bool
+    requires third { IsThird core.old.config.format }
+    ensures collects { Collects W.sees 1 core.old watch.old core.new watch.new }
+    ensures quiet { (s : State) → IsQuiet s core.old → IsQuiet s core.new }
+    ensures lower { result ≡ true → ordinary_end core.new.table < ordinary_end core.old.table }
+    ensures below { result ≡ false → (s : State) → IsQuiet s core.old → 2 ≤ free_count core.old.table → LieBelowFree core.new.table }
+{
+    let words = core.config().words;
+    let reply = take(core, policy, CollectorStep::Compact(words), watch);
+    took_some(reply)
+}
+
+/// Compactions until the object has a run of free regions, or one takes no region. Answers whether it has.
+pub(crate) fn compact_for<W: Watch>(
+    core: &mut Core,
+    policy: &mut Policy,
+    op: &Op,
+    size: u32,
+    watch: &mut W,
+) -> bool
+    requires third { IsThird core.old.config.format }
+    requires op { IsOp core.old.config op.now }
+    requires new { IsNew op.now.action }
+    requires size { size ≡ asked_words op.now.action }
+    requires large { core.old.config.words < 2 * size }
+    requires within { size ≤ core.old.config.regions * core.old.config.words }
+    ensures collects { Collects W.sees (core.old.config.regions + 1) core.old watch.old core.new watch.new }
+    ensures quiet { (s : State) → IsQuiet s core.old → IsQuiet s core.new }
+    ensures spared { result ≡ true → IsSpared core.new op.now }
+    ensures none { result ≡ false → HasRun core.new size → ⊥ }
+    ensures below { result ≡ false → (s : State) → IsQuiet s core.old → 2 ≤ free_count core.old.table → LieBelowFree core.new.table }
+{
+    core.remembers();
+    'compactions: loop {
+        if !compact_once(core, policy, watch) {
+            return is_spared(core, op, size);
+        }
+        if is_spared(core, op, size) {
+            return true;
+        }
+    }
+}

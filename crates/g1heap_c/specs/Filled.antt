@@ -1,0 +1,61 @@
+-- A new object with its fields in one call: the step that makes it, and those that fill it.
+use Rattle.std.specs.Prelude.{◌≡◌, ◌≢◌, ◌<◌, ◌^◌, ℕ, zero, suc, List, length, slice_index, Option, Some, None}
+use Rattle.heap_words.specs.declared.config.Config.{Config}
+use Rattle.heap_steps.specs.Actors.{IsStep}
+use Rattle.heap_steps.specs.declared.step.Action.TheVariants as actions
+use Rattle.heap_steps.specs.declared.step.Reply.{Reply}
+use Rattle.heap_steps.specs.declared.step.Reply.TheVariants as replies
+use Rattle.heap_steps.specs.declared.step.Step.{Step}
+use Rattle.step_core.specs.Stands.{CoreState}
+use Rattle.step_core.specs.Words.{Takes}
+use Rattle.g1heap_c.specs.Numbers.{by, counts, no_heap, no_step, numbers, register, value}
+use Rattle.g1heap_c.specs.Steps.{Stays}
+use Rattle.g1heap_c.specs.declared.answer.Answer.{Answer}
+
+-- so many steps lead from one core to another, one after another
+abbrev pub RunsTo : CoreState → (ℕ → Step) → ℕ → CoreState → Type 0
+RunsTo c step zero d = d ≡ c
+RunsTo c step (suc n) d = (b : CoreState) × (reply : Reply) × (RunsTo c step n b × Takes b (step n) reply d)
+
+-- an object is made of so many pointers and data words
+abbrev pub making : ℕ → ℕ → List ℕ → List ℕ → Step
+making m to from words = by m (actions.New (register to) (counts (length from) (length words)))
+
+-- its pointers take what registers hold, or nil, and its data words take words
+abbrev pub pointing : ℕ → ℕ → List ℕ → ℕ → Step
+pointing m to from i = by m (actions.Put (register to) i (value (slice_index from i)))
+
+abbrev pub wording : ℕ → ℕ → List ℕ → ℕ → Step
+wording m to words i = by m (actions.Write (register to) i (slice_index words i))
+
+-- the steps are some of the heap, and the register that takes the object is none of its sources
+pub record AreFields (config : Config) (m to : ℕ) (from words : List ℕ) : Type 0 where
+  pub few : length from < 2 ^ 32
+  pub few_words : length words < 2 ^ 32
+  pub makes : IsStep config (making m to from words)
+  pub points : (i : ℕ) → i < length from → IsStep config (pointing m to from i)
+  pub apart : (i : ℕ) → i < length from → slice_index from i ≢ to
+
+-- where the object was made, the steps that fill it lead further
+abbrev pub FillsIt : Reply → CoreState → ℕ → ℕ → List ℕ → List ℕ → CoreState → Type 0
+FillsIt (replies.Named (Some name)) c m to from words d =
+    (b : CoreState) × (RunsTo c (pointing m to from) (length from) b × RunsTo b (wording m to words) (length words) d)
+FillsIt _ c m to from words d = d ≡ c
+
+-- the object is made by a step of its own, whose reply is the answer, and is filled
+pub record Fills (c : CoreState) (m to : ℕ) (from words : List ℕ) (answer : Answer) (after : Option CoreState) : Type 0 where
+  pub reply : Reply
+  pub tells : answer ≡ numbers reply
+  pub made : CoreState
+  pub makes : Takes c (making m to from words) reply made
+  pub filled : CoreState
+  pub fills : FillsIt reply made m to from words filled
+  pub held : after ≡ Some filled
+
+pub record FillsOrNot (c : CoreState) (m to : ℕ) (from words : List ℕ) (answer : Answer) (after : Option CoreState) : Type 0 where
+  pub takes : AreFields c.config m to from words → Fills c m to from words answer after
+  pub not : (AreFields c.config m to from words → ⊥) → Stays (Some c) no_step answer after
+
+abbrev pub MakesFilled : Option CoreState → ℕ → ℕ → List ℕ → List ℕ → Answer → Option CoreState → Type 0
+MakesFilled None m to from words answer after = Stays None no_heap answer after
+MakesFilled (Some c) m to from words answer after = FillsOrNot c m to from words answer after

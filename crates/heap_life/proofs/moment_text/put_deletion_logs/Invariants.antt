@@ -1,0 +1,6 @@
+use Rattle.script_text.specs.Texts.{Adds}
+use Rattle.heap_life.specs.Telling.{text_below, deletions_of}
+use Rattle.heap_life.proofs.moment_text.put_deletion_logs.Given as goal
+
+abbrev pub invariant-loop-mutator : goal.invariant-loop-mutator
+invariant-loop-mutator l = Adds l.initial.text (text_below (deletions_of l.core) l.mutator) l.text
