@@ -26,12 +26,12 @@
    each other. A heap may pass from one thread to another, which is proved of it, and threads may share one under a lock of the caller's. No
    call waits, or calls back. None is for a signal handler.
 
-   WHAT IS PROVED of each call, and what isn't, stands in docs/EMBEDDING.md. In short: whatever numbers a program gives in whatever order,
+   WHAT IS PROVED of each call, and what isn't, is in docs/EMBEDDING.md. In short: whatever numbers a program gives in whatever order,
    each answer is the one that a graph of objects gives from which nothing is ever freed or moved, or G1_FULL for a new object where the
-   rules of placement find no place (docs/TEXTS.md, "Where a new object goes"), and no memory but the heap's is touched. Nothing is proved
+   rules of placement find no place (docs/HEAP.md, "Where a new object goes"), and no memory but the heap's is touched. Nothing is proved
    of C code.
 
-   SPEED. A call is a function call with a few checks, where a pointer in C is one load; docs/EMBEDDING.md has figures. */
+   SPEED. A call is a function call with a few checks, where a pointer in C is one load; docs/GATE.md has figures. */
 #ifndef G1HEAP_H
 #define G1HEAP_H
 

@@ -1,4 +1,5 @@
-"""The texts of a page against the plain heap: what docs/DRAWING.md says under 'How much is told' and 'The data'. For tools/check_page."""
+"""The texts of a page against the plain heap: what docs/DRAWING.md says under 'How much is told', and crates/heap_life/page/README.md.
+For tools/check_page."""
 import importlib.machinery
 import importlib.util
 import re

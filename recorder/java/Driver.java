@@ -20,7 +20,7 @@ import java.util.Map;
  *     javac -d FOLDER recorder/java/Driver.java
  *     java -XX:+UseZGC -Xmx32m -cp FOLDER Driver it.heap it.record [EARLY]
  *
- * A step `gc pause` asks for a full collection; the other steps of `gc` are passed over. A sync, as docs/CHECKING.md has it, is written
+ * A step `gc pause` asks for a full collection; the other steps of `gc` are passed over. A sync, as recorder/README.md has it, is written
  * where a weak slot is seen cleared, after collections, and at the end. At the first step from EARLY on where a register holds the object of
  * a WeakReference of an object that a register holds too, it is cleared, and the run ends with a sync. Prints how many steps, collections and syncs there were, and 1 where one was
  * cleared so.

@@ -3,7 +3,7 @@
          tools/draw_script.py 1 --first 0 --weak 1 ... > it.heap
          lua5.4 recorder/lua/driver.lua incremental|generational it.heap it.record [EARLY]
 
-     A step `gc pause` asks for a full collection; the other steps of `gc` are passed over. A sync, as docs/CHECKING.md has it, is written
+     A step `gc pause` asks for a full collection; the other steps of `gc` are passed over. A sync, as recorder/README.md has it, is written
      where a weak slot is seen cleared, after collections, and at the end. At the first step from EARLY on where a register holds what
      a weak slot of an object holds that a register holds too, it is cleared, and the run ends with a sync. Prints how many steps, collections and syncs there were, and 1 where one was
      cleared so. Lua 5.4 alone. Data words stay texts, since numbers have a sign here. ]]
