@@ -124,25 +124,26 @@ abbrev pub DoesAsked : List ℕ → Asked → Reader → Reader → Writer → W
 DoesAsked names asked input input' old new err err' status = (given : Reader) × (left : Reader)
     × (asked.0 ≡ codes "-" → (given ≡ input) × (left ≡ input')) × DoesJob names asked given left old new err err' status
 
--- a reader gave this text, to its end
-abbrev pub IsGiven : List ℕ → Type 0
-IsGiven text = (given : Reader) × (left : Reader) × GivesAll given left text
-
 -- A file of names for shapes could not be read, and that was told with its path; nothing else was read, and nothing was written.
-pub record AreUnread (path : List ℕ) (input input' : Reader) (old new err err' : Writer) (status : ℕ) : Type 0 where
+pub record AreUnread (path : List ℕ) (given left input input' : Reader) (old new err err' : Writer) (status : ℕ) : Type 0 where
   pub fault : ReadFault
+  pub fails : FailsToGive fault given left
   pub unread : input' ≡ input
   pub stays : Stays old new
   pub one : status ≡ 1
   pub tells : TellsMore (Read fault) (IsReadReason path) err err'
 
--- what was asked for was done: where no path of names for shapes was given, with none; else with those that a file gave, to its end, or it
--- could not be read
+-- what was asked for was done with the names for shapes that the file of this path gave, to its end; or they could not be read
+abbrev pub DoesWith : List ℕ → Reader → Reader → Asked → Reader → Reader → Writer → Writer → Writer → Writer → ℕ → Type 0
+DoesWith path given left asked input input' old new err err' status =
+    ((names : List ℕ) × GivesAll given left names × DoesAsked names asked input input' old new err err' status)
+    ⊎ AreUnread path given left input input' old new err err' status
+
+-- the same where a path of names for shapes was given; else it was done with none
 abbrev pub DoesNamed : Option (List ℕ) → Asked → Reader → Reader → Writer → Writer → Writer → Writer → ℕ → Type 0
 DoesNamed None asked input input' old new err err' status = DoesAsked [] asked input input' old new err err' status
 DoesNamed (Some path) asked input input' old new err err' status =
-    ((names : List ℕ) × IsGiven names × DoesAsked names asked input input' old new err err' status)
-    ⊎ AreUnread path input input' old new err err' status
+    (given : Reader) × (left : Reader) × DoesWith path given left asked input input' old new err err' status
 
 -- the same; or memory was refused for the words, and that was told
 abbrev pub DoesTask : Option (List ℕ) → Asked → Reader → Reader → Writer → Writer → Writer → Writer → ℕ → Type 0

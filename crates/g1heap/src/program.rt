@@ -1,12 +1,12 @@
 //! The whole program: its words, the file that they name, and the status.
 
-ghost use Rattle.std.specs.Prelude.{◌≡◌, ◌≢◌, ◌≤◌, ◌⊎◌, ℕ, Bool, IfOk, List, Some, map, string_bytes};
+ghost use Rattle.std.specs.Prelude.{◌≡◌, ◌≢◌, ◌≤◌, ◌⊎◌, ℕ, Bool, List, Some, map, string_bytes};
 ghost use Rattle.clap.specs.Values.{kind_of};
 ghost use Rattle.script_text.specs.Watched.{Reader, Writer, FailsToGive, Stays};
 ghost use Rattle.jobs.specs.FaultLines.{TellsLine};
 ghost use Rattle.command_line.specs.Asked.{Asked, Asks, asked_by, names_by, names_of};
 ghost use Rattle.command_line.specs.declared.Task.TheVariants.{Check};
-ghost use Rattle.g1heap.specs.Jobs.{DoesAsked, DoesCheck, DoesJob, DoesNamed, DoesTask, IsGiven};
+ghost use Rattle.g1heap.specs.Jobs.{DoesAsked, DoesCheck, DoesJob, DoesNamed, DoesTask, DoesWith};
 
 use crate::perform::perform;
 use clap::Error;
@@ -123,27 +123,28 @@ fn read_and_perform<H: Files + Threads + Wait + Sync, I: Read, W: Write, E: Writ
     open_and_perform(rt, alloc, job, names, out, err)
 }
 
-/// All bytes of a file of names for shapes, or why it can't be read: where memory was refused, without a reason of the system's.
-fn read_names<H: Files>(
+/// Reads names for shapes from the file of this path, to its end, and does the job with them, and answers the program's status. Where the
+/// file can't be read, standard error is told its path, and why.
+fn perform_named<H: Files + Threads + Wait + Sync, N: Read, I: Read, W: Write, E: Write>(
     rt: &H,
     alloc: Global,
+    job: &Job,
     path: &str,
-) -> Result<Vec<u8>, (ReadFault, Option<Reason>)>
-    ensures { IfOk result (λ names. IsGiven names.items) }
+    file: &mut WatchedReader<N>,
+    input: &mut WatchedReader<I>,
+    out: &mut WatchedWriter<W>,
+    err: &mut WatchedWriter<E>,
+) -> u8
+    ensures { DoesWith path.now file.old file.new (asked_by job.now) input.old input.new out.old out.new err.old err.new result }
 {
-    let mut reader = match fs::open(rt, path) {
-        Ok(file) => WatchedReader::new(file),
-        Err(error) => return Err((ReadFault::CannotRead, Some(error.kind()))),
-    };
-    match read_text(alloc, &mut reader) {
-        Ok(names) => Ok(names),
-        Err(fault) => Err((fault, reader.reason())),
+    match read_text(alloc, file) {
+        Ok(names) => read_and_perform(rt, alloc, job, names.as_slice(), input, out, err),
+        Err(fault) => conclude_unread(fault, path, file.reason(), err),
     }
 }
 
-/// Reads the file of this path, and does the job with its names for shapes, and answers the program's status. Where the file can't be read,
-/// standard error is told its path, and why.
-fn name_and_perform<H: Files + Threads + Wait + Sync, I: Read, W: Write, E: Write>(
+/// Opens the file of this path, and does the job with its names for shapes, and answers the program's status.
+fn open_and_name<H: Files + Threads + Wait + Sync, I: Read, W: Write, E: Write>(
     rt: &H,
     alloc: Global,
     job: &Job,
@@ -154,9 +155,18 @@ fn name_and_perform<H: Files + Threads + Wait + Sync, I: Read, W: Write, E: Writ
 ) -> u8
     ensures { DoesNamed (Some path.now) (asked_by job.now) input.old input.new out.old out.new err.old err.new result }
 {
-    match read_names(rt, alloc, path) {
-        Ok(names) => read_and_perform(rt, alloc, job, names.as_slice(), input, out, err),
-        Err((fault, reason)) => conclude_unread(fault, path, reason, err),
+    match fs::open(rt, path) {
+        Ok(file) => perform_named(
+            rt,
+            alloc,
+            job,
+            path,
+            &mut WatchedReader::new(file),
+            input,
+            out,
+            err,
+        ),
+        Err(error) => conclude_unread(ReadFault::CannotRead, path, Some(error.kind()), err),
     }
 }
 
@@ -172,7 +182,7 @@ fn perform_job<H: Files + Threads + Wait + Sync, I: Read, W: Write, E: Write>(
     ensures { DoesNamed (names_by job.now) (asked_by job.now) input.old input.new out.old out.new err.old err.new result }
 {
     match job.names() {
-        Some(path) => name_and_perform(rt, alloc, job, path, input, out, err),
+        Some(path) => open_and_name(rt, alloc, job, path, input, out, err),
         None => read_and_perform(rt, alloc, job, &[], input, out, err),
     }
 }

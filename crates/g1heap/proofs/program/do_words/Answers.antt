@@ -1,5 +1,5 @@
 use Rattle.std.proofs.Common.{◌≡◌, ◌∙◌, List, Option, inl, map, string_bytes, subst, sym, ℕ, Some}
-use Rattle.command_line.specs.Asked.{Asked, asked_by, names_by, names_of}
+use Rattle.command_line.specs.Asked.{Asked, asked_by, names_of}
 use Rattle.g1heap.specs.Jobs.{DoesNamed}
 use Rattle.g1heap.proofs.program.do_words.Goals as goal
 
