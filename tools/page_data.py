@@ -53,8 +53,8 @@ def read_life(text):
     facts, moments, block, size = {}, [], None, 0
     for line in text.splitlines():
         letter = line.split(" ", 1)[0]
-        if letter == "file":
-            facts[letter] = line.removeprefix("file ")
+        if letter in ("file", "names"):
+            facts[letter] = line.removeprefix(f"{letter} ")
             continue
         if letter in ("card", "roots", "pace", "events"):
             facts[letter] = [int(word) for word in line.split()[1:]]
@@ -153,9 +153,14 @@ def fault_of_pace(record, every, pace):
 
 # ---- the comparison
 
+def told_bytes(text):
+    """Bytes as a page tells them: letters, digits and `- . / _ ~`, and each other byte as % and two digits to the base 16."""
+    return urllib.parse.quote_from_bytes(text, safe="/")
+
+
 def told_name(path):
-    """A file's name as a page tells it: letters, digits and `- . / _ ~`, and each other byte as % and two digits to the base 16."""
-    return urllib.parse.quote(str(path), safe="/")
+    """A file's name as a page tells it."""
+    return told_bytes(str(path).encode())
 
 
 def check_facts(count, name, path, record, facts, sizes, every):

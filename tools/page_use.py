@@ -323,6 +323,53 @@ def check_names(count, browser, name, path):
     count.note(f"{name}: its name at its tile", "#1 leaf" in tiles, tiles)
 
 
+SHAPES = "return [...document.querySelectorAll('#objects tbody tr')].map((row) => row.dataset.shape).sort()"
+# What names for shapes could have brought into a page, were they no plain text.
+BROUGHT = """
+const inside = document.querySelectorAll('#objects b, #object b, #lanes b, #naming b').length;
+return [inside, document.querySelectorAll('script').length, window.broken === undefined];
+"""
+
+
+def labels_in(text):
+    """The names that lines give, by their shapes and first words, and which lines are none: what page/reach.js reads, said again."""
+    rules, wrong = [], []
+    for number, line in enumerate(text.split("\n"), 1):
+        words = line.split("#", 1)[0].split()
+        if len(words) > 4 and all(re.fullmatch("[*]|[0-9]+", word) for word in words[:4]):
+            rules.append((words[:4], " ".join(words[4:])))
+        elif words:
+            wrong.append(number)
+    return rules, wrong
+
+
+def check_told_names(count, browser, name, path, told):
+    """Names for shapes that a page of examples/trace.heap tells: each is seen, as text alone, and lines that are none are told at once."""
+    browser.open(path, 8)
+    text = re.sub("\r\n?", "\n", told.decode("utf-8", "replace").removeprefix("\ufeff"))
+    rules, wrong = labels_in(text)
+
+    def label_of(words):
+        return next((label for rule, label in rules if all(one in ("*", other) for one, other in zip(rule, words))), None)
+
+    # What is there after event 8: pointers, weak slots, data words, and the first of these.
+    objects = ["2 0 0 none", "0 0 1 0", "1 0 4 0", "12 0 8 0"]
+    wanted = sorted({label_of(it.split()) or it.rsplit(" ", 1)[0] for it in objects})
+    shapes = browser.run(SHAPES)
+    count.note(f"{name}: what is named so", shapes == wanted, (shapes, wanted))
+    said, is_open = browser.run("return [document.getElementById('naming-said').textContent, document.getElementById('naming').open]")
+    lines = f" Not read: line{'s' if len(wrong) > 1 else ''} " if wrong else ""
+    counted = f"{len(rules):,} line{'' if len(rules) == 1 else 's'} read." if rules or wrong else ""
+    count.note(f"{name}: what is said of the lines", said.startswith(counted + lines) and is_open == bool(wrong), (said, is_open))
+    box = browser.run("return document.getElementById('names').value")
+    count.note(f"{name}: the box", box == text, (box[:300], text[:300]))
+    brought = browser.run(BROUGHT)
+    count.note(f"{name}: plain text alone", brought == [0, 3, True], brought)
+    label = browser.run("heapLife.chooseName('0'); return document.querySelector('#object h3').textContent")
+    named = label_of(["2", "0", "0", "none"])
+    count.note(f"{name}: an object's name", label == "The life of #0" + (f", {named}" if named else ""), label)
+
+
 def check_use(count, browser, name, path, last):
     """All that keys do in the page of examples/trace.heap, which is small enough to be known by heart."""
     check_address(count, browser, name, path, last)

@@ -1,5 +1,5 @@
 -- What words ask for, and which errors they may give, by their parse.
-use Rattle.std.proofs.Common.{◌≡◌, ◌∙◌, ◌∷◌, [], ap, inl, inr, List, None, refl, Some, subst, sym, true}
+use Rattle.std.proofs.Common.{◌≡◌, ◌∙◌, ◌∷◌, [], ap, inl, inr, List, None, Option, refl, Some, subst, sym, true}
 use Rattle.std.specs.Prelude.{Err, IsErrAnd, Ok, option_and_then, Result}
 use Rattle.clap.proofs.OnLiterals.{clap_on_literals}
 use Rattle.clap.proofs.WalkLemmas.{both}
@@ -9,7 +9,7 @@ use Rattle.clap.specs.Words.{App, FailsBy, HasKind, HasMatchesOf, is_simple, kin
 use Rattle.clap.specs.declared.error.Error.{Error}
 use Rattle.clap.specs.declared.error.kind.ErrorKind.TheVariants.{MissingRequiredArgument}
 use Rattle.clap.specs.declared.parser.matches.ArgMatches.{ArgMatches}
-use Rattle.command_line.specs.Asked.{Asked, asked_in, asked_of, faults_of}
+use Rattle.command_line.specs.Asked.{Asked, asked_in, asked_of, faults_of, names_in, names_of}
 use Rattle.command_line.specs.Program.{g1heap}
 
 is_read_whole : is_simple_and_free g1heap ≡ true
@@ -22,6 +22,13 @@ pub asked_by : (app : App) (words : List Text) (m : ArgMatches) (asked : Asked) 
 asked_by app words m asked is matches found =
     let rows = (matches (ap is_simple is ∙ (both _ _ is_read_whole).0)).1 in
     sym (found ∙ ap (option_and_then (λ found. asked_in found.0 found.1)) (rows ∙ ap (λ (a : App). subcommand_of a words) is))
+
+-- which file of names the matches of a parse name
+pub names_by : (app : App) (words : List Text) (m : ArgMatches) (names : Option Text) → app ≡ g1heap → HasMatchesOf app words m
+    → names ≡ option_and_then (λ found. names_in found.1) (subcommand_rows_of m) → names_of words ≡ names
+names_by app words m names is matches found =
+    let rows = (matches (ap is_simple is ∙ (both _ _ is_read_whole).0)).1 in
+    sym (found ∙ ap (option_and_then (λ found. names_in found.1)) (rows ∙ ap (λ (a : App). subcommand_of a words) is))
 
 -- words that ask for something, and that their parse takes, have no fault
 pub taken : (app : App) (words : List Text) (asked : Asked) → app ≡ g1heap → (is_simple_and_free app ≡ true → fault_of app words ≡ [])

@@ -69,6 +69,18 @@ asked_in name rows =
 abbrev pub asked_by : Job → Asked
 asked_by job = (job.file.now, job.task, job.explained)
 
+-- the path of a file of names for shapes, where one was given
+abbrev pub names_in : List Row → Option Text
+names_in rows = first_of (codes "names") rows
+
+-- the path of a job's file of names for shapes
+abbrev pub names_by : Job → Option Text
+names_by job = option_map (λ path. path.now) job.names
+
+-- the path of the file of names for shapes that the words name
+abbrev pub names_of : List Text → Option Text
+names_of words = option_and_then (λ found. names_in found.1) (subcommand_of g1heap words)
+
 -- what the words ask for, the program's name first
 abbrev pub asked_of : List Text → Option Asked
 asked_of words = option_and_then (λ found. asked_in found.0 found.1) (subcommand_of g1heap words)

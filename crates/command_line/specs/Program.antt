@@ -55,6 +55,10 @@ checked = with_rule (plain (codes "check")) (flag (codes "follow"))
 abbrev pub every : Rule
 every = record (number (codes "every") (parser.Signed (pos 1) (pos 1000000))) { defaults = codes "1" ∷ [] }
 
+-- the path of a file of names for shapes
+abbrev pub names : Rule
+names = record (new_rule (codes "names")) { long = Some (codes "names"); action = Some Set; value_names = 1 }
+
 -- the subcommand that views a heap
 abbrev pub viewed : App
 viewed =
@@ -64,7 +68,7 @@ viewed =
 
 -- the subcommand that draws the life of a heap
 abbrev pub drawn : App
-drawn = with_rule (with_rule (plain (codes "draw")) every) (flag (codes "record"))
+drawn = with_rule (with_rule (with_rule (plain (codes "draw")) every) (flag (codes "record"))) names
 
 -- the program without its subcommands
 abbrev pub bare : App

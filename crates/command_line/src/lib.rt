@@ -11,23 +11,23 @@
 //!   g1heap help, and every mistake    an `Error`, whose text is for the user
 //! ```
 //!
-//! A `Job` is such a task, FILE, and whether `--explain` stands there too, which each of these takes.
+//! A `Job` is such a task, FILE, and whether `--explain` is there too, which each of these takes; and of `draw` the path after `--names`.
 //!
 //! Whether a count is in range, the run itself says.
 #![tactic(auto)]
 
-ghost use Rattle.std.specs.Prelude.{◌≡◌, ◌∷◌};
+ghost use Rattle.std.specs.Prelude.{◌≡◌, ◌∷◌, IfSome};
 ghost use Rattle.std.specs.Prelude.{[], ℕ, List, None, Some, IfOk, true, false, codes, map, option_and_then, option_map, string_bytes};
 ghost use Rattle.clap.specs.Words.{App, FailsBy, HasKind, first_of, found_of, kind_of, rows_of, rule_of};
 ghost use Rattle.clap.specs.Words.{subcommand_rows_of, with_rule, with_subcommand};
 ghost use Rattle.clap.specs.declared.error.kind.ErrorKind.TheVariants.{InvalidValue};
 ghost use Rattle.command_line.specs.Asked.{Asks, asked_by, asked_in, asked_of, drawn_in, faults_of, flag_in, is_path, number_in, task_in};
-ghost use Rattle.command_line.specs.Asked.{threads_in};
+ghost use Rattle.command_line.specs.Asked.{names_by, names_in, names_of, threads_in};
 ghost use Rattle.command_line.specs.declared.Order.TheVariants.{Concurrent, Drawn, File};
 ghost use Rattle.command_line.specs.declared.Task.TheVariants.{Check, Draw, Script, View};
 ghost use Rattle.command_line.specs.Program.{IsReadAs, background, bare, by_actors, checked, count, drawn, every, file, flag, g1heap};
 ghost use Rattle.command_line.specs.Program.{with_path};
-ghost use Rattle.command_line.specs.Program.{number, plain, schedule, viewed, workers};
+ghost use Rattle.command_line.specs.Program.{names, number, plain, schedule, viewed, workers};
 
 use clap::builder::ValueParser;
 use clap::error::ErrorKind;
@@ -81,6 +81,7 @@ pub enum Task {
 #[derive(Debug, Drop)]
 pub struct Job<'a> {
     file: &'a str,
+    names: Option<&'a str>,
     task: Task,
     explained: bool,
 }
@@ -91,6 +92,13 @@ impl<'a> Job<'a> {
         ensures { result.now ≡ self.now.file.now }
     {
         self.file
+    }
+
+    /// The path of a file of names for shapes, where one was given.
+    pub fn names(&self) -> Option<&'a str>
+        ensures { option_map (λ path. path.now) result ≡ names_by self.now }
+    {
+        self.names
     }
 
     /// What is done with it.
@@ -208,6 +216,19 @@ fn every<'a>(alloc: Global) -> Arg<'a>
 {
     let help = "Shows a moment each N events, 1 to 1000000";
     number(alloc, "every", help, ValueParser::signed(1, 1_000_000)).default_value("1")
+}
+
+/// The option that takes the path of a file of names for shapes.
+fn names<'a>(alloc: Global) -> Arg<'a>
+    ensures rule { rule_of result ≡ names }
+    ensures own { result.global ≡ false }
+{
+    let help = "Shows the names for shapes that the lines of a file give";
+    Arg::new(alloc, "names")
+        .long("names")
+        .value_name("FILE")
+        .help(help)
+        .action(ArgAction::Set)
 }
 
 /// The option that asks for more lines behind a fault's own.
@@ -390,7 +411,8 @@ fn draw_command<'a>(alloc: Global) -> Result<Command<'a>, AllocError>
         SCRIPT,
     );
     let command = with_arg(command, every(alloc));
-    with_arg(command, recorded(alloc))
+    let command = with_arg(command, recorded(alloc));
+    with_arg(command, names(alloc))
 }
 
 /// The program, without its subcommands.
@@ -491,14 +513,23 @@ fn path_in<'a>(found: &ArgMatches<'a>) -> Option<&'a str>
     found.get_str("FILE")
 }
 
+/// The path of a file of names for shapes, where one was given.
+fn names_in<'a>(found: &ArgMatches<'a>) -> Option<&'a str>
+    ensures { option_map (λ text. text.now) result ≡ names_in (rows_of (found_of found.now)) }
+{
+    found.get_str("names")
+}
+
 /// What a subcommand's words ask for. `None`: the subcommand is unknown, or a value isn't there.
 fn job_of<'a>(name: &str, found: &ArgMatches<'a>) -> Option<Job<'a>>
-    ensures { option_map asked_by result ≡ asked_in name.now (rows_of (found_of found.now)) }
+    ensures asked { option_map asked_by result ≡ asked_in name.now (rows_of (found_of found.now)) }
+    ensures names { IfSome result (λ job. names_by job ≡ names_in (rows_of (found_of found.now))) }
 {
     let task = task_of(name, found)?;
     let file = path_in(found)?;
     Some(Job {
         file,
+        names: names_in(found),
         task,
         explained: flag_in(found, "explain"),
     })
@@ -506,8 +537,10 @@ fn job_of<'a>(name: &str, found: &ArgMatches<'a>) -> Option<Job<'a>>
 
 /// What a parse's matches ask for. `None`: there is no subcommand, or it asks for nothing.
 fn job_found<'a>(matches: &ArgMatches<'a>) -> Option<Job<'a>>
-    ensures { option_map asked_by result
+    ensures asked { option_map asked_by result
         ≡ option_and_then (λ found. asked_in found.0 found.1) (subcommand_rows_of matches.now) }
+    ensures names { IfSome result (λ job. names_by job
+        ≡ option_and_then (λ found. names_in found.1) (subcommand_rows_of matches.now)) }
 {
     let (name, found) = matches.subcommand()?;
     job_of(name, found)
@@ -517,6 +550,7 @@ fn job_found<'a>(matches: &ArgMatches<'a>) -> Option<Job<'a>>
 fn job_among<'a>(command: &mut Command<'a>, words: &'a [String]) -> Result<Job<'a>, Error>
     requires { IsReadAs g1heap command.old }
     ensures job { IfOk result (λ job. asked_of (map string_bytes words.entry.now) ≡ Some (asked_by job)) }
+    ensures names { IfOk result (λ job. names_of (map string_bytes words.entry.now) ≡ names_by job) }
     ensures faults { FailsBy (faults_of (map string_bytes words.entry.now)) result }
 {
     let matches = command.try_get_matches_from_mut(words)?;
@@ -531,6 +565,7 @@ fn job_among<'a>(command: &mut Command<'a>, words: &'a [String]) -> Result<Job<'
 /// What the words of a command line ask for, or the text for the user.
 pub fn read_words<'a>(alloc: Global, words: &'a [String]) -> Result<Job<'a>, Error>
     ensures job { IfOk result (λ job. asked_of (map string_bytes words.entry.now) ≡ Some (asked_by job)) }
+    ensures names { IfOk result (λ job. names_of (map string_bytes words.entry.now) ≡ names_by job) }
     ensures faults { FailsBy (faults_of (map string_bytes words.entry.now)) result }
 {
     let mut command = command(alloc)?;
@@ -559,6 +594,10 @@ pub fn words_law()
         → Asks (program ∷ codes "draw" ∷ path ∷ codes "--every" ∷ codes "10" ∷ []) (path, Draw 10 false, false) }
     ensures redraw { (program path : List ℕ) → is_path path ≡ true
         → Asks (program ∷ codes "draw" ∷ path ∷ codes "--record" ∷ []) (path, Draw 1 true, false) }
+    ensures names { (program path file : List ℕ) → is_path path ≡ true → is_path file ≡ true
+        → Asks (program ∷ codes "draw" ∷ path ∷ codes "--names" ∷ file ∷ []) (path, Draw 1 false, false)
+        × (names_of (program ∷ codes "draw" ∷ path ∷ codes "--names" ∷ file ∷ []) ≡ Some file) }
+    ensures no_names { (program path : List ℕ) → is_path path ≡ true → names_of (program ∷ codes "draw" ∷ path ∷ []) ≡ None }
     ensures at { (program path : List ℕ) → is_path path ≡ true
         → Asks (program ∷ codes "view" ∷ path ∷ codes "--at" ∷ codes "9" ∷ []) (path, View false (Some 9) None false, false) }
     ensures run_explained { (program path : List ℕ) → is_path path ≡ true

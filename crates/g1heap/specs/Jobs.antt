@@ -1,5 +1,5 @@
 -- What the program does with a job.
-use Rattle.std.specs.Prelude.{◌≡◌, ◌⊎◌, ℕ, ⊤, Bool, List, Option, None, Some, Result, true, false, codes, if◌then◌else◌}
+use Rattle.std.specs.Prelude.{◌≡◌, ◌⊎◌, ℕ, ⊤, Bool, List, [], Option, None, Some, Result, true, false, codes, if◌then◌else◌}
 use Rattle.script_text.specs.Watched.{Reader, Writer, FailsToGive, Stays}
 use Rattle.script_text.specs.declared.fault.ReadFault.{ReadFault}
 use Rattle.script_text.specs.declared.places.TextKind.{TextKind}
@@ -37,24 +37,26 @@ abbrev pub DoesView : Bool → Glance → Reader → Reader → Writer → Write
 DoesView false glance given left old new err err' status = PerformsView glance given left old new err err' status
 DoesView true glance given left old new err err' status = PerformsReview glance given left old new err err' status
 
--- the life of a heap was drawn, of a record or of a script in a file of this name
-abbrev pub DoesDraw : List ℕ → Bool → ℕ → Reader → Reader → Writer → Writer → Writer → Writer → ℕ → Type 0
-DoesDraw name false every given left old new err err' status = PerformsDraw name every given left old new err err' status
-DoesDraw name true every given left old new err err' status = PerformsRedraw name every given left old new err err' status
+-- the life of a heap was drawn, of a record or of a script in a file of this name, with these names for shapes
+abbrev pub DoesDraw : List ℕ → List ℕ → Bool → ℕ → Reader → Reader → Writer → Writer → Writer → Writer → ℕ → Type 0
+DoesDraw name names false every given left old new err err' status = PerformsDraw name names every given left old new err err' status
+DoesDraw name names true every given left old new err err' status = PerformsRedraw name names every given left old new err err' status
 
 -- what of a heap a task views
 abbrev pub glance_of : Option ℕ → Option ℕ → Bool → Glance
 glance_of at region summary = record { at = at; region = region; summary = summary }
 
 -- How a task that does a heap's steps, of a file of this name, ended, whatever is told of it: what was read, what was written, and its
--- outcome.
-abbrev pub EndsAs : List ℕ → Task → Reader → Reader → Writer → Writer → Result ⊤ JobFault → Type 0
-EndsAs name (Script order) given left old new outcome = EndsIn order given left old new outcome
-EndsAs name (View false at region summary) given left old new outcome = Views (glance_of at region summary) given left old new outcome
-EndsAs name (View true at region summary) given left old new outcome = Reviews (glance_of at region summary) given left old new outcome
-EndsAs name (Draw every false) given left old new outcome = Draws name every given left old new outcome
-EndsAs name (Draw every true) given left old new outcome = Redraws name every given left old new outcome
-EndsAs name (Check followed) given left old new outcome = ⊥
+-- outcome. A page has these names for shapes.
+abbrev pub EndsAs : List ℕ → List ℕ → Task → Reader → Reader → Writer → Writer → Result ⊤ JobFault → Type 0
+EndsAs name names (Script order) given left old new outcome = EndsIn order given left old new outcome
+EndsAs name names (View false at region summary) given left old new outcome =
+    Views (glance_of at region summary) given left old new outcome
+EndsAs name names (View true at region summary) given left old new outcome =
+    Reviews (glance_of at region summary) given left old new outcome
+EndsAs name names (Draw every false) given left old new outcome = Draws name names every given left old new outcome
+EndsAs name names (Draw every true) given left old new outcome = Redraws name names every given left old new outcome
+EndsAs name names (Check followed) given left old new outcome = ⊥
 
 -- what a task reads a text as
 abbrev pub kind_of : Task → TextKind
@@ -81,16 +83,16 @@ abbrev pub reader_of : List ℕ → Reader
 reader_of text = record { left = Some text; refused = false }
 
 -- The task did with the text of a file of this name what it does with a reader of it, and its end was told and explained.
-pub record TellsOver (name : List ℕ) (task : Task) (text : List ℕ) (old new err err' : Writer) (status : ℕ) : Type 0 where
+pub record TellsOver (name names : List ℕ) (task : Task) (text : List ℕ) (old new err err' : Writer) (status : ℕ) : Type 0 where
   pub rest : Reader
   pub outcome : Result ⊤ JobFault
-  pub ends : EndsAs name task (reader_of text) rest old new outcome
+  pub ends : EndsAs name names task (reader_of text) rest old new outcome
   pub tells : TellsExplained (kind_of task) text (counts_of task) err err' outcome status
 
 -- the reader gave a text, to its end, and the task was done over it
-abbrev pub DoesOver : List ℕ → Task → Reader → Reader → Writer → Writer → Writer → Writer → ℕ → Type 0
-DoesOver name task given left old new err err' status =
-    (text : List ℕ) × GivesAll given left text × TellsOver name task text old new err err' status
+abbrev pub DoesOver : List ℕ → List ℕ → Task → Reader → Reader → Writer → Writer → Writer → Writer → ℕ → Type 0
+DoesOver name names task given left old new err err' status =
+    (text : List ℕ) × GivesAll given left text × TellsOver name names task text old new err err' status
 
 -- A file of this name could not be read, and that was told and explained; nothing was written.
 pub record IsUnread (name : List ℕ) (given left : Reader) (old new err err' : Writer) (status : ℕ) : Type 0 where
@@ -101,28 +103,49 @@ pub record IsUnread (name : List ℕ) (given left : Reader) (old new err err' : 
   pub tells : TellsMore (Read fault) (IsReadReason name) err err'
 
 -- a task was done whose faults are to be explained
-abbrev pub DoesExplained : List ℕ → Task → Reader → Reader → Writer → Writer → Writer → Writer → ℕ → Type 0
-DoesExplained name task given left old new err err' status =
-    DoesOver name task given left old new err err' status ⊎ IsUnread name given left old new err err' status
+abbrev pub DoesExplained : List ℕ → List ℕ → Task → Reader → Reader → Writer → Writer → Writer → Writer → ℕ → Type 0
+DoesExplained name names task given left old new err err' status =
+    DoesOver name names task given left old new err err' status ⊎ IsUnread name given left old new err err' status
 
 -- A script was run, a record judged, a heap viewed, or its life drawn, and its end was told, and explained where that was asked for: what
--- was read of the file of this name, what was written, what standard error took, and the status.
-abbrev pub DoesJob : Asked → Reader → Reader → Writer → Writer → Writer → Writer → ℕ → Type 0
-DoesJob (name, Check followed, explained) given left old new err err' status =
+-- was read of the file of this name, what was written, what standard error took, and the status. A page has these names for shapes.
+abbrev pub DoesJob : List ℕ → Asked → Reader → Reader → Writer → Writer → Writer → Writer → ℕ → Type 0
+DoesJob names (name, Check followed, explained) given left old new err err' status =
     DoesCheck name explained followed given left old new err err' status
-DoesJob (name, Script order, false) given left old new err err' status = Performs order given left old new err err' status
-DoesJob (name, View recorded at region summary, false) given left old new err err' status =
+DoesJob names (name, Script order, false) given left old new err err' status = Performs order given left old new err err' status
+DoesJob names (name, View recorded at region summary, false) given left old new err err' status =
     DoesView recorded (glance_of at region summary) given left old new err err' status
-DoesJob (name, Draw every recorded, false) given left old new err err' status =
-    DoesDraw name recorded every given left old new err err' status
-DoesJob (name, task, true) given left old new err err' status = DoesExplained name task given left old new err err' status
+DoesJob names (name, Draw every recorded, false) given left old new err err' status =
+    DoesDraw name names recorded every given left old new err err' status
+DoesJob names (name, task, true) given left old new err err' status = DoesExplained name names task given left old new err err' status
 
--- what was asked for was done, on the program's own input where the path is `-`, else on some input
-abbrev pub DoesAsked : Asked → Reader → Reader → Writer → Writer → Writer → Writer → ℕ → Type 0
-DoesAsked asked input input' old new err err' status = (given : Reader) × (left : Reader)
-    × (asked.0 ≡ codes "-" → (given ≡ input) × (left ≡ input')) × DoesJob asked given left old new err err' status
+-- what was asked for was done, on the program's own input where the path is `-`, else on some input; a page has these names for shapes
+abbrev pub DoesAsked : List ℕ → Asked → Reader → Reader → Writer → Writer → Writer → Writer → ℕ → Type 0
+DoesAsked names asked input input' old new err err' status = (given : Reader) × (left : Reader)
+    × (asked.0 ≡ codes "-" → (given ≡ input) × (left ≡ input')) × DoesJob names asked given left old new err err' status
+
+-- A file of names for shapes could not be read, and that was told with its path; nothing else was read, and nothing was written.
+pub record AreUnread (path : List ℕ) (given left input input' : Reader) (old new err err' : Writer) (status : ℕ) : Type 0 where
+  pub fault : ReadFault
+  pub fails : FailsToGive fault given left
+  pub unread : input' ≡ input
+  pub stays : Stays old new
+  pub one : status ≡ 1
+  pub tells : TellsMore (Read fault) (IsReadReason path) err err'
+
+-- what was asked for was done with the names for shapes that the file of this path gave, to its end; or they could not be read
+abbrev pub DoesWith : List ℕ → Reader → Reader → Asked → Reader → Reader → Writer → Writer → Writer → Writer → ℕ → Type 0
+DoesWith path given left asked input input' old new err err' status =
+    ((names : List ℕ) × GivesAll given left names × DoesAsked names asked input input' old new err err' status)
+    ⊎ AreUnread path given left input input' old new err err' status
+
+-- the same where a path of names for shapes was given; else it was done with none
+abbrev pub DoesNamed : Option (List ℕ) → Asked → Reader → Reader → Writer → Writer → Writer → Writer → ℕ → Type 0
+DoesNamed None asked input input' old new err err' status = DoesAsked [] asked input input' old new err err' status
+DoesNamed (Some path) asked input input' old new err err' status =
+    (given : Reader) × (left : Reader) × DoesWith path given left asked input input' old new err err' status
 
 -- the same; or memory was refused for the words, and that was told
-abbrev pub DoesTask : Asked → Reader → Reader → Writer → Writer → Writer → Writer → ℕ → Type 0
-DoesTask asked input input' old new err err' status =
-    DoesAsked asked input input' old new err err' status ⊎ ((status ≡ 1) × Stays old new × TellsLine (Run NoMemory) err err')
+abbrev pub DoesTask : Option (List ℕ) → Asked → Reader → Reader → Writer → Writer → Writer → Writer → ℕ → Type 0
+DoesTask path asked input input' old new err err' status =
+    DoesNamed path asked input input' old new err err' status ⊎ ((status ≡ 1) × Stays old new × TellsLine (Run NoMemory) err err')

@@ -15,17 +15,18 @@ use std::io::{Read, Write};
 use std::sync::Wait;
 use std::thread::Threads;
 
-/// Does a task that does a heap's steps, of a file of this name.
+/// Does a task that does a heap's steps, of a file of this name, with these names for shapes in a page.
 fn do_task<H: Threads + Wait + Sync, R: Read, W: Write>(
     rt: &H,
     alloc: Global,
     name: &str,
+    names: &[u8],
     task: Task,
     reader: &mut WatchedReader<R>,
     out: &mut WatchedWriter<W>,
 ) -> Result<(), JobFault>
     requires { (followed : Bool) → task ≢ Check followed }
-    ensures { EndsAs name.now task reader.old reader.new out.old out.new result }
+    ensures { EndsAs name.now names.now task reader.old reader.new out.old out.new result }
 {
     match task {
         Task::Script(order) => do_script(rt, alloc, order, reader, out),
@@ -48,9 +49,9 @@ fn do_task<H: Threads + Wait + Sync, R: Read, W: Write>(
         }
         Task::Draw { every, recorded } => {
             if recorded {
-                draw_record(alloc, name, every, reader, out)
+                draw_record(alloc, name, names, every, reader, out)
             } else {
-                draw_script(alloc, name, every, reader, out)
+                draw_script(alloc, name, names, every, reader, out)
             }
         }
         Task::Check { .. } => unreachable!(),
@@ -133,15 +134,24 @@ fn do_over<H: Threads + Wait + Sync, W: Write, E: Write>(
     rt: &H,
     alloc: Global,
     name: &str,
+    names: &[u8],
     task: Task,
     text: &[u8],
     out: &mut WatchedWriter<W>,
     err: &mut WatchedWriter<E>,
 ) -> u8
     requires { (followed : Bool) → task ≢ Check followed }
-    ensures { TellsOver name.now task text.now out.old out.new err.old err.new result }
+    ensures { TellsOver name.now names.now task text.now out.old out.new err.old err.new result }
 {
-    let outcome = do_task(rt, alloc, name, task, &mut WatchedReader::new(text), out);
+    let outcome = do_task(
+        rt,
+        alloc,
+        name,
+        names,
+        task,
+        &mut WatchedReader::new(text),
+        out,
+    );
     conclude_explained(outcome, kind_of(task), text, counts_of(task), err)
 }
 
@@ -151,16 +161,17 @@ pub(crate) fn do_explained<H: Threads + Wait + Sync, R: Read, W: Write, E: Write
     rt: &H,
     alloc: Global,
     name: &str,
+    names: &[u8],
     task: Task,
     reader: &mut WatchedReader<R>,
     out: &mut WatchedWriter<W>,
     err: &mut WatchedWriter<E>,
 ) -> u8
     requires { (followed : Bool) → task ≢ Check followed }
-    ensures { DoesExplained name.now task reader.old reader.new out.old out.new err.old err.new result }
+    ensures { DoesExplained name.now names.now task reader.old reader.new out.old out.new err.old err.new result }
 {
     match read_text(alloc, reader) {
-        Ok(text) => do_over(rt, alloc, name, task, text.as_slice(), out, err),
+        Ok(text) => do_over(rt, alloc, name, names, task, text.as_slice(), out, err),
         Err(fault) => conclude_unread(fault, name, reader.reason(), err),
     }
 }

@@ -85,38 +85,41 @@ fn do_view<R: Read, W: Write, E: Write>(
     }
 }
 
-/// Draws the life of a script's heap, or of a record's, in a file of this name, and answers the program's status.
+/// Draws the life of a script's heap, or of a record's, in a file of this name, with these names for shapes, and answers the program's
+/// status.
 fn do_draw<R: Read, W: Write, E: Write>(
     alloc: Global,
     name: &str,
+    names: &[u8],
     recorded: bool,
     every: u32,
     reader: &mut WatchedReader<R>,
     out: &mut WatchedWriter<W>,
     err: &mut WatchedWriter<E>,
 ) -> u8
-    ensures { DoesDraw name.now recorded every reader.old reader.new out.old out.new err.old err.new result }
+    ensures { DoesDraw name.now names.now recorded every reader.old reader.new out.old out.new err.old err.new result }
 {
     if recorded {
-        let drawn = draw_record(alloc, name, every, reader, out);
+        let drawn = draw_record(alloc, name, names, every, reader, out);
         conclude(drawn, err)
     } else {
-        let drawn = draw_script(alloc, name, every, reader, out);
+        let drawn = draw_script(alloc, name, names, every, reader, out);
         conclude(drawn, err)
     }
 }
 
-/// Does a task with a file of this name, whose faults aren't to be explained, and answers the program's status.
+/// Does a task with a file of this name and these names for shapes, whose faults aren't to be explained, and answers the program's status.
 fn do_plain<H: Threads + Wait + Sync, R: Read, W: Write, E: Write>(
     rt: &H,
     alloc: Global,
     name: &str,
+    names: &[u8],
     task: Task,
     reader: &mut WatchedReader<R>,
     out: &mut WatchedWriter<W>,
     err: &mut WatchedWriter<E>,
 ) -> u8
-    ensures { DoesJob (name.now, task, false) reader.old reader.new out.old out.new err.old err.new result }
+    ensures { DoesJob names.now (name.now, task, false) reader.old reader.new out.old out.new err.old err.new result }
 {
     match task {
         Task::Script(order) => {
@@ -138,47 +141,49 @@ fn do_plain<H: Threads + Wait + Sync, R: Read, W: Write, E: Write>(
             do_view(alloc, recorded, &glance, reader, out, err)
         }
         Task::Draw { every, recorded } => {
-            do_draw(alloc, name, recorded, every, reader, out, err)
+            do_draw(alloc, name, names, recorded, every, reader, out, err)
         }
     }
 }
 
-/// Does a task with a file of this name, and explains its fault, and answers the program's status.
+/// Does a task with a file of this name and these names for shapes, and explains its fault, and answers the program's status.
 fn do_explaining<H: Threads + Wait + Sync, R: Read, W: Write, E: Write>(
     rt: &H,
     alloc: Global,
     name: &str,
+    names: &[u8],
     task: Task,
     reader: &mut WatchedReader<R>,
     out: &mut WatchedWriter<W>,
     err: &mut WatchedWriter<E>,
 ) -> u8
-    ensures { DoesJob (name.now, task, true) reader.old reader.new out.old out.new err.old err.new result }
+    ensures { DoesJob names.now (name.now, task, true) reader.old reader.new out.old out.new err.old err.new result }
 {
     match task {
         Task::Check { followed } => do_check(alloc, name, true, followed, reader, out, err),
         Task::Script(_) | Task::View { .. } | Task::Draw { .. } => {
-            do_explained(rt, alloc, name, task, reader, out, err)
+            do_explained(rt, alloc, name, names, task, reader, out, err)
         }
     }
 }
 
-/// Does the job, and answers the program's status.
+/// Does the job, with these names for shapes in a page, and answers the program's status.
 pub fn perform<H: Threads + Wait + Sync, R: Read, W: Write, E: Write>(
     rt: &H,
     alloc: Global,
     job: &Job,
+    names: &[u8],
     reader: &mut WatchedReader<R>,
     out: &mut WatchedWriter<W>,
     err: &mut WatchedWriter<E>,
 ) -> u8
-    ensures { DoesJob (asked_by job.now) reader.old reader.new out.old out.new err.old err.new result }
+    ensures { DoesJob names.now (asked_by job.now) reader.old reader.new out.old out.new err.old err.new result }
 {
     let name = job.file();
     let task = job.task();
     let explained = job.explained();
     if explained {
-        return do_explaining(rt, alloc, name, task, reader, out, err);
+        return do_explaining(rt, alloc, name, names, task, reader, out, err);
     }
-    do_plain(rt, alloc, name, task, reader, out, err)
+    do_plain(rt, alloc, name, names, task, reader, out, err)
 }

@@ -1,12 +1,12 @@
 //! The whole program: its words, the file that they name, and the status.
 
-ghost use Rattle.std.specs.Prelude.{◌≡◌, ◌≢◌, ◌≤◌, ◌⊎◌, Bool, map, string_bytes};
+ghost use Rattle.std.specs.Prelude.{◌≡◌, ◌≢◌, ◌≤◌, ◌⊎◌, ℕ, Bool, List, Some, map, string_bytes};
 ghost use Rattle.clap.specs.Values.{kind_of};
 ghost use Rattle.script_text.specs.Watched.{Reader, Writer, FailsToGive, Stays};
 ghost use Rattle.jobs.specs.FaultLines.{TellsLine};
-ghost use Rattle.command_line.specs.Asked.{Asked, Asks, asked_by};
+ghost use Rattle.command_line.specs.Asked.{Asked, Asks, asked_by, names_by, names_of};
 ghost use Rattle.command_line.specs.declared.Task.TheVariants.{Check};
-ghost use Rattle.g1heap.specs.Jobs.{DoesAsked, DoesCheck, DoesJob, DoesTask};
+ghost use Rattle.g1heap.specs.Jobs.{DoesAsked, DoesCheck, DoesJob, DoesNamed, DoesTask, DoesWith};
 
 use crate::perform::perform;
 use clap::Error;
@@ -14,7 +14,7 @@ use clap::error::ErrorKind;
 use command_line::{Job, Task, misspelt, read_words};
 use heap_steps::RunFault;
 use jobs::{JobFault, conclude, conclude_unread, conclude_verdict};
-use script_text::{ReadFault, WatchedReader, WatchedWriter};
+use script_text::{ReadFault, WatchedReader, WatchedWriter, read_text};
 use std::alloc::Global;
 use std::env::Env;
 use std::fs::Files;
@@ -52,8 +52,8 @@ fn unopened_task<E: Write>(
     err: &mut WatchedWriter<E>,
 ) -> u8
     requires { (followed : Bool) → task ≢ Check followed }
-    ensures { (given left : Reader) (old new : Writer) → FailsToGive ReadFault.CannotRead given left → Stays old new
-        → DoesJob (name.now, task, explained) given left old new err.old err.new result }
+    ensures { (names : List ℕ) (given left : Reader) (old new : Writer) → FailsToGive ReadFault.CannotRead given left → Stays old new
+        → DoesJob names (name.now, task, explained) given left old new err.old err.new result }
 {
     if explained {
         return conclude_unread(ReadFault::CannotRead, name, Some(reason), err);
@@ -63,8 +63,8 @@ fn unopened_task<E: Write>(
 
 /// Tells that a job's file can't be opened, and why where that is to be explained, and answers the program's status.
 fn conclude_unopened<E: Write>(job: &Job, reason: Reason, err: &mut WatchedWriter<E>) -> u8
-    ensures { (given left : Reader) (old new : Writer) → FailsToGive ReadFault.CannotRead given left → Stays old new
-        → DoesJob (asked_by job.now) given left old new err.old err.new result }
+    ensures { (names : List ℕ) (given left : Reader) (old new : Writer) → FailsToGive ReadFault.CannotRead given left → Stays old new
+        → DoesJob names (asked_by job.now) given left old new err.old err.new result }
 {
     let name = job.file();
     let task = job.task();
@@ -77,24 +77,101 @@ fn conclude_unopened<E: Write>(job: &Job, reason: Reason, err: &mut WatchedWrite
     }
 }
 
-/// Opens the job's file and does the job, and answers the program's status. A file that can't be opened is told as a reader that refused.
+/// Opens the job's file and does the job, with these names for shapes in a page, and answers the program's status. A file that can't be
+/// opened is told as a reader that refused.
 pub fn open_and_perform<H: Files + Threads + Wait + Sync, W: Write, E: Write>(
     rt: &H,
     alloc: Global,
     job: &Job,
+    names: &[u8],
     out: &mut WatchedWriter<W>,
     err: &mut WatchedWriter<E>,
 ) -> u8
-    ensures { (given left : Reader) × DoesJob (asked_by job.now) given left out.old out.new err.old err.new result }
+    ensures { (given left : Reader) × DoesJob names.now (asked_by job.now) given left out.old out.new err.old err.new result }
 {
     match fs::open(rt, job.file()) {
-        Ok(file) => perform(rt, alloc, job, &mut WatchedReader::new(file), out, err),
+        Ok(file) => perform(
+            rt,
+            alloc,
+            job,
+            names,
+            &mut WatchedReader::new(file),
+            out,
+            err,
+        ),
         Err(error) => conclude_unopened(job, error.kind(), err),
     }
 }
 
-/// Does the job with the file that it names, or with `input` where that is `-`, and answers the program's status.
+/// Does the job with the file that it names, or with `input` where that is `-`, and with these names for shapes in a page, and answers the
+/// program's status.
 fn read_and_perform<H: Files + Threads + Wait + Sync, I: Read, W: Write, E: Write>(
+    rt: &H,
+    alloc: Global,
+    job: &Job,
+    names: &[u8],
+    input: &mut WatchedReader<I>,
+    out: &mut WatchedWriter<W>,
+    err: &mut WatchedWriter<E>,
+) -> u8
+    ensures { DoesAsked names.now (asked_by job.now) input.old input.new out.old out.new err.old err.new result }
+{
+    let name = job.file();
+    if name == "-" {
+        return perform(rt, alloc, job, names, input, out, err);
+    }
+    open_and_perform(rt, alloc, job, names, out, err)
+}
+
+/// Reads names for shapes from the file of this path, to its end, and does the job with them, and answers the program's status. Where the
+/// file can't be read, standard error is told its path, and why.
+fn perform_named<H: Files + Threads + Wait + Sync, N: Read, I: Read, W: Write, E: Write>(
+    rt: &H,
+    alloc: Global,
+    job: &Job,
+    path: &str,
+    file: &mut WatchedReader<N>,
+    input: &mut WatchedReader<I>,
+    out: &mut WatchedWriter<W>,
+    err: &mut WatchedWriter<E>,
+) -> u8
+    ensures { DoesWith path.now file.old file.new (asked_by job.now) input.old input.new out.old out.new err.old err.new result }
+{
+    match read_text(alloc, file) {
+        Ok(names) => read_and_perform(rt, alloc, job, names.as_slice(), input, out, err),
+        Err(fault) => conclude_unread(fault, path, file.reason(), err),
+    }
+}
+
+/// Opens the file of this path, and does the job with its names for shapes, and answers the program's status.
+fn open_and_name<H: Files + Threads + Wait + Sync, I: Read, W: Write, E: Write>(
+    rt: &H,
+    alloc: Global,
+    job: &Job,
+    path: &str,
+    input: &mut WatchedReader<I>,
+    out: &mut WatchedWriter<W>,
+    err: &mut WatchedWriter<E>,
+) -> u8
+    ensures { DoesNamed (Some path.now) (asked_by job.now) input.old input.new out.old out.new err.old err.new result }
+{
+    match fs::open(rt, path) {
+        Ok(file) => perform_named(
+            rt,
+            alloc,
+            job,
+            path,
+            &mut WatchedReader::new(file),
+            input,
+            out,
+            err,
+        ),
+        Err(error) => conclude_unread(ReadFault::CannotRead, path, Some(error.kind()), err),
+    }
+}
+
+/// Does the job, with the names for shapes of the file that it names, and answers the program's status.
+fn perform_job<H: Files + Threads + Wait + Sync, I: Read, W: Write, E: Write>(
     rt: &H,
     alloc: Global,
     job: &Job,
@@ -102,13 +179,12 @@ fn read_and_perform<H: Files + Threads + Wait + Sync, I: Read, W: Write, E: Writ
     out: &mut WatchedWriter<W>,
     err: &mut WatchedWriter<E>,
 ) -> u8
-    ensures { DoesAsked (asked_by job.now) input.old input.new out.old out.new err.old err.new result }
+    ensures { DoesNamed (names_by job.now) (asked_by job.now) input.old input.new out.old out.new err.old err.new result }
 {
-    let name = job.file();
-    if name == "-" {
-        return perform(rt, alloc, job, input, out, err);
+    match job.names() {
+        Some(path) => open_and_name(rt, alloc, job, path, input, out, err),
+        None => read_and_perform(rt, alloc, job, &[], input, out, err),
     }
-    open_and_perform(rt, alloc, job, out, err)
 }
 
 /// Answers words that ask for no job: status 0 for help, which goes to standard output, and 2 for a mistake, whose text goes to
@@ -147,11 +223,11 @@ pub fn do_words<H: Files + Threads + Wait + Sync, I: Read, W: Write, E: Write>(
     err: &mut WatchedWriter<E>,
 ) -> u8
     ensures asked { (asked : Asked) → Asks (map string_bytes words.now) asked
-        → DoesTask asked input.old input.new out.old out.new err.old err.new result }
+        → DoesTask (names_of (map string_bytes words.now)) asked input.old input.new out.old out.new err.old err.new result }
     ensures most { result ≤ 3 }
 {
     match read_words(alloc, words) {
-        Ok(job) => read_and_perform(rt, alloc, &job, input, out, err),
+        Ok(job) => perform_job(rt, alloc, &job, input, out, err),
         Err(error) => refuse(&error, out, err),
     }
 }

@@ -31,6 +31,12 @@ function readFileName(word) {
   return word === "-" ? "standard input" : decodeURIComponent(word);
 }
 
+// Names for shapes, told byte by byte as a file's name is. They may be any bytes: what isn't UTF-8 becomes the sign for that.
+function readTold(word) {
+  const letters = word.replace(/%(..)/g, (_, digits) => String.fromCharCode(parseInt(digits, 16)));
+  return new TextDecoder().decode(Uint8Array.from(letters, (letter) => letter.charCodeAt(0)));
+}
+
 const MOMENT = ["event", "handedOut", "live", "free", "queued", "dirty", "copied", "marking", "scanned"];
 
 // A moment's numbers.
@@ -108,7 +114,7 @@ const FREE = readRow(["r 0 f"]);
 function readLife(recordText, lifeText) {
   const record = linesOf(recordText);
   const life = {
-    file: "", sizes: readSizes(record[0]), events: new Map(), moments: [], rows: [], pace: null, eventCount: 0,
+    file: "", names: "", sizes: readSizes(record[0]), events: new Map(), moments: [], rows: [], pace: null, eventCount: 0,
     tilesEnd: null, tells: false,
   };
   for (const line of record.slice(1)) {
@@ -121,6 +127,7 @@ function readLife(recordText, lifeText) {
     const words = line.split(" ");
     const moment = life.moments[life.moments.length - 1];
     if (words[0] === "file") life.file = readFileName(words[1]);
+    else if (words[0] === "names") life.names = readTold(words[1]);
     else if (words[0] === "card") life.sizes.card = Number(words[1]);
     else if (words[0] === "roots") [life.sizes.globals, life.sizes.registers] = words.slice(1).map(Number);
     else if (words[0] === "pace") life.pace = { every: Number(words[1]), stride: Number(words[2]), small: words[3] === "1" };

@@ -348,12 +348,21 @@ function markItems() {
 
 // ---- names for shapes
 
+// Takes the lines of a text, and answers how many aren't read.
 function takeNames(text) {
   const { rules: read, faults } = readNames(text);
   setNames(read);
   const wrong = faults.length ? ` Not read: ${faults.length === 1 ? "line" : "lines"} ${listOf(faults)}.` : "";
   at("naming-said").textContent = read.length || faults.length ? `${plural(read.length, "line")} read.${wrong}` : "";
   draw();
+  return faults.length;
+}
+
+// The names that the page tells are taken as if they were written into the box, which is open where a line isn't read.
+function takeTold() {
+  if (!life.names) return;
+  at("names").value = life.names;
+  at("naming").open = takeNames(at("names").value) > 0;
 }
 
 function takeFile() {
@@ -421,6 +430,7 @@ function start() {
   steps = new Steps(life, at("steps"), (event) => show(momentOfEvent(life, event)));
   listen();
   setTiles(life.sizes.words * life.sizes.regions <= 4096);
+  takeTold();
 }
 
 // What a test asks of the page.

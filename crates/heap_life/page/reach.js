@@ -1,5 +1,5 @@
 "use strict";
-// What roots reach at a moment, how objects count by shape, and the names that a reader gives to shapes. All of it is worked out here, of
+// What roots reach at a moment, how objects count by shape, and the names that are given to shapes. All of it is worked out here, of
 // the objects that the file tells; where the file leaves something out, that is said.
 
 const MOST_ROOTS = 64;
@@ -88,7 +88,7 @@ function namedBy(life, moment, name) {
 
 // ---- names for shapes
 
-// The rules that a reader has given, in their order: `{ shape: [pointers, weak slots, data words], word, label }`, null where any fits.
+// The rules that the page or its reader has given, in their order: `{ shape: [pointers, weak slots, data words], word, label }`, null where any fits.
 let rules = [];
 // How often rules were given, so that a lane sees whether names changed.
 let rulesGiven = 0;

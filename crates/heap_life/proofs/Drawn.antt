@@ -10,11 +10,11 @@ use Rattle.heap_life.specs.Lives.{IsLifeOf}
 use Rattle.heap_life.specs.Pages.{IsPageOf}
 use Rattle.heap_life.specs.Drawings.{IsPageOfPlan}
 
-pub of_plan : (name : List ℕ) (every : ℕ) (plan : StepList) (events : EventList) (page : List ℕ) (life : Life) → events.config ≡ plan.config
-    → map step_in events.events ≡ plan.steps
-    → map actor_in events.events ≡ map actor_of plan.steps → IsLifeOf every events life → IsPageOf name life page → IsPageOfPlan name
-    every plan page
-of_plan name every plan events page life sizes steps actors l drawn = record {
+pub of_plan : (name names : List ℕ) (every : ℕ) (plan : StepList) (events : EventList) (page : List ℕ) (life : Life)
+    → events.config ≡ plan.config → map step_in events.events ≡ plan.steps
+    → map actor_in events.events ≡ map actor_of plan.steps → IsLifeOf every events life → IsPageOf name names life page
+    → IsPageOfPlan name names every plan page
+of_plan name names every plan events page life sizes steps actors l drawn = record {
   life = life;
   made = record {
     config = l.config ∙ sizes;

@@ -39,10 +39,10 @@ same_history made history config events =
     subst (λ (c : Config). (record { config = c; events = made.events }) ≡ history) (sym config)
     (subst (λ (es : List Event). (record { config = history.config; events = es }) ≡ history) (sym events) refl)
 
-pub of_history : (name : List ℕ) (every : ℕ) (history : EventList) (page : List ℕ) (life : Life)
-    → map reply_in life.history.events ≡ map reply_in history.events → IsLifeOf every history life → IsPageOf name life page
-    → IsPageOfHistory name every history page
-of_history name every history page life replies l drawn = record {
+pub of_history : (name names : List ℕ) (every : ℕ) (history : EventList) (page : List ℕ) (life : Life)
+    → map reply_in life.history.events ≡ map reply_in history.events → IsLifeOf every history life → IsPageOf name names life page
+    → IsPageOfHistory name names every history page
+of_history name names every history page life replies l drawn = record {
   life = life;
   same = same_history life.history history l.config (same_events life.history.events history.events l.actors l.steps replies);
   lives = l;

@@ -1,4 +1,4 @@
--- How a page tells the name of the file that it was drawn of.
+-- How a page tells the name of the file that it was drawn of, and names for shapes.
 use Rattle.std.specs.Prelude.{◌≡◌, ◌<◌, ◌+◌, ◌/◌, ◌%◌, ◌==◌, ◌||◌, ◌&&◌, ◌⊎◌, ℕ, Bool, true, if◌then◌else◌, List, [], ◌∷◌, ◌++◌}
 use Rattle.std.specs.Prelude.{codes, flat_map, nat_le, nat_lt}
 
@@ -33,3 +33,8 @@ IsSafe b = (is_plain b ≡ true) ⊎ (b ≡ 37)
 -- what a page says of the file that it was drawn of
 abbrev pub file_text : List ℕ → List ℕ
 file_text name = codes "file " ++ name_text name ++ codes "\n"
+
+-- what a page says of names for shapes: a line that has their text byte by byte, and nothing where there are none
+abbrev pub names_text : List ℕ → List ℕ
+names_text [] = []
+names_text (b ∷ names) = codes "names " ++ name_text (b ∷ names) ++ codes "\n"

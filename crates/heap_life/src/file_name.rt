@@ -1,17 +1,19 @@
-//! The name of the file that a page is drawn of, as the page tells it.
+//! The name of the file that a page is drawn of, and names for shapes, as the page tells them.
 //!
 //! ```text
 //!   examples/first.heap     file examples/first.heap
 //!   <b> & "ü".heap          file %3Cb%3E%20%26%20%22%C3%BC%22.heap
+//!
+//!   0 0 * * string          names 0%200%20%2A%20%2A%20string%0A
 //! ```
 //!
 //! Each byte but letters, digits and `- . / _ ~` is told as `%` and two digits to the base 16, as addresses of the web have it
-//! (Berners-Lee, Fielding and Masinter, Uniform Resource Identifier: Generic Syntax, RFC 3986, section 2.1). So nothing of a name has a
-//! meaning in HTML, and no name has two lines.
+//! (Berners-Lee, Fielding and Masinter, Uniform Resource Identifier: Generic Syntax, RFC 3986, section 2.1). So nothing of a name, or of
+//! names for shapes, has a meaning in HTML, and none has two lines.
 
 ghost use Rattle.std.specs.Prelude.{◌≡◌, ◌<◌, ℕ, List, All};
 ghost use Rattle.script_text.specs.Texts.{Adds};
-ghost use Rattle.heap_life.specs.FileNames.{byte_text, digit_text, file_text, is_from_to, is_plain, name_text, IsByte, IsSafe};
+ghost use Rattle.heap_life.specs.FileNames.{byte_text, digit_text, file_text, is_from_to, is_plain, name_text, names_text, IsByte, IsSafe};
 
 use script_text::Text;
 
@@ -74,7 +76,20 @@ pub(crate) fn put_file(text: &mut Text, name: &str)
     text.put("\n");
 }
 
-/// What a page tells of a name has no byte but letters, digits and `- . / _ ~ %`. Names that are told alike are the same.
+/// Adds names for shapes, the bytes of a file of them, and nothing where there are none.
+pub(crate) fn put_names(text: &mut Text, names: &[u8])
+    ensures { Adds text.old (names_text names.now) text.new }
+{
+    if names.is_empty() {
+        return;
+    }
+    text.put("names ");
+    put_name(text, names);
+    text.put("\n");
+}
+
+/// What a page tells of a name, or of names for shapes, has no byte but letters, digits and
+/// `- . / _ ~ %`. What is told alike is the same.
 pub fn name_law()
     ensures safe { (name : List ℕ) → All IsByte name → All IsSafe (name_text name) }
     ensures apart { (a b : List ℕ) → All IsByte a → All IsByte b → name_text a ≡ name_text b → a ≡ b }

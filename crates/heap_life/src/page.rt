@@ -5,7 +5,7 @@ ghost use Rattle.script_text.specs.Records.{record_text};
 ghost use Rattle.script_text.specs.Texts.{Adds};
 ghost use Rattle.heap_life.specs.Pages.{IsPageOf, facts_text, pace_text, sizes_text};
 
-use crate::file_name::put_file;
+use crate::file_name::{put_file, put_names};
 use crate::life::{Life, Moment};
 use crate::pace::Pace;
 use crate::page_parts::{
@@ -99,25 +99,26 @@ fn put_pace(text: &mut Text, pace: &Pace, events: u64)
     text.put("\n");
 }
 
-/// Adds what the page says of itself first: the name of its script's file, the words of a card, the roots, the pace, how many events there
-/// are.
-fn put_facts(text: &mut Text, name: &str, life: &Life)
-    ensures { Adds text.old (facts_text name.now life.now) text.new }
+/// Adds what the page says of itself first: the name of its script's file, names for shapes, the words of a card, the roots, the pace, how
+/// many events there are.
+fn put_facts(text: &mut Text, name: &str, names: &[u8], life: &Life)
+    ensures { Adds text.old (facts_text name.now names.now life.now) text.new }
 {
     let config = life.history.config();
     let events = life.history.events();
     put_file(text, name);
+    put_names(text, names);
     put_sizes(text, &config);
     put_pace(text, &life.pace, events.len() as u64);
 }
 
 /// What stands between the record's lines and the moments'.
-fn text_between(alloc: Global, name: &str, life: &Life) -> Result<Vec<u8>, AllocError>
-    ensures { IfOk result (λ text. (front : List ℕ) × (text.items ≡ front ++ facts_text name.now life.now)) }
+fn text_between(alloc: Global, name: &str, names: &[u8], life: &Life) -> Result<Vec<u8>, AllocError>
+    ensures { IfOk result (λ text. (front : List ℕ) × (text.items ≡ front ++ facts_text name.now names.now life.now)) }
 {
     let mut text = Text::new(alloc);
     text.put(BETWEEN);
-    put_facts(&mut text, name, life);
+    put_facts(&mut text, name, names, life);
     text.into_bytes()
 }
 
@@ -162,12 +163,12 @@ fn joined(
     Ok(page)
 }
 
-/// The page of a life, drawn of a file of this name, which may be any.
-pub fn page_of(alloc: Global, name: &str, life: &Life) -> Result<Vec<u8>, AllocError>
-    ensures { IfOk result (λ page. IsPageOf name.now life.now page.items) }
+/// The page of a life, drawn of a file of this name, with these names for shapes, none where they are empty. Both may be any.
+pub fn page_of(alloc: Global, name: &str, names: &[u8], life: &Life) -> Result<Vec<u8>, AllocError>
+    ensures { IfOk result (λ page. IsPageOf name.now names.now life.now page.items) }
 {
     let lines = lines_of(alloc, life)?;
-    let between = text_between(alloc, name, life)?;
+    let between = text_between(alloc, name, names, life)?;
     let behind = text_behind(alloc)?;
     joined(
         alloc,

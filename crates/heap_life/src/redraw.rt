@@ -11,14 +11,16 @@ use script_text::{WatchedReader, WatchedWriter, write_bytes};
 use std::alloc::Global;
 use std::io::{Read, Write};
 
-/// The page of a new heap's life over the steps of a record, whose replies have to be the heap's, drawn of a file of this name.
+/// The page of a new heap's life over the steps of a record, whose replies have to be the heap's, drawn of a file of this name, with
+/// these names for shapes.
 fn page_over_history(
     alloc: Global,
     name: &str,
+    names: &[u8],
     history: &Record,
     every: u32,
 ) -> Result<Vec<u8>, JobFault>
-    ensures page { IfOk result (λ page. IsPageOfHistory name.now every history.now page.items) }
+    ensures page { IfOk result (λ page. IsPageOfHistory name.now names.now every history.now page.items) }
     ensures fault { IfErr result (IsHistoryFault history.now) }
 {
     let life = match live(alloc, history, every) {
@@ -28,7 +30,7 @@ fn page_over_history(
     if let Some(place) = first_other(history.events(), life.history.events()) {
         return Err(JobFault::Differs(place as u64 + 1));
     }
-    match page_of(alloc, name, &life) {
+    match page_of(alloc, name, names, &life) {
         Ok(page) => Ok(page),
         Err(_) => Err(JobFault::Run(RunFault::NoMemory)),
     }
@@ -40,14 +42,15 @@ fn page_over_history(
 pub fn draw_record<R: Read, W: Write>(
     alloc: Global,
     name: &str,
+    names: &[u8],
     every: u32,
     reader: &mut WatchedReader<R>,
     writer: &mut WatchedWriter<W>,
 ) -> Result<(), JobFault>
-    ensures { Redraws name.now every reader.old reader.new writer.old writer.new result }
+    ensures { Redraws name.now names.now every reader.old reader.new writer.old writer.new result }
 {
     let history = read_record(alloc, reader)?;
-    let page = match page_over_history(alloc, name, &history, every) {
+    let page = match page_over_history(alloc, name, names, &history, every) {
         Ok(page) => page,
         Err(fault) => return Err(fault),
     };

@@ -39,6 +39,12 @@ function readFileName(word) {\n\
 \x20 return word === \"-\" ? \"standard input\" : decodeURIComponent(word);\n\
 }\n\
 \n\
+// Names for shapes, told byte by byte as a file's name is. They may be any bytes: what isn't UTF-8 becomes the sign for that.\n\
+function readTold(word) {\n\
+\x20 const letters = word.replace(/%(..)/g, (_, digits) => String.fromCharCode(parseInt(digits, 16)));\n\
+\x20 return new TextDecoder().decode(Uint8Array.from(letters, (letter) => letter.charCodeAt(0)));\n\
+}\n\
+\n\
 const MOMENT = [\"event\", \"handedOut\", \"live\", \"free\", \"queued\", \"dirty\", \"copied\", \"marking\", \"scanned\"];\n\
 \n\
 // A moment's numbers.\n\
@@ -116,7 +122,7 @@ const FREE = readRow([\"r 0 f\"]);\n\
 function readLife(recordText, lifeText) {\n\
 \x20 const record = linesOf(recordText);\n\
 \x20 const life = {\n\
-\x20   file: \"\", sizes: readSizes(record[0]), events: new Map(), moments: [], rows: [], pace: null, eventCount: 0,\n\
+\x20   file: \"\", names: \"\", sizes: readSizes(record[0]), events: new Map(), moments: [], rows: [], pace: null, eventCount: 0,\n\
 \x20   tilesEnd: null, tells: false,\n\
 \x20 };\n\
 \x20 for (const line of record.slice(1)) {\n\
@@ -129,6 +135,7 @@ function readLife(recordText, lifeText) {\n\
 \x20   const words = line.split(\" \");\n\
 \x20   const moment = life.moments[life.moments.length - 1];\n\
 \x20   if (words[0] === \"file\") life.file = readFileName(words[1]);\n\
+\x20   else if (words[0] === \"names\") life.names = readTold(words[1]);\n\
 \x20   else if (words[0] === \"card\") life.sizes.card = Number(words[1]);\n\
 \x20   else if (words[0] === \"roots\") [life.sizes.globals, life.sizes.registers] = words.slice(1).map(Number);\n\
 \x20   else if (words[0] === \"pace\") life.pace = { every: Number(words[1]), stride: Number(words[2]), small: words[3] === \"1\" }\

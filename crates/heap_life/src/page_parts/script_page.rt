@@ -357,12 +357,21 @@ function markItems() {\n\
 \n\
 // ---- names for shapes\n\
 \n\
+// Takes the lines of a text, and answers how many aren't read.\n\
 function takeNames(text) {\n\
 \x20 const { rules: read, faults } = readNames(text);\n\
 \x20 setNames(read);\n\
 \x20 const wrong = faults.length ? ` Not read: ${faults.length === 1 ? \"line\" : \"lines\"} ${listOf(faults)}.` : \"\";\n\
 \x20 at(\"naming-said\").textContent = read.length || faults.length ? `${plural(read.length, \"line\")} read.${wrong}` : \"\";\n\
 \x20 draw();\n\
+\x20 return faults.length;\n\
+}\n\
+\n\
+// The names that the page tells are taken as if they were written into the box, which is open where a line isn't read.\n\
+function takeTold() {\n\
+\x20 if (!life.names) return;\n\
+\x20 at(\"names\").value = life.names;\n\
+\x20 at(\"naming\").open = takeNames(at(\"names\").value) > 0;\n\
 }\n\
 \n\
 function takeFile() {\n\
@@ -430,6 +439,7 @@ function start() {\n\
 \x20 steps = new Steps(life, at(\"steps\"), (event) => show(momentOfEvent(life, event)));\n\
 \x20 listen();\n\
 \x20 setTiles(life.sizes.words * life.sizes.regions <= 4096);\n\
+\x20 takeTold();\n\
 }\n\
 \n\
 // What a test asks of the page.\n\

@@ -5,8 +5,8 @@
 /// The text.
 pub(crate) const SCRIPT_REACH: &str = "\
 \"use strict\";\n\
-// What roots reach at a moment, how objects count by shape, and the names that a reader gives to shapes. All of it is worked ou\
-t here, of\n\
+// What roots reach at a moment, how objects count by shape, and the names that are given to shapes. All of it is worked out her\
+e, of\n\
 // the objects that the file tells; where the file leaves something out, that is said.\n\
 \n\
 const MOST_ROOTS = 64;\n\
@@ -97,8 +97,8 @@ function namedBy(life, moment, name) {\n\
 \n\
 // ---- names for shapes\n\
 \n\
-// The rules that a reader has given, in their order: `{ shape: [pointers, weak slots, data words], word, label }`, null where a\
-ny fits.\n\
+// The rules that the page or its reader has given, in their order: `{ shape: [pointers, weak slots, data words], word, label }`\
+, null where any fits.\n\
 let rules = [];\n\
 // How often rules were given, so that a lane sees whether names changed.\n\
 let rulesGiven = 0;\n\

@@ -6,6 +6,6 @@ pub returns-clause-page : goal.returns-clause-page
 returns-clause-page c =
     let made = c.in-Ok.ensures in
     IfOk-weaker c.page_over.result _ _
-    (λ page h. of_plan c.args.name.now c.args.every c.args.plan.now c.in-Ok.events page.items h.0 made.config made.steps made.actors h.1
-    h.2)
+    (λ page h. of_plan c.args.name.now c.args.names.now c.args.every c.args.plan.now c.in-Ok.events page.items h.0 made.config made.steps
+    made.actors h.1 h.2)
     c.page_over.ensures.page

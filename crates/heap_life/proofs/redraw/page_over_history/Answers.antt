@@ -20,5 +20,5 @@ pub returns-in-Ok-page_of-clause-page : goal.returns-in-Ok-page_of-clause-page
 returns-in-Ok-page_of-clause-page c =
     let replies = sym (ap (λ (es : List Event). map reply_in es) c.events-2.ensures.events) ∙ c.first_other.ensures.none c.in_default.is
     ∙ ap (λ (es : List Event). map reply_in es) c.events.ensures.events in
-    of_history c.args.name.now c.args.every c.args.history.now c.in-Ok-page_of.page.items c.in-Ok.life replies c.in-Ok.ensures.life
-    c.in-Ok-page_of.ensures
+    of_history c.args.name.now c.args.names.now c.args.every c.args.history.now c.in-Ok-page_of.page.items c.in-Ok.life replies
+    c.in-Ok.ensures.life c.in-Ok-page_of.ensures
