@@ -1,52 +1,58 @@
-"""Chromium without a window, by the words of WebDriver: `apt-get install chromium chromium-driver`. For tools/check_page."""
-import base64
-import json
+"""Chromium without a window, driven by Debian's selenium. For tools/check_page."""
+import io
+import os
 import re
 import shutil
-import subprocess
-import urllib.error
-import urllib.request
+import sys
 
-# What a key is called in WebDriver, where it isn't a letter.
-KEYS = {
-    "Tab": "\ue004", "Enter": "\ue007", "Shift": "\ue008", "Escape": "\ue00c", "Space": " ", "PageUp": "\ue00e", "PageDown": "\ue00f",
-    "End": "\ue010", "Home": "\ue011", "ArrowLeft": "\ue012", "ArrowUp": "\ue013", "ArrowRight": "\ue014", "ArrowDown": "\ue015",
-}
+try:
+    from PIL import Image
+    from selenium import webdriver
+    from selenium.webdriver.chrome.service import Service
+    from selenium.webdriver.common.keys import Keys
+    from selenium.webdriver.remote.remote_connection import RemoteConnection
+    MISSING = []
+except ImportError as error:
+    MISSING = [error.name]
+
+PACKAGES = "chromium chromium-driver python3-selenium python3-pil"
+# The Python that has Debian's packages, where another one is first on the PATH.
+DEBIAN = "/usr/bin/python3"
+FLAGS = ("headless=new", "no-sandbox", "disable-gpu", "hide-scrollbars", "window-size=1500,1000", "force-prefers-reduced-motion")
 
 
-def is_there():
-    return shutil.which("chromedriver") and shutil.which("chromium")
+def missing():
+    """What isn't there of all that a browser needs."""
+    return MISSING + [it for it in ("chromium", "chromedriver") if shutil.which(it) is None]
+
+
+def run_by_debian():
+    """Where this Python lacks a module, starts the tool again by Debian's."""
+    if MISSING and os.path.exists(DEBIAN) and not os.path.samefile(sys.executable, DEBIAN):
+        os.execv(DEBIAN, [DEBIAN, *sys.argv])
+
+
+def is_varied(png):
+    """Whether a picture has more than 16 colours."""
+    return Image.open(io.BytesIO(png)).getcolors(16) is None
 
 
 class Browser:
     def __init__(self):
-        self.driver = subprocess.Popen(["chromedriver", "--port=0"], stdout=subprocess.PIPE, text=True)
-        port = None
-        for line in self.driver.stdout:
-            port = re.search(r"port (\d+)", line)
-            if port and "success" in line:
-                break
-        self.base = f"http://127.0.0.1:{port.group(1)}"
-        flags = ["headless=new", "no-sandbox", "disable-gpu", "hide-scrollbars", "window-size=1500,1000", "force-prefers-reduced-motion"]
-        chrome = {"args": [f"--{flag}" for flag in flags]}
-        options = {"browserName": "chrome", "goog:chromeOptions": chrome, "goog:loggingPrefs": {"browser": "ALL"}}
-        self.session = self.ask("session", {"capabilities": {"alwaysMatch": options}})["sessionId"]
-
-    def ask(self, path, body):
-        request = urllib.request.Request(f"{self.base}/{path}", json.dumps(body).encode(), {"Content-Type": "application/json"})
-        with urllib.request.urlopen(request, timeout=60) as reply:
-            return json.load(reply)["value"]
-
-    def of(self, path, body):
-        return self.ask(f"session/{self.session}/{path}", body)
+        options = webdriver.ChromeOptions()
+        for flag in FLAGS:
+            options.add_argument(f"--{flag}")
+        options.set_capability("goog:loggingPrefs", {"browser": "ALL"})
+        RemoteConnection.set_timeout(60)
+        self.driver = webdriver.Chrome(service=Service(shutil.which("chromedriver")), options=options)
 
     def open(self, path, event=None):
         """Opens a page, at an event where one is named. A page that is open already is left first, so that it is read again."""
-        self.of("url", {"url": "about:blank"})
-        self.of("url", {"url": path.as_uri() + (f"#{event}" if event is not None else "")})
+        self.driver.get("about:blank")
+        self.driver.get(path.as_uri() + (f"#{event}" if event is not None else ""))
 
     def run(self, script, *arguments):
-        return self.of("execute/sync", {"script": script, "args": list(arguments)})
+        return self.driver.execute_script(script, *arguments)
 
     def press(self, key, shift=False):
         """Tells the page of a key, without the browser's own part in it."""
@@ -57,42 +63,32 @@ class Browser:
         )
 
     def strike(self, *keys):
-        """Strikes keys one after another, as a person does: names of keys, with `Shift+` before them, or letters to be written."""
-        actions = []
+        """Strikes keys one after another, as a person does: names of keys, or letters to be written."""
+        actions = webdriver.ActionChains(self.driver, duration=0)
         for key in keys:
-            shift, last = key.startswith("Shift+"), KEYS.get(key.removeprefix("Shift+"))
-            held = [KEYS["Shift"]] if shift else []
-            for letter in [last] if last else key:
-                actions += [{"type": "keyDown", "value": it} for it in [*held, letter]]
-                actions += [{"type": "keyUp", "value": it} for it in [letter, *held]]
-        self.of("actions", {"actions": [{"type": "key", "id": "keyboard", "actions": actions}]})
+            # A key that the page calls ArrowUp is ARROW_UP here.
+            name = re.sub("(?<=[a-z])(?=[A-Z])", "_", key).upper()
+            actions.send_keys(getattr(Keys, name) if key[0].isupper() else key)
+        actions.perform()
 
     def choose_file(self, query, path):
         """Chooses a file where the page asks for one."""
-        (element,) = self.of("element", {"using": "css selector", "value": query}).values()
-        self.of(f"element/{element}/value", {"text": str(path)})
+        self.driver.find_element("css selector", query).send_keys(str(path))
 
     def size(self, width, height):
         """Makes the window's inside so large, a telephone's where it is narrow."""
         told = {"width": width, "height": height, "deviceScaleFactor": 1, "mobile": width < 500}
-        self.of("goog/cdp/execute", {"cmd": "Emulation.setDeviceMetricsOverride", "params": told})
+        self.driver.execute_cdp_cmd("Emulation.setDeviceMetricsOverride", told)
 
     def before_pages(self, script):
         """Has a script run in each page that is opened from here on, before its own."""
-        self.of("goog/cdp/execute", {"cmd": "Page.addScriptToEvaluateOnNewDocument", "params": {"source": script}})
+        self.driver.execute_cdp_cmd("Page.addScriptToEvaluateOnNewDocument", {"source": script})
 
     def said(self):
-        return [line["message"] for line in self.of("se/log", {"type": "browser"})]
+        return [line["message"] for line in self.driver.get_log("browser")]
 
     def shot(self):
-        with urllib.request.urlopen(f"{self.base}/session/{self.session}/screenshot", timeout=60) as reply:
-            return base64.b64decode(json.load(reply)["value"])
+        return self.driver.get_screenshot_as_png()
 
     def close(self):
-        try:
-            request = urllib.request.Request(f"{self.base}/session/{self.session}", method="DELETE")
-            urllib.request.urlopen(request, timeout=20).close()
-        except (urllib.error.URLError, OSError):
-            pass
-        self.driver.terminate()
-        self.driver.wait()
+        self.driver.quit()
