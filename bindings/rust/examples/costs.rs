@@ -1,4 +1,5 @@
-//! Makes one kind of call so many times, as tools/library_costs.c does, for tools/measure_rust, which counts instructions of two runs.
+//! Makes one kind of call so many times, as tools/measuring/library_costs.c does, for tools/measure rust, which counts
+//! instructions of two runs.
 //!
 //!     costs CALL TIMES
 use g1heap::{layout, Frame, Heap, Sizes};

@@ -1,0 +1,25 @@
+// Copies as many objects of 32 words as it is told, by the C library, so many times over, and prints the processor seconds of one time:
+// for tools/measure costs.
+//
+//     copies OBJECTS TIMES
+#include <cstdio>
+#include <cstdlib>
+#include <cstring>
+#include <ctime>
+#include <vector>
+
+int main(int, char** arguments) {
+    const std::size_t size = 32, objects = std::strtoul(arguments[1], nullptr, 10);
+    const int times = std::atoi(arguments[2]);
+    std::vector<unsigned long> from(objects * size, 1), to(objects * size, 2);
+    volatile std::size_t bytes = size * sizeof(unsigned long);
+    timespec start, end;
+    clock_gettime(CLOCK_PROCESS_CPUTIME_ID, &start);
+    for (int time = 0; time < times; ++time)
+        for (std::size_t object = 0; object < objects; ++object)
+            std::memcpy(&to[object * size], &from[object * size], bytes);
+    clock_gettime(CLOCK_PROCESS_CPUTIME_ID, &end);
+    double seconds = double(end.tv_sec - start.tv_sec) + double(end.tv_nsec - start.tv_nsec) / 1e9;
+    std::printf("%.9f\n", seconds / times);
+    return to[0] == from[0] ? 0 : 1;
+}

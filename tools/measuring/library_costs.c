@@ -1,0 +1,40 @@
+/* Makes one kind of call so many times, for tools/measure clients, which counts instructions of two runs.
+
+     library_costs CALL TIMES */
+#include <g1heap.h>
+#include <stdlib.h>
+#include <string.h>
+
+static g1_heap heap = G1_HEAP_NONE;
+static g1_policy policy;
+static const g1_sizes sizes = {256, 1024, 128, 1, 0, 8, 16, 64};
+
+/* What is in memory may have changed: else a compiler that inlines the calls would take them out of the loop. It costs no instruction. */
+static inline void again(void) { __asm__ volatile("" : : "r"(&heap) : "memory"); }
+
+int main(int count, char **words)
+{
+    const char *call = count == 3 ? words[1] : "";
+    long times = count == 3 ? atol(words[2]) : 0;
+    uint64_t sum = 0;
+    if (g1_new(&heap, &sizes) != G1_DONE) return 1;
+    g1_new_object(&heap, 0, 0, 2, 2), g1_new_object(&heap, 0, 1, 2, 2), g1_put(&heap, 0, 0, 0, 1);
+    if (strcmp(call, "get") == 0) for (long i = 0; i < times; i++, again()) sum += g1_get(&heap, 0, 2, 0, 0).first;
+    else if (strcmp(call, "read") == 0) for (long i = 0; i < times; i++, again()) sum += g1_read(&heap, 0, 0, 1).first;
+    else if (strcmp(call, "write") == 0) for (long i = 0; i < times; i++, again()) sum += g1_write(&heap, 0, 0, 1, (uint64_t)i).code;
+    else if (strcmp(call, "put") == 0) for (long i = 0; i < times; i++, again()) sum += g1_put(&heap, 0, 0, 0, 1).code;
+    else if (strcmp(call, "put while marking") == 0) {
+        g1_begin(&heap);
+        for (long i = 0; i < times; i++, again()) sum += g1_put(&heap, 0, 0, 0, 1).code;
+    } else if (strcmp(call, "move") == 0) for (long i = 0; i < times; i++, again()) sum += g1_move(&heap, 0, 2, 0).code;
+    else if (strcmp(call, "new 2 + 1") == 0) for (long i = 0; i < times; i++, again()) sum += g1_new_object(&heap, 0, 3, 2, 1).code;
+    else if (strcmp(call, "make 2 + 1") == 0) {
+        g1_policy_start(&policy, &sizes);
+        for (long i = 0; i < times; i++, again()) sum += g1_make(&heap, &policy, 0, 3, 2, 0, 1).code;
+    } else if (strcmp(call, "name") == 0) for (long i = 0; i < times; i++, again()) sum += g1_name(&heap, 0, 0).first;
+    else if (strcmp(call, "scope") == 0) for (long i = 0; i < times; i++, again()) sum += g1_scope(&heap, 0, 4).code;
+    else if (strcmp(call, "no such register") == 0) for (long i = 0; i < times; i++, again()) sum += g1_get(&heap, 0, 2, 99, 0).code;
+    else if (strcmp(call, "nothing") == 0) for (long i = 0; i < times; i++, again()) sum += (uint64_t)i;
+    g1_free(&heap);
+    return sum == 1;
+}

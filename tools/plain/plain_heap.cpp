@@ -1,0 +1,471 @@
+// plain_heap: does the lines of a heap script in order and prints the record, as `g1heap run` does.
+//
+//   g++ -O2 -std=c++17 -o plain_heap tools/plain/plain_heap.cpp
+//   plain_heap run FILE
+//
+// FILE may be - for standard input.
+// Faults are printed as g1heap prints them, with its name, so that the two programs' outputs can be compared.
+
+#include <cerrno>
+#include <csignal>
+#include <cstdio>
+#include <cstdlib>
+#include <fcntl.h>
+#include <new>
+#include <string>
+#include <sys/stat.h>
+#include <unistd.h>
+
+#include "plain_heap.h"
+
+namespace {
+
+using namespace plain;
+
+constexpr Word largest_number = 4294967295;
+constexpr Word largest_word = ~Word(0);
+constexpr Number largest_weaks = 255;
+constexpr std::size_t longest_line = 120;
+
+enum class Verb : std::uint8_t {
+    New, Get, Put, PutNil, Read, Write, Move, Drop, Load, Save, Scope, Shape,
+    NewWeak, GetWeak, PutWeak, PutWeakNil, Weaks,
+    Begin, Mark, Remark, Cleanup, Refine, Pause, Compact
+};
+
+// A line's step. `first` and `second` are registers or globals in the line's order, `number` is an index, a count
+// or the pointers of a new object, `value` a data word or the data words of a new object, whose weak slots are `second`.
+struct Step {
+    Word value;
+    Number number, first, second;
+    Verb verb;
+    std::uint8_t mutator, length;
+};
+
+// Reads words and numbers from one line, behind which a line feed stands, of a text whose heap has these sizes. Each call answers
+// whether the text goes on so, and goes past it.
+class Cursor {
+public:
+    Cursor(const char* at, const char* end, const Sizes& sizes) : at_(at), end_(end), sizes_(sizes) {}
+
+    bool at_end() const { return at_ == end_; }
+    bool at_word_end() const { return at_ == end_ || *at_ == ' '; }
+    char peek() const { return at_ == end_ ? '\n' : *at_; }
+
+    template <std::size_t Size>
+    bool text(const char (&expected)[Size]) {
+        if (std::size_t(end_ - at_) < Size - 1 || std::memcmp(at_, expected, Size - 1) != 0) return false;
+        at_ += Size - 1;
+        return true;
+    }
+
+    bool space() { return text(" "); }
+
+    // A decimal number without leading zeros, at most `limit`.
+    bool number(Word limit, Word& value) {
+        if (at_ == end_ || *at_ < '0' || *at_ > '9') return false;
+        value = Word(*at_++ - '0');
+        if (value == 0) return true;
+        for (; at_ != end_ && *at_ >= '0' && *at_ <= '9'; ++at_) {
+            Word digit = Word(*at_ - '0');
+            if (value > (largest_word - digit) / 10) return false;
+            value = value * 10 + digit;
+        }
+        return value <= limit;
+    }
+
+    bool number(Number& value) {
+        Word wide;
+        if (!number(largest_number, wide)) return false;
+        value = Number(wide);
+        return true;
+    }
+
+    // Mostly a register has one digit, with a space or the line feed behind it.
+    bool reg(Number& value) {
+        if (*at_ != 'r') return false;
+        ++at_;
+        value = Number(*at_ - '0');
+        if (value <= 9 && at_[1] <= ' ') ++at_;
+        else if (!number(value)) return false;
+        return value < sizes_.registers;
+    }
+    bool global(Number& value) { return text("g") && number(value) && value < sizes_.globals; }
+    bool scope() { return sizes_.format == 3 && text("scope "); }
+    bool compact() { return sizes_.format == 3 && text("compact "); }
+
+private:
+    const char *at_, *end_;
+    const Sizes& sizes_;
+};
+
+bool read_sizes(Cursor line, Sizes& sizes) {
+    sizes.format = line.text("heap3 ") ? 3 : line.text("heap2 ") ? 2 : 1;
+    return (sizes.format != 1 || line.text("heap ")) && line.number(sizes.regions) && line.space() &&
+           line.number(sizes.words) && line.space() && line.number(sizes.buffer) && line.space() &&
+           line.number(sizes.mutators) && line.space() && line.number(largest_word, sizes.first_name) &&
+           (sizes.format == 1 || (line.space() && line.number(sizes.card))) &&
+           (sizes.format != 3 || (line.space() && line.number(sizes.globals) && line.space() &&
+                                  line.number(sizes.registers))) &&
+           line.at_end();
+}
+
+// How many weak slots an object is to have.
+bool read_weaks(Cursor& line, Number& weaks) { return line.number(weaks) && weaks <= largest_weaks; }
+
+bool read_mutator_step(Cursor& line, Step& step) {
+    switch (line.peek()) {
+    case 'n':
+        step.verb = line.text("newweak ") ? Verb::NewWeak : Verb::New;
+        return (step.verb == Verb::NewWeak || line.text("new ")) && line.reg(step.first) && line.space() &&
+               line.number(step.number) && line.space() &&
+               (step.verb == Verb::New || (read_weaks(line, step.second) && line.space())) &&
+               line.number(largest_number, step.value);
+    case 'g':
+        step.verb = line.text("getweak ") ? Verb::GetWeak : Verb::Get;
+        return (step.verb == Verb::GetWeak || line.text("get ")) && line.reg(step.first) && line.space() &&
+               line.reg(step.second) && line.space() && line.number(step.number);
+    case 'p': {
+        bool is_weak = line.text("putweak ");
+        if ((!is_weak && !line.text("put ")) || !line.reg(step.first) || !line.space() || !line.number(step.number) ||
+            !line.space())
+            return false;
+        bool is_nil = line.peek() == 'n';
+        step.verb = is_weak ? (is_nil ? Verb::PutWeakNil : Verb::PutWeak) : (is_nil ? Verb::PutNil : Verb::Put);
+        return is_nil ? line.text("nil") : line.reg(step.second);
+    }
+    case 'r':
+        step.verb = Verb::Read;
+        return line.text("read ") && line.reg(step.first) && line.space() && line.number(step.number);
+    case 'w':
+        if (line.text("weaks ")) {
+            step.verb = Verb::Weaks;
+            return line.reg(step.first);
+        }
+        step.verb = Verb::Write;
+        return line.text("write ") && line.reg(step.first) && line.space() && line.number(step.number) &&
+               line.space() && line.number(largest_word, step.value);
+    case 'm':
+        step.verb = Verb::Move;
+        return line.text("move ") && line.reg(step.first) && line.space() && line.reg(step.second);
+    case 'd':
+        step.verb = Verb::Drop;
+        return line.text("drop ") && line.reg(step.first);
+    case 'l':
+        step.verb = Verb::Load;
+        return line.text("load ") && line.reg(step.first) && line.space() && line.global(step.second);
+    case 's':
+        if (line.text("save ")) {
+            step.verb = Verb::Save;
+            return line.global(step.first) && line.space() && line.reg(step.second);
+        }
+        if (line.scope()) {
+            step.verb = Verb::Scope;
+            return line.reg(step.first);
+        }
+        step.verb = Verb::Shape;
+        return line.text("shape ") && line.reg(step.first);
+    default:
+        return false;
+    }
+}
+
+bool read_collector_step(Cursor& line, Step& step) {
+    switch (line.peek()) {
+    case 'b':
+        step.verb = Verb::Begin;
+        return line.text("begin");
+    case 'm':
+        step.verb = Verb::Mark;
+        return line.text("mark ") && line.number(step.number);
+    case 'r':
+        if (line.text("refine ")) {
+            step.verb = Verb::Refine;
+            return line.number(step.number);
+        }
+        step.verb = Verb::Remark;
+        return line.text("remark");
+    case 'c':
+        if (line.compact()) {
+            step.verb = Verb::Compact;
+            return line.number(step.number);
+        }
+        step.verb = Verb::Cleanup;
+        return line.text("cleanup");
+    case 'p':
+        step.verb = Verb::Pause;
+        return line.text("pause ") && line.number(step.number);
+    default:
+        return false;
+    }
+}
+
+struct Script {
+    Sizes sizes;
+    std::size_t heap_line;
+    std::vector<Step> steps;
+};
+
+struct LineFault {
+    std::size_t line;
+    const char* name;
+};
+
+// Reads a whole script; the first fault of the text if it has one, else a fault of line 0.
+LineFault read_script(const std::string& text, Script& script) {
+    const char *at = text.data(), *end = at + text.size();
+    if (at == end) return {1, "3 BadHeap"};
+    script.steps.reserve(text.size() / 12);
+    for (std::size_t number = 1; at != end; ++number) {
+        const char* feed = static_cast<const char*>(std::memchr(at, '\n', std::size_t(end - at)));
+        if (feed == nullptr) return {number, "1 Cut"};
+        std::size_t length = std::size_t(feed - at);
+        if (length > longest_line) return {number, "2 LongLine"};
+        Cursor line(at, feed, script.sizes);
+        at = feed + 1;
+        if (number == 1) {
+            if (!read_sizes(line, script.sizes)) return {number, "3 BadHeap"};
+            script.heap_line = length;
+            continue;
+        }
+        Step step{};
+        step.length = std::uint8_t(length);
+        bool is_step;
+        if (line.text("gc")) {
+            if (!line.at_word_end()) return {number, "4 BadActor"};
+            is_step = line.space() && read_collector_step(line, step);
+        } else {
+            Word actor;
+            if (!line.number(largest_number, actor) || !line.at_word_end() || actor >= script.sizes.mutators)
+                return {number, "4 BadActor"};
+            step.mutator = std::uint8_t(actor);
+            is_step = line.space() && read_mutator_step(line, step);
+        }
+        if (!is_step || !line.at_end()) return {number, "5 BadStep"};
+        script.steps.push_back(step);
+    }
+    return {0, nullptr};
+}
+
+// The first fault of the sizes, none if they suit.
+const char* size_fault(const Sizes& sizes) {
+    bool is_first = sizes.format == 1, is_third = sizes.format == 3;
+    if (sizes.regions < 2 || sizes.regions > (is_third ? 4096 : 1024)) return "1 BadRegions";
+    Number most_words = is_first ? 4096 : is_third ? 4194304 : 16384, most = is_first ? 1048576 : is_third ? 2147483648 : 16777216;
+    if (sizes.words < 16 || sizes.words > most_words || (sizes.words & (sizes.words - 1)) != 0 ||
+        Word(sizes.regions) * sizes.words > most)
+        return "2 BadWords";
+    if (sizes.buffer < 4 || sizes.buffer > sizes.words / 2) return "3 BadBuffer";
+    if (sizes.mutators < 1 || sizes.mutators > (sizes.format == 3 ? 64 : 16)) return "4 BadMutators";
+    if (sizes.card < 8 || sizes.card > (is_third ? 512 : 64) || (sizes.card & (sizes.card - 1)) != 0 || sizes.card > sizes.words)
+        return "6 BadCard";
+    if (sizes.globals > 65536) return "7 BadGlobals";
+    if (sizes.registers < 1 || sizes.registers > 65536) return "8 BadRegisters";
+    if (sizes.globals + sizes.registers * sizes.mutators > 1048576) return "9 BadRoots";
+    return nullptr;
+}
+
+// Gathers text for standard output and writes it in large pieces.
+class Output {
+public:
+    Output() : pieces_(new char[size + slack]), at_(pieces_.get()) {}
+
+    void text(const char* from, std::size_t length) {
+        std::memcpy(at_, from, length);
+        at_ += length;
+    }
+    template <std::size_t Size>
+    void text(const char (&from)[Size]) { text(from, Size - 1); }
+    void byte(char value) { *at_++ = value; }
+
+    void number(Word value) {
+        char digits[20];
+        char* first = digits + 20;
+        while (value >= 100) {
+            first -= 2;
+            std::memcpy(first, &pairs[2 * (value % 100)], 2);
+            value /= 100;
+        }
+        if (value >= 10) {
+            first -= 2;
+            std::memcpy(first, &pairs[2 * value], 2);
+        } else {
+            *--first = char('0' + value);
+        }
+        text(first, std::size_t(digits + 20 - first));
+    }
+
+    // To be called after each line: makes room for the next one.
+    bool line() { return at_ < pieces_.get() + size || flush(); }
+
+    bool flush() {
+        for (const char* from = pieces_.get(); from != at_;) {
+            ssize_t written = ::write(STDOUT_FILENO, from, std::size_t(at_ - from));
+            if (written < 0 && errno == EINTR) continue;
+            if (written <= 0) return false;
+            from += written;
+        }
+        at_ = pieces_.get();
+        return true;
+    }
+
+private:
+    // A line of a record takes less than the slack.
+    static constexpr std::size_t size = 1 << 16, slack = 512;
+    static constexpr char pairs[201] =
+        "00010203040506070809101112131415161718192021222324252627282930313233343536373839404142434445464748495051"
+        "525354555657585960616263646566676869707172737475767778798081828384858687888990919293949596979899";
+    std::unique_ptr<char[]> pieces_;
+    char* at_;
+};
+
+void print_refusal(Output& output, Refusal refusal) {
+    switch (refusal) {
+    case Refusal::Nil: return output.text("refused 1 Nil");
+    case Refusal::NoField: return output.text("refused 2 NoField");
+    case Refusal::Full: return output.text("refused 3 Full");
+    case Refusal::TooBig: return output.text("refused 4 TooBig");
+    case Refusal::NamesSpent: return output.text("refused 5 NamesSpent");
+    case Refusal::MarkRunning: return output.text("refused 6 MarkRunning");
+    case Refusal::NotMarking: return output.text("refused 7 NotMarking");
+    }
+}
+
+void print_reply(Output& output, const Reply& reply) {
+    switch (reply.form) {
+    case Form::Ok: return output.text("ok");
+    case Form::Nil: return output.text("nil");
+    case Form::Name: output.byte('#'); return output.number(reply.first);
+    case Form::Value: return output.number(reply.first);
+    case Form::Shape: break;
+    case Form::Marked: output.text("marked "); return output.number(reply.first);
+    case Form::Reclaimed: output.text("reclaimed "); return output.number(reply.first);
+    case Form::Refined: output.text("refined "); return output.number(reply.first);
+    case Form::Moved: output.text("moved "); break;
+    case Form::Refused: return print_refusal(output, reply.refusal);
+    }
+    output.number(reply.first);
+    output.byte(' ');
+    output.number(reply.second);
+}
+
+Reply do_step(Heap& heap, const Step& step) {
+    switch (step.verb) {
+    case Verb::New: return heap.make(step.mutator, step.first, step.number, 0, step.value);
+    case Verb::Get: return heap.get(step.mutator, step.first, step.second, step.number);
+    case Verb::Put: return heap.put(step.mutator, step.first, step.number, step.second);
+    case Verb::PutNil: return heap.put_nil(step.mutator, step.first, step.number);
+    case Verb::Read: return heap.read(step.mutator, step.first, step.number);
+    case Verb::Write: return heap.write(step.mutator, step.first, step.number, step.value);
+    case Verb::Move: return heap.move(step.mutator, step.first, step.second);
+    case Verb::Drop: return heap.drop(step.mutator, step.first);
+    case Verb::Load: return heap.load(step.mutator, step.first, step.second);
+    case Verb::Save: return heap.save(step.mutator, step.first, step.second);
+    case Verb::Scope: return heap.scope(step.mutator, step.first);
+    case Verb::Shape: return heap.shape(step.mutator, step.first);
+    case Verb::NewWeak: return heap.make(step.mutator, step.first, step.number, step.second, step.value);
+    case Verb::GetWeak: return heap.get_weak(step.mutator, step.first, step.second, step.number);
+    case Verb::PutWeak: return heap.put_weak(step.mutator, step.first, step.number, step.second);
+    case Verb::PutWeakNil: return heap.put_weak_nil(step.mutator, step.first, step.number);
+    case Verb::Weaks: return heap.weaks(step.mutator, step.first);
+    case Verb::Begin: return heap.begin();
+    case Verb::Mark: return heap.mark(step.number);
+    case Verb::Remark: return heap.remark();
+    case Verb::Cleanup: return heap.cleanup();
+    case Verb::Refine: return heap.refine(step.number);
+    case Verb::Pause: return heap.pause(step.number);
+    case Verb::Compact: return heap.compact(step.number);
+    }
+    std::abort();
+}
+
+// Does all steps and prints the record: each step is spelled as in the script, since it can be spelled in one way alone.
+bool print_record(const std::string& text, const Script& script) {
+    Heap heap(script.sizes);
+    Output output;
+    const char* at = text.data();
+    output.text(at, script.heap_line + 1);
+    at += script.heap_line + 1;
+    Word count = 0;
+    for (const Step& step : script.steps) {
+        output.number(++count);
+        output.byte(' ');
+        output.text(at, step.length);
+        at += step.length + 1;
+        output.text(" = ");
+        print_reply(output, do_step(heap, step));
+        output.byte('\n');
+        if (!output.line()) return false;
+    }
+    return output.flush();
+}
+
+bool read_file(const char* path, std::string& text) {
+    bool is_input = std::strcmp(path, "-") == 0;
+    int file = is_input ? STDIN_FILENO : ::open(path, O_RDONLY);
+    if (file < 0) return false;
+    struct stat status;
+    std::size_t expected = ::fstat(file, &status) == 0 && status.st_size > 0 ? std::size_t(status.st_size) : 4096;
+    std::size_t length = 0;
+    text.resize(expected + 1);
+    for (;;) {
+        if (length == text.size()) text.resize(2 * length);
+        ssize_t got = ::read(file, &text[length], text.size() - length);
+        if (got < 0 && errno == EINTR) continue;
+        if (got < 0) return false;
+        if (got == 0) break;
+        length += std::size_t(got);
+    }
+    text.resize(length);
+    if (!is_input) ::close(file);
+    return true;
+}
+
+int fault(const std::string& text) {
+    std::fprintf(stderr, "g1heap: %s\n", text.c_str());
+    return 1;
+}
+
+int run(const char* path) {
+    std::string text;
+    if (!read_file(path, text)) return fault("cannot read");
+    Script script;
+    LineFault line_fault = read_script(text, script);
+    if (line_fault.line != 0) return fault("line " + std::to_string(line_fault.line) + ": " + line_fault.name);
+    if (const char* name = size_fault(script.sizes)) return fault(std::string("heap: ") + name);
+    return print_record(text, script) ? 0 : fault("cannot write");
+}
+
+constexpr char usage[] = "Usage: plain_heap run FILE\n";
+
+}  // namespace
+
+int main(int count, char** arguments) {
+    // A reader of the record that went away is a fault in writing, not an end without a word.
+    std::signal(SIGPIPE, SIG_IGN);
+    const char *command = nullptr, *path = nullptr;
+    for (int place = 1; place < count; ++place) {
+        const char* word = arguments[place];
+        if (std::strcmp(word, "--help") == 0) {
+            std::fputs(usage, stdout);
+            return 0;
+        }
+        if ((word[0] == '-' && word[1] != '\0') || path != nullptr) {
+            command = nullptr;
+            break;
+        } else if (command == nullptr) {
+            command = word;
+        } else {
+            path = word;
+        }
+    }
+    if (command == nullptr || std::strcmp(command, "run") != 0 || path == nullptr) {
+        std::fputs(usage, stderr);
+        return 2;
+    }
+    try {
+        return run(path);
+    } catch (const std::bad_alloc&) {
+        return fault("run: 2 NoMemory");
+    }
+}

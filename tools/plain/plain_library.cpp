@@ -1,0 +1,365 @@
+// Every call of include/g1heap.h over the plain heap. It stands in for lib/libg1heap.a where the two are compared, and where the proved one
+// isn't built yet.
+//
+//   g++ -O2 -std=c++17 -Iinclude -c tools/plain/plain_library.cpp -o plain_library.o
+//   cc -Iinclude clients/hello.c plain_library.o -lstdc++
+
+#include <cstddef>
+#include <cstdint>
+#include <new>
+
+#include "../../include/g1heap.h"
+#include "plain_heap.h"
+#include "plain_policy.h"
+
+namespace {
+
+using plain::Number;
+using plain::Word;
+
+constexpr Number largest_weaks = 255;
+
+// The plain heap with what a policy of collection reads.
+class Heap : public plain::Heap {
+public:
+    using plain::Heap::Heap;
+
+    bool has_mutator(Number mutator) const { return mutator < sizes_.mutators; }
+    bool has_register(Number number) const { return number < sizes_.registers; }
+    bool has_global(Number number) const { return number < sizes_.globals; }
+    Number globals() const { return sizes_.globals; }
+    Number registers() const { return sizes_.registers; }
+    Number free_regions() const { return free_count_; }
+    bool is_marking() const { return marking_; }
+    bool has_grey() const { return marking_ && grey_.next(finger_) != plain::nowhere; }
+    Number queued() const { return queue_count_; }
+    plain::Reply name(Number mutator, Number number) const { return named(root(mutator, number)); }
+    const plain::Sizes& sizes() const { return sizes_; }
+    bool has_name() const { return next_name_ != ~Word(0); }
+
+    // Whether an object of at most half a region needs no free region.
+    bool fits_open(Number mutator, Number size) const {
+        if (size <= buffers_[mutator].end - buffers_[mutator].next) return true;
+        Number cut = size <= sizes_.buffer ? sizes_.buffer : size;
+        return current_ != plain::no_region && regions_[current_].top + cut <= bottom(current_) + sizes_.words;
+    }
+
+    // Whether so many adjacent regions are free.
+    bool has_run(Number count) const {
+        for (Number region = 0, length = 0; region < sizes_.regions; ++region) {
+            length = free_regions_.has(region) ? length + 1 : 0;
+            if (length == count) return true;
+        }
+        return false;
+    }
+
+    // How many free regions lie side by side, at most.
+    Number free_run() const {
+        Number most = 0;
+        for (Number region = 0, length = 0; region < sizes_.regions; ++region) {
+            length = free_regions_.has(region) ? length + 1 : 0;
+            if (length > most) most = length;
+        }
+        return most;
+    }
+
+    Word used_words() const {
+        Word sum = 0;
+        for (Number region = 0; region < sizes_.regions; ++region) sum += regions_[region].top - bottom(region);
+        return sum;
+    }
+
+    Word live_words() const {
+        Word sum = 0;
+        for (const plain::Region& region : regions_) sum += live_bound(region);
+        return sum;
+    }
+};
+
+Heap& in(const g1_heap* heap) { return *static_cast<Heap*>(heap->at); }
+
+g1_answer answer(std::uint32_t code, Word first = 0) { return {code, 0, first}; }
+
+// The forms of replies are numbered as the codes of answers are, and refusals in their order from G1_NIL on.
+g1_answer told(const plain::Reply& reply) {
+    if (reply.form == plain::Form::Refused) return answer(G1_NIL - 1 + std::uint32_t(reply.refusal));
+    if (reply.form == plain::Form::Moved) return {G1_MOVED, std::uint32_t(reply.first), reply.second};
+    return {std::uint32_t(reply.form), std::uint32_t(reply.second), reply.first};
+}
+
+// Does a step of a mutator, where there is a heap that has the mutator and both registers.
+template <class Step>
+g1_answer mutate(g1_heap* heap, Number mutator, Number one, Number other, Step step) {
+    if (!heap->live) return answer(G1_NO_HEAP);
+    Heap& plain = in(heap);
+    if (!plain.has_mutator(mutator) || !plain.has_register(one) || !plain.has_register(other)) return answer(G1_NO_STEP);
+    return told(step(plain));
+}
+
+// Does a step of the collector, where there is a heap.
+template <class Step>
+g1_answer collect(g1_heap* heap, Step step) {
+    return heap->live ? told(step(in(heap))) : answer(G1_NO_HEAP);
+}
+
+// Tells a number of a heap, where there is one.
+template <class Reader>
+g1_answer number(const g1_heap* heap, Reader reader) {
+    return heap->live ? answer(G1_NUMBER, reader(in(heap))) : answer(G1_NO_HEAP);
+}
+
+// The first size that doesn't suit, G1_DONE where all do.
+std::uint32_t size_fault(const g1_sizes& sizes) {
+    if (sizes.regions < 2 || sizes.regions > 4096) return G1_BAD_REGIONS;
+    if (sizes.words < 16 || sizes.words > 4194304 || (sizes.words & (sizes.words - 1)) != 0) return G1_BAD_WORDS;
+    if (Word(sizes.regions) * sizes.words > 2147483648) return G1_BAD_WORDS;
+    if (sizes.buffer < 4 || sizes.buffer > sizes.words / 2) return G1_BAD_BUFFER;
+    if (sizes.mutators < 1 || sizes.mutators > 64) return G1_BAD_MUTATORS;
+    if (sizes.card < 8 || sizes.card > 512 || (sizes.card & (sizes.card - 1)) != 0 || sizes.card > sizes.words) return G1_BAD_CARD;
+    if (sizes.globals > 65536) return G1_BAD_GLOBALS;
+    if (sizes.registers < 1 || sizes.registers > 65536) return G1_BAD_REGISTERS;
+    if (sizes.globals + sizes.registers * sizes.mutators > 1048576) return G1_BAD_ROOTS;
+    return G1_DONE;
+}
+
+g1_sizes sizes_of(const Heap& heap) {
+    const plain::Sizes& of = heap.sizes();
+    return {of.regions, of.words, of.buffer, of.mutators, of.first_name, of.card, of.globals, of.registers};
+}
+
+int fits_open(g1_heap* heap, std::uint32_t mutator, std::uint32_t size) { return in(heap).fits_open(mutator, size); }
+int has_run(g1_heap* heap, std::uint32_t count) { return in(heap).has_run(count); }
+
+int has_name(g1_heap* heap) { return in(heap).has_name(); }
+
+policy_of policy_for(g1_heap* heap, g1_policy* policy, const g1_sizes& sizes) {
+    return {heap, policy, &sizes, fits_open, has_run, has_name};
+}
+
+}  // namespace
+
+extern "C" {
+
+std::uint32_t g1_new(g1_heap* heap, const g1_sizes* sizes) {
+    if (heap->live) return G1_HEAP_LIVE;
+    if (std::uint32_t fault = size_fault(*sizes)) return fault;
+    plain::Sizes plain{sizes->regions, sizes->words, sizes->buffer, sizes->mutators, sizes->first_name, sizes->card, sizes->globals,
+                       sizes->registers, 3};
+    try {
+        heap->at = new Heap(plain);
+    } catch (const std::bad_alloc&) {
+        return G1_NO_MEMORY;
+    }
+    heap->live = true;
+    return G1_DONE;
+}
+
+void g1_free(g1_heap* heap) {
+    if (heap->live) delete &in(heap);
+    *heap = G1_HEAP_NONE;
+}
+
+g1_answer g1_new_object(g1_heap* heap, std::uint32_t mutator, std::uint32_t to, std::uint32_t pointers, std::uint32_t values) {
+    return mutate(heap, mutator, to, to, [=](Heap& plain) { return plain.make(mutator, to, pointers, 0, values); });
+}
+
+g1_answer g1_new_weak(g1_heap* heap, std::uint32_t mutator, std::uint32_t to, std::uint32_t pointers, std::uint32_t weaks,
+                      std::uint32_t values) {
+    if (heap->live && weaks > largest_weaks) return answer(G1_NO_STEP);
+    return mutate(heap, mutator, to, to, [=](Heap& plain) { return plain.make(mutator, to, pointers, weaks, values); });
+}
+
+g1_answer g1_get(g1_heap* heap, std::uint32_t mutator, std::uint32_t to, std::uint32_t object, std::uint32_t field) {
+    return mutate(heap, mutator, to, object, [=](Heap& plain) { return plain.get(mutator, to, object, field); });
+}
+
+g1_answer g1_put(g1_heap* heap, std::uint32_t mutator, std::uint32_t object, std::uint32_t field, std::uint32_t from) {
+    if (from == G1_NIL_REGISTER)
+        return mutate(heap, mutator, object, object, [=](Heap& plain) { return plain.put_nil(mutator, object, field); });
+    return mutate(heap, mutator, object, from, [=](Heap& plain) { return plain.put(mutator, object, field, from); });
+}
+
+g1_answer g1_read(g1_heap* heap, std::uint32_t mutator, std::uint32_t object, std::uint32_t field) {
+    return mutate(heap, mutator, object, object, [=](Heap& plain) { return plain.read(mutator, object, field); });
+}
+
+g1_answer g1_write(g1_heap* heap, std::uint32_t mutator, std::uint32_t object, std::uint32_t field, std::uint64_t value) {
+    return mutate(heap, mutator, object, object, [=](Heap& plain) { return plain.write(mutator, object, field, value); });
+}
+
+// Whether an object has so many data words from one on: G1_DONE, or why it hasn't.
+static g1_answer has_words(g1_heap* heap, std::uint32_t mutator, std::uint32_t object, std::uint32_t from, std::size_t count) {
+    g1_answer shape = g1_shape(heap, mutator, object);
+    if (shape.code != G1_SHAPE) return shape;
+    return answer(from <= shape.second && count <= shape.second - from ? G1_DONE : G1_NO_FIELD);
+}
+
+g1_answer g1_read_words(g1_heap* heap, std::uint32_t mutator, std::uint32_t object, std::uint32_t from, std::uint64_t* out,
+                        std::size_t count) {
+    g1_answer has = has_words(heap, mutator, object, from, count);
+    for (std::size_t i = 0; has.code == G1_DONE && i < count; ++i) out[i] = g1_read(heap, mutator, object, from + Number(i)).first;
+    return has;
+}
+
+g1_answer g1_write_words(g1_heap* heap, std::uint32_t mutator, std::uint32_t object, std::uint32_t from, const std::uint64_t* in,
+                         std::size_t count) {
+    g1_answer has = has_words(heap, mutator, object, from, count);
+    for (std::size_t i = 0; has.code == G1_DONE && i < count; ++i) g1_write(heap, mutator, object, from + Number(i), in[i]);
+    return has;
+}
+
+g1_answer g1_new_filled(g1_heap* heap, std::uint32_t mutator, std::uint32_t to, const std::uint32_t* from, std::size_t pointers,
+                        const std::uint64_t* words, std::size_t values) {
+    if (!heap->live) return answer(G1_NO_HEAP);
+    if (pointers > UINT32_MAX || values > UINT32_MAX) return answer(G1_NO_STEP);
+    for (std::size_t i = 0; i < pointers; ++i)
+        if (from[i] == to || (from[i] != G1_NIL_REGISTER && !in(heap).has_register(from[i]))) return answer(G1_NO_STEP);
+    g1_answer made = g1_new_object(heap, mutator, to, Number(pointers), Number(values));
+    if (made.code != G1_NAME) return made;
+    for (std::size_t i = 0; i < pointers; ++i) g1_put(heap, mutator, to, Number(i), from[i]);
+    for (std::size_t i = 0; i < values; ++i) g1_write(heap, mutator, to, Number(i), words[i]);
+    return made;
+}
+
+g1_answer g1_move(g1_heap* heap, std::uint32_t mutator, std::uint32_t to, std::uint32_t from) {
+    return mutate(heap, mutator, to, from, [=](Heap& plain) { return plain.move(mutator, to, from); });
+}
+
+g1_answer g1_drop(g1_heap* heap, std::uint32_t mutator, std::uint32_t to) {
+    return mutate(heap, mutator, to, to, [=](Heap& plain) { return plain.drop(mutator, to); });
+}
+
+g1_answer g1_load(g1_heap* heap, std::uint32_t mutator, std::uint32_t to, std::uint32_t global) {
+    if (heap->live && !in(heap).has_global(global)) return answer(G1_NO_STEP);
+    return mutate(heap, mutator, to, to, [=](Heap& plain) { return plain.load(mutator, to, global); });
+}
+
+g1_answer g1_save(g1_heap* heap, std::uint32_t mutator, std::uint32_t global, std::uint32_t from) {
+    if (heap->live && !in(heap).has_global(global)) return answer(G1_NO_STEP);
+    return mutate(heap, mutator, from, from, [=](Heap& plain) { return plain.save(mutator, global, from); });
+}
+
+g1_answer g1_shape(g1_heap* heap, std::uint32_t mutator, std::uint32_t object) {
+    return mutate(heap, mutator, object, object, [=](Heap& plain) { return plain.shape(mutator, object); });
+}
+
+g1_answer g1_get_weak(g1_heap* heap, std::uint32_t mutator, std::uint32_t to, std::uint32_t object, std::uint32_t slot) {
+    return mutate(heap, mutator, to, object, [=](Heap& plain) { return plain.get_weak(mutator, to, object, slot); });
+}
+
+g1_answer g1_put_weak(g1_heap* heap, std::uint32_t mutator, std::uint32_t object, std::uint32_t slot, std::uint32_t from) {
+    if (from == G1_NIL_REGISTER)
+        return mutate(heap, mutator, object, object, [=](Heap& plain) { return plain.put_weak_nil(mutator, object, slot); });
+    return mutate(heap, mutator, object, from, [=](Heap& plain) { return plain.put_weak(mutator, object, slot, from); });
+}
+
+g1_answer g1_weaks(g1_heap* heap, std::uint32_t mutator, std::uint32_t object) {
+    return mutate(heap, mutator, object, object, [=](Heap& plain) { return plain.weaks(mutator, object); });
+}
+
+g1_answer g1_scope(g1_heap* heap, std::uint32_t mutator, std::uint32_t first) {
+    return mutate(heap, mutator, first, first, [=](Heap& plain) { return plain.scope(mutator, first); });
+}
+
+g1_answer g1_begin(g1_heap* heap) {
+    return collect(heap, [](Heap& plain) { return plain.begin(); });
+}
+
+g1_answer g1_mark(g1_heap* heap, std::uint32_t objects) {
+    g1_answer marked = collect(heap, [=](Heap& plain) { return plain.mark(objects); });
+    if (marked.code == G1_DONE) marked.code = G1_SCANNED;
+    return marked;
+}
+
+g1_answer g1_remark(g1_heap* heap) {
+    return collect(heap, [](Heap& plain) { return plain.remark(); });
+}
+
+g1_answer g1_cleanup(g1_heap* heap) {
+    return collect(heap, [](Heap& plain) { return plain.cleanup(); });
+}
+
+g1_answer g1_refine(g1_heap* heap, std::uint32_t cards) {
+    return collect(heap, [=](Heap& plain) { return plain.refine(cards); });
+}
+
+g1_answer g1_pause(g1_heap* heap, std::uint32_t words) {
+    return collect(heap, [=](Heap& plain) { return plain.pause(words); });
+}
+
+g1_answer g1_compact(g1_heap* heap, std::uint32_t words) {
+    return collect(heap, [=](Heap& plain) { return plain.compact(words); });
+}
+
+g1_answer g1_free_regions(const g1_heap* heap) {
+    return number(heap, [](const Heap& plain) { return plain.free_regions(); });
+}
+
+g1_answer g1_free_run(const g1_heap* heap) {
+    return number(heap, [](const Heap& plain) { return plain.free_run(); });
+}
+
+g1_answer g1_used_words(const g1_heap* heap) {
+    return number(heap, [](const Heap& plain) { return plain.used_words(); });
+}
+
+g1_answer g1_live_words(const g1_heap* heap) {
+    return number(heap, [](const Heap& plain) { return plain.live_words(); });
+}
+
+g1_answer g1_marking(const g1_heap* heap) {
+    return number(heap, [](const Heap& plain) { return plain.is_marking(); });
+}
+
+g1_answer g1_grey(const g1_heap* heap) {
+    return number(heap, [](const Heap& plain) { return plain.has_grey(); });
+}
+
+g1_answer g1_queued(const g1_heap* heap) {
+    return number(heap, [](const Heap& plain) { return plain.queued(); });
+}
+
+g1_answer g1_globals(const g1_heap* heap) {
+    return number(heap, [](const Heap& plain) { return plain.globals(); });
+}
+
+g1_answer g1_registers(const g1_heap* heap) {
+    return number(heap, [](const Heap& plain) { return plain.registers(); });
+}
+
+g1_answer g1_name(const g1_heap* heap, std::uint32_t mutator, std::uint32_t of) {
+    if (!heap->live) return answer(G1_NO_HEAP);
+    if (!in(heap).has_mutator(mutator) || !in(heap).has_register(of)) return answer(G1_NO_STEP);
+    return told(in(heap).name(mutator, of));
+}
+
+void g1_policy_start(g1_policy* policy, const g1_sizes* sizes) { policy_start(policy, sizes); }
+
+g1_answer g1_make(g1_heap* heap, g1_policy* policy, std::uint32_t mutator, std::uint32_t to, std::uint32_t pointers, std::uint32_t weaks,
+                  std::uint32_t values) {
+    if (!heap->live) return answer(G1_NO_HEAP);
+    if (weaks > largest_weaks || !in(heap).has_mutator(mutator) || !in(heap).has_register(to)) return answer(G1_NO_STEP);
+    g1_sizes sizes = sizes_of(in(heap));
+    policy_of of = policy_for(heap, policy, sizes);
+    Word size = Word(2) + pointers + weaks + values;
+    if (!policy_room(&of, mutator, size)) return answer(G1_FULL);
+    return weaks == 0 ? g1_new_object(heap, mutator, to, pointers, values) : g1_new_weak(heap, mutator, to, pointers, weaks, values);
+}
+
+g1_answer g1_collect(g1_heap* heap, g1_policy* policy) {
+    if (!heap->live) return answer(G1_NO_HEAP);
+    g1_sizes sizes = sizes_of(in(heap));
+    policy_of of = policy_for(heap, policy, sizes);
+    policy_due(&of);
+    return answer(G1_DONE);
+}
+
+g1_answer g1_collect_all(g1_heap* heap, g1_policy* policy) {
+    if (!heap->live) return answer(G1_NO_HEAP);
+    g1_sizes sizes = sizes_of(in(heap));
+    policy_of of = policy_for(heap, policy, sizes);
+    policy_whole(&of);
+    return answer(G1_DONE);
+}
+
+}  // extern "C"

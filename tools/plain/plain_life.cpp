@@ -1,0 +1,258 @@
+// plain_life: does the lines of a heap script in order on the plain heap, and prints all of the heap before the first and after each.
+//
+//   g++ -O2 -std=c++17 -o plain_life tools/plain/plain_life.cpp
+//   plain_life FILE [EVENT ..]      after these events alone, where some are named
+//
+// The lines are those that crates/heap_life/page/README.md describes, from `m` to `x`, with each region after each event, and with nothing
+// left out: all cards of the queue, all roots, all tiles, all fields. Beside that `d MUTATOR ADDRESS ..` is a deletion log, `t REGION
+// PREVIOUS NEXT` are the tops at mark start of a region in use, by address, and a field that leads to no object is `?` and its address. The
+// script has to be one: nothing is tested. It is what tools/check_page and tools/check_views compare with.
+
+#include <cstdio>
+#include <fstream>
+#include <set>
+#include <sstream>
+#include <string>
+#include <vector>
+
+#include "plain_heap.h"
+
+namespace {
+
+using namespace plain;
+
+Sizes read_sizes(const std::string& line) {
+    std::istringstream words(line);
+    std::string format;
+    Sizes sizes{};
+    words >> format >> sizes.regions >> sizes.words >> sizes.buffer >> sizes.mutators >> sizes.first_name;
+    sizes.card = 8, sizes.globals = 16, sizes.registers = 8;
+    if (format != "heap") words >> sizes.card;
+    if (format == "heap3") words >> sizes.globals >> sizes.registers;
+    return sizes;
+}
+
+// The number of a word, behind its letter where it has one.
+Word number(const std::string& word) {
+    return std::stoull(word[0] == 'r' || word[0] == 'g' ? word.substr(1) : word);
+}
+
+// A heap that is told as lines.
+class Told : public Heap {
+public:
+    explicit Told(const Sizes& sizes) : Heap(sizes) {}
+
+    void tell(unsigned long event, Word copied) const {
+        std::vector<bool> starts = object_starts();
+        tell_numbers(event, copied);
+        for (Number mutator = 0; mutator < sizes_.mutators; ++mutator)
+            if (const Buffer& buffer = buffers_[mutator]; buffer.next < buffer.end)
+                std::printf("b %u %u %u\n", mutator, buffer.next, buffer.end - buffer.next);
+        tell_cards();
+        tell_roots();
+        for (Number region = 0; region < sizes_.regions; ++region)
+            if (regions_[region].kind != Kind::Free)
+                std::printf("t %u %u %u\n", region, regions_[region].previous_start, regions_[region].next_start);
+        for (Number region = 0; region < sizes_.regions; ++region) tell_region(region, starts);
+    }
+
+private:
+    bool is_in_use(Number region) const { return regions_[region].kind == Kind::Ordinary || regions_[region].kind == Kind::First; }
+
+    // The bottom of what is behind the tiles that start in a region: a run's object ends in a later one.
+    Address end_of(Number region) const {
+        return regions_[region].kind == Kind::First ? bottom(region) + object_size(words_[bottom(region)]) : regions_[region].top;
+    }
+
+    template <class Visit>
+    void each_tile(Number region, Visit visit) const {
+        if (!is_in_use(region)) return;
+        for (Address at = bottom(region); at < end_of(region); at += tile_size(words_[at])) visit(at);
+    }
+
+    std::vector<bool> object_starts() const {
+        std::vector<bool> starts(heap_words_);
+        for (Number region = 0; region < sizes_.regions; ++region)
+            each_tile(region, [&](Address at) { starts[at] = is_object(words_[at]); });
+        return starts;
+    }
+
+    Number live_words(Number region) const {
+        if (regions_[region].kind == Kind::Ordinary) return live_bound(regions_[region]);
+        return regions_[region].kind == Kind::First && is_kept(bottom(region)) ? object_size(words_[bottom(region)]) : 0;
+    }
+
+    Number grey_count(Number region) const {
+        Number count = 0;
+        each_tile(region, [&](Address at) { count += grey_.has(at); });
+        return count;
+    }
+
+    void tell_numbers(unsigned long event, Word copied) const {
+        Word used = 0, live = 0, dirty = queue_count_, grey = 0;
+        for (Number region = 0; region < sizes_.regions; ++region) {
+            used += regions_[region].top - bottom(region);
+            live += live_words(region);
+            grey += grey_count(region);
+        }
+        for (Number count : card_log_counts_) dirty += count;
+        std::printf("m %lu %lu %lu %u %u %lu %lu %d %lu %lu ", event, used, live, free_count_, queue_count_, dirty, copied, marking_,
+                    marked_ - grey, next_name_);
+        if (current_ == no_region) std::printf("-\n");
+        else std::printf("%u\n", current_);
+    }
+
+    void tell_cards() const {
+        if (queue_count_ != 0) std::printf("q");
+        for (Number place = 0; place < queue_count_; ++place) std::printf(" %u", queue_[(queue_first_ + place) % queue_.size()]);
+        if (queue_count_ != 0) std::printf("\n");
+        for (Number mutator = 0; mutator < sizes_.mutators; ++mutator)
+            tell_log("l", mutator, &card_logs_[mutator * card_log_length], card_log_counts_[mutator]);
+        for (Number mutator = 0; mutator < sizes_.mutators; ++mutator)
+            tell_log("d", mutator, &deletion_logs_[mutator * deletion_log_length], deletion_log_counts_[mutator]);
+    }
+
+    void tell_log(const char* letter, Number mutator, const Number* log, Number count) const {
+        if (count == 0) return;
+        std::printf("%s %u", letter, mutator);
+        for (Number place = 0; place < count; ++place) std::printf(" %u", log[place]);
+        std::printf("\n");
+    }
+
+    void tell_roots() const {
+        Number place = 0;
+        auto tell_root = [&](Word pointer) {
+            if (pointer != 0) std::printf(" %u %lu", place, pointer - 1);
+            ++place;
+        };
+        std::printf("n");
+        for (Number number = 0; number < sizes_.globals; ++number) tell_root(roots_.global(number));
+        for (Number mutator = 0; mutator < sizes_.mutators; ++mutator)
+            for (Number number = 0; number < sizes_.registers; ++number) tell_root(roots_.reg(mutator, number));
+        std::printf("\n");
+    }
+
+    void tell_region(Number number, const std::vector<bool>& starts) const {
+        const Region& region = regions_[number];
+        std::printf("r %u ", number);
+        if (region.kind == Kind::Free) std::printf("f\n");
+        else if (region.kind == Kind::Rest) std::printf("t %u\n", region.top - bottom(number));
+        else tell_shares(number);
+        tell_set(number);
+        each_tile(number, [&](Address at) { tell_tile(at, at - bottom(number), starts); });
+    }
+
+    void tell_shares(Number number) const {
+        const Region& region = regions_[number];
+        Shares shares{};
+        each_tile(number, [&](Address at) { share_of(at, shares) += tile_size(words_[at]); });
+        std::printf("%c %u %u %u %u %u %u %u", region.kind == Kind::First ? 'h' : 'o', region.top - bottom(number), shares.marked,
+                    shares.dead, shares.fresh, shares.filler, live_words(number), region.previous_start - bottom(number));
+        if (marking_) std::printf(" %u %u", region.next_start - bottom(number), grey_count(number));
+        std::printf("\n");
+    }
+
+    void tell_set(Number number) const {
+        const RememberedSet& set = remembered_[number];
+        if (set.count == 0) return;
+        std::printf("s");
+        for (Number place = 0; place < set.count; ++place) std::printf(" %u", set.cards[place]);
+        std::printf(" ;");
+        for (Number source = 0; source < sizes_.regions; ++source)
+            if (sources_[number * source_stride(sizes_.regions) + (source >> 6)] >> (source & 63) & 1) std::printf(" %u", source);
+        std::printf("\n");
+    }
+
+    void tell_tile(Address at, Number offset, const std::vector<bool>& starts) const {
+        Word header = words_[at];
+        if (!is_object(header)) {
+            std::printf("x %u %u\n", offset, tile_size(header));
+            return;
+        }
+        Shares shares{};
+        share_of(at, shares) = 1;
+        std::printf("o %u %lu %s%s", offset, words_[at + 1], shares.marked ? "m" : shares.dead ? "d" : "n", progress(at));
+        Address field = at + 2, weaks = field + pointer_count(header), data = weaks + weak_count(header), end = at + object_size(header);
+        for (; field < weaks; ++field) tell_field(words_[field], starts);
+        std::printf(" ;");
+        for (; field < data; ++field) tell_field(words_[field], starts);
+        std::printf(" ;");
+        for (; field < end; ++field) std::printf(" %lu", words_[field]);
+        std::printf("\n");
+    }
+
+    const char* progress(Address at) const {
+        if (!marking_) return "";
+        if (at >= regions_[region_of(at)].next_start) return "n";
+        return !next_marks_.has(at) ? "u" : grey_.has(at) ? "g" : "s";
+    }
+
+    void tell_field(Word pointer, const std::vector<bool>& starts) const {
+        if (pointer == 0) std::printf(" -");
+        else if (starts[pointer - 1]) std::printf(" %lu", words_[pointer]);
+        else std::printf(" ?%lu", pointer - 1);
+    }
+};
+
+// Does a step of the collector, and answers how many words it copied.
+Word collect(Heap& heap, const std::vector<std::string>& words) {
+    const std::string& verb = words[1];
+    if (verb == "begin") heap.begin();
+    else if (verb == "mark") heap.mark(Number(number(words[2])));
+    else if (verb == "remark") heap.remark();
+    else if (verb == "cleanup") heap.cleanup();
+    else if (verb == "refine") heap.refine(Number(number(words[2])));
+    else if (verb == "pause") return heap.pause(Number(number(words[2]))).second;
+    else return heap.compact(Number(number(words[2]))).second;
+    return 0;
+}
+
+void mutate(Heap& heap, const std::vector<std::string>& words) {
+    Number mutator = Number(std::stoul(words[0]));
+    const std::string& verb = words[1];
+    bool is_nil = words.back() == "nil";
+    std::vector<Word> with;
+    for (std::size_t place = 2; place < words.size(); ++place)
+        with.push_back(words[place] == "nil" ? 0 : number(words[place]));
+    Number first = Number(with[0]), second = with.size() > 1 ? Number(with[1]) : 0, third = with.size() > 2 ? Number(with[2]) : 0;
+    if (verb == "new") heap.make(mutator, first, with[1], 0, with[2]);
+    else if (verb == "newweak") heap.make(mutator, first, with[1], with[2], with[3]);
+    else if (verb == "get") heap.get(mutator, first, second, third);
+    else if (verb == "put" && is_nil) heap.put_nil(mutator, first, second);
+    else if (verb == "put") heap.put(mutator, first, second, third);
+    else if (verb == "getweak") heap.get_weak(mutator, first, second, third);
+    else if (verb == "putweak" && is_nil) heap.put_weak_nil(mutator, first, second);
+    else if (verb == "putweak") heap.put_weak(mutator, first, second, third);
+    else if (verb == "write") heap.write(mutator, first, second, with[2]);
+    else if (verb == "move") heap.move(mutator, first, second);
+    else if (verb == "drop") heap.drop(mutator, first);
+    else if (verb == "load") heap.load(mutator, first, second);
+    else if (verb == "save") heap.save(mutator, first, second);
+    else if (verb == "scope") heap.scope(mutator, first);
+    // What is left only reads: read, shape, weaks.
+}
+
+}  // namespace
+
+int main(int count, char** arguments) {
+    if (count < 2) return 2;
+    std::set<unsigned long> asked;
+    for (int place = 2; place < count; ++place) asked.insert(std::stoul(arguments[place]));
+    std::ifstream file(arguments[1]);
+    std::string line;
+    std::getline(file, line);
+    Told heap(read_sizes(line));
+    Word copied = 0;
+    auto tell = [&](unsigned long event) {
+        if (asked.empty() || asked.count(event) != 0) heap.tell(event, copied);
+    };
+    tell(0);
+    for (unsigned long event = 1; std::getline(file, line); ++event) {
+        std::istringstream text(line);
+        std::vector<std::string> words;
+        for (std::string word; text >> word;) words.push_back(word);
+        if (words[0] == "gc") copied += collect(heap, words);
+        else mutate(heap, words);
+        tell(event);
+    }
+}

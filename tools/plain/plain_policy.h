@@ -1,0 +1,200 @@
+/* The policy of collection of crate `collection`, over the calls of g1heap.h and without proofs: for the plain heap, which stands in for
+   the proved one where the two are compared. C11 and C++17; plain_library.cpp includes it. */
+#ifndef PLAIN_POLICY_H
+#define PLAIN_POLICY_H
+
+#include "../../include/g1heap.h"
+
+static inline uint32_t policy_least(uint32_t one, uint32_t other) { return one < other ? one : other; }
+static inline uint32_t policy_most(uint32_t one, uint32_t other) { return one > other ? one : other; }
+static inline uint32_t policy_above(uint32_t one, uint32_t other) { return one > other ? one - other : 0; }
+static inline uint32_t policy_within(uint64_t number) { return number < UINT32_MAX ? (uint32_t)number : UINT32_MAX; }
+static inline uint32_t policy_free(const g1_heap *heap) { return (uint32_t)g1_free_regions(heap).first; }
+
+/* A heap with its policy, and what the policy can't read of the heap: its sizes, and a step that isn't taken but looked at. */
+typedef struct policy_of {
+    g1_heap *heap;
+    g1_policy *policy;
+    const g1_sizes *sizes;
+    int (*fits_open)(g1_heap *heap, uint32_t mutator, uint32_t size);
+    int (*has_run)(g1_heap *heap, uint32_t count);
+    int (*has_name)(g1_heap *heap);
+} policy_of;
+
+static inline void policy_start(g1_policy *policy, const g1_sizes *sizes)
+{
+    g1_policy start = {0, 0, 0, 0, 0, 0, 0, 0, 0, 0, 0, 0, 0, 0, 0, 0, 0, 0, 0, 0, 0, 0};
+    start.reserve = policy_most(3, sizes->regions / 24);
+    start.pause_words = 262144;
+    start.mark_objects = 32768;
+    start.cycle_words = policy_within((uint64_t)4 * policy_within((uint64_t)sizes->regions * sizes->words));
+    start.begin_at = start.reserve + sizes->regions / 8;
+    start.span = policy_most(1, sizes->regions / 4);
+    start.young_at = policy_above(sizes->regions, start.span);
+    *policy = start;
+}
+
+static inline g1_answer policy_pause(policy_of *of, uint32_t words)
+{
+    g1_answer moved = g1_pause(of->heap, words);
+    of->policy->pauses++, of->policy->copied += moved.first;
+    return moved;
+}
+/* A compaction of a region of words. Answers whether it took a region. */
+static inline int policy_compact(policy_of *of)
+{
+    g1_answer moved = g1_compact(of->heap, of->sizes->words);
+    of->policy->compactions++, of->policy->compacted += moved.first;
+    return moved.second != 0;
+}
+static inline void policy_remark(policy_of *of)
+{
+    g1_policy *policy = of->policy;
+    policy->marked = g1_remark(of->heap).first;
+    policy->cycles++, policy->scanned += policy->marked;
+}
+static inline void policy_plan_young(policy_of *of, uint32_t free)
+{
+    uint32_t way = policy_above(free, of->policy->begin_at) / 2;
+    of->policy->young = 0, of->policy->span = way;
+    of->policy->young_at = way <= of->sizes->regions / 64 ? 0 : free - way;
+}
+static inline void policy_plan_cycle(policy_of *of, uint32_t free)
+{
+    uint32_t room = policy_above(free, of->policy->reserve);
+    of->policy->wanted = 0;
+    of->policy->begin_at = room < 2 ? policy_above(free, 1)
+        : policy_within((uint64_t)of->policy->reserve + policy_least(room / 4, of->sizes->regions / 8));
+    policy_plan_young(of, free);
+}
+static inline void policy_pause_young(policy_of *of)
+{
+    g1_policy *policy = of->policy;
+    uint32_t before = policy_free(of->heap), after;
+    g1_answer moved;
+    if (policy->young == 0) {
+        if (before > policy->young_at) return;
+        policy->young = policy_most(1, policy->span), policy->gained = 0, policy->paid = 0;
+    }
+    moved = policy_pause(of, policy->pause_words), after = policy_free(of->heap);
+    policy->gained += policy_above(after, before), policy->paid += moved.first;
+    uint64_t worth = (uint64_t)policy->gained * of->sizes->words;
+    int is_cut_short = policy->pause_words <= 2 * moved.first;
+    if (moved.second != 0 && moved.second < policy->young && policy->paid <= worth && is_cut_short) {
+        policy->young -= moved.second;
+        return;
+    }
+    policy_plan_young(of, after);
+    if (policy->paid > worth) policy->young_at = 0;
+}
+static inline void policy_end(policy_of *of)
+{
+    uint64_t all = (uint64_t)of->sizes->regions * of->sizes->words, live;
+    uint32_t most;
+    policy_remark(of);
+    g1_cleanup(of->heap);
+    live = g1_live_words(of->heap).first;
+    most = (uint32_t)((all > live ? all - live : 0) / of->sizes->words);
+    of->policy->wanted = policy_most(1, policy_most(most - most / 4, policy_within((uint64_t)2 * of->policy->reserve)));
+}
+/* One pause of so many words at most. Answers whether it paid. */
+static inline int policy_evacuate_some(policy_of *of, uint32_t *left)
+{
+    g1_policy *policy = of->policy;
+    uint32_t before = policy_free(of->heap), after;
+    uint64_t words = of->sizes->words, live, used, more, all, budget, copied;
+    if (policy->wanted == 0 || *left == 0) return 0;
+    if (before >= policy->wanted) {
+        policy_plan_cycle(of, before);
+        return 0;
+    }
+    live = g1_live_words(of->heap).first, used = (of->sizes->regions - before) * words;
+    more = policy_above(policy->wanted, before) * words;
+    all = live != 0 && more > UINT64_MAX / live ? UINT64_MAX : more * live;
+    budget = used <= live ? *left : all / (used - live);
+    copied = policy_pause(of, budget < *left ? (uint32_t)budget : *left).first;
+    after = policy_free(of->heap);
+    *left = copied < *left ? *left - (uint32_t)copied : 0;
+    if (after > before && after < policy->wanted && (after <= policy->reserve || copied <= 4 * (after - before) * words)) return 1;
+    policy_plan_cycle(of, after);
+    return 0;
+}
+static inline void policy_evacuate(policy_of *of)
+{
+    uint32_t left = of->policy->pause_words;
+    while (policy_evacuate_some(of, &left)) {}
+}
+static inline void policy_begin(policy_of *of)
+{
+    g1_policy *policy = of->policy;
+    uint32_t free = policy_free(of->heap);
+    uint64_t objects, pace;
+    if (free > policy->begin_at && policy->asked < policy->cycle_words) return;
+    objects = policy->cycles == 0 ? g1_used_words(of->heap).first / 4 : policy->marked;
+    pace = 16 + objects * 3 / 2 / policy_most(1, policy_above(free, policy->reserve));
+    policy->pace = pace < policy->mark_objects ? (uint32_t)pace : policy->mark_objects, policy->asked = 0;
+    g1_begin(of->heap);
+    if (free <= policy->reserve) policy_end(of);
+}
+static inline void policy_due(policy_of *of)
+{
+    policy_pause_young(of);
+    if (g1_marking(of->heap).first == 1) {
+        g1_mark(of->heap, policy_least(of->policy->pace, of->policy->mark_objects));
+        if (policy_free(of->heap) <= of->policy->reserve || g1_grey(of->heap).first == 0) policy_end(of);
+    } else if (of->policy->wanted == 0) policy_begin(of);
+    policy_evacuate(of);
+}
+static inline void policy_pause_all(policy_of *of)
+{
+    for (uint32_t before, free = policy_free(of->heap); free < of->sizes->regions;) {
+        before = free, policy_pause(of, UINT32_MAX), free = policy_free(of->heap);
+        if (free <= before) return;
+    }
+}
+static inline void policy_whole(policy_of *of)
+{
+    if (g1_marking(of->heap).first == 1) policy_remark(of);
+    g1_begin(of->heap);
+    policy_remark(of);
+    g1_cleanup(of->heap);
+    policy_pause_all(of);
+}
+static inline int policy_spared(policy_of *of, uint32_t mutator, uint64_t size)
+{
+    uint32_t count = (uint32_t)((size + of->sizes->words - 1) / of->sizes->words), free = policy_free(of->heap);
+    if (2 * size <= of->sizes->words) return free > 2 || of->fits_open(of->heap, mutator, (uint32_t)size);
+    return count + 2 <= free && of->has_run(of->heap, count);
+}
+/* Whether an object that the heap would make may be made: where it may not, it is refused as Full. */
+static inline int policy_room(policy_of *of, uint32_t mutator, uint64_t size)
+{
+    g1_policy *policy = of->policy;
+    uint64_t taken = 2 * size <= of->sizes->words ? 1 : (size + of->sizes->words - 1) / of->sizes->words;
+    int due = size >= policy->left;
+    if (!due) {
+        policy->left -= (uint32_t)size;
+        if (size <= of->sizes->words / 2 && policy_free(of->heap) > 2) return 1;
+    }
+    if (size > (uint64_t)of->sizes->regions * of->sizes->words || !of->has_name(of->heap)) return 1;
+    if (due) {
+        policy->asked += policy->look + size;
+        policy->look = policy->left = of->sizes->words / 2;
+        policy_due(of);
+    }
+    if (policy_spared(of, mutator, size)) return 1;
+    if (g1_marking(of->heap).first == 1) policy_end(of);
+    if (policy->wanted != 0) policy_pause_all(of), policy_plan_cycle(of, policy_free(of->heap));
+    if (policy_spared(of, mutator, size)) return 1;
+    policy_whole(of);
+    policy_plan_cycle(of, policy_free(of->heap));
+    if (policy_spared(of, mutator, size)) return 1;
+    if (2 * size > of->sizes->words) {
+        while (policy_compact(of))
+            if (policy_spared(of, mutator, size)) return 1;
+        if (policy_spared(of, mutator, size)) return 1;
+    }
+    return taken + 2 >= of->sizes->regions;
+}
+
+#endif
