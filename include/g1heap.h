@@ -257,8 +257,8 @@ g1_answer g1_name(const g1_heap *heap, uint32_t mutator, uint32_t of);
    stay free. Before that comes a whole collection: a marking from begin to remark with nothing between, a cleanup, and pauses for as long
    as each frees a region; and for an object of more than half a region compactions, until one of them takes no region. G1_FULL comes only
    after that, and then it is proved:
-   - for an object of at most half a region that 2 regions are free, each larger object that is left is reachable, and so is more than half
-     of the words of the other regions, if these are two or more;
+   - for an object of at most half a region, if 2 regions were free before, that 2 are free, each larger object that is left is reachable,
+     and reachable objects have more than half of the words of all regions but 3;
    - for a larger one, which takes whole regions, that too few free ones lie side by side, or fewer than 2 would stay free; and that from
      the lowest free region on nothing but reachable objects of more than half a region parts the free ones, if 2 were free before.
    Each G1_FULL costs a whole collection: what is dropped isn't seen here, so the next g1_make has to look again. docs/SPACE.md has the

@@ -1,7 +1,8 @@
 -- Whether a heap has regions enough, of one configuration and the same.
-use Rattle.std.proofs.Common.{◌≡◌, ◌+◌, ◌⊎◌}
+use Rattle.std.proofs.Common.{◌≡◌, ◌+◌, ◌*◌, ◌≤◌, ◌⊎◌}
 use Rattle.std.proofs.Common.{ℕ, Bool, true, false, inl, inr, sym, ap, subst, arith}
-use Rattle.std.proofs.lemmas.Bool.{cases_lt}
+use Rattle.std.specs.Prelude.{if◌then◌else◌}
+use Rattle.std.proofs.lemmas.Bool.{cases_lt, le-leb}
 use Rattle.heap_words.specs.declared.config.Config.{Config}
 use Rattle.heap_steps.specs.Actors.{IsThird}
 use Rattle.heap_steps.specs.declared.step.Action.{Action}
@@ -9,6 +10,7 @@ use Rattle.heap_steps.specs.declared.step.Op.{Op}
 use Rattle.object_graph.specs.State.{State}
 use Rattle.step_core.specs.Stands.{CoreState, Stands}
 use Rattle.heap_steps.specs.declared.step.Event.{Event}
+use Rattle.alloc_buffers.specs.Placement.{run_count}
 use Rattle.collection.specs.Steps.{Collects, LeavesTwo, asked_words, regions_for}
 use Rattle.collection.specs.Rooms.{IsFilled, IsLast, IsSpared}
 use Rattle.collection.proofs.Reached.{packed_at_before, then_cleared}
@@ -25,6 +27,13 @@ leaves_still k l a e not = elim (cases_lt (regions_for k.words (asked_words a) +
   | inl h ↦ subst (λ (x : Config). LeavesTwo x a) e h
   | inr h ↦ absurd (not (λ f. absurd (omega (arith, f, h))))
 ]
+
+-- beside a region for an object of at most half of it two are left in heaps of four regions or more
+pub leaves_four : (k : Config) (a : Action) → 2 * asked_words a ≤ k.words → LeavesTwo k a → 4 ≤ k.regions
+leaves_four k a small leaves =
+    let one : regions_for k.words (asked_words a) ≡ 1 =
+    ap (λ (b : Bool). if b then 1 else run_count k.words (asked_words a)) (le-leb (2 * asked_words a) k.words small) in
+    omega (arith, one, leaves)
 
 -- what a last part of the work came to, after other steps
 module _ {W : Type 0} (sees : W → Event → W → Type 0) (m : ℕ) (c d : CoreState) (x y : W) (before : Collects sees m c x d y) where

@@ -1,6 +1,7 @@
 pub mod Choice
 pub mod Sums
 pub mod Bound
+pub mod Wide
 pub mod Names
 pub mod Exact
 pub mod Paused

@@ -1,12 +1,12 @@
 -- What a pause leaves that frees no region.
-use Rattle.std.proofs.Common.{◌≡◌, ◌+◌, ◌*◌, ◌/◌, ◌<◌, ◌≤◌, ◌∷◌, ◌∙◌, ◌^◌}
+use Rattle.std.proofs.Common.{◌≡◌, ◌≢◌, ◌+◌, ◌-◌, ◌*◌, ◌/◌, ◌<◌, ◌≤◌, ◌⊎◌, ◌∷◌, ◌∙◌, ◌^◌}
 use Rattle.std.proofs.Common.{ℕ, true, false, List, [], Some, length, All, inl, inr, refl, sym, ap, subst, arith}
 use Rattle.std.specs.Prelude.{slice_get}
-use Rattle.std.proofs.lemmas.Bool.{cases_Bool}
+use Rattle.std.proofs.lemmas.Bool.{cases_Bool, cases_eq, cases_lt}
 use Rattle.std.proofs.lemmas.Nat.{mul-le}
 use Rattle.std.proofs.lemmas.List.Elements.{All-head, All-take}
 use Rattle.std.proofs.lemmas.List.Sums.{sum_by-cons, count_by-le-length}
-use Rattle.regions.specs.Table.{Table, is_free, kind_of, free_count}
+use Rattle.regions.specs.Table.{Table, is_free, kind_of, nth_region, free_count}
 use Rattle.regions.specs.Shaped.{IsShaped}
 use Rattle.regions.specs.declared.row.Kind.{Kind}
 use Rattle.regions.specs.declared.row.Kind.TheVariants as kinds
@@ -16,17 +16,18 @@ use Rattle.evacuation.specs.Evacuates.{is_chosen, RegionsAfter}
 use Rattle.evacuation.proofs.WholePause.Asked.{found, get_is}
 use Rattle.heap_model.specs.Graph.{Graph}
 use Rattle.object_graph.specs.State.{State}
-use Rattle.step_core.specs.Stands.{CoreState, IsCore, Stands}
+use Rattle.step_core.specs.Stands.{CoreState, IsCore, Stands, kept_of}
 use Rattle.step_core.specs.Measures.{sum_below}
 use Rattle.step_core.specs.declared.candidates.Choice.{Choice}
 use Rattle.step_core.specs.declared.candidates.Choice.TheVariants as choices
 use Rattle.step_core.specs.Pause.{HasMoved, HasPaused, IsRowOf}
 use Rattle.step_core.proofs.Pauses.Chosen.{set_moves}
-use Rattle.collection.specs.Space.{run_one, run_count, ordinary_count, kept_sum, IsQuiet, IsPacked}
+use Rattle.collection.specs.Space.{run_one, run_count, ordinary_count, kept_sum, AreReachable, FillHalf, IsQuiet, IsPacked}
 use Rattle.collection.proofs.Sums.{sum_same}
 use Rattle.collection.proofs.Counts.{Taken, two_stay, same_stay, count_all}
 use Rattle.collection.proofs.Bound.{half_kept}
-use Rattle.collection.proofs.Names.{reachable}
+use Rattle.collection.proofs.Names.{reachable, named_size, total, in_ordinary, ordinary_kept, ordinary_small, ordinary_total, all_total}
+use Rattle.collection.proofs.Wide.{wide_below, first_words}
 use Rattle.collection.proofs.Paused as paused
 use Rattle.collection.proofs.Runs.{paused_runs}
 
@@ -55,6 +56,30 @@ half_small t budget shape h =
 
 free_run : run_one kinds.Free ≡ 0
 free_run = refl
+
+-- runs that objects have more than half of, and ordinary regions of which more than half is kept, if these are two or more
+runs_alone : (runs words firsts : ℕ) → 0 < runs → (runs ≡ 0) ⊎ (runs * words < 2 * firsts) → runs * words < 2 * firsts
+runs_alone runs words firsts some (inl none) = absurd (omega (arith, some, none))
+runs_alone runs words firsts some (inr half) = half
+
+mixed : (ordinary runs words kept firsts : ℕ) → ordinary ≢ 1 → 0 < ordinary + runs
+    → (2 ≤ ordinary → ordinary * words < 2 * kept) → (runs ≡ 0) ⊎ (runs * words < 2 * firsts)
+    → (ordinary + runs) * words < 2 * (kept + firsts)
+mixed ordinary runs words kept firsts ne some half wide =
+    let e : (ordinary + runs) * words ≡ ordinary * words + runs * words = omega arith in
+    elim (cases_lt 1 ordinary) [
+      | inl two ↦
+          (let h = half (omega (arith, two)) in
+          elim wide [
+            | inl none ↦ (let z = ap (λ (m : ℕ). m * words) none in omega (arith, e, h, z))
+            | inr over ↦ omega (arith, e, h, over)
+          ])
+      | inr few ↦
+          (let none : ordinary ≡ 0 = omega (arith, few, ne) in
+          let z = ap (λ (m : ℕ). m * words) none in
+          let over = runs_alone runs words firsts (omega (arith, some, none)) wide in
+          omega (arith, e, z, over))
+    ]
 
 -- ---- a pause or a compaction
 module _ (which : Choice) (budget n w : ℕ) (c c' : CoreState) (shape : IsShaped c.table) (p : HasMoved which budget n w c c') where
@@ -164,6 +189,23 @@ module _ (budget n w : ℕ) (c c' : CoreState) (core : IsCore c) (shape : IsShap
       sum_same (λ k. run_one (kind_of t' k)) (λ k. run_one (kind_of t k)) (length t'.regions) (λ k h. run_each k)
       ∙ ap (sum_below (λ k. run_one (kind_of t k))) regions.count
 
+  abbrev first_sum : ℕ
+  first_sum = sum_below (λ k. first_words (nth_region t k)) (length t.regions)
+
+  wide_runs : (run_count t ≡ 0) ⊎ (run_count t * words < 2 * first_sum)
+  wide_runs = wide_below t shape core.layers.wide (length t.regions) (length t.regions) (omega arith)
+
+  -- all that is kept is reachable
+  fills : (s : State) → IsQuiet s c → (m : ℕ) → m * words < 2 * (kept_sum c + first_sum) → FillHalf s.graph c' m
+  fills s q m half = record {
+    words = total (kept_of c) 0 (length t.regions * words);
+    reachable = reachable c s.graph q.stands.shows.shows q.reached (kept_of c) (λ a x e. e);
+    half =
+        (let a = all_total c shape q.runs in
+        let b = ap (λ (k : ℕ). m * k) regions.size in
+        omega (arith, half, a, b));
+  }
+
   pub packed : (s : State) → IsQuiet s c → 2 ≤ free_count t → free_count t' ≤ free_count t → free_count t' ≤ 2
       → free_count t * words / 2 ≤ budget → IsPacked s.graph c'
   packed s q two gain few enough =
@@ -174,15 +216,56 @@ module _ (budget n w : ℕ) (c c' : CoreState) (core : IsCore c) (shape : IsShap
       let d = runs_same in
       let e = regions.count in
       let ordinary : ordinary_count t' ≡ ordinary_count t = omega (arith, same, a, b, d, e) in
+      let kept = half_kept budget n w c c' p q.exact shape.positive two gain enough in
       record {
-        words = kept_sum c;
-        reachable = reachable c s.graph q.stands.shows.shows q.reached;
+        words = total (in_ordinary c) 0 (length t.regions * words);
+        reachable = reachable c s.graph q.stands.shows.shows q.reached (in_ordinary c) (ordinary_kept c);
+        small = λ i k e.
+            let (at, x, is, size) = named_size c s.graph q.stands.shows.shows q.reached (in_ordinary c) (ordinary_kept c) i k e in
+            let le = ordinary_small c core.layers.halves at x is in
+            let f = regions.size in
+            omega (arith, le, size, f);
         half = λ some.
-            (let h = half_kept budget n w c c' p q.exact shape.positive two gain enough (omega (arith, some, ordinary)) in
+            (let h = kept (omega (arith, some, ordinary)) in
             let i = ap (λ (m : ℕ). ordinary_count t' * m) regions.size in
             let j = ap (λ (m : ℕ). m * words) ordinary in
-            omega (arith, h, i, j));
+            let k = ordinary_total c in
+            omega (arith, h, i, j, k));
+        in_use = λ ne some. fills s q (ordinary_count t' + run_count t')
+            (let h = mixed (ordinary_count t) (run_count t) words (kept_sum c) first_sum (omega (arith, ne, ordinary))
+            (omega (arith, some, ordinary, d)) kept wide_runs in
+            let same : ordinary_count t' + run_count t' ≡ ordinary_count t + run_count t = omega (arith, ordinary, d) in
+            let i = ap (λ (m : ℕ). m * words) same in
+            omega (arith, h, i));
+        in_runs = λ one some. fills s q (run_count t')
+            (let h = runs_alone (run_count t) words first_sum (omega (arith, some, d)) wide_runs in
+            let i = ap (λ (m : ℕ). m * words) d in
+            omega (arith, h, i));
       }
+
+-- fewer regions are half full too
+fewer_filled : (g : Graph) (c : CoreState) (m n : ℕ) → m ≤ n → FillHalf g c n → FillHalf g c m
+fewer_filled g c m n le f = record {
+  words = f.words;
+  reachable = f.reachable;
+  half = (let a = f.half in
+      let b = mul-le m c.table.words_per_region n c.table.words_per_region le (omega arith) in
+      omega (arith, a, b));
+}
+
+-- where two of four regions or more are free
+module _ (g : Graph) (c : CoreState) (p : IsPacked g c)
+    (counts : ordinary_count c.table + run_count c.table + 2 ≡ c.config.regions) (four : 4 ≤ c.config.regions) where
+  pub but_two : ordinary_count c.table ≢ 1 → FillHalf g c (c.config.regions - 2)
+  but_two ne = fewer_filled g c (c.config.regions - 2) (ordinary_count c.table + run_count c.table) (omega (arith, counts))
+      (p.in_use ne (omega (arith, counts, four)))
+
+  pub but_three : FillHalf g c (c.config.regions - 3)
+  but_three = elim (cases_eq (ordinary_count c.table) 1) [
+    | inl one ↦ fewer_filled g c (c.config.regions - 3) (run_count c.table) (omega (arith, counts, one))
+        (p.in_runs one (omega (arith, counts, four, one)))
+    | inr ne ↦ fewer_filled g c (c.config.regions - 3) (c.config.regions - 2) (omega arith) (but_two ne)
+  ]
 
 -- where all regions are free there is nothing to be reachable
 pub all_free : (g : Graph) (c : CoreState) → IsCore c → c.config.regions ≤ free_count c.table → IsPacked g c
@@ -194,7 +277,10 @@ all_free g c core all = record {
     each = λ i n e. absurd (no_name i n e);
     total = refl;
   };
+  small = λ i n e. absurd (no_name i n e);
   half = λ some. absurd (let a = count_all c.table in let b = core.layers.region_count in omega (arith, a, b, all, some));
+  in_use = λ ne some. absurd (let a = count_all c.table in let b = core.layers.region_count in omega (arith, a, b, all, some));
+  in_runs = λ one some. absurd (let a = count_all c.table in let b = core.layers.region_count in omega (arith, a, b, all, some));
 }
   where
     no_name : (i n : ℕ) → slice_get (let none : List ℕ = [] in none) i ≡ Some n → ⊥

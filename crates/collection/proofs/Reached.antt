@@ -1,5 +1,5 @@
 -- What a graph whose weak slots are cleared reaches, the graph before reached too.
-use Rattle.std.proofs.Common.{◌≡◌, ◌∷◌, ◌∙◌, ℕ, List, [], Option, Some, None, length, refl, sym, ap, subst, arith}
+use Rattle.std.proofs.Common.{◌≡◌, ◌+◌, ◌-◌, ◌∷◌, ◌∙◌, ℕ, List, [], Option, Some, None, length, refl, sym, ap, subst, arith}
 use Rattle.heap_model.specs.Graph.{Graph, Object, object_named}
 use Rattle.heap_model.specs.Weak.{Clears, IsClearedSlot}
 use Rattle.heap_model.proofs.Cleared.{cleared_named, cleared_named_back, reach_back}
@@ -7,7 +7,7 @@ use Rattle.step_core.specs.Stands.{CoreState}
 use Rattle.step_core.specs.Pause.{words_of, named_words}
 use Rattle.step_core.proofs.Mutating.Reading.{AllZip-length}
 use Rattle.object_graph.specs.Run.{ClearsBy}
-use Rattle.collection.specs.Space.{HasReached, IsPacked, IsPackedAt}
+use Rattle.collection.specs.Space.{AreReachable, FillHalf, HasReached, IsPacked, IsPackedAt, ordinary_count, run_count}
 
 pub none_cleared : (g : Graph) → HasReached g g
 none_cleared g = record { back = λ n r. r; words = λ n. refl }
@@ -43,16 +43,26 @@ same_words g g' h [] = refl
 same_words g g' h (n ∷ ns) = let a = h.words n in let b = same_words g g' h ns in omega (arith, a, b)
 
 -- so what fills a core was reached before
+reachable_before : (g g' : Graph) (words : ℕ) → HasReached g g' → AreReachable g' words → AreReachable g words
+reachable_before g g' words h r = record {
+  names = r.names;
+  distinct = r.distinct;
+  each = λ i n e. h.back n (r.each i n e);
+  total = same_words g g' h r.names ∙ r.total;
+}
+
+fill_before : (g g' : Graph) (c : CoreState) (regions : ℕ) → HasReached g g' → FillHalf g' c regions → FillHalf g c regions
+fill_before g g' c regions h f = record { words = f.words; reachable = reachable_before g g' f.words h f.reachable; half = f.half }
+
 pub packed_before : (g g' : Graph) (c : CoreState) → HasReached g g' → IsPacked g' c → IsPacked g c
+unfolding reachable_before
 packed_before g g' c h p = record {
   words = p.words;
-  reachable = record {
-    names = p.reachable.names;
-    distinct = p.reachable.distinct;
-    each = λ i n e. h.back n (p.reachable.each i n e);
-    total = same_words g g' h p.reachable.names ∙ p.reachable.total;
-  };
+  reachable = reachable_before g g' p.words h p.reachable;
+  small = λ i n e. let a = p.small i n e in let b = h.words n in omega (arith, a, b);
   half = p.half;
+  in_use = λ ne some. fill_before g g' c (ordinary_count c.table + run_count c.table) h (p.in_use ne some);
+  in_runs = λ one some. fill_before g g' c (run_count c.table) h (p.in_runs one some);
 }
 
 pub packed_at_before : (g g' : Graph) (c : CoreState) → HasReached g g' → IsPackedAt g' c → IsPackedAt g c
@@ -60,5 +70,7 @@ packed_at_before g g' c h p = record {
   packed = packed_before g g' c h p.packed;
   free = p.free;
   regions = p.regions;
+  all_but_three = fill_before g g' c (c.config.regions - 3) h p.all_but_three;
+  all_but_two = λ ne. fill_before g g' c (c.config.regions - 2) h (p.all_but_two ne);
   runs = λ k e. let (x, is, reach) = p.runs k e in (x, is, h.back x.name reach);
 }

@@ -1,5 +1,5 @@
 -- What is left where a pause frees no region.
-use Rattle.std.specs.Prelude.{◌≡◌, ◌≢◌, ℕ, zero, suc, ◌+◌, ◌*◌, ◌/◌, ◌<◌, ◌≤◌, Bool, true, false, if◌then◌else◌, All, List, Some, None}
+use Rattle.std.specs.Prelude.{◌≡◌, ◌≢◌, ℕ, zero, suc, ◌+◌, ◌-◌, ◌*◌, ◌/◌, ◌<◌, ◌≤◌, Bool, true, false, if◌then◌else◌, All, List, Some, None}
 use Rattle.std.specs.Prelude.{length, slice_get}
 use Rattle.heap_model.specs.Graph.{Graph, IsReachable, object_named}
 use Rattle.regions.specs.Table.{Table, free_count, kind_of}
@@ -99,17 +99,31 @@ pub record IsQuiet (s : State) (c : CoreState) : Type 0 where
   pub reached : (a : ℕ) (x : Stored) → kept_of c a ≡ Some x → IsReachable s.graph x.name
   pub runs : (k : ℕ) → kind_of c.table k ≡ kinds.First → kept_of c (k * c.table.words_per_region) ≢ None
 
--- Distinct objects that roots reach have more than half of the words of all ordinary regions, if these are two or more
+-- distinct objects that roots reach have more than half of the words of so many regions
+pub record FillHalf (g : Graph) (c : CoreState) (regions : ℕ) : Type 0 where
+  pub words : ℕ
+  pub reachable : AreReachable g words
+  pub half : regions * c.table.words_per_region < 2 * words
+
+-- Distinct objects that roots reach, none larger than half a region, have more than half of the words of all ordinary regions, if these are
+-- two or more; and with humongous ones among them of all regions in use. If just one region is ordinary, they do of all others in use
 pub record IsPacked (g : Graph) (c : CoreState) : Type 0 where
   pub words : ℕ
   pub reachable : AreReachable g words
+  pub small : (i n : ℕ) → slice_get reachable.names i ≡ Some n → 2 * named_words (object_named g n) ≤ c.table.words_per_region
   pub half : 2 ≤ ordinary_count c.table → ordinary_count c.table * c.table.words_per_region < 2 * words
+  pub in_use : ordinary_count c.table ≢ 1 → 0 < ordinary_count c.table + run_count c.table
+      → FillHalf g c (ordinary_count c.table + run_count c.table)
+  pub in_runs : ordinary_count c.table ≡ 1 → 0 < run_count c.table → FillHalf g c (run_count c.table)
 
--- Two regions are free; the others are those of humongous objects, which roots reach, and ordinary ones, which are more than half reachable
+-- Two regions are free, and distinct objects that roots reach, humongous ones among them, have more than half of the words of all regions
+-- but three; of all but two, unless just one region is ordinary. Each humongous object is one that roots reach
 pub record IsPackedAt (g : Graph) (c : CoreState) : Type 0 where
   pub packed : IsPacked g c
   pub free : free_count c.table ≡ 2
   pub regions : ordinary_count c.table + run_count c.table + 2 ≡ c.config.regions
+  pub all_but_three : FillHalf g c (c.config.regions - 3)
+  pub all_but_two : ordinary_count c.table ≢ 1 → FillHalf g c (c.config.regions - 2)
   pub runs : (k : ℕ) → kind_of c.table k ≡ kinds.First
       → (x : Stored) × (kept_of c (k * c.table.words_per_region) ≡ Some x) × IsReachable g x.name
 

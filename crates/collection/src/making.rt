@@ -175,7 +175,7 @@ fn make_looking<W: Watch>(
 
 /// Makes an object, with the steps of the collector that are due before it. Like any step that makes one it may be refused; as Full only
 /// after a whole collection. If the heap has regions enough to leave two beside the object, then one of at most half a region is refused as
-/// Full only where two regions are free and more than half of the words of the ordinary regions are reachable, if these are two or more;
+/// Full only where two regions are free, if two were so before, and what roots reach has more than half of the words of all but three;
 /// and a larger one where there is no run of free regions for it, or fewer than two are free beside it. In the third format compactions
 /// come before that, so that from the lowest free region on only objects which roots reach part the free ones. Two regions that were free
 /// stay free then.

@@ -5,4 +5,5 @@ pub mod Highest
 pub mod Refined
 pub mod Ready
 pub mod CopiedNames
+pub mod Wide
 pub mod Pausing

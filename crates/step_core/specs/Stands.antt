@@ -10,7 +10,8 @@ use Rattle.heap_model.specs.Marking.{Marking, KeepsSnapshot}
 use Rattle.heap_model.specs.Weak.{KeepsUnreached}
 use Rattle.regions.specs.Tiles as tiles
 use Rattle.regions.specs.Tiles.{tile_size}
-use Rattle.regions.specs.Table.{Table, object_at, HasNoForwarded, AreHalves}
+use Rattle.regions.specs.Table.{Table, object_at, kind_of, HasNoForwarded, AreHalves}
+use Rattle.regions.specs.declared.row.Kind.TheVariants as kinds
 use Rattle.regions.specs.Shaped.{AreInUse}
 use Rattle.alloc_buffers.specs.Placement.{Buffers, BuffersStand, AreAbove}
 use Rattle.mark_bitmap.specs.Kept.{kept_in}
@@ -104,9 +105,14 @@ pub record IsWhole (g : Graph) (c : CoreState) : Type 0 where
   pub once : (n : ℕ) → IsReachable g n → StandsOnce g (heap_of c) n
   pub in_use : (a : ℕ) (s : Stored) → kept_of c a ≡ Some s → AreInUse c.table a (tile_size (tiles.Object s))
 
+-- each object that has a run of regions has more than half of a region's words
+abbrev pub AreWide : Table → Type 0
+AreWide t = (a : ℕ) (object : Stored) → object_at t a ≡ Some object → kind_of t (a / t.words_per_region) ≡ kinds.First
+    → t.words_per_region < 2 * tile_size (tiles.Object object)
+
 -- The layers below fit one another: they have the sizes of the configuration, open buffers are fillers of the table,
 -- nothing has moved, what is still to be handed out lies at or above both tops at mark start, and no deletion log is full. Objects
--- of ordinary regions have at most half a region's words
+-- of ordinary regions have at most half a region's words, and those of runs more
 pub record LayersFit (config : Config) (t : Table) (b : Buffers) (m : Marker) : Type 0 where
   pub region_size : t.words_per_region ≡ config.words
   pub region_count : length t.regions ≡ config.regions
@@ -120,6 +126,7 @@ pub record LayersFit (config : Config) (t : Table) (b : Buffers) (m : Marker) : 
   pub above_next : AreAbove t b (slice_index m.tams.next)
   pub room : (mutator : ℕ) → length (log_of m.logs mutator) < 8
   pub halves : AreHalves t
+  pub wide : AreWide t
 
 -- a region is a whole number of cards, and each mutator has a card log, each region a set
 pub record CardsFit (config : Config) (cards : Cards) (sets : Sets) : Type 0 where

@@ -19,7 +19,7 @@ use Rattle.alloc_buffers.specs.Placement.{Buffers, BuffersStand, AreAbove, IsAbo
 use Rattle.alloc_buffers.proofs.Above.{above_same}
 use Rattle.alloc_buffers.proofs.Runs.{takes, no_tile, run_stands, run_above}
 use Rattle.regions.proofs.Tiles.ShapedMade.{first_object}
-use Rattle.regions.proofs.LongRuns.Blocks.{kind_is}
+use Rattle.regions.proofs.LongRuns.Blocks.{kind_is, first_no_filler}
 use Rattle.regions.proofs.Tiles.Released.{row_within}
 use Rattle.std.proofs.lemmas.List.{length-replicate}
 
@@ -120,6 +120,7 @@ pub record Creates (t t' : Table) (b b' : Buffers) (a : ℕ) (x : Stored) : Type
   pub region_count : length t'.regions ≡ length t.regions
   pub kinds_stay : (j : ℕ) → kind_of t j ≢ kinds.Free → kind_of t' j ≡ kind_of t j
   pub half : kind_of t' (a / t.words_per_region) ≡ kinds.Ordinary → 2 * tile_size (Object x) ≤ t.words_per_region
+  pub wide : kind_of t' (a / t.words_per_region) ≡ kinds.First → t.words_per_region < 2 * tile_size (Object x)
   pub stand : BuffersStand t' b'
   pub open_count : length b'.open_buffers ≡ length b.open_buffers
   pub words : b'.words ≡ b.words
@@ -143,6 +144,8 @@ creates_small t t1 b b1 a n name p weak d z fitting half placed size =
       kinds_stay = λ j used. w.kinds j ∙ placed.kinds_stay j used;
       half = λ o.
           omega (arith, length-replicate {A = Option ℕ} p None, length-replicate {A = Option ℕ} weak None, length-replicate {A = ℕ} d 0);
+      wide = λ f. absurd (first_no_filler t1 a n
+          (ap (λ (r : ℕ). kind_of t1 (a / r)) placed.region_size ∙ sym (w.kinds (a / t.words_per_region)) ∙ f) placed.filler);
       stand = w.stand;
       open_count = placed.open_count;
       words = placed.words;
@@ -150,9 +153,9 @@ creates_small t t1 b b1 a n name p weak d z fitting half placed size =
     }
 
 creates_run : (t : Table) (b : Buffers) (n k count : ℕ) (x : Stored) → IsShaped t → HasNoForwarded t
-    → BuffersStand t b → IsRunFor t n k count
+    → BuffersStand t b → IsRunFor t n k count → t.words_per_region < 2 * tile_size (Object x)
     → Creates t (with_regions t k count (run_regions t.words_per_region x count)) b b (k * t.words_per_region) x
-creates_run t b n k count x shaped none stand run =
+creates_run t b n k count x shaped none stand run over =
     let t2 : Table = with_regions t k count (run_regions t.words_per_region x count) in
     let w = takes t k count x shaped run.positive run.lowest in
     record {
@@ -175,6 +178,7 @@ creates_run t b n k count x shaped none stand run =
           let first : kind_of t2 (k * t.words_per_region / t.words_per_region) ≡ kinds.First =
           ap (kind_of t2) at ∙ kind_is t2 k (First x) w.first in
           let no : kinds.First ≡ kinds.Ordinary = sym first ∙ o in cc);
+      wide = λ f. over;
       stand = run_stands t k count x shaped run.positive run.lowest b stand;
       open_count = refl;
       words = refl;
@@ -193,4 +197,13 @@ creates t t1 b b1 (places.Run k count) n name p weak d shaped z fitting none sta
     (k * u.words_per_region) (new_object name p weak d)) (sym is.1.table)
     (subst (λ (c : Buffers). Creates t (with_regions t k count (run_regions t.words_per_region (new_object name p weak d) count)) b c
     (k * t.words_per_region) (new_object name p weak d)) (sym is.1.buffers)
-    (creates_run t b n k count (new_object name p weak d) shaped none stand is.1.run))
+    (creates_run t b n k count (new_object name p weak d) shaped none stand is.1.run
+    (let over = is.0 in
+    omega (
+      arith,
+      over,
+      size,
+      length-replicate {A = Option ℕ} p None,
+      length-replicate {A = Option ℕ} weak None,
+      length-replicate {A = ℕ} d 0,
+    ))))

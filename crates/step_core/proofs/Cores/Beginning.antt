@@ -140,6 +140,7 @@ first_is g m d r stand suits to rows names idle logs stands =
             λ k. let none = ap (λ (ls : List (List ℕ)). length (log_of ls k)) logs ∙ ap (λ (l : List ℕ). length l) (no_logs g.mutators k) in
             omega arith;
         halves = λ a x e o. absurd (let none = nothing_at g.regions g.words a in cc);
+        wide = λ a x e o. absurd (let none = nothing_at g.regions g.words a in cc);
       };
       cards = first_cards g suits;
       remembers = remembers_none (first_core g m d r).table.words_per_region (card_words g) (kept_of (first_core g m d r))

@@ -7,10 +7,11 @@ use Rattle.heap_words.specs.declared.config.Config.{Config}
 use Rattle.regions.specs.Table.{Table, object_at, object_words, top_of}
 use Rattle.regions.specs.Tiles.{Object, tile_size}
 use Rattle.regions.proofs.Tiles.Changes.{WritesObject, object_same}
-use Rattle.step_core.proofs.Mutating.Small.{halves_same, words_written}
+use Rattle.step_core.proofs.Mutating.Small.{IsHalf, IsOver, sizes_same, words_written}
 use Rattle.alloc_buffers.specs.Placement.{Buffers, AreAbove}
 use Rattle.alloc_buffers.proofs.Above.{above_same}
 use Rattle.satb_log.specs.Logs.{log_of}
+use Rattle.regions.specs.declared.row.Kind.TheVariants as kinds
 use Rattle.marker.specs.Stands.{MarkerStands, CanFollow}
 use Rattle.marker.specs.declared.marker.Marker.{Marker}
 use Rattle.marker.proofs.Follow.{can_follow}
@@ -70,7 +71,8 @@ layers_changed config t t' b m m' a x y w l st tams logs room long = record {
   above_previous = rw tams (above_same t t' b (slice_index m.tams.previous) w.size w.count w.used l.above_previous);
   above_next = rw tams (above_same t t' b (slice_index m.tams.next) w.size w.count w.used l.above_next);
   room = room;
-  halves = halves_same t t' w.size w.kinds (words_written t t' a x y w long) l.halves;
+  halves = sizes_same kinds.Ordinary IsHalf t t' w.size w.kinds (words_written t t' a x y w long) l.halves;
+  wide = sizes_same kinds.First IsOver t t' w.size w.kinds (words_written t t' a x y w long) l.wide;
 }
 
 -- an object is written, and nothing else changed
@@ -97,4 +99,5 @@ layers_marked config t b m m' l st tams logs room = record {
   above_next = rw tams l.above_next;
   room = room;
   halves = l.halves;
+  wide = l.wide;
 }

@@ -101,6 +101,7 @@ module _ (k : CoreState) (core : IsCore k) (b : Buffers) (m : Marker) (retires :
       above_next = above k.table (slice_index m.tams.next) st.next.top;
       room = λ n. rw logs (core.layers.room n);
       halves = core.layers.halves;
+      wide = core.layers.wide;
     };
     cards = core.cards;
     remembers = remembers_same k b m heap_begun core.remembers;

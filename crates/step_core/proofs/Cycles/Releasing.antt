@@ -1,5 +1,5 @@
 -- A dead region, or a dead run, is released.
-use Rattle.std.proofs.Common.{◌≡◌, ◌+◌, ◌-◌, ◌*◌, ◌/◌, ◌<◌, ◌≤◌, ◌⊎◌, ◌∙◌}
+use Rattle.std.proofs.Common.{◌≡◌, ◌≢◌, ◌+◌, ◌-◌, ◌*◌, ◌/◌, ◌<◌, ◌≤◌, ◌⊎◌, ◌∙◌}
 use Rattle.std.proofs.Common.{ℕ, Bool, true, false, cond, List, Option, Some, None, length, refl, sym, ap, subst, arith, inl, inr}
 use Rattle.std.specs.Prelude.{◌↔◌, slice_get, slice_index, nat_lt}
 use Rattle.std.proofs.lemmas.Bool.{cases_eq, and_from, and_parts}
@@ -11,6 +11,7 @@ use Rattle.heap_words.specs.Configs.{card_words}
 use Rattle.regions.specs.Tiles.{Filler, Object}
 use Rattle.regions.specs.Table.{Table, Free, First, nth_region, kind_of, object_at, object_words, tile_in, run_length, released}
 use Rattle.regions.specs.Shaped.{IsShaped}
+use Rattle.regions.specs.declared.row.Kind.{Kind}
 use Rattle.regions.specs.declared.row.Kind.TheVariants as kinds
 use Rattle.alloc_buffers.specs.Placement.{BuffersStand, AreAbove, IsAbove}
 use Rattle.alloc_buffers.proofs.Above.{stand_released}
@@ -37,7 +38,7 @@ use Rattle.regions.proofs.Tiles.Holders.{holder_start}
 use Rattle.regions.proofs.Tiles.Laws.{object_tile}
 use Rattle.evacuation.proofs.Lists.{get_below}
 use Rattle.std.proofs.lemmas.List.{length-append}
-use Rattle.step_core.proofs.Mutating.Small.{halves_left, words_by}
+use Rattle.step_core.proofs.Mutating.Small.{IsHalf, IsOver, sizes_left, words_by}
 use Rattle.step_core.specs.Stands.{CoreState, kept_of, heap_of, RemembersFields, CardsFit, ShowsGraph, KeepsFrom, IsCore}
 use Rattle.step_core.specs.Cycle.{IsDeadRegion, IsDeadRun, IsDead, IsAsNew, IsAsBefore}
 use Rattle.step_core.specs.Cleaning.{IsDeadHead, HasForgotten, HasCleared, HasReleased}
@@ -331,19 +332,17 @@ module _ (k : CoreState) (core : IsCore k) (shaped : IsShaped k.table) (n m : �
   kind_other j out =
       kind_is (released k.table n) j (nth_region k.table j) (frees.others j out) ∙ sym (kind_is k.table j (nth_region k.table j) refl)
 
-  -- a region that is ordinary afterwards is another one, and was so with the same objects
-  still_ordinary : (j : ℕ) → kind_of (released k.table n) j ≡ kinds.Ordinary → IsOutside n m j
-  still_ordinary j o = elim (block_cases n m j) [
+  -- a region that is in use afterwards is another one, and was of its kind with the same objects
+  still_used : (j : ℕ) → kind_of (released k.table n) j ≢ kinds.Free → IsOutside n m j
+  still_used j used = elim (block_cases n m j) [
     | inl out ↦ out
-    | inr q ↦ absurd (let free = kind_is (released k.table n) j Free (frees.free j q.0 q.1) in
-        let no : kinds.Free ≡ kinds.Ordinary = sym free ∙ o in
-        cc)
+    | inr q ↦ absurd (used (kind_is (released k.table n) j Free (frees.free j q.0 q.1)))
   ]
 
-  left : (j a : ℕ) → kind_of (released k.table n) j ≡ kinds.Ordinary → is_in_region size j a ≡ true
-      → (kind_of k.table j ≡ kinds.Ordinary) × (object_words (released k.table n) a ≡ object_words k.table a)
-  left j a o inside =
-      let out = still_ordinary j o in
+  left : (x : Kind) → x ≢ kinds.Free → (j a : ℕ) → kind_of (released k.table n) j ≡ x → is_in_region size j a ≡ true
+      → (kind_of k.table j ≡ x) × (object_words (released k.table n) a ≡ object_words k.table a)
+  left x used j a o inside =
+      let out = still_used j (λ free. used (sym o ∙ free)) in
       let at : IsOutside n m (a / size) = subst (λ (q : ℕ). IsOutside n m q) (sym (ranges.nth_region size j a inside)) out in (
         sym (kind_other j out) ∙ o,
         words_by k.table (released k.table n) a (object_near k.table (released k.table n) a frees.size (frees.others (a / size) at)),
@@ -366,7 +365,10 @@ module _ (k : CoreState) (core : IsCore k) (shaped : IsShaped k.table) (n m : �
           f.previous_tops core.layers.above_previous;
       above_next = above_after (slice_index k.marker.tams.next) (slice_index mk.tams.next) f.low_next f.next_tops core.layers.above_next;
       room = λ i. rw (ap (λ (x : Marker). x.logs) f.same) (core.layers.room i);
-      halves = halves_left k.table (released k.table n) shaped.positive frees.size left core.layers.halves;
+      halves = sizes_left kinds.Ordinary IsHalf k.table (released k.table n) shaped.positive frees.size (left kinds.Ordinary (λ e. cc))
+          core.layers.halves;
+      wide = sizes_left kinds.First IsOver k.table (released k.table n) shaped.positive frees.size (left kinds.First (λ e. cc))
+          core.layers.wide;
     };
     cards = cards_fit;
     remembers = remembers_after;

@@ -14,6 +14,7 @@ use Rattle.heap_model.proofs.Unreached.{unreached_begins, cleared_sound}
 use Rattle.regions.specs.Tiles.{Object, tile_size}
 use Rattle.regions.specs.Table.{Table, object_at, object_words}
 use Rattle.alloc_buffers.specs.Placement.{Buffers, BuffersStand, AreAbove, IsAbove}
+use Rattle.regions.specs.declared.row.Kind.TheVariants as kinds
 use Rattle.mark_bitmap.specs.Marks.{is_marked, marked_count}
 use Rattle.mark_bitmap.specs.Tops.{exchanged}
 use Rattle.satb_log.specs.Logs.{log_of, logged}
@@ -32,7 +33,7 @@ use Rattle.step_core.specs.Stands.{CoreState, kept_of, RemembersFields, ShowsGra
 use Rattle.step_core.specs.Cycle.{HasRemarked, ShowsCleared}
 use Rattle.step_core.proofs.Cores.Added.{stand_same, object_none}
 use Rattle.step_core.proofs.Mutating.Reading.{object_kept}
-use Rattle.step_core.proofs.Mutating.Small.{halves_same, words_are, words_none}
+use Rattle.step_core.proofs.Mutating.Small.{IsHalf, IsOver, sizes_same, words_are, words_none}
 
 -- logs that hold nothing together are empty
 none_in : (ls : List (List ℕ)) (n : ℕ) → logged ls ≡ [] → length (log_of ls n) ≡ 0
@@ -235,7 +236,8 @@ module _ (k : CoreState) (core : IsCore k) (run : k.marker.running ≡ true) (t 
           above_previous = rw tops next;
           above_next = rw tops previous;
           room = λ i. let none = none_in m.logs i (st.idle over) in omega arith;
-          halves = halves_same k.table t clears.size clears.kinds words core.layers.halves;
+          halves = sizes_same kinds.Ordinary IsHalf k.table t clears.size clears.kinds words core.layers.halves;
+          wide = sizes_same kinds.First IsOver k.table t clears.size clears.kinds words core.layers.wide;
         };
         cards = core.cards;
         remembers = remarked_remembers;

@@ -1,5 +1,5 @@
 -- A new object.
-use Rattle.std.proofs.Common.{◌≡◌, ◌≢◌, ◌+◌, ◌-◌, ◌*◌, ◌/◌, ◌^◌, ◌<◌, ◌≤◌, ◌∷◌, ◌∙◌}
+use Rattle.std.proofs.Common.{◌≡◌, ◌≢◌, ◌+◌, ◌-◌, ◌/◌, ◌^◌, ◌<◌, ◌≤◌, ◌∷◌, ◌∙◌}
 use Rattle.std.proofs.Common.{ℕ, zero, suc, false, Some, None, List, [], replicate, refl, sym, ap, subst, arith, inl, inr}
 use Rattle.std.proofs.lemmas.Bool.{cases_eq}
 use Rattle.std.specs.Prelude.{◌==◌, slice_set, slice_index, nat_lt}
@@ -22,6 +22,7 @@ use Rattle.heap_steps.specs.declared.step.Action.TheVariants as actions
 use Rattle.heap_steps.specs.declared.step.Reply.TheVariants as replies
 use Rattle.heap_steps.specs.declared.step.Register.{Register}
 use Rattle.alloc_buffers.specs.Placement.{Buffers, IsAbove, AreAbove}
+use Rattle.regions.specs.declared.row.Kind.TheVariants as kinds
 use Rattle.mark_bitmap.specs.Marks.{is_marked}
 use Rattle.mark_bitmap.specs.Tops.{is_below}
 use Rattle.step_core.specs.Stands.{CoreState, kept_of, heap_of, marking_of, ShowsGraph, KeepsFrom, IsCore}
@@ -29,7 +30,7 @@ use Rattle.step_core.specs.Cycle.{LeavesRegions}
 use Rattle.step_core.specs.Answers.{Acts}
 use Rattle.step_core.proofs.Mutating.Acting.{acts_by}
 use Rattle.step_core.proofs.Mutating.Fields.{nil_get, nil_fields}
-use Rattle.step_core.proofs.Mutating.Small.{halves_added, words_by}
+use Rattle.step_core.proofs.Mutating.Small.{IsHalf, IsOver, sizes_added, words_by}
 use Rattle.step_core.proofs.Cores.Added.{Creates}
 use Rattle.step_core.proofs.Cores.Sizes.{some_words}
 use Rattle.step_core.proofs.Mutating.Written.{kept_is, kept_above, kept_same, marking_same}
@@ -176,8 +177,10 @@ module _ (k : CoreState) (m : ℕ) (to : Register) (t2 : Table) (b1 : Buffers) (
           above_previous = previous;
           above_next = next;
           room = core.layers.room;
-          halves = halves_added k.table t2 a (new_object k.next p weak d) words makes.kinds_stay makes.is makes.others
+          halves = sizes_added kinds.Ordinary IsHalf k.table t2 a (new_object k.next p weak d) words makes.kinds_stay makes.is makes.others
               (some_words k core) makes.half core.layers.halves;
+          wide = sizes_added kinds.First IsOver k.table t2 a (new_object k.next p weak d) words makes.kinds_stay makes.is makes.others
+              (some_words k core) makes.wide core.layers.wide;
         };
         cards = core.cards;
         remembers = remembers_new k (new (register_place (places_of k.config) m to.number)) a (new_object k.next p weak d)

@@ -1,13 +1,13 @@
--- Objects of ordinary regions: none has more than half a region's words, and none reaches over its region's top at mark start.
+-- Sizes of objects: in ordinary regions none has more than half a region's words, and each that has a run has more.
 use Rattle.std.proofs.Common.{◌≡◌, ◌≢◌, ◌*◌, ◌/◌, ◌%◌, ◌<◌, ◌≤◌, ◌⊎◌, ◌∙◌}
-use Rattle.std.proofs.Common.{ℕ, true, Option, Some, None, length, get_or, refl, sym, ap, arith, inl, inr}
+use Rattle.std.proofs.Common.{ℕ, true, Option, Some, None, length, get_or, refl, sym, ap, subst, arith, inl, inr}
 use Rattle.std.proofs.lemmas.Bool.{cases_eq}
 use Rattle.std.proofs.lemmas.List.{get_or_past}
 use Rattle.std.proofs.lemmas.Bool.{cases_lt}
 use Rattle.heap_model.specs.Heap.{Stored}
 use Rattle.regions.specs.Tiles.{Object, tile_size}
 use Rattle.regions.specs.Table.{Table, Region, Free, Ordinary, First, Rest, region_kind, nth_region, region_at, region_tile, tile_in}
-use Rattle.regions.specs.Table.{tile_object, kind_of, object_at, object_words, stored_size, AreHalves}
+use Rattle.regions.specs.Table.{tile_object, kind_of, object_at, object_words, stored_size}
 use Rattle.regions.specs.declared.row.Kind.{Kind}
 use Rattle.regions.specs.declared.row.Kind.TheVariants as kinds
 use Rattle.regions.proofs.Tiles.Changes.{WritesObject, object_same}
@@ -31,20 +31,37 @@ pub option_is : (o : Option Stored) → ((x : Stored) × (o ≡ Some x)) ⊎ (o 
 option_is None = inr refl
 option_is (Some x) = inl (x, refl)
 
+-- in regions of so many words an object of so many is a small one, or a wide one
+abbrev pub IsHalf : ℕ → ℕ → Type 0
+IsHalf words size = 2 * size ≤ words
+
+abbrev pub IsOver : ℕ → ℕ → Type 0
+IsOver words size = words < 2 * size
+
+-- the objects of regions of a kind are so: `AreHalves` and `AreWide` are two such facts
+abbrev pub AreSized : Kind → (ℕ → ℕ → Type 0) → Table → Type 0
+AreSized k P t = (a : ℕ) (x : Stored) → object_at t a ≡ Some x → kind_of t (a / t.words_per_region) ≡ k
+    → P t.words_per_region (tile_size (Object x))
+
+carried : (P : ℕ → ℕ → Type 0) (r r' s s' : ℕ) → r' ≡ r → s' ≡ s → P r s → P r' s'
+carried P r r' s s' e f p = subst (λ (m : ℕ). P m s') (sym e) (subst (λ (m : ℕ). P r m) (sym f) p)
+
+-- an object has words
+has_words : (t t' : Table) (a : ℕ) (x : Stored) → object_words t' a ≡ object_words t a → object_at t' a ≡ Some x → object_at t a ≡ None → ⊥
+has_words t t' a x same e none =
+    let long = words_are t' a x e in let zero' = words_none t a none in absurd (omega (arith, same, long, zero'))
+
 -- the same kinds and sizes
-module _ (t t' : Table) (size : t'.words_per_region ≡ t.words_per_region) (kinds_same : (k : ℕ) → kind_of t' k ≡ kind_of t k)
-    (words : (a : ℕ) → object_words t' a ≡ object_words t a) where
-  pub halves_same : AreHalves t → AreHalves t'
-  halves_same h = λ a x e o.
-      let long = words_are t' a x e in
-      elim (option_is (object_at t a)) [
-        | inl some ↦
-            let was : kind_of t (a / t.words_per_region) ≡ kinds.Ordinary =
-            sym (kinds_same (a / t.words_per_region)) ∙ ap (λ (w : ℕ). kind_of t' (a / w)) (sym size) ∙ o in
-            let le = h a some.0 some.1 was in
-            omega (arith, words a, size, le, long, words_are t a some.0 some.1)
-        | inr none ↦ omega (arith, words a, long, words_none t a none)
-      ]
+module _ (k : Kind) (P : ℕ → ℕ → Type 0) (t t' : Table) (size : t'.words_per_region ≡ t.words_per_region)
+    (kinds_same : (j : ℕ) → kind_of t' j ≡ kind_of t j) (words : (a : ℕ) → object_words t' a ≡ object_words t a) where
+  pub sizes_same : AreSized k P t → AreSized k P t'
+  sizes_same h = λ a x e o. elim (option_is (object_at t a)) [
+    | inl some ↦
+        carried P t.words_per_region t'.words_per_region (tile_size (Object some.0)) (tile_size (Object x)) size
+        (sym (words_are t' a x e) ∙ words a ∙ words_are t a some.0 some.1)
+        (h a some.0 some.1 (sym (kinds_same (a / t.words_per_region)) ∙ ap (λ (w : ℕ). kind_of t' (a / w)) (sym size) ∙ o))
+    | inr none ↦ absurd (has_words t t' a x (words a) e none)
+  ]
 
 -- an object is written over by one of its size
 pub words_written : (t t' : Table) (a : ℕ) (x y : Stored) → WritesObject t t' a x y → tile_size (Object y) ≡ tile_size (Object x)
@@ -80,24 +97,25 @@ pub inside_own : (words a : ℕ) → 0 < words → is_in_region words (a / words
 inside_own words a z = in_region words (a / words) a (omega arith) (omega arith)
 
 -- one more object, where regions in use stay what they are
-module _ (t t' : Table) (a : ℕ) (x : Stored) (size : t'.words_per_region ≡ t.words_per_region)
+module _ (k : Kind) (P : ℕ → ℕ → Type 0) (t t' : Table) (a : ℕ) (x : Stored) (size : t'.words_per_region ≡ t.words_per_region)
     (stay : (j : ℕ) → kind_of t j ≢ kinds.Free → kind_of t' j ≡ kind_of t j)
     (is : object_at t' a ≡ Some x) (others : (y : ℕ) → y ≢ a → object_at t' y ≡ object_at t y) where
-  pub halves_added : 0 < t.words_per_region
-      → (kind_of t' (a / t.words_per_region) ≡ kinds.Ordinary → 2 * tile_size (Object x) ≤ t.words_per_region) → AreHalves t → AreHalves t'
-  halves_added z half h = λ b y e o.
-      let at : kind_of t' (b / t.words_per_region) ≡ kinds.Ordinary = ap (λ (w : ℕ). kind_of t' (b / w)) (sym size) ∙ o in
-      let long = words_are t' b y e in
+  pub sizes_added : 0 < t.words_per_region
+      → (kind_of t' (a / t.words_per_region) ≡ k → P t.words_per_region (tile_size (Object x))) → AreSized k P t → AreSized k P t'
+  sizes_added z new h = λ b y e o.
+      let at : kind_of t' (b / t.words_per_region) ≡ k = ap (λ (w : ℕ). kind_of t' (b / w)) (sym size) ∙ o in
       elim (cases_eq b a) [
         | inl q ↦
-            let here = ap (object_words t') q ∙ words_are t' a x is in
-            let le = half (ap (λ (c : ℕ). kind_of t' (c / t.words_per_region)) (sym q) ∙ at) in
-            omega (arith, here, long, size, le)
+            carried P t.words_per_region t'.words_per_region (tile_size (Object x)) (tile_size (Object y)) size
+            (sym (words_are t' b y e) ∙ ap (object_words t') q ∙ words_are t' a x is)
+            (new (ap (λ (c : ℕ). kind_of t' (c / t.words_per_region)) (sym q) ∙ at))
         | inr n ↦
             let there : object_at t b ≡ Some y = sym (others b n) ∙ e in
             elim (kind_cases (kind_of t (b / t.words_per_region))) [
               | inl free ↦ absurd (let none = free_object t (b / t.words_per_region) b free (inside_own t.words_per_region b z) in cc)
-              | inr used ↦ let le = h b y there (sym (stay (b / t.words_per_region) used) ∙ at) in omega (arith, size, le)
+              | inr used ↦
+                  carried P t.words_per_region t'.words_per_region (tile_size (Object y)) (tile_size (Object y)) size refl
+                  (h b y there (sym (stay (b / t.words_per_region) used) ∙ at))
             ]
       ]
 
@@ -111,16 +129,17 @@ ordinary_known t k o =
           absurd (let none : region_kind (get_or t.regions k Free) ≡ kinds.Free = ap region_kind (get_or_past t.regions k Free past) in cc)
     ]
 
--- regions that are ordinary now were so, with the same objects
-pub halves_left : (t t' : Table) → 0 < t.words_per_region → t'.words_per_region ≡ t.words_per_region
-    → ((k a : ℕ) → kind_of t' k ≡ kinds.Ordinary → is_in_region t.words_per_region k a ≡ true
-    → (kind_of t k ≡ kinds.Ordinary) × (object_words t' a ≡ object_words t a))
-    → AreHalves t → AreHalves t'
-halves_left t t' z size same h = λ a x e o.
-    let at : kind_of t' (a / t.words_per_region) ≡ kinds.Ordinary = ap (λ (w : ℕ). kind_of t' (a / w)) (sym size) ∙ o in
+-- regions that are of a kind now were so, with the same objects
+pub sizes_left : (k : Kind) (P : ℕ → ℕ → Type 0) (t t' : Table) → 0 < t.words_per_region → t'.words_per_region ≡ t.words_per_region
+    → ((j a : ℕ) → kind_of t' j ≡ k → is_in_region t.words_per_region j a ≡ true
+    → (kind_of t j ≡ k) × (object_words t' a ≡ object_words t a))
+    → AreSized k P t → AreSized k P t'
+sizes_left k P t t' z size same h = λ a x e o.
+    let at : kind_of t' (a / t.words_per_region) ≡ k = ap (λ (w : ℕ). kind_of t' (a / w)) (sym size) ∙ o in
     let was = same (a / t.words_per_region) a at (inside_own t.words_per_region a z) in
-    let long = words_are t' a x e in
     elim (option_is (object_at t a)) [
-      | inl some ↦ let le = h a some.0 some.1 was.0 in omega (arith, was.1, size, le, long, words_are t a some.0 some.1)
-      | inr none ↦ omega (arith, was.1, long, words_none t a none)
+      | inl some ↦
+          carried P t.words_per_region t'.words_per_region (tile_size (Object some.0)) (tile_size (Object x)) size
+          (sym (words_are t' a x e) ∙ was.1 ∙ words_are t a some.0 some.1) (h a some.0 some.1 was.0)
+      | inr none ↦ absurd (has_words t t' a x was.1 e none)
     ]

@@ -48,7 +48,7 @@ module _ (g : Graph) (h : Heap) (shows : Shows g h) (set : ℕ → Bool) where
   name_is a x e = ap name_at e
 
   -- an object has as many words in the graph
-  same_words : (a : ℕ) (x : Stored) → h.kept a ≡ Some x → named_words (object_named g (name_at (h.kept a))) ≡ stored_words (h.kept a)
+  pub same_words : (a : ℕ) (x : Stored) → h.kept a ≡ Some x → named_words (object_named g (name_at (h.kept a))) ≡ stored_words (h.kept a)
   same_words a x e =
       let o = shows.objects a x e in
       let count = AllZip-length (IsShown h) x.pointers o.object.pointers o.pointers in

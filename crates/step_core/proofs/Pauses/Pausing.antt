@@ -3,8 +3,6 @@ use Rattle.std.proofs.Common.{◌≡◌, ◌+◌, ◌*◌, ◌/◌, ◌<◌, ◌
 use Rattle.std.proofs.Common.{ℕ, Bool, true, false, not, List, Option, Some, length, get_or, refl, sym, ap, subst, arith, inl, inr}
 use Rattle.std.specs.Prelude.{All, ◌↔◌, slice_index, nat_lt, if◌then◌else◌}
 use Rattle.std.proofs.lemmas.Bool.{cases_lt, cases_Bool, ltb-true}
-use Rattle.std.proofs.lemmas.Grind.{common_steps}
-use Rattle.std.proofs.lemmas.Bool.Decides.{nat_tests}
 use Rattle.std.proofs.lemmas.List.{get_or_past}
 use Rattle.heap_model.specs.Graph.{Graph, IsReachable, next_name}
 use Rattle.heap_model.specs.Heap.{Stored}
@@ -48,6 +46,7 @@ use Rattle.step_core.proofs.Pauses.Ready.{ready_config, ready_table, ready_marke
 use Rattle.step_core.proofs.Pauses.Refined.{can_scan}
 use Rattle.step_core.proofs.Cores.Sizes.{some_words}
 use Rattle.step_core.proofs.Mutating.Small.{words_are, ordinary_known}
+use Rattle.step_core.proofs.Pauses.Wide.{wide_after}
 use Rattle.step_core.proofs.Pauses.Chosen.{MayMove, set_moves, chosen_rows, chosen_distinct}
 use Rattle.step_core.proofs.Pauses.Chosen.{chosen_room, chosen_within, chosen_ordinary, chosen_new}
 
@@ -318,6 +317,7 @@ module _ (k : CoreState) (core : IsCore k) (which : Choice) (budget : ℕ) (chos
             (ap (λ (b : Buffers). b.open_buffers) closed_all) ev.next_stands.top;
         room = core.layers.room;
         halves = ev.halves;
+        wide = wide_after chosen k.table t ev.regions core.layers.wide;
       }
 
       pub paused_kept : r ≡ k.room → n ≡ k.row_room → length roots ≡ length k.roots → IsCore after

@@ -58,6 +58,7 @@ module _ (k : CoreState) (b : Buffers) (cs : Cards) where
         above_next = above k.table (slice_index k.marker.tams.next) core.layers.marker.next.top;
         room = core.layers.room;
         halves = core.layers.halves;
+        wide = core.layers.wide;
       };
       cards = record {
         whole_cards = core.cards.whole_cards;

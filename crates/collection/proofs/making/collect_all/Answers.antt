@@ -4,11 +4,12 @@ use Rattle.heap_words.specs.declared.config.Config.{Config}
 use Rattle.heap_steps.specs.Actors.{IsOp, IsThird}
 use Rattle.regions.specs.Table.{free_count}
 use Rattle.step_core.specs.Stands.{kept_of}
-use Rattle.collection.specs.Space.{IsPackedAt}
+use Rattle.collection.specs.Space.{IsPackedAt, ordinary_count, run_count}
 use Rattle.collection.specs.Steps.{LeavesTwo, asked_words}
 use Rattle.collection.specs.Rooms.{HasRun}
 use Rattle.collection.proofs.Counts.{count_all}
-use Rattle.collection.proofs.Leaving.{clash, leaves_not, leaves_still}
+use Rattle.collection.proofs.Leaving.{clash, leaves_four, leaves_not, leaves_still}
+use Rattle.collection.proofs.Packed.{but_three, but_two}
 use Rattle.collection.proofs.Took.{chain, more}
 use Rattle.collection.proofs.making.collect_all.Goals as goal
 
@@ -50,7 +51,7 @@ returns-clause-leaves g c e =
 pub returns-clause-filled : goal.returns-clause-filled
 returns-clause-filled g c e s stands = record {
   collected = c.collect.ensures.quiet s stands;
-  small = λ leaves small two. packed small two;
+  small = λ leaves small two. packed leaves small two;
   large = λ leaves large run. c.is_spared.ensures.large c.if-is_spared.false
       (let f = ap (λ (x : Config). x.words) c.collect.ensures.collects.config in let h = c.requires.size in omega (arith, f, h, large))
       (subst (λ (n : ℕ). HasRun c.collect.new.core n) (sym c.requires.size) run);
@@ -66,9 +67,9 @@ returns-clause-filled g c e s stands = record {
         let h = c.requires.size in
         (omega (arith, words, h, large), subst (λ (x : Config). IsThird x.format) (sym same) third)
 
-    packed : 2 * asked_words c.args.op.now.action ≤ c.args.core.now.config.words → 2 ≤ free_count c.args.core.now.table
-        → IsPackedAt s.graph c.collect.new.core
-    packed small two =
+    packed : LeavesTwo c.args.core.now.config c.args.op.now.action → 2 * asked_words c.args.op.now.action ≤ c.args.core.now.config.words
+        → 2 ≤ free_count c.args.core.now.table → IsPackedAt s.graph c.collect.new.core
+    packed leaves small two =
         let f = ap (λ (x : Config). x.words) c.collect.ensures.collects.config in
         let h = c.requires.size in
         let few = c.is_spared.ensures.small c.if-is_spared.false (omega (arith, f, h, small)) in
@@ -76,10 +77,17 @@ returns-clause-filled g c e s stands = record {
         let i = count_all c.collect.new.core.table in
         let j = c.remembers.ensures.core.layers.region_count in
         let w = c.collect.ensures.quiet s stands in
+        let p = c.collect.ensures.packed s stands two few in
+        let l = ap (λ (x : Config). x.regions) c.collect.ensures.collects.config in
+        let four = leaves_four c.args.core.now.config c.args.op.now.action small leaves in
+        let counts : ordinary_count c.collect.new.core.table + run_count c.collect.new.core.table + 2 ≡ c.collect.new.core.config.regions =
+        omega (arith, few, d, i, j) in
         record {
-          packed = c.collect.ensures.packed s stands two few;
+          packed = p;
           free = omega (arith, few, d);
-          regions = omega (arith, few, d, i, j);
+          regions = counts;
+          all_but_three = but_three s.graph c.collect.new.core p counts (omega (arith, four, l));
+          all_but_two = but_two s.graph c.collect.new.core p counts (omega (arith, four, l));
           runs = λ k e. (let (x, is) = some_kept (kept_of c.collect.new.core (k * c.collect.new.core.table.words_per_region))
               (w.quiet.runs k e) in
               (x, is, w.reached.back x.name (w.quiet.reached (k * c.collect.new.core.table.words_per_region) x is)));
