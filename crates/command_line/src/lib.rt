@@ -119,10 +119,10 @@ impl<'a> Job<'a> {
 /// What stands behind the list of subcommands.
 const FORMATS: &str = "\
 FILE has a line for each step. A script's first line is `heap REGIONS WORDS BUFFER MUTATORS FIRST`, the
-heap's sizes and the first object's name. `heap2` has the words of a card behind these, for a larger heap,
+heap's sizes and the first object's name. `heap2` has the words of a card after these, for a larger heap,
 and `heap3` also how many globals there are and how many registers each mutator has. Each other line is a
 step of a mutator, as `0 new r0 1 1`, or of the collector, as `gc begin`. A record's lines have a count
-before the step and ` = REPLY` behind it.
+before the step and ` = REPLY` after it.
 
 Status: 0, done; 1, a fault, told on standard error; 2, a command line that isn't understood; 3, `check` says no.
 With --explain a fault is followed by the line that has it, what may stand there, and what the mistake may be.
@@ -393,7 +393,7 @@ fn view_command<'a>(alloc: Global) -> Result<Command<'a>, AllocError>
         count(
             alloc,
             "at",
-            "Views the heap behind N steps, and not the last one",
+            "Views the heap after N steps, and not the last one",
         ),
     );
     let command = with_arg(command, count(alloc, "region", "Views region N alone"));
