@@ -16,7 +16,7 @@ use Rattle.alloc_buffers.specs.Placement.{Buffers, BuffersStand, IsAbove, AreAbo
 one_region : (a i j size : ℕ) → 0 < size → i * size ≤ a → a < i * size + size → j * size ≤ a → a < j * size + size → j ≡ i
 one_region a i j size z il ih jl jh = sym (row_within a j size z jl jh) ∙ row_within a i size z il ih
 
--- behind an address in the same region
+-- after an address in the same region
 pub above_behind : (limit : ℕ → ℕ) (size k x y : ℕ) → 0 < size → k * size ≤ x → x ≤ y → y < k * size + size → IsAbove size limit x
     → IsAbove size limit y
 above_behind limit size k x y z low le high above = λ j jl jh.

@@ -105,7 +105,7 @@ top_placed t t1 t2 b opens k w size a s none r p old count =
           );
     }
 
--- the rest of a new buffer behind it
+-- the rest of a new buffer after it
 pub rest_placed : (t t2 t3 : Table) (b b2 : Buffers) (m k size rest a a2 : ℕ) → IsPlaced t t2 b b2 size a → Pushed t2 t3 k a2 (Filler rest)
     → 0 < rest
     → IsPlaced t t3 b (record {

@@ -24,7 +24,7 @@ log_count t m old known e =
     let log : log_of t m ≡ old = get_or_default t.logs m [] old known ∙ sym e in
     omega (arith, get_or-le-sum_by (λ (l : List ℕ). length l) t.logs m [] known, ap length log)
 
--- room for a log, and for a clean card behind it
+-- room for a log, and for a clean card after it
 pub log_room : (s : Inside) (m : ℕ) (old : List ℕ) → IsCounted (cards_of s) → length s.dirty.items ≤ deque_capacity s.queue
     → m < length s.logs.items → old ≡ get_or s.logs.items m old → length s.queue.items + length old ≤ deque_capacity s.queue
 log_room s m old all room known e = omega (arith, log_count (cards_of s) m old known e, room_for_listed (cards_of s) all)

@@ -11,7 +11,7 @@
 //!                     | 6       |
 //!   take         logs |         |      queue 2 3 9 1 7       5 is clean
 //!                     | 6       |
-//!   append(5)    logs |         |      queue 2 3 9 1 7 5     5 is dirty again, behind all others
+//!   append(5)    logs |         |      queue 2 3 9 1 7 5     5 is dirty again, after all others
 //!                     | 6       |
 //!   flush_all    logs |         |      queue 2 3 9 1 7 5 6
 //!                     |         |

@@ -62,7 +62,7 @@ pub enum Task {
     Check {
         followed: bool,
     },
-    /// A script is run, or a record's steps are done again, and a view of its heap written: behind so many steps, or the last one; of a
+    /// A script is run, or a record's steps are done again, and a view of its heap written: after so many steps, or the last one; of a
     /// region alone, or all; and whether it is a short one.
     View {
         recorded: bool,
@@ -116,7 +116,7 @@ impl<'a> Job<'a> {
     }
 }
 
-/// What stands behind the list of subcommands.
+/// What is after the list of subcommands.
 const FORMATS: &str = "\
 FILE has a line for each step. A script's first line is `heap REGIONS WORDS BUFFER MUTATORS FIRST`, the
 heap's sizes and the first object's name. `heap2` has the words of a card after these, for a larger heap,
@@ -231,7 +231,7 @@ fn names<'a>(alloc: Global) -> Arg<'a>
         .action(ArgAction::Set)
 }
 
-/// The option that asks for more lines behind a fault's own.
+/// The option that asks for more lines after a fault's own.
 fn explain<'a>(alloc: Global) -> Arg<'a>
     ensures rule { rule_of result ≡ flag (codes "explain") }
     ensures own { result.global ≡ false }

@@ -54,7 +54,7 @@ told_by_line line s e spelled step actor =
     told_is (actor_word e.actor) body.0 body.1 (body_words e.step) reply body.2
     ∙ ap (λ (t : List ℕ). t ++ codes " = " ++ reply) (sym whole)
 
--- the writer refused before, so it did with whatever events come behind one more
+-- the writer refused before, so it did with whatever events come after one more
 pub refused_before : (plan : StepList) (es : List Event) (e : Event) (first now : Writer) (lines lines' : Lines) (fault : WriteFault)
     → IsOnItsWay plan es first now lines (Err fault) → IsOnItsWay plan (es ++ e ∷ []) first now lines' (Err fault)
 refused_before plan es e first now lines lines' fault (other, stopped) = (

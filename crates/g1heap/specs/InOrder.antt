@@ -15,7 +15,7 @@ use Rattle.script_text.specs.declared.fault.WriteFault.TheVariants as writes
 use Rattle.step_core.specs.Histories.{RunsTo, IsRunInOrder, actor_in, actor_of}
 use Rattle.step_core.specs.Stands.{CoreState}
 
--- the writer took a beginning of the events' record, and the lines hold the rest; or it refused, whatever events come behind
+-- the writer took a beginning of the events' record, and the lines hold the rest; or it refused, whatever events come after
 abbrev pub IsOnItsWay : StepList → List Event → Writer → Writer → Lines → Result ⊤ WriteFault → Type 0
 IsOnItsWay plan es first now lines (Ok done) = AreLinesOf (with_events (no_events plan.config) es) first now lines
 IsOnItsWay plan es first now lines (Err fault) = (fault ≢ writes.NoMemory)

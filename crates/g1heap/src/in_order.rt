@@ -38,7 +38,7 @@ fn put_line<W: Write>(
 }
 
 /// Does the steps that are left in their order, and puts the line of each event: the script's own, and the reply. Where the writer refuses
-/// one, the steps behind it are done all the same: so what was written is a beginning of a whole run's record.
+/// one, the steps after it are done all the same: so what was written is a beginning of a whole run's record.
 fn do_steps<W: Write>(
     core: &mut Core,
     lines: &mut RecordLines,

@@ -28,7 +28,7 @@ abbrev pub moved_in : List Event → ℕ
 moved_in [] = 0
 moved_in (e ∷ es) = moved_by e.reply + moved_in es
 
--- The core behind the moment's events, from a first core on: a run leads to it, and the moment's numbers are its own. What was copied is
+-- The core after the moment's events, from a first core on: a run leads to it, and the moment's numbers are its own. What was copied is
 -- what the replies say, as far as it fits 64 bits
 pub record IsMomentFrom (first : CoreState) (es : List Event) (m : Moment) : Type 0 where
   pub within : m.event ≤ length es
@@ -77,12 +77,12 @@ pub record IsToldOf (most : ℕ) (t : Told) (first : CoreState) (es : List Event
   pub told : HasTold (told_of most t shown) x
   pub limit : x.most ≡ most
 
--- there is a moment behind so many events
+-- there is a moment after so many events
 abbrev pub HasMoment : List Moment → ℕ → Type 0
 HasMoment [] n = ⊥
 HasMoment (m ∷ ms) n = (m.event ≡ n) ⊎ HasMoment ms n
 
--- each of the moments has fewer events behind it than those after it
+-- each of the moments comes after fewer events than those that follow it
 abbrev pub AreRising : List Moment → Type 0
 AreRising [] = ⊤
 AreRising (m ∷ ms) = All (λ later. m.event < later.event) ms × AreRising ms

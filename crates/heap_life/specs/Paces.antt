@@ -31,7 +31,7 @@ counted_with small (e ∷ es) = one_if (counts_with small e.step) + counted_with
 abbrev pub counted : Pace → List Event → ℕ
 counted p es = counted_with p.small es
 
--- event i, from 0, has a moment before it and one behind it: it counts, and it is one of `stride`
+-- event i, from 0, has a moment before it and one after it: it counts, and it is one of `stride`
 pub record IsShown (p : Pace) (es : List Event) (i : ℕ) : Type 0 where
   pub event : Event
   pub at : slice_get es i ≡ Some event

@@ -24,7 +24,7 @@ pub(crate) struct Course {
     pub counted: u64,
     /// How many words pauses have copied.
     pub copied: u64,
-    /// Whether a moment is due behind the last of them.
+    /// Whether a moment is due after the last of them.
     pub behind: bool,
     /// The moments so far.
     pub moments: Vec<Moment>,
@@ -100,7 +100,7 @@ fn note_if(
     Ok(())
 }
 
-/// Whether a moment is due: behind a step that is shown, before one, or by the number of events.
+/// Whether a moment is due: after a step that is shown, before one, or by the number of events.
 fn is_due(pace: &Pace, behind: bool, ahead: bool, done: u64) -> bool
     ensures { result ≡ (behind || ahead || done % pace.now.every == 0) }
 {

@@ -58,7 +58,7 @@ fn page_over_plan(
 }
 
 /// Reads a script to the end of input, does its steps in their order in a new heap, and writes the page of the heap's life, with a moment
-/// each `every` events, and before and behind each step of the collector, or fewer where they would be too many. Nothing is written before
+/// each `every` events, and before and after each step of the collector, or fewer where they would be too many. Nothing is written before
 /// the page is whole. The page tells `name` as the name of the script's file, and `names` as names for shapes,
 /// none where they are empty; any name and any bytes are safe.
 pub fn draw_script<R: Read, W: Write>(

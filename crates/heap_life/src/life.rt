@@ -3,7 +3,7 @@
 //! ```text
 //!   events      e1        e2        e3: gc pause        e4
 //!   cores    c0 ---> c1 ------> c2 -----------> c3 -------> c4
-//!   moments  0                  2               3           4       the first, the last, each `every`, and before and behind the pause
+//!   moments  0                  2               3           4       the first, the last, each `every`, and before and after the pause
 //! ```
 
 ghost use Rattle.std.specs.Prelude.{◌≡◌, IfOk, IfErr, OnOk, map};
@@ -141,7 +141,7 @@ fn life_of(alloc: Global, core: &mut Core, events: &[Event], pace: Pace) -> Resu
 }
 
 /// The life of a new heap over the steps of events, done again in their order; their replies don't matter. A moment is shown each `every`
-/// events, and before and behind each step of the collector, or fewer where they would be too many, as the life's pace says.
+/// events, and before and after each step of the collector, or fewer where they would be too many, as the life's pace says.
 pub fn live(alloc: Global, events: &Record, every: u32) -> Result<Life, RunFault>
     ensures life { IfOk result (IsLifeOf every events.now) }
     ensures suits { OnOk result (Suits events.now.config) }

@@ -4,7 +4,7 @@ ghost use Rattle.std.specs.Prelude.{◌≡◌, ◌<◌, ◌%◌, ◌==◌, ◌&&
 
 use heap_steps::{CollectorStep, Step};
 
-/// Which moments of a run are shown: the first and the last; each that so many events are a multiple of; and those before and behind each
+/// Which moments of a run are shown: the first and the last; each that so many events are a multiple of; and those before and after each
 /// step of the collector that counts, one of so many.
 #[derive(Clone, Copy, Debug, PartialEq, Eq)]
 pub struct Pace {
@@ -33,7 +33,7 @@ impl Pace {
         }
     }
 
-    /// Whether a step has moments before and behind it, where so many counted before it.
+    /// Whether a step has moments before and after it, where so many counted before it.
     pub fn shows(&self, step: Step, counted: u64) -> bool
         ensures { result ≡ counts self.now step && counted % self.now.stride == 0 }
     {

@@ -122,7 +122,7 @@ fn text_between(alloc: Global, name: &str, names: &[u8], life: &Life) -> Result<
     text.into_bytes()
 }
 
-/// What stands behind the moments' lines: what draws a life.
+/// What is after the moments' lines: what draws a life.
 fn text_behind(alloc: Global) -> Result<Vec<u8>, AllocError> {
     let mut text = Text::new(alloc);
     text.put(BEHIND);
@@ -144,7 +144,7 @@ fn text_before() -> &'static [u8] {
     BEFORE.as_bytes()
 }
 
-/// Puts the parts of a page in their order behind one another.
+/// Puts the parts of a page in their order after one another.
 fn joined(
     alloc: Global,
     lines: &[u8],

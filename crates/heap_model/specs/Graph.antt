@@ -19,7 +19,7 @@ pub record Places : Type 0 where
   pub mutators : ℕ
   pub registers : ℕ
 
--- Where roots stand: the globals first, and behind them the registers of one mutator after another.
+-- Where roots stand: the globals first, and after them the registers of one mutator after another.
 -- The place of a mutator's register
 abbrev pub register_place : Places → ℕ → ℕ → ℕ
 register_place p mutator register = p.globals + p.registers * mutator + register

@@ -15,7 +15,7 @@ pub record Stored : Type 0 where
 abbrev pub fields : Stored → List (Option ℕ)
 fields x = x.pointers ++ x.weaks
 
--- the object with another value in a field: in a pointer, or in a weak slot, which stand behind the pointers
+-- the object with another value in a field: in a pointer, or in a weak slot, which are after the pointers
 abbrev pub with_field : Stored → ℕ → Option ℕ → Stored
 with_field x i v =
     if nat_lt i (length x.pointers) then record x { pointers = slice_set x.pointers i v }

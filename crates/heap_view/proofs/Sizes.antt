@@ -8,7 +8,7 @@ use Rattle.script_text.specs.Texts.{spaced_number}
 use Rattle.script_text.specs.Spelling.{verb_of, size_words, format_words, heap_words, line, spaced}
 use Rattle.heap_view.specs.Glances.{format_text}
 
--- words parted by spaces: the first, and each other behind a space
+-- words parted by spaces: the first, and each other after a space
 spaced_is : (w : List ℕ) (ws : List (List ℕ)) → spaced (w ∷ ws) ≡ w ++ flat_map (λ (x : List ℕ). codes " " ++ x) ws
 spaced_is w [] = sym (append-nil w)
 spaced_is w (v ∷ vs) = ap (λ (l : List ℕ). w ++ 32 ∷ l) (spaced_is v vs)

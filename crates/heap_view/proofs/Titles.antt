@@ -1,4 +1,4 @@
--- Lists behind their titles, and the choices of single pieces.
+-- Lists after their titles, and the choices of single pieces.
 use Rattle.std.proofs.Common.{◌≡◌, ◌<◌, ◌≤◌, ◌-◌, ℕ, Bool, true, false, List, [], ◌∷◌, ◌++◌, Option, Some, None}
 use Rattle.std.proofs.Common.{length, take, refl, ap, eq-eqb}
 use Rattle.std.specs.Prelude.{◌==◌, IsSome, IsTrue, is_some, nat_lt, codes}

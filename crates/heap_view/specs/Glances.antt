@@ -12,7 +12,7 @@ use Rattle.heap_view.specs.Lists.{ended}
 use Rattle.heap_view.specs.Areas.{region_line, region_lines}
 use Rattle.heap_view.specs.Actors.{queue_line, actor_lines}
 
--- what the first line has behind the first name, each behind a space
+-- what the first line has after the first name, each after a space
 unfoldable pub format_text : Format → List ℕ
 format_text format = flat_map (λ word. codes " " ++ word) (format_words format)
 

@@ -1,4 +1,4 @@
--- Pieces of lines: what stands behind spaces, and the first items of a list.
+-- Pieces of lines: what is after spaces, and the first items of a list.
 use Rattle.std.specs.Prelude.{ℕ, ◌-◌, nat_lt, List, [], ◌∷◌, ◌++◌, length, take, codes, if◌then◌else◌}
 use Rattle.std.specs.List.{flat_map}
 use Rattle.std.specs.Fmt.{decimal}
@@ -7,7 +7,7 @@ use Rattle.std.specs.Fmt.{decimal}
 unfoldable pub ended : List ℕ → List ℕ
 ended text = text ++ 10 ∷ []
 
--- the text of each item, behind a space
+-- the text of each item, after a space
 abbrev pub each_spaced : {A : Type 0} → (A → List ℕ) → List A → List ℕ
 each_spaced text items = flat_map (λ x. codes " " ++ text x) items
 

@@ -46,7 +46,7 @@ IsRedoFault events (faults.Run fault) = IsRunFault events.config fault
 IsRedoFault events (faults.Differs event) = DiffersAt RunsFromNew events event
 IsRedoFault events _ = ⊥
 
--- How a view of a record behind so many events ended, as a script's. Nothing was written where the heap gives another reply to one of them
+-- How a view of a record after so many events ended, as a script's. Nothing was written where the heap gives another reply to one of them
 abbrev pub Reviews : Glance → Reader → Reader → Writer → Writer → Result ⊤ JobFault → Type 0
 Reviews glance given left old new (Ok done) = (input : List ℕ) × GivesAll given left input
     × ((text : List ℕ) × IsReviewOfRecord glance input text × Takes old new text)

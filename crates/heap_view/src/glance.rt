@@ -17,7 +17,7 @@ use step_core::Core;
 /// What of a heap is viewed, and when.
 #[derive(Clone, Copy, Debug, PartialEq, Eq)]
 pub struct Glance {
-    /// Behind so many steps, or where there are fewer behind the last one. `None`: behind the last one.
+    /// After so many steps, or where there are fewer after the last one. `None`: after the last one.
     pub at: Option<u32>,
     /// This region alone. `None`: each region, and what stands beside them.
     pub region: Option<u32>,

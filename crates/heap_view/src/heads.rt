@@ -9,7 +9,7 @@ use heap_words::config::Format;
 use script_text::Text;
 use step_core::Core;
 
-/// Puts what the first line has behind the first name.
+/// Puts what the first line has after the first name.
 fn put_format(text: &mut Text, format: Format)
     ensures { Adds text.old (format_text format) text.new }
 {

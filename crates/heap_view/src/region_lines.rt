@@ -124,7 +124,7 @@ fn put_remembered(core: &Core, text: &mut Text, region: RegionNo)
     put_set(core.sets(), text, region, core.table().region_count());
 }
 
-/// Puts a region that is in use, behind its kind.
+/// Puts a region that is in use, after its kind.
 fn put_body(core: &Core, text: &mut Text, region: RegionNo, kind: Kind)
     requires known { region < length core.now.table.regions }
     requires kind { kind ≡ kind_of core.now.table region }

@@ -29,7 +29,7 @@ fn steps_of(alloc: Global, events: &[Event]) -> Result<Vec<Step>, AllocError>
     Ok(steps)
 }
 
-/// A new heap behind the steps of events, whose replies have to be the heap's.
+/// A new heap after the steps of events, whose replies have to be the heap's.
 fn core_over(alloc: Global, config: &Config, events: &[Event]) -> Result<Core, JobFault>
     requires { AreEvents config.now events.now }
     ensures goes { IfOk result (GoesTo (record { config = config.now; events = events.now })) }
@@ -52,7 +52,7 @@ fn core_over(alloc: Global, config: &Config, events: &[Event]) -> Result<Core, J
     }
 }
 
-/// What is viewed of a new heap behind the first so many events of a record.
+/// What is viewed of a new heap after the first so many events of a record.
 fn review_of(alloc: Global, history: &Record, glance: &Glance) -> Result<Vec<u8>, JobFault>
     ensures text { IfOk result (λ text. IsReviewOf glance.now history.now text.items) }
     ensures fault { IfErr result (IsRedoFault (beginning_of glance.now.at history.now)) }

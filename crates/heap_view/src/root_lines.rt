@@ -39,7 +39,7 @@ fn put_none(text: &mut Text, some: bool)
     text.put(" all nil");
 }
 
-/// Puts a root by its letter, its number and its object, and where that stands, behind a comma where others stand before it. Answers
+/// Puts a root by its letter, its number and its object, and where that stands, after a comma where others stand before it. Answers
 /// whether some stand there now.
 fn put_root(
     table: &RegionTable,
@@ -68,7 +68,7 @@ fn put_root(
     }
 }
 
-/// Puts the roots from one place up to another that aren't nil, each behind its letter and its number.
+/// Puts the roots from one place up to another that aren't nil, each after its letter and its number.
 fn put_roots(
     table: &RegionTable,
     roots: &Roots,

@@ -36,7 +36,7 @@ pub(crate) fn first_of<T>(items: &[T], at: Option<u32>) -> &[T]
     }
 }
 
-/// The view of a new heap behind the first so many steps of a plan.
+/// The view of a new heap after the first so many steps of a plan.
 fn view_of(alloc: Global, plan: &Plan, glance: &Glance) -> Result<Vec<u8>, RunFault>
     ensures text { IfOk result (λ text. IsViewOf glance.now plan.now text.items) }
     ensures fault { IfErr result (IsRunFault plan.now.config) }

@@ -38,13 +38,13 @@ followed_yes law text left n = (
   λ run. (run.0, yes_explained (whole_lines text) n ((law (whole_lines text) n).1 run.1)),
 )
 
--- what stands in events stands in them with more behind them
+-- what stands in events stands in them with more after them
 stands : (es more : List Event) (k : ℕ) (e : Event) → k < length es → slice_get (es ++ more) k ≡ Some e → slice_get es k ≡ Some e
 stands [] more k e lt is = absurd (omega arith)
 stands (x ∷ es) more zero e lt is = is
 stands (x ∷ es) more (suc k) e lt is = stands es more k e (omega arith) is
 
--- events that break do so with more behind them
+-- events that break do so with more after them
 breaks_on : (first : State) (es more : List Event) (n : ℕ) → BreaksAt first es n → BreaksAt first (es ++ more) n
 breaks_on first es more n b =
     let within = b.within in

@@ -42,7 +42,7 @@ fails_behind given mid left front reads.CannotRead a b =
     ((front ++ b.0.0, Consumes-trans given.left mid.left left.left front b.0.0 a.0 b.0.1), b.1)
 fails_behind given mid left front reads.NoMemory a b = (front ++ b.0, gives_more given mid left front b.0 a b.1)
 
--- the lines of a record with these events were taken, and what waits stands behind them
+-- the lines of a record with these events were taken, and what waits is after them
 abbrev pub HasRead : Config → List Event → Reader → Reader → List ℕ → Type 0
 HasRead c es given left waits = (lines : List ℕ) × Gives given left (lines ++ waits) × (record_of lines ≡ Ok (made c es))
 

@@ -50,7 +50,7 @@ reason_line n e given =
     codes "event " ++ decimal n ++ codes ", line " ++ decimal (n + 1) ++ codes ": " ++ event_text e
     ++ codes "; the graph gives " ++ given_text given ++ 10 ∷ []
 
--- the verdict's line, and behind a no its reason
+-- the verdict's line, and after a no its reason
 abbrev pub finding_text : Finding → List ℕ
 finding_text (Allowed n) = verdict_line (Yes n)
 finding_text (Refused n e given) = verdict_line (No n) ++ reason_line n e given

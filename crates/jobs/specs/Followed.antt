@@ -20,7 +20,7 @@ use Rattle.jobs.specs.declared.faults.JobFault.TheVariants as faults
 abbrev pub GoesOnBehind : List ℕ → List ℕ → Type 0
 GoesOnBehind text lines = (rest : List ℕ) × (text ≡ lines ++ rest)
 
--- Whatever comes behind the text, up to a line feed, it has this fault: so the fault's line is known to be wrong.
+-- Whatever comes after the text, up to a line feed, it has this fault: so the fault's line is known to be wrong.
 abbrev pub IsWrongAlready : LineFault → List ℕ → Type 0
 IsWrongAlready fault text = (more : List ℕ) → record_of (text ++ more ++ 10 ∷ []) ≡ Err fault
 
@@ -49,7 +49,7 @@ FindsBy given left (Err (faults.Run fault)) = ⊥
 FindsBy given left (Err (faults.Write fault)) = ⊥
 FindsBy given left (Err (faults.Differs event)) = ⊥
 
--- what is told of a finding: the verdict's line, and behind a no its reason where that is asked for
+-- what is told of a finding: the verdict's line, and after a no its reason where that is asked for
 abbrev pub told_text : Bool → Finding → List ℕ
 told_text false finding = verdict_line (verdict_of finding)
 told_text true finding = finding_text finding

@@ -1,4 +1,4 @@
--- What is told behind a fault's line where it is to be explained.
+-- What is told after a fault's line where it is to be explained.
 use Rattle.std.specs.Prelude.{◌≡◌, ◌⊎◌, ℕ, ◌+◌, ⊤, List, [], ◌∷◌, ◌++◌, Option, None, Some, Result, Ok, Err, codes, nat_lt, if◌then◌else◌}
 use Rattle.std.specs.Prelude.{◌&&◌, ◌<◌, ◌^◌}
 use Rattle.std.specs.Fmt.{decimal}

@@ -1,4 +1,4 @@
-//! What is told behind a fault's line where it is to be explained.
+//! What is told after a fault's line where it is to be explained.
 //!
 //! ```text
 //!   g1heap: line 5: 5 BadStep                    g1heap: heap: 3 BadBuffer
@@ -151,7 +151,7 @@ fn reason_words(fault: JobFault) -> &'static [u8]
     }
 }
 
-/// Puts what explains a fault of a job on a text behind the first `at` bytes of a buffer, and answers where it ends.
+/// Puts what explains a fault of a job on a text after the first `at` bytes of a buffer, and answers where it ends.
 fn put_reason(
     buffer: &mut [u8],
     at: usize,
@@ -177,7 +177,7 @@ fn put_reason(
     }
 }
 
-/// Tells how a job on a text ended, as `conclude` does, and behind a fault's line what explains it: `kind` is what the text was read as.
+/// Tells how a job on a text ended, as `conclude` does, and after a fault's line what explains it: `kind` is what the text was read as.
 pub fn conclude_explained<E: Write>(
     outcome: Result<(), JobFault>,
     kind: TextKind,
@@ -215,7 +215,7 @@ fn why(reason: Option<ErrorKind>) -> &'static [u8]
     }
 }
 
-/// Tells that a file of this name can't be read, and why, behind the fault's line, and answers the program's status. Without a reason of
+/// Tells that a file of this name can't be read, and why, after the fault's line, and answers the program's status. Without a reason of
 /// the system's memory was refused.
 pub fn conclude_unread<E: Write>(
     fault: ReadFault,

@@ -58,7 +58,7 @@ fn put_given(buffer: &mut [u8], at: usize, given: Given) -> usize
     }
 }
 
-/// The number behind a number, which may have 65 bits.
+/// The number after a number, which may have 65 bits.
 fn put_next(buffer: &mut [u8], at: usize, number: u64) -> usize
     requires { at + 21 ≤ length buffer.old }
     ensures put { take result buffer.new ≡ take at buffer.old ++ decimal (number + 1) }
@@ -88,7 +88,7 @@ fn put_reason(buffer: &mut [u8], at: usize, number: u64, event: &Event, given: G
     put_text(buffer, at, b"\n")
 }
 
-/// The verdict's line, and behind a no its reason.
+/// The verdict's line, and after a no its reason.
 fn put_finding(buffer: &mut [u8], finding: Finding) -> usize
     requires { length buffer.old ≡ ROOM }
     ensures put { take result buffer.new ≡ finding_text finding }
@@ -105,7 +105,7 @@ fn put_finding(buffer: &mut [u8], finding: Finding) -> usize
     }
 }
 
-/// Writes the verdict's line, and behind a no its reason. Where that fails, the writer refused, and a beginning is written. It takes no
+/// Writes the verdict's line, and after a no its reason. Where that fails, the writer refused, and a beginning is written. It takes no
 /// memory.
 pub(crate) fn write_finding<W: Write>(
     finding: Finding,
@@ -129,7 +129,7 @@ fn write_hint<W: Write>(text: &[u8], fault: LineFault, writer: &mut WatchedWrite
     let _ = write_bytes(writer, &buffer[..at]);
 }
 
-/// Reads a record to the end of input, judges it by the graph alone, and writes the verdict as `judge_record` does. Behind a no one more
+/// Reads a record to the end of input, judges it by the graph alone, and writes the verdict as `judge_record` does. After a no one more
 /// line says what the graph gives in place of the event that isn't allowed, and what else may stand there. Of a line with a fault one line
 /// shows it and says what may stand where reading it stopped. Nothing else is written before the judge has ended.
 ///

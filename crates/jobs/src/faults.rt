@@ -106,7 +106,7 @@ fn put_event_words(buffer: &mut [u8], at: usize, event: u64) -> usize
     put_text(buffer, at, b": 1 OtherReply")
 }
 
-/// Puts a fault's words behind the first `at` bytes of a buffer, and answers where they end.
+/// Puts a fault's words after the first `at` bytes of a buffer, and answers where they end.
 fn put_words(buffer: &mut [u8], at: usize, fault: JobFault) -> usize
     requires { at + 40 ≤ length buffer.old }
     ensures put { take result buffer.new ≡ take at buffer.old ++ fault_words fault }

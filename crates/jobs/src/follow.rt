@@ -24,8 +24,8 @@ use script_text::{
 use std::alloc::Global;
 use std::io::{Read, Write};
 
-/// Judges the events behind the heap line, each as soon as its line is whole, to the end of input or to the first that isn't allowed. Lines
-/// are counted in 64 bits: behind 18,446,744,073,709,551,614 events a longer count is refused for memory.
+/// Judges the events after the heap line, each as soon as its line is whole, to the end of input or to the first that isn't allowed. Lines
+/// are counted in 64 bits: after 18,446,744,073,709,551,614 events a longer count is refused for memory.
 fn follow_events<R: Read>(
     config: &Config,
     judge: &mut Judge,
@@ -65,7 +65,7 @@ fn follow_events<R: Read>(
     Err(JobFault::Judge(JudgeFault::NoMemory))
 }
 
-/// Judges the lines behind the heap line, in a graph of these sizes.
+/// Judges the lines after the heap line, in a graph of these sizes.
 fn follow_lines<R: Read>(
     alloc: Global,
     config: &Config,
@@ -130,7 +130,7 @@ fn write_told<W: Write>(
 
 /// Reads a record as it is written, judges it event by event, and writes the verdict: `no` and the first event that isn't allowed as soon
 /// as its line is whole, `yes` and the number of events at the end of input. A last line that no line feed ends counts as not written.
-/// Where it is asked for, a no has its reason behind it, as `explain_record` writes it. A line's fault is told as soon as the line is
+/// Where it is asked for, a no has its reason after it, as `explain_record` writes it. A line's fault is told as soon as the line is
 /// whole, or has more than 120 bytes. What it holds grows with the graph, and not with the text.
 pub fn follow_record<R: Read, W: Write>(
     alloc: Global,
@@ -168,7 +168,7 @@ pub fn perform_follow<R: Read, W: Write, E: Write>(
 }
 
 /// What is found is the verdict of `check` on the text without its cut last line: yes at the end of input, exactly where that is the text
-/// of a run of so many events; no n where, whatever comes behind, `check` has no other verdict.
+/// of a run of so many events; no n where, whatever comes after, `check` has no other verdict.
 pub fn follow_law()
     ensures yes { (text : List ℕ) (left : Reader) (n : ℕ) → IsFound text left (Ok (Finding.Allowed n))
         ↔ (IsAtEnd left.left × IsTextOfRun (whole_lines text) n) }

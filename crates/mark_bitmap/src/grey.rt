@@ -81,7 +81,7 @@ fn let_go(held: &mut Option<u32>, object: u32)
     }
 }
 
-/// The lowest grey object at or behind the addresses of the lowest finger that is set.
+/// The lowest grey object at or after the addresses of the lowest finger that is set.
 #[tactic(auto, unfolding(crate::specs::Grey::finger_of))]
 fn lowest_beside(marks: &Marks, scanned: &Marks, fingers: &Fingers) -> Option<Addr>
     requires even { length marks.now ≡ length scanned.now }

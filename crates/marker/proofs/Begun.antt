@@ -85,7 +85,7 @@ all_begun t roots m m' n z all run tops unmarked unscanned none kept p =
       logged = ap logged p.logs ∙ none;
     }
 
--- the same, where only nil stands behind
+-- the same, where only nil is after
 pub rest_begun : (t : Table) (roots : List (Option ℕ)) (m m' : Marker) (n : ℕ) → 0 < t.words_per_region
     → AreNil roots n (length roots) → m.running ≡ true → ((k : ℕ) → k < length t.regions → get_or m.tams.next k 0 ≡ top_of t k)
     → ((a : ℕ) → is_marked m.bitmaps.next a ≡ false) → ((a : ℕ) → is_marked m.grey.scanned a ≡ false) → logged m.logs ≡ []

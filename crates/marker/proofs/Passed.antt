@@ -19,7 +19,7 @@ pub named_below : (t : Table) (words : List (Option ℕ)) (from : ℕ) (m : Mark
 named_below t words from m shape st kept =
     λ place a _ is. omega (arith, kept_within t m a shape (kept place a is), st.next.each_word)
 
--- all up to a place were reached, and the roots behind it, up to another one, name what is marked: so all up to there were
+-- all up to a place were reached, and the roots after it, up to another one, name what is marked: so all up to there were
 passed : (t : Table) (words : List (Option ℕ)) (place end : ℕ) (m m' : Marker) → IsFirstUnmarked m'.bitmaps.next words place end
     → Reached t (IsAmong words place) m m' → Reached t (IsAmong words end) m m'
 passed t words place end m m' first r = record {

@@ -207,7 +207,7 @@ module _ (m : Marking) (t u : Table) (left : Option ℕ) (n : ℕ) (is : left �
   pub sweep_object : IsSome (object_at u n)
   sweep_object = rw here.next.is refl
 
-  -- the address behind it is one
+  -- the address after it is one
   pub sweep_small : IsShaped u → n < max_words
   unfolding object_at
   sweep_small shaped =

@@ -12,7 +12,7 @@ pub record NamesMarked (marks : List Bool) (words : List (Option ℕ)) (place : 
   pub is : slice_get words place ≡ Some (Some address)
   pub marked : is_marked marks address ≡ true
 
--- the first place from one on that doesn't name a marked object. None behind the last place does
+-- the first place from one on that doesn't name a marked object. None after the last place does
 pub record IsFirstUnmarked (marks : List Bool) (words : List (Option ℕ)) (from place : ℕ) : Type 0 where
   pub from_on : from ≤ place
   pub marked_before : (i : ℕ) → from ≤ i → i < place → NamesMarked marks words i

@@ -51,8 +51,8 @@ fn names_marked(marks: &Marks, words: &[Ptr], place: usize) -> bool
     marks.get(at)
 }
 
-/// The first place from `from` on that doesn't name a marked object, be it nil, unmarked or behind the last one. A place costs one look
-/// at a bit: the loop only reads, and stands behind a first look, so that the compiler keeps both pointers in registers.
+/// The first place from `from` on that doesn't name a marked object, be it nil, unmarked or after the last one. A place costs one look
+/// at a bit: the loop only reads, and is after a first look, so that the compiler keeps both pointers in registers.
 #[inline(always)]
 fn past_marked(marks: &Marks, words: &[Ptr], from: usize) -> usize
     requires { AreNamedBelow words.now from (length marks.now) }

@@ -380,7 +380,7 @@ impl Journal {
     /// let mut journal = Journal::new(alloc, &plan)?;
     /// journal.turn(Actor::Mutator(0))?;
     /// assert!(rt; !journal.is_left(0));
-    /// assert!(rt; journal.is_left(1)); // the collector's, behind the mutators'
+    /// assert!(rt; journal.is_left(1)); // the collector's, after the mutators'
     /// ```
     pub fn is_left(&self, k: usize) -> bool
         requires { k ≤ mutators_of self.now }

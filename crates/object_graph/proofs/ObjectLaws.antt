@@ -81,7 +81,7 @@ object_more words more e le = same_object
     (ap (map pointer_of) (part_more words more (start_of e + e.pointers) (weaks_of e) (omega arith)))
     (part_more words more (start_of e + e.pointers + weaks_of e) e.values le)
 
--- entries in turn end behind their first word
+-- entries in turn end after their first word
 turn_ends : (es : List Entry) (from end : ℕ) → AreInTurn es from end → from ≤ end
 turn_ends [] from end turn = omega (arith, turn)
 turn_ends (e ∷ es) from end turn =
@@ -311,7 +311,7 @@ grown words new len end n is sum made =
     made ∙ ap (λ (xs : List ℕ). xs ++ replicate (end - len) 0) (take_all end words (omega arith))
     ∙ ap (λ (k : ℕ). words ++ replicate k 0) count
 
--- an entry for an object of so many fields, which starts behind all words
+-- an entry for an object of so many fields, which starts after all words
 pub record IsLast (e : Entry) (was p w d : ℕ) : Type 0 where
   pub start : start_of e ≡ was
   pub pointers : e.pointers ≡ p

@@ -383,7 +383,7 @@ searched_keeps s objects zero q on = on
 searched_keeps s objects (suc k) q on = looked_keeps (searched s objects k) objects (slice_get (searched s objects k).queue k) q
     (searched_keeps s objects k q on)
 
--- behind the queue's end no look changes anything
+-- after the queue's end no look changes anything
 none_looked : (s : Search) (objects : List Object) (i : ℕ) → length s.queue ≤ i → looked s objects i ≡ s
 none_looked s objects i past = ap (λ (place : Option ℕ). looked_at s objects place) (slice_get_past s.queue i past)
 

@@ -214,7 +214,7 @@ taken_more j es seen i e same lt is taken =
     let more : take (i + 1) es ≡ take i es ++ e ∷ [] = take_more es i e inside ∙ ap (λ (x : Event). take i es ++ x ∷ []) (sym there) in
     subst (λ (xs : List Event). HasTaken j xs) (sym more) taken
 
--- what is found where the judge tells of the event behind the first i
+-- what is found where the judge tells of the event after the first i
 pub found_there : (first : State) (es seen : List Event) (i : ℕ) (e : Event) (given : Given) → seen ≡ es → i < length seen
     → e ≡ get_or seen i e → Refuses first (take i es) e given
     → Finds first es (findings.Refused (i + 1) e given)

@@ -22,7 +22,7 @@ object_at words e = record {
 abbrev pub objects_in : List ℕ → List Entry → List Object
 objects_in words entries = map (object_at words) entries
 
--- the objects' words lie one behind the other, from a word to the last
+-- the objects' words lie one after the other, from a word to the last
 abbrev pub AreInTurn : List Entry → ℕ → ℕ → Type 0
 AreInTurn [] from end = from ≡ end
 AreInTurn (e ∷ es) from end = (start_of e ≡ from) × AreInTurn es (from + e.pointers + weaks_of e + e.values) end

@@ -19,7 +19,7 @@ pub fn judged_once()
     ensures { (first last : State) (es : List Event) (n : ℕ) → IsRun first es last → BreaksAt first es n → ⊥ }
 {}
 
-/// What the graph gives for a step says which replies may stand behind it: exactly those with which some state may follow.
+/// What the graph gives for a step says which replies may be after it: exactly those with which some state may follow.
 pub fn given_law()
     ensures { (old : State) (k : Step) (given : Given) (r : Reply) → IsSoundState old → IsGiven old.graph k given
         → ((new : State) × Happens old k r new) ↔ MayStand given r }

@@ -16,7 +16,7 @@ use heap_steps::Counts;
 use std::alloc::{AllocError, Global};
 use std::marker::Model;
 
-/// No object's words start at or behind this place.
+/// No object's words start at or after this place.
 const LIMIT: u64 = 1 << 56;
 
 /// Where an object's words start, and how many pointers, weak slots and data words they are.

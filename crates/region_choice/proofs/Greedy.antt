@@ -72,7 +72,7 @@ module _ {X : Type 0} (n : X → ℕ) where
   lowest_in P (x ∷ xs) some all = lowest_of P x xs all
 
 -- m numbers within the limit are no more than the c of the front: sp and st are what the front and the others lack
--- of t, the first number behind the front, lp and lt are their sums
+-- of t, the first number after the front, lp and lt are their sums
 count_le : (m c t sp st lp lt : ℕ) → sp + lp ≡ c * t → m * t ≤ st + lt → st ≤ sp → lt < lp + t → m ≤ c
 count_le m c t sp st lp lt a b s d =
     let near : m * t < (c + 1) * t = omega (arith, add-mul c 1 t) in
@@ -135,7 +135,7 @@ all_free_most w xs ys c p all other rest q =
       sum_by-IsPermutation (λ row. w - row.live_bound) xs ys p,
     ))
 
--- what holds of the live bound of each row behind the front
+-- what holds of the live bound of each row after the front
 record IsNoLower (w limit t : ℕ) (front : List LiveRow) : Type 0 where
   below : t ≤ w
   full : limit < live_sum front + t

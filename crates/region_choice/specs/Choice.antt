@@ -36,7 +36,7 @@ live_sum rows = sum_by (λ row. row.live_bound) rows
 abbrev pub freed_sum : ℕ → List LiveRow → ℕ
 freed_sum words rows = sum_by (λ row. words - row.live_bound) rows
 
--- the first n rows are in order, the others behind them, and within the limit
+-- the first n rows are in order, the others after them, and within the limit
 pub record AreFirst (limit n : ℕ) (rows : List LiveRow) : Type 0 where
   pub count : n ≤ length rows
   pub sorted : IsSorted row_cmp (take n rows)

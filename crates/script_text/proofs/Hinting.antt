@@ -8,7 +8,7 @@ use Rattle.script_text.specs.Lines.{pieces_of}
 abbrev pub front : ℕ → List ℕ → List ℕ
 front n line = codes "line " ++ decimal n ++ codes ": " ++ shown line ++ codes "; "
 
--- the first line behind others is the one that is asked for
+-- the first line after others is the one that is asked for
 pub same_line : (input rest first line : List ℕ) (n : ℕ)
     → ((k : ℕ) (l : List ℕ) → slice_get (pieces_of input) (n - 1 + k) ≡ Some l → slice_get (pieces_of rest) k ≡ Some l)
     → slice_get (pieces_of rest) 0 ≡ Some first → slice_get (pieces_of input) (n - 1) ≡ Some line → first ≡ line
@@ -17,7 +17,7 @@ same_line input rest first line n behind here is =
     let there = behind 0 line (ap (slice_get (pieces_of input)) e ∙ is) in
     cc
 
--- three texts behind a beginning
+-- three texts after a beginning
 pub three : (start a b c mid left all : List ℕ) → mid ≡ start ++ a → left ≡ mid ++ b → all ≡ left ++ c → all ≡ start ++ (a ++ b ++ c)
 three start a b c mid left all p q r = rw (r, q, p) (simp append_assoc)
 

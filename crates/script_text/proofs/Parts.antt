@@ -1,4 +1,4 @@
--- The parts of a text: numbers, the words of a line, how a line is split into its words, and a text behind its first
+-- The parts of a text: numbers, the words of a line, how a line is split into its words, and a text after its first
 -- line.
 pub mod Numbers
 pub mod Spelled

@@ -19,7 +19,7 @@ abbrev pub whole_lines : List ℕ → List ℕ
 whole_lines [] = []
 whole_lines (b ∷ text) = if has_feed (b ∷ text) then b ∷ whole_lines text else []
 
--- a line feed ends the line at the text's front, and the rest stands behind it
+-- a line feed ends the line at the text's front, and the rest is after it
 abbrev pub Begins : List ℕ → List ℕ → List ℕ → Type 0
 Begins text line rest = pieces_of text ≡ line ∷ pieces_of rest
 
@@ -33,8 +33,8 @@ IsWrong read text kind =
     ((line : List ℕ) × (rest : List ℕ) × Begins text line rest × (read line ≡ Err kind))
     ⊎ (IsUnended text × (120 < length text) × (kind ≡ kinds.LongLine))
 
--- What the next line gave, where `read` says what a line gives. Bytes waited, the reader gave more behind them, and others wait after: what
--- stands behind the line that was taken; at the end of input there is no whole line.
+-- What the next line gave, where `read` says what a line gives. Bytes waited, the reader gave more after them, and others wait after: what
+-- is after the line that was taken; at the end of input there is no whole line.
 abbrev pub IsNext : {A : Type 0} → (List ℕ → Result A Kind) → List ℕ → List ℕ → Reader → Reader → Result (Option A) NextFault → Type 0
 IsNext read waited waits given left (Ok (Some x)) =
     (more : List ℕ) × (line : List ℕ) × Gives given left more × Begins (waited ++ more) line waits × (read line ≡ Ok x)

@@ -126,10 +126,10 @@ equals_at ws = position_or_len (λ w. bytes_eq w (codes "=")) ws
 unfoldable pub step_part : List (List ℕ) → List (List ℕ)
 step_part ws = if nat_lt (equals_at ws + 1) (length ws) then take (equals_at ws) ws else ws
 
--- the words behind it
+-- the words after it
 unfoldable pub reply_part : List (List ℕ) → Option (List (List ℕ))
 reply_part ws = if nat_lt (equals_at ws + 1) (length ws) then Some (drop (equals_at ws + 1) ws) else None
 
--- the reply behind a step
+-- the reply after a step
 unfoldable pub answer_of : List (List ℕ) → Option Reply
 answer_of ws = reply_part ws >>= reply_of

@@ -1,4 +1,4 @@
--- The events that are left of a record's text, and the fault behind them.
+-- The events that are left of a record's text, and the fault after them.
 use Rattle.std.specs.Prelude.{ℕ, ◌+◌, List, [], ◌∷◌, Option, Some, None, Result, Ok, Err}
 use Rattle.heap_words.specs.declared.config.Config.{Config}
 use Rattle.heap_steps.specs.Actors.{EventList}
@@ -14,7 +14,7 @@ pub record EventsLeft : Type 0 where
   pub events : List Event
   pub fault : Option LineFault
 
--- the event of a line in front of those behind it; none where the line has a fault
+-- the event of a line in front of those after it; none where the line has a fault
 abbrev pub in_front : Result Event Kind → List Event → List Event
 in_front (Ok e) es = e ∷ es
 in_front (Err k) es = []

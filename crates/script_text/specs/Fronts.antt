@@ -28,12 +28,12 @@ pub record IsClear (text : List ℕ) (at past : ℕ) : Type 0 where
   pub within : past ≤ end_of text
   pub clear : (k : ℕ) → at ≤ k → k < past → slice_index text k ≡ 32 → ⊥
 
--- the next word from a place on, and where the one behind it starts
+-- the next word from a place on, and where the one after it starts
 pub record IsNext (text : List ℕ) (at : ℕ) (word : List ℕ) (past : ℕ) : Type 0 where
   pub words : words_from text at ≡ word ∷ words_from text past
   pub within : past ≤ end_of text
 
--- the words behind one that ends at a place: none, where it is the last
+-- the words after one that ends at a place: none, where it is the last
 abbrev pub words_behind : List ℕ → ℕ → Bool → List (List ℕ)
 words_behind text past true = words_from text (past + 1)
 words_behind text past false = []

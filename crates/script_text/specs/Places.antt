@@ -31,7 +31,7 @@ actor_in Record c word = when_read (actor_of c word)
 actor_in Script c word =
     if bytes_eq word (codes "gc") then Some actors.Collector else option_map actors.Mutator (when_read (mutator_of c word))
 
--- what may stand behind a mutator's verb; nothing, if the word is none
+-- what may be after a mutator's verb; nothing, if the word is none
 unfoldable pub action_form : Bool → List ℕ → Option (List Place)
 action_form third verb =
     if bytes_eq verb (codes "new") then Some (places.Register ∷ places.Small ∷ places.Small ∷ [])
@@ -70,7 +70,7 @@ verb_place actors.Collector = places.Collection
 verb_place (actors.Marker i) = places.Marking
 verb_place (actors.Refiner i) = places.Refining
 
--- what may stand behind a verb at such a place; nothing, if the word is no verb there
+-- what may be after a verb at such a place; nothing, if the word is no verb there
 abbrev pub form_at : Bool → Place → List ℕ → Option (List Place)
 form_at third places.Action verb = action_form third verb
 form_at third places.Collection verb = collection_form third verb
@@ -78,7 +78,7 @@ form_at third places.Marking verb = if bytes_eq verb (codes "mark") then Some (p
 form_at third places.Refining verb = if bytes_eq verb (codes "refine") then Some (places.Small ∷ []) else None
 form_at third _ verb = None
 
--- what may stand behind the heap line's first word; nothing, if it is no format's
+-- what may be after the heap line's first word; nothing, if it is no format's
 unfoldable pub heap_form : List ℕ → Option (List Place)
 heap_form verb =
     let sizes = places.Regions ∷ places.RegionWords ∷ places.Buffer ∷ places.Mutators ∷ places.FirstName ∷ [] in
@@ -117,7 +117,7 @@ fits c _ [] = false
 fits c places.Reply (word ∷ rest) = is_some (reply_of (word ∷ rest))
 fits c place (word ∷ rest) = fits_word c place word
 
--- the places behind a verb and to the line's end, if the word is a verb
+-- the places after a verb and to the line's end, if the word is a verb
 abbrev pub behind_verb : Option (List Place) → List Place → List Place
 behind_verb None end = []
 behind_verb (Some form) end = form ++ end

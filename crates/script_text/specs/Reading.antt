@@ -30,7 +30,7 @@ large = 2 ^ 64 - 1
 abbrev pub small : ℕ
 small = 2 ^ 32 - 1
 
--- the number behind a letter
+-- the number after a letter
 unfoldable pub number_behind : ℕ → List ℕ → Option ℕ
 number_behind letter [] = None
 number_behind letter (b ∷ digits) = if b == letter then number_of small digits else None
@@ -227,7 +227,7 @@ collection_of f (verb ∷ a ∷ []) =
     else None
 collection_of f _ = None
 
--- the sizes that five words give, behind the verb of the format
+-- the sizes that five words give, after the verb of the format
 unfoldable pub sizes_in : Format → List ℕ → List ℕ → List ℕ → List ℕ → List ℕ → Option Config
 sizes_in format regions size buffer mutators first_name = do
   n ← number_of small regions
@@ -237,7 +237,7 @@ sizes_in format regions size buffer mutators first_name = do
   f ← number_of large first_name
   Some (record { format = format; regions = n; words = r; buffer = b; mutators = m; first_name = f })
 
--- the third format, by what stands behind the five
+-- the third format, by what is after the five
 unfoldable pub third_of : List ℕ → List ℕ → List ℕ → Option Format
 third_of card globals registers = do
   c ← number_of small card

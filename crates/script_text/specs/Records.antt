@@ -44,7 +44,7 @@ abbrev pub body_words : Step → List (List ℕ)
 body_words (steps.Mutator o) = action_words o.action
 body_words (steps.Collector k) = collection_words k
 
--- an event as its line has it behind the count
+-- an event as its line has it after the count
 abbrev pub event_text : Event → List ℕ
 event_text e = spaced (actor_word e.actor ∷ spaced (body_words e.step) ∷ codes "=" ∷ spaced (reply_words e.reply) ∷ [])
 

@@ -5,7 +5,7 @@ use Rattle.heap_steps.specs.declared.step.Step.{Step}
 use Rattle.script_text.specs.declared.fault.LineFault.{LineFault}
 use Rattle.script_text.specs.Lines.{pieces_of, steps_of}
 
--- the steps that were read, none behind a fault
+-- the steps that were read, none after a fault
 abbrev pub steps_read : Result (List Step) LineFault → List Step
 steps_read (Ok ss) = ss
 steps_read (Err fault) = []

@@ -20,7 +20,7 @@ pub record Writer : Type 0 where
 abbrev pub Gives : Reader → Reader → List ℕ → Type 0
 Gives old new bytes = Consumes old.left new.left bytes × (new.refused ≡ old.refused)
 
--- reading failed behind some bytes: the reader refused, or else memory was refused
+-- reading failed after some bytes: the reader refused, or else memory was refused
 abbrev pub FailsToGive : ReadFault → Reader → Reader → Type 0
 FailsToGive reads.CannotRead old new = ((some : List ℕ) × Consumes old.left new.left some) × IsTrue new.refused
 FailsToGive reads.NoMemory old new = (some : List ℕ) × Gives old new some

@@ -15,7 +15,7 @@ pub record Lines : Type 0 where
 abbrev pub no_events : Config → EventList
 no_events config = record { config = config; events = [] }
 
--- the record with more events behind its own
+-- the record with more events after its own
 abbrev pub with_events : EventList → List Event → EventList
 with_events r more = record { config = r.config; events = r.events ++ more }
 

@@ -79,7 +79,7 @@ impl fmt::Display for LineFault {
 
 impl Error for LineFault {}
 
-/// Puts a fault's text behind the first `at` bytes of a buffer, and answers where it ends.
+/// Puts a fault's text after the first `at` bytes of a buffer, and answers where it ends.
 ///
 /// ```rust
 /// let mut buffer = [0; 80];

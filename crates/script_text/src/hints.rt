@@ -239,7 +239,7 @@ fn front_of(line: &[u8]) -> &[u8]
     line
 }
 
-/// Puts the first 120 bytes of a line behind the first `at` bytes of a buffer, as a person reads them, and answers where they end.
+/// Puts the first 120 bytes of a line after the first `at` bytes of a buffer, as a person reads them, and answers where they end.
 ///
 /// ```rust
 /// let mut buffer = [0; 120];
@@ -282,7 +282,7 @@ fn split_words<'a>(text: &'a [u8], words: &mut [&'a [u8]]) -> usize
     }
 }
 
-/// Puts the lines that tell what a line with a fault lacks behind the first `at` bytes of a buffer, and answers where they end: the line
+/// Puts the lines that tell what a line with a fault lacks after the first `at` bytes of a buffer, and answers where they end: the line
 /// with
 /// the first word that doesn't fit, and where it is a common mistake, what it is. The text has that line.
 ///
@@ -324,7 +324,7 @@ pub fn put_fault_reason(
     )
 }
 
-/// Puts a line that shows a line of a text and says something of it behind the first `at` bytes of a buffer, and answers where it ends. The
+/// Puts a line that shows a line of a text and says something of it after the first `at` bytes of a buffer, and answers where it ends. The
 /// text has that line.
 ///
 /// ```rust

@@ -58,7 +58,7 @@ pub(crate) enum Place {
     End,
     /// The word of a heap line's format.
     Heap,
-    /// The numbers behind it.
+    /// The numbers after it.
     Regions,
     RegionWords,
     Buffer,
@@ -94,7 +94,7 @@ fn actor_in(kind: TextKind, config: &Config, word: &[u8]) -> Option<Actor>
     }
 }
 
-/// What may stand behind a mutator's verb. `None`: the word is none.
+/// What may be after a mutator's verb. `None`: the word is none.
 #[tactic(auto, unfolding(crate::specs::Places::action_form))]
 fn action_form(third: bool, verb: &[u8]) -> Option<&'static [Place]>
     ensures form { option_map (λ form. form.now) result ≡ action_form third verb.now }
@@ -176,7 +176,7 @@ fn verb_place(actor: Actor) -> Place
     }
 }
 
-/// What may stand behind a verb at such a place. `None`: the word is no verb there.
+/// What may be after a verb at such a place. `None`: the word is no verb there.
 fn form_at(third: bool, place: Place, verb: &[u8]) -> Option<&'static [Place]>
     ensures form { option_map (λ form. form.now) result ≡ form_at third place verb.now }
     ensures short { IfSome result (λ form. length form.now ≤ 8) }
@@ -202,7 +202,7 @@ fn form_at(third: bool, place: Place, verb: &[u8]) -> Option<&'static [Place]>
     }
 }
 
-/// What may stand behind the heap line's first word. `None`: it is no format's.
+/// What may be after the heap line's first word. `None`: it is no format's.
 #[tactic(auto, unfolding(crate::specs::Places::heap_form))]
 fn heap_form(verb: &[u8]) -> Option<&'static [Place]>
     ensures form { option_map (λ form. form.now) result ≡ heap_form verb.now }
@@ -341,7 +341,7 @@ fn first_misfit<'a, 'b>(
     Ok(left)
 }
 
-/// The words behind the first one.
+/// The words after the first one.
 fn behind_first<'a, 'b>(words: &'b [&'a [u8]]) -> &'b [&'a [u8]]
     ensures { map (λ w. w.now) result.now ≡ drop 1 (map (λ w. w.now) words.entry.now) }
 {
@@ -361,7 +361,7 @@ fn actor_place(kind: TextKind) -> Place
     }
 }
 
-/// Where reading a step stops, from its actor's word on, behind which the line has to go on so.
+/// Where reading a step stops, from its actor's word on, after which the line has to go on so.
 fn step_stop(
     kind: TextKind,
     config: &Config,

@@ -155,7 +155,7 @@ fn check_record_faults(
     Ok(())
 }
 
-/// Faults behind good events, each with its line: in the middle, in the last line, of a line that is cut, and the first of two.
+/// Faults after good events, each with its line: in the middle, in the last line, of a line that is cut, and the first of two.
 const LATE_FAULTS: [(&str, u64, Kind); 5] = [
     (
         "heap 4 16 8 1 0\n1 0 drop r0 = ok\n2 0 drop r0 = done\n3 0 drop r0 = ok\n",

@@ -303,7 +303,7 @@ scope_is verb a x v e =
     subst (λ (done : Action). ReadFrom verb (a ∷ []) done) (some_is (actions.Scope p0.0) x p0.2)
     (record { words = words2 verb a _ _ v q0.0; fits = q0.1 })
 
--- the verbs of weak slots, behind those of three words
+-- the verbs of weak slots, after those of three words
 abbrev weak_of : List ℕ → List ℕ → List ℕ → List ℕ → Option Action
 weak_of verb a b c =
     cond (bytes_eq verb (codes "getweak")) (get_weak_of a b c) (cond (bytes_eq verb (codes "putweak")) (put_weak_of a b c) None)
@@ -319,7 +319,7 @@ weak_is verb a b c x e =
       ])
     ]
 
--- the verbs of one word behind those two
+-- the verbs of one word after those two
 abbrev others_of : List ℕ → List ℕ → Option Action
 others_of verb a = cond (bytes_eq verb (codes "weaks")) (weaks_of a) (cond (bytes_eq verb (codes "scope")) (scope_of a) None)
 

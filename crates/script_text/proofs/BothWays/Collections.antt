@@ -37,7 +37,7 @@ one_word verb w e = ap (λ (v : List ℕ). v ∷ []) ((bytes_eq-Decides verb w).
 two_words : (verb w a b : List ℕ) → bytes_eq verb w ≡ true → a ≡ b → verb ∷ a ∷ [] ≡ w ∷ b ∷ []
 two_words verb w a b e f = let same : verb ≡ w = (bytes_eq-Decides verb w).0 e in cc
 
--- a step with a number behind its verb
+-- a step with a number after its verb
 numbered : (f : Format) (verb w a : List ℕ) (make : ℕ → CollectorStep) (k : CollectorStep) → bytes_eq verb w ≡ true
     → ((n : ℕ) → collection_words (make n) ≡ w ∷ decimal n ∷ []) → ((n : ℕ) → HasCollection f (make n))
     → ((n : ℕ) → n ≤ small → CollectionFits (make n))
@@ -173,7 +173,7 @@ fitted words fm c a fits = record {
   first_name = a.first_name;
 }
 
--- the third format, and the words behind the five sizes
+-- the third format, and the words after the five sizes
 record IsThird (words : List (List ℕ)) (f : Format) : Type 0 where
   spelled : words ≡ format_words f
   verb : verb_of f ≡ codes "heap3"

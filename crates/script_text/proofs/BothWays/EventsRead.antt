@@ -169,7 +169,7 @@ taken_is c (actors.Refiner i) ws s known e =
     let is = collection_is c.format ws read.0 read.1 in
     refined c i ws read.0 s known is.spelled is.fits read.2
 
--- an event, and the words behind its count
+-- an event, and the words after its count
 record IsCounted (c : Config) (words : List (List ℕ)) (e : Event) : Type 0 where
   spelled : words ≡ actor_word e.actor ∷ (body_words e.step ++ codes "=" ∷ reply_words e.reply)
   owned : IsEvent c e

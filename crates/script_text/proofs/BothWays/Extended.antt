@@ -1,4 +1,4 @@
--- A text goes on behind the text of a record.
+-- A text goes on after the text of a record.
 use Rattle.std.proofs.Common.{◌≡◌, ◌+◌, ◌<◌, ◌∷◌, ◌++◌, ◌∙◌}
 use Rattle.std.proofs.Common.{ℕ, List, [], length, Result, Ok, Err, refl, sym, ap, append_assoc, arith, inl, inr}
 use Rattle.std.proofs.lemmas.Bool.{lt-ltb}
@@ -23,7 +23,7 @@ use Rattle.script_text.proofs.BothWays.EventsRead.{event_text}
 use Rattle.script_text.proofs.BothWays.EventsSpelled.{event_line_again, event_no_feed}
 use Rattle.script_text.proofs.BothWays.RecordTexts.{AreGood, good_first, good_rest, record_read}
 
--- events that are spelled are read, whatever comes behind them
+-- events that are spelled are read, whatever comes after them
 events_extend : (es : List Event) (n : ℕ) (c : Config) (p : EventList) (t : List ℕ) → AreGood n c es →
     read_on p (events_of n c (pieces_of (event_lines n es ++ t)))
     ≡ read_on (record p { events = p.events ++ es }) (events_of (n + length es) c (pieces_of t))
@@ -47,7 +47,7 @@ events_extend (e ∷ es) n c p t good =
     sym on ∙ more ∙ ap (λ (xs : List Event). read_on (record p { events = xs }) (events_of ((n + 1) + length es) c (pieces_of t))) same
     ∙ ap (λ (k : ℕ). read_on (record p { events = p.events ++ e ∷ es }) (events_of k c (pieces_of t))) count
 
--- a text behind the text of a record is read from its next event on
+-- a text after the text of a record is read from its next event on
 pub extends : (lines : List ℕ) (r : EventList) (t : List ℕ) → record_of lines ≡ Ok r
     → record_of (lines ++ t) ≡ read_on r (events_of (length r.events + 1) r.config (pieces_of t))
 extends lines r t read =
@@ -102,7 +102,7 @@ heap_long : (line : List ℕ) → 120 < length line → heap_line_of line ≡ Er
 unfolding heap_line_of
 heap_long line long = rw (lt-ltb 120 (length line) long) refl
 
--- a line that is wrong stays wrong, whatever comes behind up to a line feed
+-- a line that is wrong stays wrong, whatever comes after up to a line feed
 pub stays_wrong : {A : Type 0} (read : List ℕ → Result A Kind) (text : List ℕ) (k : Kind) (more : List ℕ)
     → ((line : List ℕ) → 120 < length line → read line ≡ Err kinds.LongLine) → IsWrong read text k →
     (line : List ℕ) × (rest : List ℕ) × Begins (text ++ more ++ 10 ∷ []) line rest × (read line ≡ Err k)
@@ -143,7 +143,7 @@ ends_feed (e ∷ es) n front =
     ∙ ap (λ (t : List ℕ). t ++ event_lines (n + 1) es) (sym (append_assoc (front ++ 10 ∷ []) (event_text n e) (10 ∷ []))) in
     (rest.0, cut ∙ rest.1)
 
--- a record's text with a cut line behind it, without that
+-- a record's text with a cut line after it, without that
 pub whole_of_record : (lines part : List ℕ) (r : EventList) → record_of lines ≡ Ok r → IsUnended part → whole_lines (lines ++ part) ≡ lines
 whole_of_record lines part r read unended =
     let clear = first_clear part part [] unended in
@@ -157,7 +157,7 @@ whole_of_record lines part r read unended =
 pub whole_of_none : (text : List ℕ) → IsUnended text → record_of (whole_lines text) ≡ Err (fault 1 kinds.BadHeap)
 whole_of_none text unended = ap record_of (no_whole text (first_clear text text [] unended)) ∙ no_line [] kinds.BadHeap refl refl
 
--- a record's lines stay, whatever comes behind them
+-- a record's lines stay, whatever comes after them
 pub whole_behind : (lines x : List ℕ) (r : EventList) → record_of lines ≡ Ok r → whole_lines (lines ++ x) ≡ lines ++ whole_lines x
 whole_behind lines x r read =
     let ends = ends_feed r.events 1 (spaced (heap_words r.config)) in

@@ -26,7 +26,7 @@ use Rattle.script_text.proofs.BothWays.Texts.{at_ok}
 use Rattle.script_text.proofs.BothWays.EventsRead.{event_text, IsEventLine, event_line_is}
 use Rattle.script_text.proofs.BothWays.EventsSpelled.{IsGood, event_line_again, event_no_feed}
 
--- events that were read of the lines behind the heap line
+-- events that were read of the lines after the heap line
 record AreRead (n : ℕ) (c : Config) (text : List ℕ) (es : List Event) : Type 0 where
   spelled : text ≡ event_lines n es
   owned : All (IsEvent c) es
@@ -42,7 +42,7 @@ ok_list x y e = cc
 none_read : (n : ℕ) (c : Config) (text : List ℕ) → text ≡ [] → AreRead n c text []
 none_read n c text none = record { spelled = none; owned = All-nil (IsEvent c); fits = All-nil EventFits; few = λ le. omega arith }
 
--- a line, its line feed and the lines behind it
+-- a line, its line feed and the lines after it
 one_line : (n : ℕ) (text first rest : List ℕ) (e : Event) (es : List Event) → text ≡ first ++ 10 ∷ rest → first ≡ event_text n e
     → rest ≡ event_lines (n + 1) es → text ≡ event_lines n (e ∷ es)
 one_line n text first rest e es cut spelled more =
@@ -108,7 +108,7 @@ record_read text r e =
     let read = pieces_read (pieces_of text) r e in
     (sym (join_with_byte-slice_split 10 text) ∙ read.spelled, read.good)
 
--- the pieces of the lines behind the heap line
+-- the pieces of the lines after the heap line
 pieces : ℕ → List Event → List (List ℕ)
 pieces n [] = [] ∷ []
 pieces n (e ∷ es) = event_text n e ∷ pieces (n + 1) es

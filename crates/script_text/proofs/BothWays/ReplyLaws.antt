@@ -111,7 +111,7 @@ lone_is a r e =
     (λ h f. same_reply (a ∷ []) (replies.Named None) r (one a (codes "nil") (is_word a (codes "nil") h)) tt f)
     (λ h2 e2. name_or_word_is a r e2))
 
--- a reply with a number behind its verb
+-- a reply with a number after its verb
 counted_is : (a w b : List ℕ) (make : ℕ → Reply) (r : Reply) → bytes_eq a w ≡ true → ((n : ℕ) → reply_words (make n) ≡ w ∷ decimal n ∷ [])
     → ((n : ℕ) → n ≤ small → ReplyFits (make n)) → (number_of small b >>= λ n. Some (make n)) ≡ Some r → IsReply (a ∷ b ∷ []) r
 counted_is a w b make r same words fits e =

@@ -197,7 +197,7 @@ format_is_words (V2 card) fits = word1 _ (small_word card fits)
 format_is_words (V3 card globals registers) fits =
     word3 _ _ _ (small_word card fits.0) (small_word globals fits.1) (small_word registers fits.2)
 
--- what stands behind the verb
+-- what is after the verb
 behind_verb : Config → List (List ℕ)
 behind_verb c = size_words c ++ format_words c.format
 

@@ -24,7 +24,7 @@ use Rattle.script_text.proofs.BothWays.StepsSpelled.{step_line_again, heap_line_
 abbrev lines : List Step → List ℕ
 lines ss = flat_map (λ s. line (step_words s)) ss
 
--- steps that were read of the lines behind the heap line
+-- steps that were read of the lines after the heap line
 record AreRead (c : Config) (text : List ℕ) (ss : List Step) : Type 0 where
   spelled : text ≡ lines ss
   owned : All (IsStep c) ss
@@ -43,7 +43,7 @@ ok_list x y e = cc
 none_read : (c : Config) (text : List ℕ) → text ≡ [] → AreRead c text []
 none_read c text none = record { spelled = none; owned = All-nil (IsStep c); fits = All-nil StepFits }
 
--- a line, its line feed and the lines behind it
+-- a line, its line feed and the lines after it
 one_line : (text first rest : List ℕ) (s : Step) (ss : List Step) → text ≡ first ++ 10 ∷ rest → first ≡ spaced (step_words s)
     → rest ≡ lines ss → text ≡ lines (s ∷ ss)
 one_line text first rest s ss cut spelled more =
@@ -107,7 +107,7 @@ text_read text p e =
     let read = pieces_read (pieces_of text) p e in
     (sym (join_with_byte-slice_split 10 text) ∙ read.spelled, read.good)
 
--- the pieces of the lines behind the heap line
+-- the pieces of the lines after the heap line
 pieces : List Step → List (List ℕ)
 pieces [] = [] ∷ []
 pieces (s ∷ ss) = spaced (step_words s) ∷ pieces ss

@@ -9,7 +9,7 @@ use Rattle.std.proofs.lemmas.List.{length-append, length-take-le, take-append-le
 use Rattle.script_text.specs.declared.write.counts.Count.{Count}
 use Rattle.script_text.specs.Counts.{Spells}
 
--- a beginning of what stands behind the first bytes
+-- a beginning of what is after the first bytes
 pub begun : (old middle front : List ℕ) (at width : ℕ) → at ≤ length old → width ≤ length front
     → take (at + length front) middle ≡ take at old ++ front → take (at + width) middle ≡ take at old ++ take width front
 begun old middle front at width within short e =
@@ -44,7 +44,7 @@ count_put c old middle new at n within room small s e last =
     ∙ append_assoc (take at old) (take c.width c.front) (c.last ∷ [])
     ∙ ap (λ (t : List ℕ). take at old ++ t) (both_digits c n small s)
 
--- a count, a space, what stands behind it, and a line feed
+-- a count, a space, what is after it, and a line feed
 pub line_put : (old counted parted told new count text : List ℕ) → counted ≡ old ++ count
     → parted ≡ counted ++ 32 ∷ [] → told ≡ parted ++ text → new ≡ told ++ 10 ∷ [] → new ≡ old ++ ((count ++ 32 ∷ text) ++ 10 ∷ [])
 line_put old counted parted told new count text e f g h =

@@ -30,7 +30,7 @@ digits_are k n low high small =
     let most : length (decimal n) ≤ k + 1 = length-decimal-le (k + 1) n (omega arith) high small in
     omega arith
 
--- what is written behind the first bytes, and nothing before them
+-- what is written after the first bytes, and nothing before them
 pub put_behind : (old new text : List ℕ) (at start end : ℕ) → at ≤ length old → start + length text ≡ end → end ≡ at + length text
     → drop start new ≡ text ++ drop end old → take start new ≡ take start old → take end new ≡ take at old ++ text
 put_behind old new text at start end within ends same written before =
@@ -43,6 +43,6 @@ put_behind old new text at start end within ends same written before =
     ap (λ (t : List ℕ). take end t) whole ∙ ap (λ (k : ℕ). take k ((take at old ++ text) ++ drop end old)) (sym long)
     ∙ take-append_seam (take at old ++ text) (drop end old)
 
--- one text behind another
+-- one text after another
 pub behind_both : (old middle new first second : List ℕ) → middle ≡ old ++ first → new ≡ middle ++ second → new ≡ old ++ (first ++ second)
 behind_both old middle new first second e f = f ∙ ap (λ (t : List ℕ). t ++ second) e ∙ append_assoc old first second

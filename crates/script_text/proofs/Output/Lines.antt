@@ -4,7 +4,7 @@ use Rattle.std.specs.Prelude.{codes}
 use Rattle.std.proofs.lemmas.List.{length-take-le, take-take, take-append-drop}
 use Rattle.script_text.proofs.Output.Counts.{begun}
 
--- a text is put by its first eight bytes and what stands behind all but its last eight
+-- a text is put by its first eight bytes and what is after all but its last eight
 pub both_ends : (old middle new text : List ℕ) (at mid end : ℕ) → at ≤ length old → 8 ≤ length text → length text ≤ 16
     → mid ≡ at + 8 → take mid middle ≡ take at old ++ take 8 text
     → take end new ≡ take (at + length text - 8) middle ++ drop (length text - 8) text → take end new ≡ take at old ++ text

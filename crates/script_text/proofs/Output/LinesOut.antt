@@ -39,7 +39,7 @@ line_put r e first old new lines count held left after before is made put =
           (one_more r e (count + 1) (ap (λ (n : ℕ). n + 1) counted)) put;
     }
 
--- the writer refuses some of what is held, whatever events come behind
+-- the writer refuses some of what is held, whatever events come after
 pub lines_stopped : (r : EventList) (more : List Event) (first old new : Writer) (lines : Lines) (count : ℕ) (held : List ℕ)
     → AreLinesOf r first old lines → lines ≡ record { events = count; held = held } → TakesPart old new held
     → TakesPart first new (record_text (with_events r more))

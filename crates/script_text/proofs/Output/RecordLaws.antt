@@ -15,7 +15,7 @@ event_lines-append n (x ∷ es) more =
     ∙ sym (append_assoc (event_line n x) (event_lines (n + 1) es) (event_lines (n + 1 + length es) more))
     ∙ ap (λ (k : ℕ). (event_line n x ++ event_lines (n + 1) es) ++ event_lines k more) same
 
--- the lines of more events stand behind the text
+-- the lines of more events are after the text
 pub text_more : (r : EventList) (more : List Event)
     → record_text (with_events r more) ≡ record_text r ++ event_lines (1 + length r.events) more
 text_more r more =

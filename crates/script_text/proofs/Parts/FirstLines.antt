@@ -31,7 +31,7 @@ first_clear (b ∷ text) line ps e =
     let some = pieces_some text in
     clear_more b (eqb b 10) text line ps some.0 some.1 refl some.2 (first_clear text some.0 some.1 some.2) e
 
--- the text is its first line, a line feed and what stands behind it
+-- the text is its first line, a line feed and what is after it
 pub begins_is : (text line rest : List ℕ) → pieces_of text ≡ line ∷ pieces_of rest → text ≡ line ++ 10 ∷ rest
 begins_is text line rest e =
     let some = pieces_some rest in
@@ -39,7 +39,7 @@ begins_is text line rest e =
     sym (join_with_byte-slice_split 10 text) ∙ ap (join_with_byte 10) (e ∙ ap (λ (ps : List (List ℕ)). line ∷ ps) some.2)
     ∙ ap (λ (t : List ℕ). line ++ 10 ∷ t) back
 
--- whatever stands behind a whole line, it is the first
+-- whatever is after a whole line, it is the first
 pub pieces_at : (line t : List ℕ) → IsClear line → pieces_of (line ++ 10 ∷ t) ≡ line ∷ pieces_of t
 pieces_at line t clear = slice_split_at (λ b. eqb b 10) line 10 t clear refl
 

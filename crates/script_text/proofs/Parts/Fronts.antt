@@ -110,7 +110,7 @@ clear_word text at word count all within letters same = record {
       omega arith;
 }
 
--- a part with one more byte behind it
+-- a part with one more byte after it
 pub part_more : (text : List ℕ) (at past : ℕ) → at ≤ past → past < length text
     → part text at (past + 1) ≡ part text at past ++ get_or text past 0 ∷ []
 part_more text at past order lt =

@@ -125,7 +125,7 @@ digit_read b low high =
     let word : b ∷ [] ≡ decimal (b - 48) = rw (decimal_digit (b - 48) (omega arith), back) refl in
     sym (number_of_some small (b ∷ []) (b - 48) (omega arith) word (omega arith))
 
--- a number behind a letter
+-- a number after a letter
 lettered : (b letter : ℕ) (digits rest : List ℕ) → b ≡ letter → digits ≡ rest → b ∷ digits ≡ letter ∷ rest
 lettered b letter digits rest e f = cc
 

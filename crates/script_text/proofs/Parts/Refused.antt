@@ -1,4 +1,4 @@
--- Where no more can be read behind what waits.
+-- Where no more can be read after what waits.
 use Rattle.std.proofs.Common.{◌≡◌, ℕ, ◌<◌, Bool, List, [], ◌++◌, length, Result, Err, inr, subst, sym, ◌∙◌}
 use Rattle.std.proofs.KnownBytes.{Consumes-trans}
 use Rattle.std.proofs.lemmas.List.{append-nil}

@@ -114,7 +114,7 @@ line_above w (x ∷ ws) words =
 pub no_feed : (w : List ℕ) (ws : List (List ℕ)) → AreWords (w ∷ ws) → All (λ b. eqb b 10 ≡ false) (spaced (w ∷ ws))
 no_feed w ws words = no_byte 31 10 (spaced (w ∷ ws)) (omega arith) (line_above w ws words)
 
--- a line of n words behind the first
+-- a line of n words after the first
 pub spaced_short : (w : List ℕ) (ws : List (List ℕ)) → AreWords ws → length (spaced (w ∷ ws)) ≤ length w + 22 * length ws
 spaced_short w [] words = omega arith
 spaced_short w (x ∷ ws) words =

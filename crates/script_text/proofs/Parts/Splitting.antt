@@ -147,7 +147,7 @@ last_word text ws start at split begun lt feed few =
     sym (whole ∙ ap (λ (rest : List (List ℕ)). take 12 (ws ++ rest)) parts
     ∙ take_all 12 (ws ++ take (at - start) (drop start text) ∷ []) short)
 
--- the line's end behind twelve words
+-- the line's end after twelve words
 pub no_more : (text : List ℕ) (ws : List (List ℕ)) (start at : ℕ) → IsSplit text ws start at → at < length text → get_or text at 0 ≡ 10
     → length ws ≡ 12 → ws ≡ take 12 (words_of (take at text))
 no_more text ws start at split lt feed full =
@@ -182,6 +182,6 @@ first_is_first text at feed =
 pub ended_by : (text : List ℕ) (at : ℕ) → at < length text → get_or text at 0 ≡ 10 → end_of text < length text
 ended_by text at lt feed = omega (arith, first_is_first text at feed)
 
--- the text behind its first line
+-- the text after its first line
 pub ended_piece : (text : List ℕ) → end_of text < length text → pieces_of text ≡ line_of text ∷ pieces_of (drop (end_of text + 1) text)
 ended_piece text lt = slice_split_first (λ b. eqb b 10) text 0 lt

@@ -75,7 +75,7 @@ line_taken self seen bytes start whole end n is same w fits lt ends =
     (line_behind bytes start whole end w fits lt) in
     subst (λ (k : ℕ). Begins self (line_of self) (waiting bytes (start + (k + 1)) end)) (sym e) here
 
--- and the whole lines behind it end where they did
+-- and the whole lines after it end where they did
 pub still_whole : (seen bytes : List ℕ) (start whole end n : ℕ) → seen ≡ bytes → EndsWhole bytes start whole end → end ≤ length bytes
     → start < whole → n ≡ end_of (waiting seen start end) → EndsWhole bytes (start + (n + 1)) whole end
 still_whole seen bytes start whole end n same w fits lt ends =
@@ -104,7 +104,7 @@ turned bytes new start end begun within is =
     take-append-le (end - start) new (drop end bytes) long ∙ ap (take (end - start)) is
     ∙ take_at (drop start (take end bytes)) (take start (take end bytes)) (end - start) size ∙ front
 
--- some bytes are read behind it
+-- some bytes are read after it
 pub read_behind_it : (bytes new read : List ℕ) (start end count k : ℕ) → start ≤ end → end ≤ length bytes
     → new ≡ drop start (take end bytes) ++ take start (take end bytes) → count ≤ length read → length new ≡ end →
     take (end - start + count) (put_mid (end - start) k (new ++ drop end bytes) read) ≡ waiting bytes start end ++ take count read

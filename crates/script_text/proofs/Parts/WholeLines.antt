@@ -21,7 +21,7 @@ pub no_whole : (part : List ℕ) → IsClear part → whole_lines part ≡ []
 no_whole [] clear = refl
 no_whole (b ∷ part) clear = rw (no_feed (b ∷ part) clear) refl
 
--- what stands behind the last line feed is cut off
+-- what is after the last line feed is cut off
 pub whole_at : (front part : List ℕ) → IsClear part → whole_lines (front ++ 10 ∷ part) ≡ front ++ 10 ∷ []
 whole_at [] part clear = ap (λ (t : List ℕ). 10 ∷ t) (no_whole part clear)
 whole_at (b ∷ front) part clear = rw (feed_there (b ∷ front) part) (ap (λ (t : List ℕ). b ∷ t) (whole_at front part clear))

@@ -1,4 +1,4 @@
--- The events that are left of a text, and the fault behind them.
+-- The events that are left of a text, and the fault after them.
 use Rattle.std.proofs.Common.{◌≡◌, ◌+◌, ◌≤◌, ◌∷◌, ◌∙◌}
 use Rattle.std.proofs.Common.{ℕ, Bool, true, false, cond, List, [], length, Some, None, Result, Ok, Err, refl, sym, ap, arith}
 use Rattle.std.specs.Prelude.{◌==◌}
@@ -16,7 +16,7 @@ use Rattle.script_text.specs.Lines.{◌>>=◌, at, pieces_of, heap_line_of}
 use Rattle.script_text.proofs.Reading.ReadOn.{fault, pieces_some}
 use Rattle.script_text.proofs.Reading.RecordOn.{begun, read_on, begins, events_more, events_fail}
 
--- a line without a fault: its event is the first one, and the others and the fault are those behind it
+-- a line without a fault: its event is the first one, and the others and the fault are those after it
 fault_behind : (r : Result (List Event) LineFault) (e : Event) → fault_of (r >>= λ es. Ok (e ∷ es)) ≡ fault_of r
 fault_behind (Ok es) e = refl
 fault_behind (Err f) e = refl
@@ -114,7 +114,7 @@ pieces_all [] p n c = last_all (length p == 0) (n + 1) c
 pieces_all (q ∷ ps) p n c = line_all (event_line_of n c p) (events_ahead (n + 1) c (q ∷ ps)) (events_of (n + 1) c (q ∷ ps)) (n + 1) c
     (pieces_all ps q (n + 1) c)
 
--- the whole record, behind its heap line
+-- the whole record, after its heap line
 pub is_history : (text line lines : List ℕ) (c : Config) → pieces_of text ≡ line ∷ pieces_of lines → heap_line_of line ≡ Ok c
     → record_of text ≡ history_of (left_in 1 c lines)
 is_history text line lines c piece ok =

@@ -57,7 +57,7 @@ behind_first : (r : Result (List Step) LineFault) (s : Step) (all : List Step) �
 behind_first (Ok ss) s all e = (ss, refl, cc)
 behind_first (Err f) s all e = absurd cc
 
--- the first step that is left, and the others behind its line
+-- the first step that is left, and the others after its line
 pub first_left : (c : Config) (rest line after : List ℕ) (s : Step) → pieces_of rest ≡ line ∷ pieces_of after → step_line_of c line ≡ Ok s
     → IsFaultless c rest → IsFaultless c after × (steps_in c rest ≡ s ∷ steps_in c after)
 first_left c rest line after s e ok good =

@@ -63,7 +63,7 @@ fn front_heap(text: &[u8]) -> FrontHeap
     }
 }
 
-/// Where the whole lines of some bytes end: behind the last line feed, or at the front, where there is none. It is looked for from the end.
+/// Where the whole lines of some bytes end: after the last line feed, or at the front, where there is none. It is looked for from the end.
 fn whole_end(bytes: &[u8]) -> usize
     ensures { EndsWhole bytes.now 0 result (length bytes.now) }
 {
@@ -77,7 +77,7 @@ fn whole_end(bytes: &[u8]) -> usize
     0
 }
 
-/// Moves the bytes between two places to the front, and reads once behind them. Answers where what was read ends.
+/// Moves the bytes between two places to the front, and reads once after them. Answers where what was read ends.
 fn read_behind<R: Read>(
     reader: &mut WatchedReader<R>,
     bytes: &mut [u8],
@@ -193,7 +193,7 @@ impl LineBuffer {
         }
     }
 
-    /// Reads more behind what waits, where that is no whole line and no longer than one may be. Answers whether there was more.
+    /// Reads more after what waits, where that is no whole line and no longer than one may be. Answers whether there was more.
     fn read_on<R: Read>(&mut self, reader: &mut WatchedReader<R>) -> Result<bool, NextFault>
         ensures more { result ≡ Ok true → (more : List ℕ) ×
             Gives reader.old reader.new more × (self.new ≡ self.old ++ more) × (0 < length more) × (length self.old ≤ 120) }

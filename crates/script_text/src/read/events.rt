@@ -113,7 +113,7 @@ fn step_part<'a, 'b>(words: &'b [&'a [u8]]) -> &'b [&'a [u8]]
     }
 }
 
-/// The reply behind a step.
+/// The reply after a step.
 fn answer(words: &[&[u8]]) -> Option<Reply>
     ensures { result ≡ answer_of (map (λ w. w.now) words.now) }
 {
@@ -125,7 +125,7 @@ fn answer(words: &[&[u8]]) -> Option<Reply>
     }
 }
 
-/// An event, of which the words behind its count are given.
+/// An event, of which the words after its count are given.
 #[tactic(auto, unfolding(crate::specs::Events::counted_of))]
 fn counted(config: &Config, words: &[&[u8]]) -> Result<Event, Kind>
     ensures { result ≡ counted_of config.now (map (λ w. w.now) words.now) }

@@ -9,7 +9,7 @@ use crate::read::watched::WatchedReader;
 use std::alloc::Global;
 use std::io::Read;
 
-/// All bytes to the end of input. A fault leaves the reader behind some of its bytes, and is the reader's own, or want of memory.
+/// All bytes to the end of input. A fault leaves the reader after some of its bytes, and is the reader's own, or want of memory.
 ///
 /// ```rust
 /// let mut reader = WatchedReader::new(script.as_slice());

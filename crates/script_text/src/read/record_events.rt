@@ -53,7 +53,7 @@ fn check_events(first: u64, config: &Config, lines: &[u8]) -> Result<(), LineFau
     }
 }
 
-/// A record's text behind its heap line. Clauses see the heap line, the events that are left up to the first line with a fault, and that
+/// A record's text after its heap line. Clauses see the heap line, the events that are left up to the first line with a fault, and that
 /// fault, if there is one. The events are taken one by one.
 #[derive(Drop)]
 pub struct RecordEvents<'a> {

@@ -60,7 +60,7 @@ fn sizes(
     })
 }
 
-/// The third format, by the words behind the five sizes.
+/// The third format, by the words after the five sizes.
 #[tactic(auto, unfolding(crate::specs::Reading::third_of))]
 fn third(card: &[u8], globals: &[u8], registers: &[u8]) -> Option<Format>
     ensures { result ≡ third_of card.now globals.now registers.now }
@@ -75,7 +75,7 @@ fn third(card: &[u8], globals: &[u8], registers: &[u8]) -> Option<Format>
     })
 }
 
-/// The format of a heap line, by its verb and the words behind its five sizes.
+/// The format of a heap line, by its verb and the words after its five sizes.
 #[tactic(auto, unfolding(crate::specs::Reading::sizes_of))]
 fn format(verb: &[u8], rest: &[&[u8]]) -> Option<Format>
     ensures some { IfSome result (λ format. (n r b m f : List ℕ) →

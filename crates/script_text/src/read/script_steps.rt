@@ -20,7 +20,7 @@ use heap_steps::Step;
 use heap_words::config::Config;
 use std::marker::Model;
 
-/// Reads the lines behind a heap line to their end, for the first fault.
+/// Reads the lines after a heap line to their end, for the first fault.
 fn check_lines(config: &Config, lines: &[u8]) -> Result<(), LineFault>
     ensures ok { OnOk result (IsFaultless config.now lines.now) }
     ensures fault { IfErr result (λ f. steps_of 2 config.now (pieces_of lines.now) ≡ Err f) }

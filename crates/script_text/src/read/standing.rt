@@ -19,7 +19,7 @@ ghost use Rattle.script_text.specs.Fronts.{part, IsClear, IsNext, IsLast};
 use crate::read::words::digit;
 use heap_steps::{GlobalRoot, Register};
 
-/// A number in a line, and a place behind it: where its digits end, or where the next word starts.
+/// A number in a line, and a place after it: where its digits end, or where the next word starts.
 #[derive(Clone, Copy)]
 pub(crate) struct NumberWord {
     pub(crate) number: u32,
@@ -137,7 +137,7 @@ pub(crate) fn last_number(text: &[u8], at: usize, more: bool) -> Option<NumberWo
     Some(word)
 }
 
-/// The number behind a letter that stands in a line from a place on, and where its digits end.
+/// The number after a letter that stands in a line from a place on, and where its digits end.
 #[inline(always)]
 pub(crate) fn lettered_at(text: &[u8], at: usize, letter: u8) -> Option<NumberWord>
     requires ended { end_of text.now < length text.now }
@@ -152,7 +152,7 @@ pub(crate) fn lettered_at(text: &[u8], at: usize, letter: u8) -> Option<NumberWo
     number_at(text, at + 1)
 }
 
-/// The number behind a letter that stands in a line from a place on, where a space follows it.
+/// The number after a letter that stands in a line from a place on, where a space follows it.
 #[inline(always)]
 pub(crate) fn next_lettered(text: &[u8], at: usize, letter: u8) -> Option<NumberWord>
     requires ended { end_of text.now < length text.now }
@@ -272,7 +272,7 @@ pub(crate) fn last_literal(text: &[u8], at: usize, word: &[u8], more: bool) -> O
     Some(past)
 }
 
-/// Where the word behind a verb starts, if the verb stands in a line from a place on, and a space follows it.
+/// Where the word after a verb starts, if the verb stands in a line from a place on, and a space follows it.
 #[inline(always)]
 pub(crate) fn behind_verb(text: &[u8], at: usize, verb: &[u8]) -> Option<usize>
     requires ended { end_of text.now < length text.now }

@@ -46,7 +46,7 @@ fn last_action(config: &Config, action: Action, past: usize) -> Option<LastActio
     }
 }
 
-/// What stands behind the verb `get`.
+/// What is after the verb `get`.
 #[inline(always)]
 fn behind_get<const CALLER: usize>(
     config: &Config,
@@ -72,7 +72,7 @@ fn behind_get<const CALLER: usize>(
     )
 }
 
-/// What stands behind the verb `read`.
+/// What is after the verb `read`.
 #[inline(always)]
 fn behind_read<const CALLER: usize>(
     config: &Config,
@@ -96,7 +96,7 @@ fn behind_read<const CALLER: usize>(
     )
 }
 
-/// What stands behind the verb `new`.
+/// What is after the verb `new`.
 #[inline(always)]
 fn behind_new<const CALLER: usize>(
     config: &Config,
@@ -125,7 +125,7 @@ fn behind_new<const CALLER: usize>(
     )
 }
 
-/// What stands behind the verb `put`.
+/// What is after the verb `put`.
 #[inline(always)]
 fn behind_put<const CALLER: usize>(
     config: &Config,
@@ -151,7 +151,7 @@ fn behind_put<const CALLER: usize>(
     )
 }
 
-/// What stands behind the verb `write`.
+/// What is after the verb `write`.
 #[inline(always)]
 fn behind_write<const CALLER: usize>(
     config: &Config,
@@ -177,7 +177,7 @@ fn behind_write<const CALLER: usize>(
     )
 }
 
-/// What stands behind the verb `move`.
+/// What is after the verb `move`.
 #[inline(always)]
 fn behind_move<const CALLER: usize>(
     config: &Config,
@@ -201,7 +201,7 @@ fn behind_move<const CALLER: usize>(
     )
 }
 
-/// What stands behind the verb `drop`.
+/// What is after the verb `drop`.
 #[inline(always)]
 fn behind_drop<const CALLER: usize>(
     config: &Config,
@@ -223,7 +223,7 @@ fn behind_drop<const CALLER: usize>(
     )
 }
 
-/// What stands behind the verb `getweak`.
+/// What is after the verb `getweak`.
 #[inline(always)]
 fn behind_getweak<const CALLER: usize>(
     config: &Config,
@@ -249,7 +249,7 @@ fn behind_getweak<const CALLER: usize>(
     )
 }
 
-/// What stands behind the verb `newweak`.
+/// What is after the verb `newweak`.
 #[inline(always)]
 fn behind_newweak<const CALLER: usize>(
     config: &Config,
@@ -283,7 +283,7 @@ fn behind_newweak<const CALLER: usize>(
     )
 }
 
-/// What stands behind the verb `putweak`.
+/// What is after the verb `putweak`.
 #[inline(always)]
 fn behind_putweak<const CALLER: usize>(
     config: &Config,
@@ -309,7 +309,7 @@ fn behind_putweak<const CALLER: usize>(
     )
 }
 
-/// What stands behind the verb `weaks`.
+/// What is after the verb `weaks`.
 #[inline(always)]
 fn behind_weaks<const CALLER: usize>(
     config: &Config,
@@ -331,7 +331,7 @@ fn behind_weaks<const CALLER: usize>(
     )
 }
 
-/// What stands behind the verb `shape`.
+/// What is after the verb `shape`.
 #[inline(always)]
 fn behind_shape<const CALLER: usize>(
     config: &Config,
@@ -353,7 +353,7 @@ fn behind_shape<const CALLER: usize>(
     )
 }
 
-/// What stands behind the verb `scope`.
+/// What is after the verb `scope`.
 #[inline(always)]
 fn behind_scope<const CALLER: usize>(
     config: &Config,
@@ -375,7 +375,7 @@ fn behind_scope<const CALLER: usize>(
     )
 }
 
-/// What stands behind the verb `load`.
+/// What is after the verb `load`.
 #[inline(always)]
 fn behind_load<const CALLER: usize>(
     config: &Config,
@@ -399,7 +399,7 @@ fn behind_load<const CALLER: usize>(
     )
 }
 
-/// What stands behind the verb `save`.
+/// What is after the verb `save`.
 #[inline(always)]
 fn behind_save<const CALLER: usize>(
     config: &Config,

@@ -1,8 +1,8 @@
 //! The collector's usual steps and events, read in one go.
 //!
 //! ```text
-//!   gc mark 40\n                       a verb, and a number behind some
-//!   8 gc mark 40 = marked 3\n          the same behind a count, and behind `=` the reply, which ends the line
+//!   gc mark 40\n                       a verb, and a number after some
+//!   8 gc mark 40 = marked 3\n          the same after a count, and after `=` the reply, which ends the line
 //!   9 f1 refine 2 = refined 0\n        of an actor in the background
 //! ```
 //!
@@ -114,7 +114,7 @@ struct OwnCollection {
     past: usize,
 }
 
-/// A step of the scripted collector, behind its name, that stands in a line from a place on.
+/// A step of the scripted collector, after its name, that stands in a line from a place on.
 #[inline(always)]
 fn scripted_collection(text: &[u8], at: usize) -> Option<OwnCollection>
     requires ended { end_of text.now < length text.now }
@@ -275,7 +275,7 @@ fn collection_reply(text: &[u8], at: usize) -> Option<LastReply>
     refused_reply(text, at)
 }
 
-/// The event that stands in a line behind its count, where its step is one of the collector's. It stands alone, apart from a mutator's
+/// The event that stands in a line after its count, where its step is one of the collector's. It stands alone, apart from a mutator's
 /// events, which are more.
 #[inline(never)]
 fn event_apart(text: &[u8], at: usize) -> Option<EventLine>

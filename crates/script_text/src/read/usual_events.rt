@@ -2,7 +2,7 @@
 //!
 //! ```text
 //!   7 0 get r2 r0 1 = #3\n
-//!   ^ ^               ^      the count, the step as in a script, and behind `=` the reply, which ends the line
+//!   ^ ^               ^      the count, the step as in a script, and after `=` the reply, which ends the line
 //! ```
 //!
 //! Of any other line nothing is told here, and its words are parted first.

@@ -1,7 +1,7 @@
 //! A reader that remembers whether it refused.
 //!
 //! The contracts of the standard library's readers speak of bytes alone: none says that a call failed because the system refused. So this
-//! holds one, with a flag. That it is set only behind a call of the inner reader that failed, no contract says: it is set in `read_to_end`
+//! holds one, with a flag. That it is set only after a call of the inner reader that failed, no contract says: it is set in `read_to_end`
 //! and `read_some`, and this file is to be read for it. All above rests on the contracts here: a fault of reading comes only where the flag
 //! is set.
 

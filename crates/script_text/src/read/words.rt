@@ -180,7 +180,7 @@ pub(crate) fn small_number(word: &[u8]) -> Option<u32>
     Some(value as u32)
 }
 
-/// The number behind a letter.
+/// The number after a letter.
 #[tactic(auto, unfolding(crate::specs::Reading::number_behind))]
 #[inline(always)]
 fn number_behind(letter: u8, word: &[u8]) -> Option<u32>

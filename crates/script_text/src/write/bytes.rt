@@ -5,7 +5,7 @@ ghost use Rattle.std.specs.Fmt.{decimal};
 
 use itoa::write_digits;
 
-/// Puts a byte behind the first `at` bytes, and answers where it ends.
+/// Puts a byte after the first `at` bytes, and answers where it ends.
 pub(crate) fn put_byte(buffer: &mut [u8], at: usize, byte: u8) -> usize
     requires { at < length buffer.old }
     ensures put { take result buffer.new ≡ take at buffer.old ++ byte ∷ [] }
@@ -15,7 +15,7 @@ pub(crate) fn put_byte(buffer: &mut [u8], at: usize, byte: u8) -> usize
     at + 1
 }
 
-/// Puts a text behind the first `at` bytes, and answers where it ends.
+/// Puts a text after the first `at` bytes, and answers where it ends.
 ///
 /// ```rust
 /// let mut buffer = [0; 40];
@@ -90,7 +90,7 @@ fn digit_count(number: u64) -> usize
     count + short_digit_count(left)
 }
 
-/// Puts a number behind the first `at` bytes, and answers where it ends. A number has at most 20 digits.
+/// Puts a number after the first `at` bytes, and answers where it ends. A number has at most 20 digits.
 ///
 /// ```rust
 /// let mut buffer = [0; 40];
@@ -121,7 +121,7 @@ fn put_digits(buffer: &mut [u8], at: usize, number: u64) -> usize
     end
 }
 
-/// Puts a number of 32 bits behind the first `at` bytes, and answers where it ends. It has at most 10 digits.
+/// Puts a number of 32 bits after the first `at` bytes, and answers where it ends. It has at most 10 digits.
 #[inline(always)]
 pub(crate) fn put_small(buffer: &mut [u8], at: usize, number: u32) -> usize
     requires { at + 10 ≤ length buffer.old }

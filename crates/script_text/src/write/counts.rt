@@ -41,7 +41,7 @@ impl Count {
         }
     }
 
-    /// Puts the count behind the first `at` bytes, and answers where it ends. What stands behind that may change too.
+    /// Puts the count after the first `at` bytes, and answers where it ends. What is after that may change too.
     #[inline(always)]
     pub(crate) fn put(&self, buffer: &mut [u8], at: usize) -> usize
         requires room { at + 21 ≤ length buffer.old }

@@ -1,4 +1,4 @@
-//! Lines of a record, put into a buffer with room for them. Each call puts its text behind the first `at`
+//! Lines of a record, put into a buffer with room for them. Each call puts its text after the first `at`
 //! bytes and answers where it ends.
 
 ghost use Rattle.std.specs.Prelude.{◌≡◌, ◌≤◌, ◌<◌, ◌+◌, ◌^◌, ◌++◌, ◌∷◌, ℕ, length, take, codes};
@@ -42,7 +42,7 @@ fn verb_text(format: Format) -> &'static [u8]
     }
 }
 
-/// The first name, and what stands behind it in the format's line.
+/// The first name, and what is after it in the format's line.
 fn put_ending(buffer: &mut [u8], at: usize, first_name: u64, format: Format) -> usize
     requires { at + 53 ≤ length buffer.old }
     ensures put { take result buffer.new ≡ take at buffer.old ++ spaced (decimal first_name ∷ format_words format) }
@@ -345,7 +345,7 @@ fn put_reply_words(buffer: &mut [u8], at: usize, reply: Reply) -> usize
     }
 }
 
-/// An event as its line has it behind the count. It has at most 99 bytes.
+/// An event as its line has it after the count. It has at most 99 bytes.
 ///
 /// ```rust
 /// let history = parse_record(alloc, record)?;

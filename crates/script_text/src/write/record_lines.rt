@@ -29,7 +29,7 @@ use std::marker::Model;
 /// How many bytes are gathered before they are written out.
 const ROOM: usize = 8192;
 
-/// Makes room for a line behind the first `at` bytes: where there is none, writes them out. Answers how many
+/// Makes room for a line after the first `at` bytes: where there is none, writes them out. Answers how many
 /// bytes are still to be written.
 fn make_room<W: Write>(
     writer: &mut WatchedWriter<W>,

@@ -1,6 +1,6 @@
 //! A writer that remembers whether it refused.
 //!
-//! As `read::watched` for a writer: the flag is set only behind a call of the inner writer that failed, or took no byte, which no contract
+//! As `read::watched` for a writer: the flag is set only after a call of the inner writer that failed, or took no byte, which no contract
 //! says. It is set in `write_some`, and this file is to be read for it.
 
 ghost use Rattle.std.specs.Prelude.{◌≡◌, ◌<◌, ◌≤◌, IsTrue, OnErr, IfOk, false, length, take};

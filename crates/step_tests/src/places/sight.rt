@@ -11,7 +11,7 @@ use step_core::Core;
 /// How many fields an object of a drawn heap has at most.
 pub(crate) const FIELDS: usize = 24;
 
-/// An object where it stands, and what its fields name: its pointers, and its weak slots behind them. The fields that it
+/// An object where it stands, and what its fields name: its pointers, and its weak slots after them. The fields that it
 /// hasn't name nothing.
 #[derive(Clone, Copy, Debug, PartialEq, Eq)]
 pub(crate) struct Seen {
@@ -26,7 +26,7 @@ pub(crate) struct Seen {
 }
 
 impl Seen {
-    /// What a field names, None behind the last one.
+    /// What a field names, None after the last one.
     pub(crate) fn field(&self, number: u32) -> Option<u32> {
         if (number as usize) < FIELDS {
             self.fields[number as usize]
@@ -81,7 +81,7 @@ impl Sight {
     }
 }
 
-/// What a field of the object at an address names, None behind its last field.
+/// What a field of the object at an address names, None after its last field.
 fn field_of(core: &Core, at: Addr, field: u32) -> Option<u32>
     requires { IsSome (object_at core.now.table at) }
 {

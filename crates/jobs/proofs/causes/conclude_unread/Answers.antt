@@ -6,7 +6,7 @@ use Rattle.jobs.specs.declared.faults.JobFault.TheVariants as faults
 use Rattle.jobs.proofs.Reasons.{one_way}
 use Rattle.jobs.proofs.causes.conclude_unread.Goals as goal
 
--- four texts behind a beginning
+-- four texts after a beginning
 four : (start a b c d first second third all : List ℕ) → first ≡ start ++ a → second ≡ first ++ b → third ≡ second ++ c → all ≡ third ++ d
     → all ≡ start ++ (a ++ b ++ c ++ d)
 four start a b c d first second third all p q r s = rw (s, r, q, p) (simp append_assoc)

@@ -2,7 +2,7 @@ use Rattle.std.proofs.Common.{◌≡◌, ◌++◌, ℕ, List, append_assoc, code
 use Rattle.std.specs.Fmt.{decimal}
 use Rattle.jobs.proofs.explain.put_given.Goals as goal
 
--- three texts behind a beginning
+-- three texts after a beginning
 three : (front a b c mid left all : List ℕ) → mid ≡ front ++ a → left ≡ mid ++ b → all ≡ left ++ c → all ≡ front ++ (a ++ b ++ c)
 three front a b c mid left all p q r = rw (r, q, p) (simp append_assoc)
 

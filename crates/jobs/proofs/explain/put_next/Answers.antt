@@ -3,7 +3,7 @@ use Rattle.std.specs.Fmt.{decimal}
 use Rattle.std.proofs.lemmas.Fmt.{decimal_step_wide}
 use Rattle.jobs.proofs.explain.put_next.Goals as goal
 
--- the number behind the largest one
+-- the number after the largest one
 largest : (n : ℕ) → n ≡ 18446744073709551615 → decimal 1844674407370955161 ++ 54 ∷ [] ≡ decimal (n + 1)
 largest n is =
     let next : n + 1 ≡ 18446744073709551616 = omega arith in

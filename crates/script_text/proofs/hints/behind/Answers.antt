@@ -4,13 +4,13 @@ use Rattle.script_text.specs.Lines.{pieces_of}
 use Rattle.script_text.proofs.Parts.Pieces.{behind, behind_is, pieces_behind}
 use Rattle.script_text.proofs.hints.behind.Goals as goal
 
--- a place behind the first of a list
+-- a place after the first of a list
 next : (p : List ℕ) (ps : List (List ℕ)) (n k : ℕ) → 1 < n → slice_get (p ∷ ps) (n - 1 + k) ≡ slice_get ps (n - 1 - 1 + k)
 next p ps n k more =
     let e : n - 1 + k ≡ suc (n - 1 - 1 + k) = omega arith in
     ap (slice_get (p ∷ ps)) e
 
--- where there is one line, none is behind it
+-- where there is one line, none is after it
 none_behind : (ps : List (List ℕ)) (x p : List ℕ) (n k i : ℕ) → ps ≡ x ∷ [] → 1 < n → slice_get ps (n - 1 + k) ≡ Some p
     → slice_get ps i ≡ Some p
 none_behind ps x p n k i e more is =

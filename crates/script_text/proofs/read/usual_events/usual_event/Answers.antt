@@ -38,7 +38,7 @@ returns-clause-event g c =
     (omega (arith, c.ranges.count.fits)) c.in-Some.ensures.1 (action.owned m c.if-mutator-config.false) action.fits
     c.in_ok-reply.ensures.fits
 
--- the line of a count and an event of any heap behind it
+-- the line of a count and an event of any heap after it
 turned : (n : ℕ) (c : Config) (text : List ℕ) (at : ℕ) (r : Option EventLine) → end_of text < length text → n ≤ large
     → words_of (line_of text) ≡ decimal n ∷ words_from text at → IfSome r (λ l. IsCollectionEvent text at l.event l.length)
     → IfSome r (λ l. event_line_of n c (line_of text) ≡ Ok l.event)
