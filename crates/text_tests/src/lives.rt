@@ -6,8 +6,8 @@ use std::alloc::Global;
 use std::process::Abort;
 use std::test::Fail;
 
-/// The page of a script, drawn of a file of this name.
-fn page_of_script(alloc: Global, name: &str, script: &str) -> Result<Vec<u8>, Fail> {
+/// The page of a script, drawn of a file of this name, with these names for shapes.
+fn page_of_script(alloc: Global, name: &str, names: &[u8], script: &str) -> Result<Vec<u8>, Fail> {
     let Ok(plan) = parse(alloc, script.as_bytes()) else {
         return Err(Fail::from("this is a script"));
     };
@@ -17,7 +17,7 @@ fn page_of_script(alloc: Global, name: &str, script: &str) -> Result<Vec<u8>, Fa
     let Ok(life) = live(alloc, &events, 1) else {
         return Err(Fail::from("a life"));
     };
-    Ok(page_of(alloc, name, &life)?)
+    Ok(page_of(alloc, name, names, &life)?)
 }
 
 /// How often a text stands in another one.
@@ -41,6 +41,7 @@ gc pause 8
 ";
     let lines = "\
 file %3C/script%3E%20%22%C3%BC%22.heap
+names 1%201%20%2A%20%2A%20%3Cb%3E%0A
 card 8
 roots 16 8
 pace 1 1 1
@@ -84,7 +85,8 @@ r 1 o 4 0 0 4 0 4 0
 o 0 0 n - ; ; 0
 </script>";
     name_law();
-    let page = page_of_script(rt.alloc(), "</script> \"ü\".heap", script)?;
+    let names = b"1 1 * * <b>\n";
+    let page = page_of_script(rt.alloc(), "</script> \"ü\".heap", names, script)?;
     assert_eq!(rt; count_in(page.as_slice(), lines.as_bytes()), 1);
     assert_eq!(rt;
         count_in(page.as_slice(), b"6 gc pause 8 = moved 1 4\n</script>"),
@@ -121,7 +123,7 @@ o 0 0 ng - - ; ;
 o 4 1 nu ; ; 0
 x 7 1
 </script>";
-    let page = page_of_script(rt.alloc(), "first.heap", script)?;
+    let page = page_of_script(rt.alloc(), "first.heap", b"", script)?;
     assert_eq!(rt; count_in(page.as_slice(), lines.as_bytes()), 1);
     assert_eq!(rt; count_in(page.as_slice(), b"\nd "), 3);
     Ok(())
