@@ -13,7 +13,7 @@
 
 ghost use Rattle.std.specs.Prelude.{◌≡◌, ◌||◌, ◌&&◌, ◌+◌, ◌*◌, ◌/◌, ◌<◌, ◌≤◌, ◌^◌, ℕ, IfOk, length};
 ghost use Rattle.heap_words.specs.Bits.{has, is_between};
-ghost use Rattle.remembered_sets.specs.Sets.{IsFilter, empty_filter, emptied_filter, filter_with, lets_through};
+ghost use Rattle.remembered_sets.specs.Sets.{IsFilter, empty_filter, emptied_filter, filter_with, lets_through, taking};
 ghost use Rattle.remembered_sets.specs.Sets.{first_row, second_row, place_in};
 
 use heap_words::addr::Card;
@@ -131,7 +131,7 @@ impl Filter {
         self.flags.get(first) && self.flags.get(second)
     }
 
-    /// The filter lets a card of the region `source` through from now on.
+    /// The filter lets a card of the region `source` through from now on. Where it has no rows this is a test alone.
     #[inline(always)]
     pub(crate) fn add(&mut self, card: Card, source: u32, cards_per_region: u32)
         requires some_cards { 0 < cards_per_region }
@@ -142,6 +142,18 @@ impl Filter {
         if self.rows == 0 {
             return;
         }
+        self.take_places(card, source, cards_per_region);
+    }
+
+    /// The same where there are rows: the card's places in both its rows are taken.
+    #[inline(never)]
+    fn take_places(&mut self, card: Card, source: u32, cards_per_region: u32)
+        requires some_cards { 0 < cards_per_region }
+        requires some_rows { 0 < self.old.rows }
+        requires stands { IsFilter cards_per_region self.old }
+        requires source { card / cards_per_region ≡ source }
+        ensures { self.new ≡ taking self.old cards_per_region card }
+    {
         let (first, second) = self.places(card, source, cards_per_region);
         self.flags.set(first);
         self.flags.set(second);
