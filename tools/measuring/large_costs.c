@@ -199,6 +199,36 @@ static void pause_of_one(uint32_t count, int apart)
     freed();
 }
 
+/* Regions of few live objects, of which a pause copies one, while each object that stays has a field that leads to a drawn one: so each
+   card entered a set, and each region's set has cards of every region. */
+static void pause_in_net(uint32_t count)
+{
+    uint32_t region = sizes.words / OBJECT, step = 64, full = count - 2 * region;
+    made();
+    for (uint32_t table = 0; table * places < count; table++) {
+        good(g1_new_object(&heap, 0, TABLE, places, 0)), good(g1_save(&heap, 0, table, TABLE));
+    }
+    for (uint32_t i = 0; i < count; i++) {
+        good(g1_new_object(&heap, 0, ONE, FIELDS, OBJECT - 2 - FIELDS));
+        if (i >= full && i % step != 0) continue;
+        good(g1_load(&heap, 0, TABLE, i / places)), good(g1_put(&heap, 0, TABLE, i % places, ONE));
+    }
+    for (uint32_t i = 0; i < full; i++) {
+        uint32_t to = draw(count);
+        fetch(ONE, i), fetch(OTHER, to < full ? to : to - to % step);
+        good(g1_put(&heap, 0, ONE, 1, OTHER));
+    }
+    start();
+    g1_answer refined = good(g1_refine(&heap, UINT32_MAX));
+    row("refine, fields at random", "card", refined.first > 0 ? (double)refined.first : 1);
+    drop_all(), good(g1_begin(&heap)), good(g1_mark(&heap, UINT32_MAX)), good(g1_remark(&heap));
+    start();
+    g1_answer moved = good(g1_pause(&heap, region / step * (OBJECT + 1) + OBJECT));
+    row("pause of one region, fields at random", "word", moved.first > 0 ? (double)moved.first : 1);
+    if (moved.second != 1) printf("  (it moved %llu words out of %u regions)\n", (unsigned long long)moved.first, moved.second);
+    freed();
+}
+
 /* A pause that copies 100 MB, of a list whose every other object lives. */
 static void pause_of_many(void)
 {
@@ -236,6 +266,7 @@ int main(int count, char **words)
     garbage(regions / 4);
     pause_of_one(objects, 0);
     pause_of_one(objects, 1);
+    pause_in_net(objects);
     if (log >= 27) pause_of_many();
     return 0;
 }

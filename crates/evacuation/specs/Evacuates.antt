@@ -16,7 +16,7 @@ use Rattle.mark_bitmap.specs.Kept.{MarksObjects, kept_in}
 use Rattle.mark_bitmap.specs.Live.{live_bound_of}
 use Rattle.cards.specs.Cards.{Cards, is_dirty}
 use Rattle.heap_words.specs.Bits.{has}
-use Rattle.remembered_sets.specs.Sets.{Sets, card_count, may_lead, empty_set, set_of}
+use Rattle.remembered_sets.specs.Sets.{Sets, card_count, may_lead, emptied, set_of}
 use Rattle.refinement.specs.Remembering.{Remembers, field_card, field_word}
 use Rattle.refinement.specs.Refining.{SetsFit}
 use Rattle.region_choice.specs.Choice.{live_sum}
@@ -184,7 +184,7 @@ pub record HasEvacuated (rows : List LiveRow) (card_words words : ℕ) (h h' : L
   pub queue : IsStrictlyIncreasing h'.cards.queue
   -- a card is dirty only where a field was updated or copied that leads to another region
   pub dirty : (card : ℕ) → is_dirty h'.cards card ≡ true → IsNewCrossing h h' card_words card
-  pub cleared : (k : ℕ) → is_chosen rows k ≡ true → set_of h'.sets k ≡ empty_set (length h.sets.sets)
+  pub cleared : (k : ℕ) → is_chosen rows k ≡ true → set_of h'.sets k ≡ emptied (set_of h.sets k)
   pub sets_same : (k : ℕ) → is_chosen rows k ≡ false → set_of h'.sets k ≡ set_of h.sets k
   -- no card of a chosen region has entered a set, and the other cards have as they had
   pub entered : (card : ℕ)

@@ -2,7 +2,7 @@
 use Rattle.std.specs.Prelude.{◌≡◌, ℕ, ◌/◌, true, false, List, length, if◌then◌else◌}
 use Rattle.regions.specs.Table.{Table, Free, nth_region, EachForwardedIn}
 use Rattle.heap_words.specs.Bits.{has}
-use Rattle.remembered_sets.specs.Sets.{Sets, empty_set, set_of}
+use Rattle.remembered_sets.specs.Sets.{Sets, emptied, set_of}
 use Rattle.region_choice.specs.declared.LiveRow.{LiveRow}
 use Rattle.evacuation.specs.Evacuates.{is_chosen}
 
@@ -17,7 +17,7 @@ pub record AreReleased (rows : List LiveRow) (t t' : Table) : Type 0 where
 pub record AreCleared (rows : List LiveRow) (s s' : Sets) : Type 0 where
   pub cards : s'.cards_per_region ≡ s.cards_per_region
   pub count : length s'.sets ≡ length s.sets
-  pub cleared : (k : ℕ) → is_chosen rows k ≡ true → set_of s' k ≡ empty_set (length s.sets)
+  pub cleared : (k : ℕ) → is_chosen rows k ≡ true → set_of s' k ≡ emptied (set_of s k)
   pub others : (k : ℕ) → is_chosen rows k ≡ false → set_of s' k ≡ set_of s k
   pub entered : (card : ℕ) → has s'.entered card ≡ (if is_chosen rows (card / s.cards_per_region) then false else has s.entered card)
 

@@ -6,3 +6,4 @@ pub mod BitRanges
 pub mod Bounds
 pub mod Limits
 pub mod BitUnions
+pub mod BitFilters

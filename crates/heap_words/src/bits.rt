@@ -14,7 +14,7 @@
 ghost use Rattle.std.specs.Prelude.{◌≡◌, ◌+◌, ◌*◌, ◌^◌, ◌<◌, ◌≤◌, ◌||◌, ◌&&◌, if◌then◌else◌};
 ghost use Rattle.std.specs.Prelude.{ℕ, false, true, IfOk, IfSome, length, MatchOption, replicate, slice_index, slice_set};
 ghost use Rattle.std.specs.Int.{bit_at};
-ghost use Rattle.heap_words.specs.Bits.{has, has_alone, is_between, HasNone, HasNoneBelow, IsLowest};
+ghost use Rattle.heap_words.specs.Bits.{has, has_alone, is_between, is_passing, HasNone, HasNoneBelow, IsLowest};
 
 use std::alloc::{AllocError, Global};
 use std::marker::Model;
@@ -181,6 +181,29 @@ impl Bits {
             let more = members.words[index as usize] & mask_of(index, from, to);
             self.words[index as usize] |= more;
         }
+    }
+
+    /// Of the 64 numbers of a group those come into this set that are members of another set of as many numbers, and whose places in two
+    /// groups of a filter both are taken. It looks at one word of each.
+    pub fn set_passing(
+        &mut self,
+        members: &Bits,
+        filter: &Bits,
+        group: u32,
+        first: u32,
+        second: u32,
+    )
+        requires within { 64 * group + 64 ≤ length self.old }
+        requires even { length members.now ≡ length self.old }
+        requires first { 64 * first + 64 ≤ length filter.now }
+        requires second { 64 * second + 64 ≤ length filter.now }
+        ensures len { length self.new ≡ length self.old }
+        ensures flags { (a : ℕ) → has self.new a ≡ (has self.old a || (is_between (64 * group) (64 * group + 64) a
+            && (has members.now a && is_passing filter.now first second a))) }
+    {
+        let passing = filter.words[first as usize] & filter.words[second as usize];
+        let more = members.words[group as usize] & passing;
+        self.words[group as usize] |= more;
     }
 
     /// The numbers from `from` up to `to`, which is not one of them, are not in the set: word by word, by the bits of each.

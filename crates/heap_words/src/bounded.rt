@@ -8,9 +8,9 @@
 //! To clear such a set, or to go over its members, touches the words between the bounds alone: of a set that is large and that
 //! few members come into, few words. The bounds widen as members come, and close when the set is cleared.
 
-ghost use Rattle.std.specs.Prelude.{◌≡◌, ◌^◌, ◌<◌, ◌≤◌, ◌||◌, ◌&&◌, if◌then◌else◌};
+ghost use Rattle.std.specs.Prelude.{◌≡◌, ◌+◌, ◌*◌, ◌^◌, ◌<◌, ◌≤◌, ◌||◌, ◌&&◌, if◌then◌else◌};
 ghost use Rattle.std.specs.Prelude.{ℕ, max, false, true, IfOk, IfSome, length, MatchOption, replicate, slice_set};
-ghost use Rattle.heap_words.specs.Bits.{has, is_between, HasNone, IsLowest};
+ghost use Rattle.heap_words.specs.Bits.{has, is_between, is_passing, HasNone, IsLowest};
 
 use crate::bits::Bits;
 use std::alloc::{AllocError, Global};
@@ -124,6 +124,31 @@ impl BoundedBits {
         };
         let (low, high) = widened(self.low, self.high, first, to);
         self.bits.set_members(members, first, to);
+        self.low = low;
+        self.high = high;
+    }
+
+    /// Of the 64 numbers of a group those come into this set that are members of another set of as many numbers, and whose places in two
+    /// groups of a filter both are taken.
+    pub fn set_passing(
+        &mut self,
+        members: &Bits,
+        filter: &Bits,
+        group: u32,
+        first: u32,
+        second: u32,
+    )
+        requires within { 64 * group + 64 ≤ length self.old }
+        requires even { length members.now ≡ length self.old }
+        requires first { 64 * first + 64 ≤ length filter.now }
+        requires second { 64 * second + 64 ≤ length filter.now }
+        ensures len { length self.new ≡ length self.old }
+        ensures flags { (a : ℕ) → has self.new a ≡ (has self.old a || (is_between (64 * group) (64 * group + 64) a
+            && (has members.now a && is_passing filter.now first second a))) }
+    {
+        self.bits.law();
+        let (low, high) = widened(self.low, self.high, 64 * group, 64 * group + 64);
+        self.bits.set_passing(members, filter, group, first, second);
         self.low = low;
         self.high = high;
     }

@@ -1,21 +1,19 @@
 -- What is covered once a card was added to the sets of some regions.
 use Rattle.std.proofs.Common.{◌≡◌, ◌⊎◌, ◌/◌, ◌<◌, ◌∷◌, ◌++◌, ◌∙◌}
-use Rattle.std.proofs.Common.{inl, inr, ℕ, true, false, Option, Some, None, List, [], length, All, ⊎_elim, refl, sym, ap, subst, length-set}
-use Rattle.std.specs.Prelude.{slice_get, slice_set, nat_lt, Bool, if◌then◌else◌}
-use Rattle.std.proofs.lemmas.Bool.{cases_eq, and_parts}
-use Rattle.std.proofs.lemmas.List.{set-get_or}
+use Rattle.std.proofs.Common.{inl, inr, ℕ, true, Option, Some, None, List, [], length, All, ⊎_elim, refl, sym, ap, subst, length-set}
+use Rattle.std.specs.Prelude.{slice_get, if◌then◌else◌}
+use Rattle.std.proofs.lemmas.Bool.{cases_eq}
 use Rattle.std.proofs.lemmas.Bool.Decides.{eqb_tells}
 use Rattle.std.proofs.lemmas.List.Elements.{All-nil, All-cons, All-head, All-tail, All-append}
 use Rattle.heap_model.specs.Heap.{Stored, fields}
-use Rattle.heap_words.specs.Bits.{has}
-use Rattle.remembered_sets.specs.Sets.{Sets, CardSet, empty_set, added, covers, may_lead, set_of, set_covers, set_with}
+use Rattle.remembered_sets.specs.Sets.{Sets, CardSet, added, covers, may_lead, set_of, set_covers, set_after}
 use Rattle.remembered_sets.proofs.Laws.{covers_grows, covers_only, added_other, leads_grow}
 use Rattle.refinement.specs.Remembering.{IsCrossing, LeadsInto, LeadsInside, Gains, field_word, field_card}
 use Rattle.refinement.specs.Refining.{added_to, AddsCard, with_field}
 
 -- ---- how many sets there are
 added_sets : (s : Sets) (region card : ℕ) → length (added s region card).sets ≡ length s.sets
-added_sets s region card = length-set s.sets region (set_with (set_of s region) card (card / s.cards_per_region))
+added_sets s region card = length-set s.sets region (set_after (set_of s region) s.cards_per_region card)
 
 all_sets : (regions : List ℕ) (card : ℕ) (s : Sets)
     → (length (added_to regions card s).sets ≡ length s.sets) × ((added_to regions card s).cards_per_region ≡ s.cards_per_region)
@@ -154,19 +152,3 @@ field_grows words card word n (Some v) s u known e r c was =
       | inr q ↦ ap (λ (x : Sets). may_lead x r c) (e ∙ ap (λ b. if b then s else added s (v / words) card) q.0)
           ∙ leads_grow s (v / words) card r c (known v refl) was
     ]
-
--- a card that the set covers, and that entered one, changes nothing
-pub added_covered : (s : Sets) (region card : ℕ) → may_lead s region card ≡ true → added s region card ≡ s
-added_covered s region card e =
-    let set : CardSet = set_of s region in
-    let (covered, is_in) = and_parts (covers s region card) (has s.entered card) e in
-    let same : set_with set card (card / s.cards_per_region) ≡ set =
-    ap (λ (b : Bool). if b then set else if nat_lt (length set.inline) 16
-    then record { inline = set.inline ++ card ∷ []; sources = set.sources }
-    else record { inline = set.inline; sources = slice_set set.sources (card / s.cards_per_region) true }) covered in
-    let sets : slice_set s.sets region (set_with set card (card / s.cards_per_region)) ≡ s.sets =
-    ap (λ (x : CardSet). slice_set s.sets region x) same ∙ set-get_or s.sets region (empty_set 0) in
-    let entered : slice_set s.entered card true ≡ s.entered =
-    ap (λ (b : Bool). slice_set s.entered card b) (sym is_in) ∙ set-get_or s.entered card false in
-    ap (λ (ss : List CardSet). record { sets = ss; cards_per_region = s.cards_per_region; entered = slice_set s.entered card true }) sets
-    ∙ ap (λ (flags : List Bool). record { sets = s.sets; cards_per_region = s.cards_per_region; entered = flags }) entered

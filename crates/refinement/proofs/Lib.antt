@@ -4,3 +4,4 @@ pub mod Holders
 pub mod Fields
 pub mod Scanned
 pub mod Counted
+pub mod Taken

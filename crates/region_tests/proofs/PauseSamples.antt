@@ -158,12 +158,12 @@ itself_ordinary : kind_of itself 0 ≡ kinds.Ordinary
 unfolding kind_of nth_region
 itself_ordinary = refl
 
-pub itself_suited : IsSuited itself (empty_sets 4 2) (record { region = 0; live_bound = 4 })
+pub itself_suited : IsSuited itself (empty_sets 4 2 0) (record { region = 0; live_bound = 4 })
 itself_suited = record {
   words = refl;
   count = refl;
   cards = refl;
-  each = length-replicate 4 (empty_set 4);
+  each = length-replicate 4 (empty_set 4 2 0);
   unmoved = (tt, tt);
   first = (selfish, itself_first);
   low = λ a x e. let (z, s) = itself_only a x e in subst (λ (n : ℕ). is_below 16 (bottoms 4 16) n ≡ false) (sym z) below_none;
@@ -235,7 +235,7 @@ weak_ordinary : kind_of by_weak_slot 1 ≡ kinds.Ordinary
 unfolding kind_of nth_region
 weak_ordinary = refl
 
-pub are_two_cards : (s s' s'' : Sets) (k a b : ℕ) → s ≡ empty_sets 4 2 → s' ≡ added s k a → s'' ≡ added s' k b → k ≡ 1 → a ≡ 0 → b ≡ 4
+pub are_two_cards : (s s' s'' : Sets) (k a b : ℕ) → s ≡ empty_sets 4 2 0 → s' ≡ added s k a → s'' ≡ added s' k b → k ≡ 1 → a ≡ 0 → b ≡ 4
     → s'' ≡ two_cards
 are_two_cards s s' s'' k a b e f g p q r = rw (g, f, e, p, q, r) refl
 

@@ -37,7 +37,7 @@ by_weak_slot = sample_of (Ordinary (Object (holder (Some 16)) ∷ []) ∷ Ordina
 
 -- for region 1 card 0 is remembered, and card 4, of a free region
 abbrev pub two_cards : Sets
-two_cards = added (added (empty_sets 4 2) 1 0) 1 4
+two_cards = added (added (empty_sets 4 2 0) 1 0) 1 4
 
 -- nothing is marked or dirty, and one root names what stands at 0
 pub record IsFresh (table : Table) (sets : Sets) (h : Layers) : Type 0 where

@@ -12,7 +12,7 @@ use std::test::Fail;
 fn filled(alloc: Global) -> Result<RememberedSets, AllocError>
     ensures { IfOk result (λ sets. (length sets.sets ≡ 8) × (sets.cards_per_region ≡ 16)) }
 {
-    let mut sets = RememberedSets::new(alloc, 8, 16)?;
+    let mut sets = RememberedSets::new(alloc, 8, 16, 0)?;
     for place in 0..16 {
         sets.add(RegionNo::new(7), Card::new(3 * place));
     }
@@ -73,7 +73,7 @@ fn clears(rt: HostRuntime) -> Result<(), Fail> {
 /// What is added to one region's set is in no other's, and clearing one leaves the others.
 #[test]
 fn keeps_sets_apart(rt: HostRuntime) -> Result<(), Fail> {
-    let mut sets = RememberedSets::new(rt.alloc(), 3, 2)?;
+    let mut sets = RememberedSets::new(rt.alloc(), 3, 2, 0)?;
     let first = RegionNo::new(0);
     let second = RegionNo::new(1);
     sets.add(first, Card::new(2));
@@ -161,6 +161,54 @@ fn forgets_the_cards_of_a_freed_region(rt: HostRuntime) -> Result<(), Fail> {
     assert!(rt; flags.len() == 128);
     for card in 0..128 {
         assert_eq!(rt; flags.get(card), card == 51, "{card}");
+    }
+    Ok(())
+}
+
+/// Sets of 12 regions of 64 cards with filters of four rows and two, where the set of region 9 has sixteen cards: those from 0 to 15.
+fn filtered(alloc: Global) -> Result<RememberedSets, AllocError>
+    ensures { IfOk result (λ sets. (length sets.sets ≡ 12) × (sets.cards_per_region ≡ 64)) }
+{
+    let mut sets = RememberedSets::new(alloc, 12, 64, 2)?;
+    for place in 0..16 {
+        sets.add(RegionNo::new(9), Card::new(place));
+    }
+    Ok(sets)
+}
+
+/// Of a region that is marked whole a card that entered another set is held back, until a card with its places in the same two rows is
+/// added: regions 2 and 10 have the same rows. A card that has one of its places alone stays held back, as 140 does: its place in the
+/// second row is that of card 12. A cleared set lets nothing through.
+#[test]
+fn holds_cards_back(rt: HostRuntime) -> Result<(), Fail> {
+    let mut sets = filtered(rt.alloc())?;
+    let region = RegionNo::new(9);
+    sets.add(region, Card::new(130));
+    sets.add(RegionNo::new(8), Card::new(131));
+    sets.add(RegionNo::new(8), Card::new(140));
+    let mut flags = BoundedBits::new(rt.alloc(), 768)?;
+    assert!(rt; flags.len() == 768);
+    sets.mark_cards(region, &mut flags);
+    assert!(rt; flags.len() == 768);
+    for card in 0..768 {
+        assert_eq!(rt; flags.get(card), card < 16 || card == 130, "{card}");
+    }
+    sets.add(region, Card::new(643));
+    sets.mark_cards(region, &mut flags);
+    assert!(rt; flags.len() == 768);
+    for card in 0..768 {
+        let is_in = card < 16 || card == 130 || card == 131 || card == 643;
+        assert_eq!(rt; flags.get(card), is_in, "{card}");
+    }
+    assert!(rt; sets.covers(region, Card::new(140)));
+    sets.clear(region);
+    flags.clear();
+    assert!(rt; flags.len() == 768);
+    sets.add(region, Card::new(130));
+    sets.mark_cards(region, &mut flags);
+    assert!(rt; flags.len() == 768);
+    for card in 0..768 {
+        assert_eq!(rt; flags.get(card), card == 130, "{card}");
     }
     Ok(())
 }

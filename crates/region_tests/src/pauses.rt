@@ -127,7 +127,7 @@ fn pause_itself(alloc: Global) -> Result<Paused, Fail>
     let mut tams = Tams::new(alloc, 4, 16)?;
     let mut bitmaps = Bitmaps::new(alloc, 64)?;
     let mut cards = CardTable::new(alloc, 8, 1)?;
-    let mut sets = RememberedSets::new(alloc, 4, 2)?;
+    let mut sets = RememberedSets::new(alloc, 4, 2, 0)?;
     let mut room = PauseRoom::new(alloc, 4, 8)?;
     let mut roots = one_root(alloc, 0)?;
     let rows = [LiveRow {
@@ -162,7 +162,7 @@ fn pause_itself(alloc: Global) -> Result<Paused, Fail>
 fn held_sets(alloc: Global) -> Result<RememberedSets, Fail>
     ensures { IfOk result (λ sets. sets ≡ two_cards) }
 {
-    let mut sets = RememberedSets::new(alloc, 4, 2)?;
+    let mut sets = RememberedSets::new(alloc, 4, 2, 0)?;
     let region = RegionNo::new(1);
     sets.add(region, Card::new(0));
     sets.add(region, Card::new(4));

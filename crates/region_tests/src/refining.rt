@@ -243,7 +243,7 @@ fn over(alloc: Global, table: RegionTable, start: u32) -> Result<Sample, Fail>
     tams.swap_roles();
     let mut marks = Marks::new(alloc, 64)?;
     marks.set(Addr::new(4));
-    let sets = RememberedSets::new(alloc, 4, 2)?;
+    let sets = RememberedSets::new(alloc, 4, 2, 0)?;
     Ok(Sample {
         table,
         tams,

@@ -1,7 +1,7 @@
 -- What one region's set covers as cards are added.
-use Rattle.std.proofs.Common.{◌≡◌, ◌⊎◌, ◌+◌, ◌<◌, ◌≤◌, if◌then◌else◌, ◌∷◌, ◌++◌, ◌∙◌}
+use Rattle.std.proofs.Common.{◌≡◌, ◌⊎◌, ◌+◌, ◌*◌, ◌/◌, ◌%◌, ◌<◌, ◌≤◌, if◌then◌else◌, ◌∷◌, ◌++◌, ◌∙◌}
 use Rattle.std.proofs.Common.{inl, inr, ℕ, Bool, true, false, cond, eqb, ltb, List, [], length, get_or, set, replicate, ⊎_elim, refl, sym}
-use Rattle.std.proofs.Common.{ap, subst, arith, get_or-set_same, get_or-set_other, length-set, length-append}
+use Rattle.std.proofs.Common.{ap, arith, get_or-set_same, get_or-set_other, length-set, length-append}
 use Rattle.std.specs.Prelude.{◌||◌}
 use Rattle.std.specs.List.{list_any}
 use Rattle.std.proofs.lemmas.Bool.{cases_lt, cases_eq, or_cases, eq-eqb, ne_eqb, eqb-true, false≢true, ltb-true, ltb-false}
@@ -9,7 +9,10 @@ use Rattle.std.proofs.lemmas.List.{get_or_past, get_or-replicate, length-replica
 use Rattle.std.proofs.lemmas.List.Elements.{All-push, All-nil}
 use Rattle.std.proofs.lemmas.List.Folds.{list_any-append}
 use Rattle.std.proofs.lemmas.List.Sums.{sum_by-cons, sum_by_push}
-use Rattle.remembered_sets.specs.Sets.{CardSet, IsSet, set_covers, set_with, empty_set, times_in}
+use Rattle.remembered_sets.specs.Sets.{CardFilter, CardSet, IsSet, set_covers, set_with, set_after, letting, lets_through}
+use Rattle.remembered_sets.specs.Sets.{empty_set, emptied, times_in}
+use Rattle.remembered_sets.proofs.Filters.{IsFilter-with, IsFilter-empty, IsFilter-emptied, lets_with, lets_still, filter_same}
+use Rattle.remembered_sets.proofs.Filters.{marks_grow}
 
 or_left : (a b : Bool) → a ≡ true → (a || b) ≡ true
 or_left a b e = rw e refl
@@ -20,10 +23,10 @@ or_right false b e = e
 
 -- the set with a card more inline, and with a region marked whole
 abbrev pub inline_with : CardSet → ℕ → CardSet
-inline_with s card = record { inline = s.inline ++ card ∷ []; sources = s.sources }
+inline_with s card = record { inline = s.inline ++ card ∷ []; sources = s.sources; filter = s.filter }
 
 abbrev pub marked_with : CardSet → ℕ → CardSet
-marked_with s source = record { inline = s.inline; sources = set s.sources source true }
+marked_with s source = record { inline = s.inline; sources = set s.sources source true; filter = s.filter }
 
 -- what holds of a set that covers the card, and after each way of adding one that it doesn't cover
 pub with_cases : (P : CardSet → Type 0) (s : CardSet) (card source : ℕ) → (set_covers s card source ≡ true → P s)
@@ -73,15 +76,6 @@ inline_only s card c k h =
     (or_cases (list_any (λ x. eqb x c) (s.inline ++ card ∷ [])) source h)
 
 -- ---- a region marked whole
-pub marks_grow : (flags : List Bool) (i k : ℕ) → get_or flags k false ≡ true → get_or (set flags i true) k false ≡ true
-marks_grow flags i k e =
-    let inside : k < length flags =
-    ⊎_elim (λ h. h) (λ h. absurd (false≢true (sym (get_or_past flags k false h) ∙ e))) (cases_lt k (length flags)) in
-    ⊎_elim
-    (λ same. subst (λ j. get_or (set flags j true) k false ≡ true) same (get_or-set_same flags k true false inside))
-    (λ differs. get_or-set_other flags i k true false differs ∙ e)
-    (cases_eq k i)
-
 marked_grows : (s : CardSet) (source c k : ℕ) → set_covers s c k ≡ true → set_covers (marked_with s source) c k ≡ true
 marked_grows s source c k h =
     let inline : Bool = list_any (λ x. eqb x c) s.inline in
@@ -158,23 +152,87 @@ once_after xs card x missing h = ⊎_elim
     (λ differs. omega (arith, h, times_after xs card x, ap bit (ne_eqb card x differs)))
     (cases_eq card x)
 
-pub IsSet-with : (n k : ℕ) (s : CardSet) (card source : ℕ) → IsSet n k s → card < k → IsSet n k (set_with s card source)
-IsSet-with n k s card source all h =
-    with_cases (IsSet n k) s card source (λ was. all)
+pub IsSet-with : (n w : ℕ) (s : CardSet) (card source : ℕ) → IsSet n w s → card < n * w → IsSet n w (set_with s card source)
+IsSet-with n w s card source all h =
+    with_cases (IsSet n w) s card source (λ was. all)
     (λ missing short. record {
       few = omega (arith, short, length-append s.inline (card ∷ []));
       once = λ x.
           once_after s.inline card x (or_false (list_any (λ y. eqb y card) s.inline) (get_or s.sources source false) missing) (all.once x);
-      known = All-push (λ c. c < k) s.inline card all.known h;
+      known = All-push (λ c. c < n * w) s.inline card all.known h;
       marks = all.marks;
+      filter = all.filter;
     })
-    (λ missing full. record { few = all.few; once = all.once; known = all.known; marks = length-set s.sources source true ∙ all.marks })
+    (λ missing full. record {
+      few = all.few;
+      once = all.once;
+      known = all.known;
+      marks = length-set s.sources source true ∙ all.marks;
+      filter = all.filter;
+    })
 
-pub IsSet-empty : (n k : ℕ) → IsSet n k (empty_set n)
-IsSet-empty n k = record { few = omega arith; once = λ x. omega arith; known = All-nil (λ c. c < k); marks = length-replicate n false }
+pub IsSet-letting : (n w : ℕ) (s : CardSet) (card : ℕ) → IsSet n w s → IsSet n w (letting s w card)
+IsSet-letting n w s card all = record {
+  few = all.few;
+  once = all.once;
+  known = all.known;
+  marks = all.marks;
+  filter = IsFilter-with w s.filter card all.filter;
+}
 
--- the empty set covers nothing
-pub empty_covers : (regions c k : ℕ) → set_covers (empty_set regions) c k ≡ false
+pub IsSet-after : (n w : ℕ) (s : CardSet) (card : ℕ) → IsSet n w s → card < n * w → IsSet n w (set_after s w card)
+IsSet-after n w s card all h = IsSet-with n w (letting s w card) card (card / w) (IsSet-letting n w s card all) h
+
+pub IsSet-empty : (n w rows : ℕ) → (0 < rows → w % 64 ≡ 0) → IsSet n w (empty_set n w rows)
+IsSet-empty n w rows whole = record {
+  few = omega arith;
+  once = λ x. omega arith;
+  known = All-nil (λ c. c < n * w);
+  marks = length-replicate n false;
+  filter = IsFilter-empty w rows whole;
+}
+
+pub IsSet-emptied : (n w : ℕ) (s : CardSet) → IsSet n w s → IsSet n w (emptied s)
+IsSet-emptied n w s all = record {
+  few = omega arith;
+  once = λ x. omega arith;
+  known = All-nil (λ c. c < n * w);
+  marks = length-replicate (length s.sources) false ∙ all.marks;
+  filter = IsFilter-emptied w s.filter all.filter;
+}
+
+-- an emptied set covers nothing
+pub empty_covers : (regions c k : ℕ) → (list_any (λ x. eqb x c) [] || get_or (replicate regions false) k false) ≡ false
 empty_covers regions c k =
     ⊎_elim (λ h. get_or-replicate regions k false false h)
     (λ h. get_or_past (replicate regions false) k false (omega (arith, length-replicate regions false))) (cases_lt k regions)
+
+pub emptied_covers : (s : CardSet) (c k : ℕ) → set_covers (emptied s) c k ≡ false
+emptied_covers s c k = empty_covers (length s.sources) c k
+
+-- an emptied set is as it was, emptied once more
+pub emptied_twice : (s : CardSet) → emptied (emptied s) ≡ emptied s
+emptied_twice s = rw (length-replicate (length s.sources) false, length-replicate (length s.filter.flags) false) refl
+
+-- ---- which cards the filter lets through
+pub filter_stays : (s : CardSet) (card source : ℕ) → (set_with s card source).filter ≡ s.filter
+filter_stays s card source =
+    with_cases (λ t. t.filter ≡ s.filter) s card source (λ was. refl) (λ missing short. refl) (λ missing full. refl)
+
+pub set_lets_after : (s : CardSet) (n w card : ℕ) → 0 < w → IsSet n w s → lets_through (set_after s w card).filter w card ≡ true
+set_lets_after s n w card some all =
+    ap (λ (f : CardFilter). lets_through f w card) (filter_stays (letting s w card) card (card / w))
+    ∙ lets_with s.filter w card some all.filter
+
+pub set_lets_still : (s : CardSet) (w card c : ℕ) → lets_through s.filter w c ≡ true → lets_through (set_after s w card).filter w c ≡ true
+set_lets_still s w card c was =
+    ap (λ (f : CardFilter). lets_through f w c) (filter_stays (letting s w card) card (card / w)) ∙ lets_still s.filter w card c was
+
+-- a card that the set covers and that its filter lets through changes nothing
+pub set_same : (s : CardSet) (w card : ℕ) → set_covers s card (card / w) ≡ true → lets_through s.filter w card ≡ true
+    → set_after s w card ≡ s
+set_same s w card covered lets =
+    with_cases (λ t. t ≡ s) (letting s w card) card (card / w)
+    (λ was. ap (λ (f : CardFilter). record { inline = s.inline; sources = s.sources; filter = f }) (filter_same s.filter w card lets))
+    (λ missing short. absurd (false≢true (sym missing ∙ covered)))
+    (λ missing full. absurd (false≢true (sym missing ∙ covered)))

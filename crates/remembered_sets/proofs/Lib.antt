@@ -1,2 +1,4 @@
+pub mod Filters
 pub mod Covered
 pub mod Laws
+pub mod Flagging

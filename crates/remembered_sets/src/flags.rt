@@ -1,7 +1,8 @@
-//! Flags for the cards that a set covers, a card alone and all cards of a region, but for cards that didn't enter a set.
+//! Flags for the cards that a set covers, a card alone and all cards of a region, but for cards that didn't enter a set, and for those that
+//! the set's filter holds back.
 //!
 //! ```text
-//!   2 cards a region    inline: 0, 9     sources: 3     entered: 0, 4, 6
+//!   2 cards a region    inline: 0, 9     sources: 3     entered: 0, 4, 6     no filter
 //!   card      0  1  2  3  4  5  6  7  8  9
 //!   flag      x                 x                 cards 7 and 9 are covered, but didn't enter a set
 //! ```
@@ -9,43 +10,72 @@
 ghost use Rattle.std.specs.Prelude.{◌≡◌, ◌==◌, ◌||◌, ◌&&◌, ◌<◌, ◌*◌, ◌/◌, ℕ, All, length};
 ghost use Rattle.std.specs.List.{list_any};
 ghost use Rattle.heap_words.specs.Bits.{has};
+ghost use Rattle.remembered_sets.specs.Sets.{IsFilter, lets_through};
 
+use crate::filter::Filter;
+use heap_words::addr::Card;
 use heap_words::bits::Bits;
 use heap_words::bounded::BoundedBits;
+use heap_words::powers::quotient;
 
-/// Flags the cards of a list that entered a set.
-pub(crate) fn flag_each(flags: &mut BoundedBits, cards: &[u32], entered: &Bits)
+/// Whether a card entered a set, and the filter lets it through.
+fn is_passing(card: &u32, entered: &Bits, filter: &Filter, cards_per_region: u32) -> bool
+    requires some_cards { 0 < cards_per_region }
+    requires filter { IsFilter cards_per_region filter.now }
+    requires known { card.now < length entered.now }
+    ensures { result ≡ (has entered.now card.now && lets_through filter.now cards_per_region card.now) }
+{
+    if entered.get(*card) {
+        let source = quotient(*card, cards_per_region);
+        return filter.lets_through(Card::new(*card), source, cards_per_region);
+    }
+    false
+}
+
+/// Flags the cards of a list that entered a set, and that the filter lets through.
+pub(crate) fn flag_each(
+    flags: &mut BoundedBits,
+    cards: &[u32],
+    entered: &Bits,
+    filter: &Filter,
+    cards_per_region: u32,
+)
+    requires some_cards { 0 < cards_per_region }
+    requires filter { IsFilter cards_per_region filter.now }
     requires known { All (λ c. c < length flags.old) cards.now }
     requires even { length entered.now ≡ length flags.old }
-    ensures flags { (c : ℕ) → has flags.new c ≡ (has flags.old c || (list_any (λ x. x == c) cards.now && has entered.now c)) }
+    ensures flags { (c : ℕ) → has flags.new c
+        ≡ (has flags.old c || (list_any (λ x. x == c) cards.now && (has entered.now c && lets_through filter.now cards_per_region c))) }
     ensures len { length flags.new ≡ length flags.old }
 {
     for card in cards {
-        if entered.get(*card) {
+        if is_passing(card, entered, filter, cards_per_region) {
             flags.set(*card);
         }
     }
 }
 
-/// Flags the cards of the regions that are marked, and that entered a set. It goes from one marked region to the next, and takes 64
-/// cards at once.
+/// Flags the cards of the regions that are marked, that entered a set and that the filter lets through. It goes from one marked region to
+/// the next, and takes 64 cards at once.
 pub(crate) fn flag_sources(
     flags: &mut BoundedBits,
     sources: &Bits,
     entered: &Bits,
+    filter: &Filter,
     cards_per_region: u32,
 )
     requires some_cards { 0 < cards_per_region }
+    requires filter { IsFilter cards_per_region filter.now }
     requires each { length flags.old ≡ length sources.now * cards_per_region }
     requires even { length entered.now ≡ length flags.old }
-    ensures flags { (c : ℕ) → has flags.new c ≡ (has flags.old c || (has sources.now (c / cards_per_region) && has entered.now c)) }
+    ensures flags { (c : ℕ) → has flags.new c ≡ (has flags.old c
+        || (has sources.now (c / cards_per_region) && (has entered.now c && lets_through filter.now cards_per_region c))) }
     ensures len { length flags.new ≡ length flags.old }
 {
     flags.law();
     let mut start = 0;
     while let Some(source) = sources.next(start) {
-        let from = source * cards_per_region;
-        flags.set_members(entered, from, from + cards_per_region);
+        filter.mark(source, cards_per_region, entered, flags);
         start = source + 1;
     }
 }

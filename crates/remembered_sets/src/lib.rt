@@ -15,14 +15,19 @@
 //!   clear(1)                      -                            -
 //! ```
 //!
-//! A set has a fixed size: room for sixteen cards, and a bit for each region that may be marked whole. It may cover
+//! A set has a fixed size: room for sixteen cards, a bit for each region that may be marked whole, and a filter. It may cover
 //! more than was added, never less, and no call but the making takes memory or fails.
 //!
 //! So that a pause doesn't look at all cards of a region that a set marks whole, one bit a card tells which cards entered a set,
 //! whichever it was, since the set of their own region was last emptied. In another card that isn't dirty no field leads out of its
 //! region, so `mark_cards` passes over it, and what a pause visits grows with the cards that were added, and not with the regions.
+//!
+//! These are all cards that were added to any set. So that a pause of one region passes over those of other regions' sets, each set has a
+//! filter (`filter`), rows of flags that several regions' cards share: a card that is added takes two places, and one whose two places
+//! aren't both taken was never added to this set. In a large heap whose fields lead anywhere it holds back most of these cards.
 #![tactic(auto)]
 
+mod filter;
 mod flags;
 mod set;
 pub mod sets;

@@ -11,7 +11,7 @@
 //! whichever it was, since the set of their own region was last emptied: a pause visits the cards of a marked region that are in it,
 //! and no others. A region's set is emptied when the region is freed, and no object in it is kept then.
 
-ghost use Rattle.std.specs.Prelude.{◌≡◌, ◌≢◌, ◌⊎◌, ◌||◌, ◌/◌, ◌<◌};
+ghost use Rattle.std.specs.Prelude.{◌≡◌, ◌≢◌, ◌⊎◌, ◌||◌, ◌/◌, ◌%◌, ◌<◌};
 ghost use Rattle.std.specs.Prelude.{All, ℕ, false, true, IfOk, Some, length, slice_get, slice_index_or, List};
 ghost use Rattle.heap_words.specs.Bits.{has};
 ghost use Rattle.remembered_sets.specs.Sets.{added, after_all, card_count, cleared, covers, empty_sets, may_lead, set_of};
@@ -58,14 +58,17 @@ impl Drop for RememberedSets {
 
 impl RememberedSets {
     /// An empty set for each region, and no card that entered one. No call takes memory afterwards. It takes 16 cards and a bit for each
-    /// region a set, and a bit for each card; where the cards are 2 to the 32nd or more there is no memory for them.
+    /// region a set, a bit for each card, and `3 * rows` bits a card of a region for each set's filter, none where `rows` is 0; where the
+    /// cards or a filter's bits are 2 to the 32nd or more there is no memory for them.
     pub fn new(
         alloc: Global,
         regions: u32,
         cards_per_region: u32,
+        rows: u32,
     ) -> Result<RememberedSets, AllocError>
-        requires { 0 < cards_per_region }
-        ensures { IfOk result (λ sets. sets ≡ empty_sets regions cards_per_region) }
+        requires some_cards { 0 < cards_per_region }
+        requires whole { 0 < rows → cards_per_region % 64 ≡ 0 }
+        ensures { IfOk result (λ sets. sets ≡ empty_sets regions cards_per_region rows) }
     {
         let Some(cards) = regions.checked_mul(cards_per_region) else {
             return Err(AllocError);
@@ -73,7 +76,7 @@ impl RememberedSets {
         let entered = Bits::new(alloc, cards)?;
         let mut sets = Vec::with_capacity(alloc, regions as usize)?;
         for _ in 0..regions {
-            sets.push(RememberedSet::new(alloc, regions)?)?;
+            sets.push(RememberedSet::new(alloc, regions, cards_per_region, rows)?)?;
         }
         Ok(RememberedSets {
             sets,
@@ -83,7 +86,7 @@ impl RememberedSets {
     }
 
     /// Tells a proof what is known of all sets: a region has cards; no set has more than sixteen cards inline, nor one
-    /// twice; each has a mark for each region; and there is a flag for each card. It does nothing.
+    /// twice; each has a mark for each region, and a filter; and there is a flag for each card. It does nothing.
     pub fn law(&self)
         ensures { AreSets self.now }
     {
@@ -130,7 +133,7 @@ impl RememberedSets {
         set.is_whole(source.number())
     }
 
-    /// Adds a card to the region's set, and to those that entered one. Where the set covers it, the set stays.
+    /// Adds a card to the region's set, and to those that entered one. Where the set covers it, what it covers stays.
     pub fn add(&mut self, region: RegionNo, card: Card)
         requires region { region < length self.old.sets }
         requires card { card < card_count self.old }
@@ -154,12 +157,12 @@ impl RememberedSets {
     {
         self.entered.set(card.number());
         let set = &mut self.sets[region.number() as usize];
-        set.add(card, source.number());
+        set.add(card, source.number(), self.cards_per_region);
     }
 
-    /// Flags the cards in which a field may lead into the region: those that its set covers and that entered a set. The other flags
-    /// stay. It costs the set's own cards, the regions that it marks and the cards of these that entered a set, and for each region a
-    /// look at words that hold 64 flags each.
+    /// Flags the cards in which a field may lead into the region: those that its set covers, that entered a set and that the set's filter
+    /// lets through. The other flags stay. It costs the set's own cards, and for each region that it marks whole a look at words that hold
+    /// 64 flags each.
     pub fn mark_cards(&self, region: RegionNo, flags: &mut BoundedBits)
         requires region { region < length self.now.sets }
         requires each { length flags.old ≡ card_count self.now }

@@ -5,7 +5,7 @@ use Rattle.regions.specs.declared.row.Kind.TheVariants as kinds
 use Rattle.mark_bitmap.specs.Marks.{is_marked}
 use Rattle.marker.specs.declared.marker.Marker.{Marker}
 use Rattle.heap_words.specs.Bits.{has}
-use Rattle.remembered_sets.specs.Sets.{Sets, set_of, empty_set}
+use Rattle.remembered_sets.specs.Sets.{Sets, set_of, emptied}
 use Rattle.step_core.specs.Stands.{CoreState, kept_of}
 use Rattle.step_core.specs.Cycle.{IsDeadRegion, IsDead, IsAsNew, IsAsBefore, ChangesRegions}
 
@@ -35,7 +35,7 @@ pub record HasForgotten (words k m : ℕ) (was now : Marker) : Type 0 where
 pub record HasCleared (k m : ℕ) (was now : Sets) : Type 0 where
   pub cards : now.cards_per_region ≡ was.cards_per_region
   pub count : length now.sets ≡ length was.sets
-  pub empty : (r : ℕ) → k ≤ r → r < k + m → set_of now r ≡ empty_set (length was.sets)
+  pub empty : (r : ℕ) → k ≤ r → r < k + m → set_of now r ≡ emptied (set_of was r)
   pub others : (r : ℕ) → IsOther k m r → set_of now r ≡ set_of was r
   pub own_cards : (card : ℕ) → k ≤ card / was.cards_per_region → card / was.cards_per_region < k + m → has now.entered card ≡ false
   pub other_cards : (card : ℕ) → IsOther k m (card / was.cards_per_region) → has now.entered card ≡ has was.entered card

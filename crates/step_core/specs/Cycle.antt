@@ -19,7 +19,7 @@ use Rattle.marker.specs.Views as views
 use Rattle.marker.specs.Counts.{IsMore, restarted}
 use Rattle.marker.specs.Steps.{Grows, SameRoles, ScansMore}
 use Rattle.heap_words.specs.Bits.{has}
-use Rattle.remembered_sets.specs.Sets.{empty_set, set_of}
+use Rattle.remembered_sets.specs.Sets.{emptied, set_of}
 use Rattle.heap_steps.specs.declared.step.CollectorStep.{CollectorStep}
 use Rattle.heap_steps.specs.declared.step.CollectorStep.TheVariants as collector
 use Rattle.heap_steps.specs.declared.step.Step.{Step}
@@ -109,7 +109,7 @@ pub record HasRemarked (n : ℕ) (c c' : CoreState) : Type 0 where
 -- no marks
 pub record IsAsNew (c : CoreState) (k : ℕ) : Type 0 where
   pub free : nth_region c.table k ≡ Free
-  pub set : set_of c.sets k ≡ empty_set (length c.sets.sets)
+  pub set : set_of c.sets k ≡ emptied (set_of c.sets k)
   pub entered : (card : ℕ) → card / c.sets.cards_per_region ≡ k → has c.sets.entered card ≡ false
   pub previous_top : slice_index c.marker.tams.previous k ≡ k * c.table.words_per_region
   pub next_top : slice_index c.marker.tams.next k ≡ k * c.table.words_per_region

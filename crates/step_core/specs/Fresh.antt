@@ -1,5 +1,5 @@
 -- The core of a new heap.
-use Rattle.std.specs.Prelude.{◌*◌, ◌/◌, None, replicate}
+use Rattle.std.specs.Prelude.{ℕ, ◌*◌, ◌/◌, ◌%◌, ◌==◌, ◌||◌, ◌^◌, not, nat_le, if◌then◌else◌, None, replicate}
 use Rattle.heap_words.specs.declared.config.Config.{Config}
 use Rattle.heap_words.specs.Configs.{card_words}
 use Rattle.regions.specs.Table.{free_table}
@@ -10,6 +10,12 @@ use Rattle.remembered_sets.specs.Sets.{empty_sets}
 use Rattle.object_graph.specs.State.{root_places}
 use Rattle.step_core.specs.Stands.{CoreState, places_of}
 
+-- how many rows of the second kind a set's filter has: 7 for 32 words of a card, so that a filter takes 21 bits for 32 words of a region;
+-- none where the heap is no larger than one of the first two formats can be, or where a region's cards are no whole groups of 64
+abbrev pub filter_rows : Config → ℕ
+filter_rows c =
+    if nat_le (c.regions * c.words) (2 ^ 24) || not (c.words / card_words c % 64 == 0) then 0 else 7 * card_words c / 32
+
 -- every region is free, no buffer open, nothing marked, each card clean, each set empty and each root nil
 abbrev pub fresh_core : Config → CoreState
 fresh_core c = record {
@@ -18,7 +24,7 @@ fresh_core c = record {
   buffers = closed c.buffer c.mutators;
   marker = fresh_marker c;
   cards = clean_cards (c.regions * (c.words / card_words c)) c.mutators;
-  sets = empty_sets c.regions (c.words / card_words c);
+  sets = empty_sets c.regions (c.words / card_words c) (filter_rows c);
   room = record { regions = c.regions; cards = c.regions * (c.words / card_words c) };
   row_room = c.regions;
   places = places_of c;

@@ -58,7 +58,8 @@ abbrev pub marking_of : CoreState → Marking
 marking_of c = views.marking_of c.table c.marker
 
 -- cross-region pointers are remembered: the card of each field of a kept object that leads into another region than
--- its word's is dirty, or it may lead into the other region: that one's set covers it, and it has entered a set
+-- its word's is dirty, or it may lead into the other region: that one's set covers it, it has entered a set, and the set's filter lets it
+-- through
 abbrev pub RemembersFields : CoreState → Type 0
 RemembersFields c = Remembers c.table.words_per_region (kept_of c) (card_words c.config) (is_dirty c.cards) (may_lead c.sets)
 

@@ -3,8 +3,8 @@
 //! Making one may be refused for memory, and then those that were made before it are dropped. Each function here makes two or three, and
 //! `Core::new` three: the proof of one that makes all eight grows with each way out, past any useful time.
 
-ghost use Rattle.std.specs.Prelude.{◌≡◌, ◌<◌, ◌*◌, ◌/◌, ◌^◌, length, None, [], false, replicate, IfOk, vec_capacity};
-ghost use Rattle.heap_words.specs.Configs.{Suits, card_words};
+ghost use Rattle.std.specs.Prelude.{◌≡◌, ◌<◌, ◌≤◌, ◌*◌, ◌/◌, ◌%◌, ◌^◌, length, None, [], false, replicate, IfOk, vec_capacity};
+ghost use Rattle.heap_words.specs.Configs.{Suits, card_words, heap_limit};
 ghost use Rattle.regions.specs.Table.{Table};
 ghost use Rattle.alloc_buffers.specs.Placement.{BuffersStand, closed};
 ghost use Rattle.marker.specs.Stands.{MarkerStands};
@@ -13,6 +13,7 @@ ghost use Rattle.cards.specs.Cards.{clean_cards};
 ghost use Rattle.remembered_sets.specs.Sets.{empty_sets};
 ghost use Rattle.object_graph.specs.State.{root_places};
 ghost use Rattle.step_core.specs.Stands.{places_of};
+ghost use Rattle.step_core.specs.Fresh.{filter_rows};
 
 use alloc_buffers::AllocBuffers;
 use cards::CardTable;
@@ -81,16 +82,34 @@ pub(crate) fn new_mutating(alloc: Global, config: &Config) -> Result<Mutating, A
     })
 }
 
+/// How many rows of the second kind a remembered set's filter has: none where a filter would gain little, in a heap no larger than the
+/// first two formats can have, or with few cards a region. Else a filter takes 21 bits for 32 words of its region, 1 percent of the
+/// heap's words: a pause of one region then passes over most cards that lead into others.
+fn rows_of_filter(config: &Config, cards_per_region: u32) -> u32
+    requires suits { Suits config.now }
+    requires cards { cards_per_region ≡ config.now.words / card_words config.now }
+    ensures rows { result ≡ filter_rows config.now }
+    ensures whole { 0 < result → cards_per_region % 64 ≡ 0 }
+    ensures formats { heap_limit config.now.format ≤ 2 ^ 24 → result ≡ 0 }
+{
+    if config.regions * config.words <= 1 << 24 || cards_per_region % 64 != 0 {
+        return 0;
+    }
+    7 * config.card_words() / 32
+}
+
 /// Each card clean, and each remembered set empty.
 fn new_remembering(alloc: Global, config: &Config) -> Result<Remembering, AllocError>
     requires { Suits config.now }
     ensures cards { IfOk result (λ r. r.cards
         ≡ clean_cards (config.now.regions * (config.now.words / card_words config.now)) config.now.mutators) }
-    ensures sets { IfOk result (λ r. r.sets ≡ empty_sets config.now.regions (config.now.words / card_words config.now)) }
+    ensures sets { IfOk result (λ r. r.sets ≡ empty_sets config.now.regions (config.now.words / card_words config.now)
+        (filter_rows config.now)) }
 {
     let cards_per_region = config.words / config.card_words();
     let cards = CardTable::new(alloc, config.regions * cards_per_region, config.mutators)?;
-    let sets = RememberedSets::new(alloc, config.regions, cards_per_region)?;
+    let rows = rows_of_filter(config, cards_per_region);
+    let sets = RememberedSets::new(alloc, config.regions, cards_per_region, rows)?;
     Ok(Remembering { cards, sets })
 }
 
@@ -117,7 +136,8 @@ pub(crate) fn new_collecting(alloc: Global, config: &Config) -> Result<Collectin
     ensures logs { IfOk result (λ c. c.marker.logs ≡ replicate config.now.mutators []) }
     ensures cards { IfOk result (λ c. c.remembering.cards
         ≡ clean_cards (config.now.regions * (config.now.words / card_words config.now)) config.now.mutators) }
-    ensures sets { IfOk result (λ c. c.remembering.sets ≡ empty_sets config.now.regions (config.now.words / card_words config.now)) }
+    ensures sets { IfOk result (λ c. c.remembering.sets ≡ empty_sets config.now.regions (config.now.words / card_words config.now)
+        (filter_rows config.now)) }
     ensures room { IfOk result (λ c. c.pausing.room
         ≡ record { regions = config.now.regions; cards = config.now.regions * (config.now.words / card_words config.now) }) }
     ensures rows { IfOk result (λ c. vec_capacity c.pausing.rows ≡ config.now.regions) }

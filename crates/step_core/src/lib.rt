@@ -18,9 +18,9 @@
 //! `remark` clears the weak slots that hold what neither the snapshot reaches nor was made since, and no such name is reachable then. What
 //! each step does to each part of the core is said too (`Does`), of a mutator's step exactly, and a refused step leaves it as it was:
 //! regions are reclaimed by `cleanup`, those that hold nothing live, and by `pause`, those that it evacuates. Cross-region fields are
-//! remembered at every moment: the card of each field that leads into another region is dirty, or that region's set covers it, and it has
-//! entered a set. No step takes memory. `run` does a list of steps in a new heap; after each of them every object that a root reaches
-//! stands, whole and once, in regions in use.
+//! remembered at every moment: the card of each field that leads into another region is dirty, or that region's set covers it, it has
+//! entered a set, and the set's filter lets it through. No step takes memory. `run` does a list of steps in a new heap; after each of them
+//! every object that a root reaches stands, whole and once, in regions in use.
 //!
 //! `mutator` has the mutator's steps, `barrier` what a store and a weak read do beside, `cycle` the steps of marking, `cleanup` the
 //! reclaiming, `refine` refinement, `candidates` the choice of what a pause evacuates, `highest` of what a compaction does, `pause` both of

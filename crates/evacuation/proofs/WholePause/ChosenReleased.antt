@@ -16,8 +16,9 @@ use Rattle.regions.proofs.Words.Sizes.{EachForwardedIn-set}
 use Rattle.mark_bitmap.specs.Marks.{is_marked}
 use Rattle.mark_bitmap.specs.Tops.{is_in_region}
 use Rattle.heap_words.specs.Bits.{has}
-use Rattle.remembered_sets.specs.Sets.{Sets, cleared, empty_set}
-use Rattle.remembered_sets.proofs.Laws.{has-without}
+use Rattle.remembered_sets.specs.Sets.{Sets, cleared, emptied, set_of}
+use Rattle.remembered_sets.proofs.Laws.{has-without, cleared_same, cleared_other}
+use Rattle.remembered_sets.proofs.Covered.{emptied_twice}
 use Rattle.region_choice.specs.declared.LiveRow.{LiveRow}
 use Rattle.mark_bitmap.proofs.Ranges as ranges
 use Rattle.std.proofs.lemmas.Bool.{eq-eqb, eqb-true, eqb-false}
@@ -82,15 +83,13 @@ module _ (xs ys : List LiveRow) (r : ℕ) (more : (k : ℕ) → is_chosen ys k �
   pub step_cleared : (s0 s1 s2 : Sets) → r < length s1.sets → s2 ≡ cleared s1 r → AreCleared xs s0 s1 → AreCleared ys s0 s2
   step_cleared s0 s1 s2 known is done = subst (AreCleared ys s0) (sym is) (record {
     cards = done.cards;
-    count = length-set s1.sets r (empty_set (length s1.sets)) ∙ done.count;
+    count = length-set s1.sets r (emptied (set_of s1 r)) ∙ done.count;
     cleared = λ k e. elim (cases_eq k r) [
-      | inl q ↦ ap (λ (m : ℕ). get_or (set s1.sets r (empty_set (length s1.sets))) m (empty_set 0)) q
-          ∙ get_or-set_same s1.sets r (empty_set (length s1.sets)) (empty_set 0) known ∙ ap empty_set done.count
-      | inr q ↦ get_or-set_other s1.sets r k (empty_set (length s1.sets)) (empty_set 0) q
+      | inl q ↦ ap (set_of (cleared s1 r)) q ∙ cleared_same s1 r known ∙ at_last ∙ ap (λ (m : ℕ). emptied (set_of s0 m)) (sym q)
+      | inr q ↦ cleared_other s1 r k q
           ∙ elim (new_cases k e) [ inl g ↦ done.cleared k g | inr g ↦ absurd (q (sym g)) ]
     ];
-    others = λ k e. let (a, b) = old_both k e in
-        get_or-set_other s1.sets r k (empty_set (length s1.sets)) (empty_set 0) b ∙ done.others k a;
+    others = λ k e. let (a, b) = old_both k e in cleared_other s1 r k b ∙ done.others k a;
     entered = λ card.
         has-without s1.cards_per_region r s1.entered card
         ∙ ap (λ (n : ℕ). if eqb (card / n) r then false else has s1.entered card) done.cards
@@ -99,6 +98,13 @@ module _ (xs ys : List LiveRow) (r : ℕ) (more : (k : ℕ) → is_chosen ys k �
         ∙ if_both (is_chosen xs (card / s0.cards_per_region)) (eqb r (card / s0.cards_per_region)) false (has s0.entered card)
         ∙ ap (λ (b : Bool). if b then false else has s0.entered card) (sym (more (card / s0.cards_per_region)));
   })
+    where
+      -- the set that is emptied now was the first one's, or was empty already
+      at_last : emptied (set_of s1 r) ≡ emptied (set_of s0 r)
+      at_last = elim (cases_Bool (is_chosen xs r)) [
+        | inl e ↦ ap emptied (done.cleared r e) ∙ emptied_twice (set_of s0 r)
+        | inr e ↦ ap emptied (done.others r e)
+      ]
 
   pub step_marks : (words : ℕ) (tops0 tops1 tops2 : List ℕ) (marks0 marks1 marks2 : List Bool) → 0 < words → r < length tops1
       → tops2 ≡ set tops1 r (r * words) → length marks2 ≡ length marks1

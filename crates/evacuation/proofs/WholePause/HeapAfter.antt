@@ -36,7 +36,8 @@ use Rattle.heap_model.specs.Relocation.{KeepsOld}
 use Rattle.mark_bitmap.specs.Tops.{below_next}
 use Rattle.cards.specs.Cards.{Cards, is_dirty}
 use Rattle.heap_words.specs.Bits.{has}
-use Rattle.remembered_sets.specs.Sets.{CardSet, Sets, covers, may_lead, set_covers, set_of}
+use Rattle.remembered_sets.specs.Sets.{Sets, may_lead}
+use Rattle.remembered_sets.proofs.Laws.{leads_alike}
 use Rattle.refinement.specs.Remembering.{Remembers, field_card, field_word}
 use Rattle.evacuation.specs.Evacuates.{HasEvacuated, IsNewSet}
 use Rattle.evacuation.specs.Space.{IsTaken}
@@ -324,15 +325,10 @@ module _ (h : Layers) (rows : List LiveRow) (cw : ℕ) (can : CanEvacuate h rows
       | inr o ↦ (o, sym (kept_after b ∙ ap (λ (c : Bool). if c then None else kept_now p t1 b) o) ∙ e)
     ]
 
-    same_cover : (k card : ℕ) → is_chosen rows k ≡ false → covers sets' k card ≡ covers h.sets k card
-    same_cover k card e = ap (λ (n : ℕ). set_covers (set_of sets' k) card (card / n)) cleared.cards
-        ∙ ap (λ (s : CardSet). set_covers s card (card / h.sets.cards_per_region)) (cleared.others k e)
-
     same_lead : (k card : ℕ) → is_chosen rows k ≡ false → is_chosen rows (card / h.sets.cards_per_region) ≡ false
         → may_lead sets' k card ≡ may_lead h.sets k card
     same_lead k card e own =
-        ap (λ (b : Bool). b && has sets'.entered card) (same_cover k card e)
-        ∙ ap (λ (b : Bool). covers h.sets k card && b)
+        leads_alike h.sets sets' k card cleared.cards (cleared.others k e)
         (cleared.entered card ∙ ap (λ (b : Bool). if b then false else has h.sets.entered card) own)
 
     -- the region of a field's card is the one of the field's word

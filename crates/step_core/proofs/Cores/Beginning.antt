@@ -21,6 +21,7 @@ use Rattle.marker.specs.Stands.{MarkerStands}
 use Rattle.marker.specs.declared.marker.Marker.{Marker}
 use Rattle.cards.specs.Cards.{clean_cards, is_dirty}
 use Rattle.remembered_sets.specs.Sets.{empty_sets, empty_set, may_lead}
+use Rattle.step_core.specs.Fresh.{filter_rows}
 use Rattle.refinement.proofs.Remembered.{remembers_none}
 use Rattle.evacuation.specs.Rooms.{RoomSizes}
 use Rattle.heap_words.specs.Configs.{card_words}
@@ -52,7 +53,7 @@ first_core g m d r = record {
   buffers = closed g.buffer g.mutators;
   marker = m;
   cards = clean_cards (g.regions * (g.words / card_words g)) g.mutators;
-  sets = empty_sets g.regions (g.words / card_words g);
+  sets = empty_sets g.regions (g.words / card_words g) (filter_rows g);
   room = d;
   row_room = r;
   places = places_of g;
@@ -108,12 +109,14 @@ first_none : (g : Config) (m : Marker) (d : RoomSizes) (r : ℕ) (a : ℕ) → k
 first_none g m d r a = none_by (kept_of (first_core g m d r) a) (λ x e. none_kept g m d r a x e)
 
 first_cards : (g : Config) → Suits g
-    → CardsFit g (clean_cards (g.regions * (g.words / card_words g)) g.mutators) (empty_sets g.regions (g.words / card_words g))
+    → CardsFit g (clean_cards (g.regions * (g.words / card_words g)) g.mutators)
+    (empty_sets g.regions (g.words / card_words g) (filter_rows g))
 first_cards g suits = record {
   whole_cards = region_cards g suits;
-  each_region = length-replicate g.regions (empty_set g.regions);
+  each_region = length-replicate g.regions (empty_set g.regions (g.words / card_words g) (filter_rows g));
   each_card = length-replicate (g.regions * (g.words / card_words g)) false
-      ∙ ap (λ (n : ℕ). n * (g.words / card_words g)) (sym (length-replicate g.regions (empty_set g.regions)));
+      ∙ ap (λ (n : ℕ). n * (g.words / card_words g))
+      (sym (length-replicate g.regions (empty_set g.regions (g.words / card_words g) (filter_rows g))));
   each_mutator = length-replicate g.mutators [];
 }
 

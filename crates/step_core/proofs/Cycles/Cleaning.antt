@@ -15,7 +15,7 @@ use Rattle.regions.proofs.LongRuns.Blocks.{first_not_rest, reaches, alone, block
 use Rattle.mark_bitmap.specs.Marks.{is_marked}
 use Rattle.mark_bitmap.specs.Tops.{is_below, is_in_region}
 use Rattle.marker.specs.declared.marker.Marker.{Marker}
-use Rattle.remembered_sets.specs.Sets.{empty_set}
+use Rattle.remembered_sets.specs.Sets.{emptied}
 use Rattle.step_core.specs.Stands.{CoreState, kept_of}
 use Rattle.step_core.specs.Reclaimed.{IsReclaimed}
 use Rattle.step_core.specs.Cycle.{IsDeadRegion, IsDead, IsAsNew, IsAsBefore, ChangesRegions, HasCleaned}
@@ -130,11 +130,11 @@ before_twice c0 c c' k size p r = record {
   next_marks = λ a i. r.next_marks a (subst (λ (w : ℕ). is_in_region w k a ≡ true) (sym size) i) ∙ p.next_marks a i;
 }
 
-new_still : (c c' : CoreState) (k : ℕ) → c'.table.words_per_region ≡ c.table.words_per_region → length c'.sets.sets ≡ length c.sets.sets
-    → IsAsNew c k → IsAsBefore c c' k → IsAsNew c' k
-new_still c c' k size sets p r = record {
+new_still : (c c' : CoreState) (k : ℕ) → c'.table.words_per_region ≡ c.table.words_per_region → IsAsNew c k → IsAsBefore c c' k
+    → IsAsNew c' k
+new_still c c' k size p r = record {
   free = r.region ∙ p.free;
-  set = r.set ∙ p.set ∙ ap empty_set (sym sets);
+  set = r.set ∙ p.set ∙ ap emptied (sym r.set);
   entered = λ card own. let own' = ap (λ (n : ℕ). card / n) (sym r.cards) ∙ own in r.entered card own' ∙ p.entered card own';
   previous_top = r.previous_top ∙ p.previous_top ∙ ap (λ (w : ℕ). k * w) (sym size);
   next_top = r.next_top ∙ p.next_top ∙ ap (λ (w : ℕ). k * w) (sym size);
@@ -335,7 +335,7 @@ one_cleaned i n m c0 c c' shaped p together dead r = record {
     )
   ];
   dead = λ k lt d. elim (cases_lt k i) [
-    | inl less ↦ new_still c c' k r.changes.size r.each_set (p.dead k less d) (r.others k (inl less))
+    | inl less ↦ new_still c c' k r.changes.size (p.dead k less d) (r.others k (inl less))
     | inr last ↦ r.released k last lt
   ];
   others = λ k alive. elim (block_cases i m k) [

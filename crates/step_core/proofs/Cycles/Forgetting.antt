@@ -9,8 +9,8 @@ use Rattle.mark_bitmap.specs.Tops.{Tops, is_in_region, with_bottom}
 use Rattle.mark_bitmap.proofs.Ranges as ranges
 use Rattle.marker.specs.declared.marker.Marker.{Marker}
 use Rattle.heap_words.specs.Bits.{has}
-use Rattle.remembered_sets.specs.Sets.{Sets, cleared, set_of, empty_set}
-use Rattle.remembered_sets.proofs.Laws.{own_gone, others_left}
+use Rattle.remembered_sets.specs.Sets.{Sets, cleared, set_of, emptied}
+use Rattle.remembered_sets.proofs.Laws.{own_gone, others_left, cleared_same, cleared_other}
 use Rattle.step_core.specs.Cleaning.{HasForgotten, HasCleared}
 
 -- a marker is the one before with other tops and marks, if the rest is the same
@@ -83,15 +83,15 @@ pub one_cleared : (k i q : ℕ) (s0 s s' : Sets) → HasCleared k i s0 s → q �
     → s' ≡ cleared s q → HasCleared k (i + 1) s0 s'
 one_cleared k i q s0 s s' f at known e = record {
   cards = ap (λ (x : Sets). x.cards_per_region) e ∙ f.cards;
-  count = ap (λ (x : Sets). length x.sets) e ∙ length-set s.sets q (empty_set (length s.sets)) ∙ f.count;
+  count = ap (λ (x : Sets). length x.sets) e ∙ length-set s.sets q (emptied (set_of s q)) ∙ f.count;
   empty = λ r low high. elim (cases_eq r q) [
     | inl same ↦ rw same (ap (λ (x : Sets). set_of x q) e
-        ∙ get_or-set_same s.sets q (empty_set (length s.sets)) (empty_set 0) known ∙ ap empty_set f.count)
+        ∙ cleared_same s q known ∙ ap emptied (f.others q (inr (omega arith))))
     | inr ne ↦ ap (λ (x : Sets). set_of x r) e
-        ∙ get_or-set_other s.sets q r (empty_set (length s.sets)) (empty_set 0) ne ∙ f.empty r low (omega arith)
+        ∙ cleared_other s q r ne ∙ f.empty r low (omega arith)
   ];
   others = λ r out. ap (λ (x : Sets). set_of x r) e
-      ∙ get_or-set_other s.sets q r (empty_set (length s.sets)) (empty_set 0) (λ same. off r out same) ∙ f.others r (less r out);
+      ∙ cleared_other s q r (λ same. off r out same) ∙ f.others r (less r out);
   own_cards = λ card low high. let near : card / s.cards_per_region ≡ card / s0.cards_per_region = ap (λ (n : ℕ). card / n) f.cards in
       elim (cases_eq (card / s0.cards_per_region) q) [
         | inl same ↦ ap (λ (x : Sets). has x.entered card) e ∙ own_gone s.cards_per_region q s.entered card (near ∙ same)

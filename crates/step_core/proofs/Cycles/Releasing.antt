@@ -29,7 +29,9 @@ use Rattle.marker.specs.declared.marker.Marker.{Marker}
 use Rattle.marker.proofs.Forgotten.{table_stands}
 use Rattle.cards.specs.Cards.{is_dirty}
 use Rattle.heap_words.specs.Bits.{has}
-use Rattle.remembered_sets.specs.Sets.{Sets, CardSet, covers, may_lead, set_covers, set_of, empty_set}
+use Rattle.remembered_sets.specs.Sets.{Sets, may_lead, set_of, emptied}
+use Rattle.remembered_sets.proofs.Laws.{leads_alike}
+use Rattle.remembered_sets.proofs.Covered.{emptied_twice}
 use Rattle.refinement.specs.Remembering.{Remembers, field_card, field_word}
 use Rattle.refinement.proofs.Fields.{region_of_card}
 use Rattle.refinement.proofs.Holders.{kept_object}
@@ -292,10 +294,6 @@ module _ (k : CoreState) (core : IsCore k) (shaped : IsShaped k.table) (n m : �
       empty.other_cards (field_card (card_words k.config) at index)
       (subst (λ (q : ℕ). IsOutside n m q) (sym own) (field_stays at index x v kept_is field_is))
 
-  covers_others : (r card : ℕ) → IsOutside n m r → covers k.sets r card ≡ true → covers ss r card ≡ true
-  covers_others r card out e = ap (λ (x : CardSet). set_covers x card (card / ss.cards_per_region)) (empty.others r out)
-      ∙ ap (λ (c : ℕ). set_covers (set_of k.sets r) card (card / c)) empty.cards ∙ e
-
   remembers_after : RemembersFields after
   remembers_after =
       let shows = release_shows core.footing.graph core.rests.shows in
@@ -310,10 +308,8 @@ module _ (k : CoreState) (core : IsCore k) (shaped : IsShaped k.table) (n m : �
               | inr covered ↦ elim (block_cases n m (target / size)) [
                 | inl out ↦
                     let card : ℕ = field_card (card_words k.config) at index in
-                    let (was, is_in) = and_parts (covers k.sets (target / size) card) (has k.sets.entered card) covered in
-                    inr (and_from (covers ss (target / size) card) (has ss.entered card)
-                    (covers_others (target / size) card out was)
-                    (field_entered at index x.object (Some target) x.kept_is x.field_is ∙ is_in))
+                    inr (leads_alike k.sets ss (target / size) card empty.cards (empty.others (target / size) out)
+                    (field_entered at index x.object (Some target) x.kept_is x.field_is) ∙ covered)
                 | inr q ↦ absurd (let none = none_there target q.0 q.1 in let kept = there.1 in cc)
               ]
             ];
@@ -448,7 +444,7 @@ module _ (k : CoreState) (core : IsCore k) (shaped : IsShaped k.table) (n m : �
   as_new : (j : ℕ) → n ≤ j → j < n + m → IsAsNew after j
   as_new j low high = record {
     free = frees.free j low high;
-    set = empty.empty j low high ∙ ap empty_set (sym empty.count);
+    set = empty.empty j low high ∙ sym (emptied_twice (set_of k.sets j)) ∙ ap emptied (sym (empty.empty j low high));
     entered = λ card own.
         let at : card / k.sets.cards_per_region ≡ j = ap (λ (c : ℕ). card / c) (sym empty.cards) ∙ own in
         empty.own_cards card (omega (arith, at, low)) (omega (arith, at, high));

@@ -18,7 +18,7 @@ evacuate-moved-requires-clause-can c =
       sets = c.in_ok-sets.sets;
       roots = c.in_ok-roots.roots.words;
     } in
-    let fresh : IsFresh itself (empty_sets 4 2) h = record {
+    let fresh : IsFresh itself (empty_sets 4 2 0) h = record {
       table_is = c.in_ok-table.ensures;
       previous_tops = c.in_ok-tams.ensures.previous;
       next_tops = c.in_ok-tams.ensures.next;
@@ -29,7 +29,7 @@ evacuate-moved-requires-clause-can c =
       roots = c.in_ok-roots.ensures;
     } in
     subst (λ (n : ℕ). CanEvacuate h (record { region = n; live_bound = 4 } ∷ []) 8) (sym c.new-6.ensures)
-    (can_evacuate itself (empty_sets 4 2) (record { region = 0; live_bound = 4 }) itself_suited h fresh)
+    (can_evacuate itself (empty_sets 4 2 0) (record { region = 0; live_bound = 4 }) itself_suited h fresh)
 
 pub evacuate-moved-requires-clause-each_region : goal.evacuate-moved-requires-clause-each_region
 evacuate-moved-requires-clause-each_region c =

@@ -10,6 +10,6 @@ returns-clause-stands c =
     ∙ length-set c.in_ok-marks.marks c.new-5.result true
     ∙ ap (λ (l : List Bool). length l) c.in_ok-marks.ensures ∙ length-replicate 64 false in
     let sets : length c.in_ok-sets.sets.sets ≡ 4 =
-    ap (λ (s : Sets). length s.sets) c.in_ok-sets.ensures ∙ length-replicate 4 (empty_set 4) in
+    ap (λ (s : Sets). length s.sets) c.in_ok-sets.ensures ∙ length-replicate 4 (empty_set 4 2 0) in
     sample_scans c.args.table c.swap_roles.new.self c.set.new.self c.in_ok-sets.sets c.requires marks sets
     (ap (λ (s : Sets). s.cards_per_region) c.in_ok-sets.ensures)

@@ -13,4 +13,5 @@ returns c =
 
 pub invariant_of-self : goal.invariant_of-self
 invariant_of-self c =
-    subst AreSets (sym (returns c)) (AreSets-cleared c.args.self.now c.args.region (subst AreSets c.self.view_is c.self.invariant))
+    subst AreSets (sym (returns c))
+    (AreSets-cleared c.args.self.now c.args.region (subst AreSets c.self.view_is c.self.invariant) c.requires)
