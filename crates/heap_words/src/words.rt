@@ -295,6 +295,7 @@ impl Words {
     }
 
     /// Writes an object whose pointers and weak slots are nil and whose data words are 0.
+    #[inline(always)]
     pub fn write_object(&mut self, at: Addr, name: u64, counts: HeaderCounts)
         requires { at + size_of counts.pointers counts.weaks counts.values ≤ self.old.written }
         ensures all { self.new.all ≡ put self.old.all at
