@@ -1,5 +1,6 @@
 pub mod Calls
 pub mod Held
+pub mod Lending
 pub mod Numbers
 pub mod Policies
 pub mod Steps

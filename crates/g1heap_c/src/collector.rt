@@ -7,60 +7,59 @@ ghost use Rattle.g1heap_c.specs.Steps.{Takes, plain, scanned};
 use crate::answer::Answer;
 use crate::heap::{Heap, mark, take};
 use heap_steps::{CollectorStep, Step};
-use std::alloc::Global;
 
 /// Marking begins.
 #[unsafe(no_mangle)]
-pub extern "C" fn g1_begin(alloc: Global, heap: &mut Heap) -> Answer
+pub extern "C" fn g1_begin(heap: &mut Heap) -> Answer
     ensures { Takes plain heap.old.handle.core (steps.Collector collector.Begin) result heap.new.handle.core }
 {
-    take(alloc, heap, Step::Collector(CollectorStep::Begin))
+    take(heap, Step::Collector(CollectorStep::Begin))
 }
 
 /// At most so many objects are scanned; the answer tells how many.
 #[unsafe(no_mangle)]
-pub extern "C" fn g1_mark(alloc: Global, heap: &mut Heap, objects: u32) -> Answer
+pub extern "C" fn g1_mark(heap: &mut Heap, objects: u32) -> Answer
     ensures { Takes scanned heap.old.handle.core (steps.Collector (collector.Mark objects)) result heap.new.handle.core }
 {
-    mark(alloc, heap, objects)
+    mark(heap, objects)
 }
 
 /// Marking is brought to its end.
 #[unsafe(no_mangle)]
-pub extern "C" fn g1_remark(alloc: Global, heap: &mut Heap) -> Answer
+pub extern "C" fn g1_remark(heap: &mut Heap) -> Answer
     ensures { Takes plain heap.old.handle.core (steps.Collector collector.Remark) result heap.new.handle.core }
 {
-    take(alloc, heap, Step::Collector(CollectorStep::Remark))
+    take(heap, Step::Collector(CollectorStep::Remark))
 }
 
 /// Regions with nothing live are free again.
 #[unsafe(no_mangle)]
-pub extern "C" fn g1_cleanup(alloc: Global, heap: &mut Heap) -> Answer
+pub extern "C" fn g1_cleanup(heap: &mut Heap) -> Answer
     ensures { Takes plain heap.old.handle.core (steps.Collector collector.Cleanup) result heap.new.handle.core }
 {
-    take(alloc, heap, Step::Collector(CollectorStep::Cleanup))
+    take(heap, Step::Collector(CollectorStep::Cleanup))
 }
 
 /// At most so many queued cards are refined.
 #[unsafe(no_mangle)]
-pub extern "C" fn g1_refine(alloc: Global, heap: &mut Heap, cards: u32) -> Answer
+pub extern "C" fn g1_refine(heap: &mut Heap, cards: u32) -> Answer
     ensures { Takes plain heap.old.handle.core (steps.Collector (collector.Refine cards)) result heap.new.handle.core }
 {
-    take(alloc, heap, Step::Collector(CollectorStep::Refine(cards)))
+    take(heap, Step::Collector(CollectorStep::Refine(cards)))
 }
 
 /// Live objects are copied out of some regions, at most so many words, and these regions are free again.
 #[unsafe(no_mangle)]
-pub extern "C" fn g1_pause(alloc: Global, heap: &mut Heap, words: u32) -> Answer
+pub extern "C" fn g1_pause(heap: &mut Heap, words: u32) -> Answer
     ensures { Takes plain heap.old.handle.core (steps.Collector (collector.Pause words)) result heap.new.handle.core }
 {
-    take(alloc, heap, Step::Collector(CollectorStep::Pause(words)))
+    take(heap, Step::Collector(CollectorStep::Pause(words)))
 }
 
 /// Live objects of the highest regions are copied down, at most so many words, and these regions are free again.
 #[unsafe(no_mangle)]
-pub extern "C" fn g1_compact(alloc: Global, heap: &mut Heap, words: u32) -> Answer
+pub extern "C" fn g1_compact(heap: &mut Heap, words: u32) -> Answer
     ensures { Takes plain heap.old.handle.core (steps.Collector (collector.Compact words)) result heap.new.handle.core }
 {
-    take(alloc, heap, Step::Collector(CollectorStep::Compact(words)))
+    take(heap, Step::Collector(CollectorStep::Compact(words)))
 }

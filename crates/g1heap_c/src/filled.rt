@@ -5,10 +5,9 @@ ghost use Rattle.heap_steps.specs.Actors.{IsStep};
 ghost use Rattle.g1heap_c.specs.Filled.{AreFields, Fills, FillsIt, FillsOrNot, MakesFilled, RunsTo, making, pointing, wording};
 
 use crate::answer::{Answer, answer_of, no_heap, no_step};
-use crate::heap::{Heap, handle_of, has, take_out};
+use crate::heap::{Heap, has};
 use crate::mutator::{by, counts, register, value};
 use heap_steps::{Action, Reply, Step};
-use std::alloc::Global;
 use step_core::Core;
 
 #[inline(always)]
@@ -158,7 +157,6 @@ fn make(core: &mut Core, mutator: u32, to: u32, from: &[u32], words: &[u64]) -> 
 /// `to` takes a new object, whose pointers are what registers hold, or nil, and whose data words are given.
 #[unsafe(no_mangle)]
 pub extern "C" fn g1_new_filled(
-    alloc: Global,
     heap: &mut Heap,
     mutator: u32,
     to: u32,
@@ -170,8 +168,5 @@ pub extern "C" fn g1_new_filled(
     if !heap.live {
         return no_heap();
     }
-    let mut core = take_out(alloc, &mut heap.handle);
-    let answer = make(&mut core, mutator, to, from, words);
-    heap.handle = handle_of(core);
-    answer
+    make(heap.handle.core_mut(), mutator, to, from, words)
 }

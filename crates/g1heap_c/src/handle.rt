@@ -25,6 +25,19 @@ impl Model for Handle {
 }
 
 impl Handle {
+    ghost use Rattle.std.specs.Borrow.{sem};
+    ghost use Rattle.g1heap_c.specs.Lending.{LendsCore};
+
+    /// Lends the core where it is.
+    #[inline(always)]
+    pub(crate) fn core_mut(&mut self) -> &mut Core
+        requires { is_held self.old.core ≡ true }
+        ensures* writes_back { sem 𝓛 (LendsCore self.entry result) }
+        ensures value { self.old.core ≡ Some result.now }
+    {
+        unsafe { &mut *(self.at as *mut Core) }
+    }
+
     pub(crate) fn of(loose: Loose<Core, Global>) -> Handle
         ensures { result.core ≡ Some loose.value }
     {

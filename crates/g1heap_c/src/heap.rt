@@ -11,8 +11,6 @@ use crate::answer::{Answer, answer_of, counted, no_heap, no_step};
 use crate::handle::Handle;
 use crate::loose::Loose;
 use heap_steps::{Action, CollectorStep, Op, Step, is_third};
-use std::alloc::Global;
-use std::mem::replace;
 use step_core::Core;
 
 /// A heap, or none.
@@ -30,18 +28,6 @@ pub(crate) fn handle_of(core: Box<Core>) -> Handle
     ensures { result.core ≡ Some core.value }
 {
     Handle::of(Loose::of(core))
-}
-
-/// Takes the core out of its handle.
-#[inline(always)]
-pub(crate) fn take_out(alloc: Global, handle: &mut Handle) -> Box<Core>
-    requires { is_held handle.old.core ≡ true }
-    ensures core { handle.old.core ≡ Some result.value }
-    ensures none { handle.new.core ≡ None }
-{
-    replace(handle, Handle::empty(alloc))
-        .into_loose()
-        .into_box()
 }
 
 /// Whether the heap's sizes have a mutator's step.
@@ -75,22 +61,19 @@ fn perform(core: &mut Core, step: Step) -> Answer
     answer_of(core.step(step))
 }
 
-/// Does a step, if the heap's sizes have it.
+/// Does a step, if the heap's sizes have it. The core stays in its handle.
 #[inline(always)]
-pub(crate) fn take(alloc: Global, heap: &mut Heap, step: Step) -> Answer
+pub(crate) fn take(heap: &mut Heap, step: Step) -> Answer
     ensures { Takes plain heap.old.handle.core step result heap.new.handle.core }
 {
     if !heap.live {
         return no_heap();
     }
-    let mut core = take_out(alloc, &mut heap.handle);
-    if !has(&core, step) {
-        heap.handle = handle_of(core);
+    let core = heap.handle.core_mut();
+    if !has(core, step) {
         return no_step();
     }
-    let answer = perform(&mut core, step);
-    heap.handle = handle_of(core);
-    answer
+    perform(core, step)
 }
 
 /// The numbers name no step.
@@ -109,14 +92,11 @@ fn scan(core: &mut Core, objects: u32) -> Answer
 }
 
 /// Marks, and counts the objects that were scanned.
-pub(crate) fn mark(alloc: Global, heap: &mut Heap, objects: u32) -> Answer
+pub(crate) fn mark(heap: &mut Heap, objects: u32) -> Answer
     ensures { Takes scanned heap.old.handle.core (steps.Collector (collector.Mark objects)) result heap.new.handle.core }
 {
     if !heap.live {
         return no_heap();
     }
-    let mut core = take_out(alloc, &mut heap.handle);
-    let answer = scan(&mut core, objects);
-    heap.handle = handle_of(core);
-    answer
+    scan(heap.handle.core_mut(), objects)
 }

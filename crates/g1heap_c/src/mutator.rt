@@ -9,7 +9,6 @@ ghost use Rattle.g1heap_c.specs.Steps.{Takes, TakesNone, plain};
 use crate::answer::Answer;
 use crate::heap::{Heap, take, take_none};
 use heap_steps::{Action, Counts, GlobalRoot, Op, Register, Step};
-use std::alloc::Global;
 
 #[inline(always)]
 pub(crate) fn register(number: u32) -> Register
@@ -54,7 +53,6 @@ pub(crate) fn by(mutator: u32, action: Action) -> Step
 /// `to` takes a new object of so many pointers and data words.
 #[unsafe(no_mangle)]
 pub extern "C" fn g1_new_object(
-    alloc: Global,
     heap: &mut Heap,
     mutator: u32,
     to: u32,
@@ -65,7 +63,6 @@ pub extern "C" fn g1_new_object(
         (by mutator (actions.New (spec.register to) (spec.counts pointers values))) result heap.new.handle.core }
 {
     take(
-        alloc,
         heap,
         by(
             mutator,
@@ -80,7 +77,6 @@ pub extern "C" fn g1_new_object(
 /// The same with weak slots, of which an object has at most 255.
 #[unsafe(no_mangle)]
 pub extern "C" fn g1_new_weak(
-    alloc: Global,
     heap: &mut Heap,
     mutator: u32,
     to: u32,
@@ -96,7 +92,6 @@ pub extern "C" fn g1_new_weak(
         return take_none(heap);
     }
     take(
-        alloc,
         heap,
         by(
             mutator,
@@ -111,19 +106,11 @@ pub extern "C" fn g1_new_weak(
 
 /// `to` takes a pointer of the object that `object` names.
 #[unsafe(no_mangle)]
-pub extern "C" fn g1_get(
-    alloc: Global,
-    heap: &mut Heap,
-    mutator: u32,
-    to: u32,
-    object: u32,
-    field: u32,
-) -> Answer
+pub extern "C" fn g1_get(heap: &mut Heap, mutator: u32, to: u32, object: u32, field: u32) -> Answer
     ensures { Takes plain heap.old.handle.core
         (by mutator (actions.Get (spec.register to) (spec.register object) field)) result heap.new.handle.core }
 {
     take(
-        alloc,
         heap,
         by(
             mutator,
@@ -136,10 +123,46 @@ pub extern "C" fn g1_get(
     )
 }
 
+/// A pointer of an object takes nil, or what a register holds: each has code of its own, so neither is tested again.
+#[inline(always)]
+fn put(
+    heap: &mut Heap,
+    mutator: u32,
+    object: Register,
+    field: u32,
+    value: Option<Register>,
+) -> Answer
+    ensures { Takes plain heap.old.handle.core (by mutator (actions.Put object field value)) result heap.new.handle.core }
+{
+    match value {
+        None => take(
+            heap,
+            by(
+                mutator,
+                Action::Put {
+                    object,
+                    field,
+                    value: None,
+                },
+            ),
+        ),
+        Some(from) => take(
+            heap,
+            by(
+                mutator,
+                Action::Put {
+                    object,
+                    field,
+                    value: Some(from),
+                },
+            ),
+        ),
+    }
+}
+
 /// A pointer of the object that `object` names takes what `from` holds, or nil.
 #[unsafe(no_mangle)]
 pub extern "C" fn g1_put(
-    alloc: Global,
     heap: &mut Heap,
     mutator: u32,
     object: u32,
@@ -149,33 +172,15 @@ pub extern "C" fn g1_put(
     ensures { Takes plain heap.old.handle.core
         (by mutator (actions.Put (spec.register object) field (spec.value from))) result heap.new.handle.core }
 {
-    take(
-        alloc,
-        heap,
-        by(
-            mutator,
-            Action::Put {
-                object: register(object),
-                field,
-                value: value(from),
-            },
-        ),
-    )
+    put(heap, mutator, register(object), field, value(from))
 }
 
 /// Tells a data word of the object that `object` names.
 #[unsafe(no_mangle)]
-pub extern "C" fn g1_read(
-    alloc: Global,
-    heap: &mut Heap,
-    mutator: u32,
-    object: u32,
-    field: u32,
-) -> Answer
+pub extern "C" fn g1_read(heap: &mut Heap, mutator: u32, object: u32, field: u32) -> Answer
     ensures { Takes plain heap.old.handle.core (by mutator (actions.Read (spec.register object) field)) result heap.new.handle.core }
 {
     take(
-        alloc,
         heap,
         by(
             mutator,
@@ -190,7 +195,6 @@ pub extern "C" fn g1_read(
 /// A data word of the object that `object` names takes a value.
 #[unsafe(no_mangle)]
 pub extern "C" fn g1_write(
-    alloc: Global,
     heap: &mut Heap,
     mutator: u32,
     object: u32,
@@ -200,7 +204,6 @@ pub extern "C" fn g1_write(
     ensures { Takes plain heap.old.handle.core (by mutator (actions.Write (spec.register object) field value)) result heap.new.handle.core }
 {
     take(
-        alloc,
         heap,
         by(
             mutator,
@@ -215,18 +218,11 @@ pub extern "C" fn g1_write(
 
 /// `to` takes what `from` holds.
 #[unsafe(no_mangle)]
-pub extern "C" fn g1_move(
-    alloc: Global,
-    heap: &mut Heap,
-    mutator: u32,
-    to: u32,
-    from: u32,
-) -> Answer
+pub extern "C" fn g1_move(heap: &mut Heap, mutator: u32, to: u32, from: u32) -> Answer
     ensures { Takes plain heap.old.handle.core
         (by mutator (actions.Move (spec.register to) (spec.register from))) result heap.new.handle.core }
 {
     take(
-        alloc,
         heap,
         by(
             mutator,
@@ -240,11 +236,10 @@ pub extern "C" fn g1_move(
 
 /// `to` becomes nil.
 #[unsafe(no_mangle)]
-pub extern "C" fn g1_drop(alloc: Global, heap: &mut Heap, mutator: u32, to: u32) -> Answer
+pub extern "C" fn g1_drop(heap: &mut Heap, mutator: u32, to: u32) -> Answer
     ensures { Takes plain heap.old.handle.core (by mutator (actions.Drop (spec.register to))) result heap.new.handle.core }
 {
     take(
-        alloc,
         heap,
         by(
             mutator,
@@ -257,18 +252,11 @@ pub extern "C" fn g1_drop(alloc: Global, heap: &mut Heap, mutator: u32, to: u32)
 
 /// `to` takes what a global holds.
 #[unsafe(no_mangle)]
-pub extern "C" fn g1_load(
-    alloc: Global,
-    heap: &mut Heap,
-    mutator: u32,
-    to: u32,
-    from: u32,
-) -> Answer
+pub extern "C" fn g1_load(heap: &mut Heap, mutator: u32, to: u32, from: u32) -> Answer
     ensures { Takes plain heap.old.handle.core
         (by mutator (actions.Load (spec.register to) (spec.global from))) result heap.new.handle.core }
 {
     take(
-        alloc,
         heap,
         by(
             mutator,
@@ -282,18 +270,11 @@ pub extern "C" fn g1_load(
 
 /// A global takes what `from` holds.
 #[unsafe(no_mangle)]
-pub extern "C" fn g1_save(
-    alloc: Global,
-    heap: &mut Heap,
-    mutator: u32,
-    to: u32,
-    from: u32,
-) -> Answer
+pub extern "C" fn g1_save(heap: &mut Heap, mutator: u32, to: u32, from: u32) -> Answer
     ensures { Takes plain heap.old.handle.core
         (by mutator (actions.Save (spec.global to) (spec.register from))) result heap.new.handle.core }
 {
     take(
-        alloc,
         heap,
         by(
             mutator,
@@ -307,11 +288,10 @@ pub extern "C" fn g1_save(
 
 /// Tells how many pointers and data words the object has that `object` names.
 #[unsafe(no_mangle)]
-pub extern "C" fn g1_shape(alloc: Global, heap: &mut Heap, mutator: u32, object: u32) -> Answer
+pub extern "C" fn g1_shape(heap: &mut Heap, mutator: u32, object: u32) -> Answer
     ensures { Takes plain heap.old.handle.core (by mutator (actions.Shape (spec.register object))) result heap.new.handle.core }
 {
     take(
-        alloc,
         heap,
         by(
             mutator,
@@ -325,7 +305,6 @@ pub extern "C" fn g1_shape(alloc: Global, heap: &mut Heap, mutator: u32, object:
 /// `to` takes what a weak slot of the object holds that `object` names.
 #[unsafe(no_mangle)]
 pub extern "C" fn g1_get_weak(
-    alloc: Global,
     heap: &mut Heap,
     mutator: u32,
     to: u32,
@@ -336,7 +315,6 @@ pub extern "C" fn g1_get_weak(
         (by mutator (actions.GetWeak (spec.register to) (spec.register object) slot)) result heap.new.handle.core }
 {
     take(
-        alloc,
         heap,
         by(
             mutator,
@@ -352,7 +330,6 @@ pub extern "C" fn g1_get_weak(
 /// A weak slot of the object that `object` names takes what `from` holds, or nil.
 #[unsafe(no_mangle)]
 pub extern "C" fn g1_put_weak(
-    alloc: Global,
     heap: &mut Heap,
     mutator: u32,
     object: u32,
@@ -363,7 +340,6 @@ pub extern "C" fn g1_put_weak(
         (by mutator (actions.PutWeak (spec.register object) slot (spec.value from))) result heap.new.handle.core }
 {
     take(
-        alloc,
         heap,
         by(
             mutator,
@@ -378,11 +354,10 @@ pub extern "C" fn g1_put_weak(
 
 /// Tells how many weak slots the object has that `object` names.
 #[unsafe(no_mangle)]
-pub extern "C" fn g1_weaks(alloc: Global, heap: &mut Heap, mutator: u32, object: u32) -> Answer
+pub extern "C" fn g1_weaks(heap: &mut Heap, mutator: u32, object: u32) -> Answer
     ensures { Takes plain heap.old.handle.core (by mutator (actions.Weaks (spec.register object))) result heap.new.handle.core }
 {
     take(
-        alloc,
         heap,
         by(
             mutator,
@@ -395,11 +370,10 @@ pub extern "C" fn g1_weaks(alloc: Global, heap: &mut Heap, mutator: u32, object:
 
 /// A frame is left: each register from one on becomes nil.
 #[unsafe(no_mangle)]
-pub extern "C" fn g1_scope(alloc: Global, heap: &mut Heap, mutator: u32, first: u32) -> Answer
+pub extern "C" fn g1_scope(heap: &mut Heap, mutator: u32, first: u32) -> Answer
     ensures { Takes plain heap.old.handle.core (by mutator (actions.Scope (spec.register first))) result heap.new.handle.core }
 {
     take(
-        alloc,
         heap,
         by(
             mutator,

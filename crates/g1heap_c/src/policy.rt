@@ -8,12 +8,11 @@ ghost use Rattle.g1heap_c.specs.Steps.{TakesNone};
 ghost use Rattle.g1heap_c.specs.Policies.{Asks, AsksFor, CollectsAll, CollectsAllIn, CollectsDue, CollectsDueIn, asked};
 
 use crate::answer::{Answer, answer_of, done, no_heap, no_step};
-use crate::heap::{Heap, handle_of, has, take_none, take_out};
+use crate::heap::{Heap, has, take_none};
 use crate::making::{Sizes, config_of};
 use crate::noted::{Entry, Notes};
 use collection::{Policy, Unwatched, Watch, collect, collect_due, make};
 use heap_steps::{Action, Counts, Op, Register, Step};
-use std::alloc::Global;
 use step_core::Core;
 
 /// The step that makes the object that is asked for, a plain one.
@@ -56,27 +55,18 @@ fn make_in<W: Watch>(core: &mut Core, policy: &mut Policy, op: Op, watch: &mut W
 
 /// Makes the object, if the heap's sizes have the step.
 #[inline(always)]
-fn ask<W: Watch>(
-    alloc: Global,
-    heap: &mut Heap,
-    policy: &mut Policy,
-    op: Op,
-    watch: &mut W,
-) -> Answer
+fn ask<W: Watch>(heap: &mut Heap, policy: &mut Policy, op: Op, watch: &mut W) -> Answer
     requires { IsNew op.action }
     ensures { AsksFor heap.old.handle.core op result heap.new.handle.core }
 {
     if !heap.live {
         return no_heap();
     }
-    let mut core = take_out(alloc, &mut heap.handle);
-    if !has(&core, Step::Mutator(op)) {
-        heap.handle = handle_of(core);
+    let core = heap.handle.core_mut();
+    if !has(core, Step::Mutator(op)) {
         return no_step();
     }
-    let answer = make_in(&mut core, policy, op, watch);
-    heap.handle = handle_of(core);
-    answer
+    make_in(core, policy, op, watch)
 }
 
 /// A policy for a new heap of these sizes.
@@ -88,7 +78,6 @@ pub extern "C" fn g1_policy_start(policy: &mut Policy, sizes: &Sizes) {
 /// `to` takes a new object of so many pointers, weak slots and data words, after the steps of the collector that are due.
 #[unsafe(no_mangle)]
 pub extern "C" fn g1_make(
-    alloc: Global,
     heap: &mut Heap,
     policy: &mut Policy,
     mutator: u32,
@@ -103,13 +92,13 @@ pub extern "C" fn g1_make(
     // Each call of `ask` is written out here with the kind of its action known.
     if weaks == 0 {
         let op = plain(mutator, to, pointers, values);
-        return ask(alloc, heap, policy, op, &mut Unwatched);
+        return ask(heap, policy, op, &mut Unwatched);
     }
     if 255 < weaks {
         return take_none(heap);
     }
     let op = with_weaks(mutator, to, pointers, weaks as u8, values);
-    ask(alloc, heap, policy, op, &mut Unwatched)
+    ask(heap, policy, op, &mut Unwatched)
 }
 
 fn collect_in<W: Watch>(core: &mut Core, policy: &mut Policy, watch: &mut W) -> Answer
@@ -126,60 +115,45 @@ fn collect_all_in<W: Watch>(core: &mut Core, policy: &mut Policy, watch: &mut W)
     done()
 }
 
-fn collect_now<W: Watch>(
-    alloc: Global,
-    heap: &mut Heap,
-    policy: &mut Policy,
-    watch: &mut W,
-) -> Answer
+fn collect_now<W: Watch>(heap: &mut Heap, policy: &mut Policy, watch: &mut W) -> Answer
     ensures { CollectsDue heap.old.handle.core result heap.new.handle.core }
 {
     if !heap.live {
         return no_heap();
     }
-    let mut core = take_out(alloc, &mut heap.handle);
-    let answer = collect_in(&mut core, policy, watch);
-    heap.handle = handle_of(core);
-    answer
+    let core = heap.handle.core_mut();
+    collect_in(core, policy, watch)
 }
 
-fn collect_all_now<W: Watch>(
-    alloc: Global,
-    heap: &mut Heap,
-    policy: &mut Policy,
-    watch: &mut W,
-) -> Answer
+fn collect_all_now<W: Watch>(heap: &mut Heap, policy: &mut Policy, watch: &mut W) -> Answer
     ensures { CollectsAll heap.old.handle.core result heap.new.handle.core }
 {
     if !heap.live {
         return no_heap();
     }
-    let mut core = take_out(alloc, &mut heap.handle);
-    let answer = collect_all_in(&mut core, policy, watch);
-    heap.handle = handle_of(core);
-    answer
+    let core = heap.handle.core_mut();
+    collect_all_in(core, policy, watch)
 }
 
 /// Takes the steps of the collector that are due at a look.
 #[unsafe(no_mangle)]
-pub extern "C" fn g1_collect(alloc: Global, heap: &mut Heap, policy: &mut Policy) -> Answer
+pub extern "C" fn g1_collect(heap: &mut Heap, policy: &mut Policy) -> Answer
     ensures { CollectsDue heap.old.handle.core result heap.new.handle.core }
 {
-    collect_now(alloc, heap, policy, &mut Unwatched)
+    collect_now(heap, policy, &mut Unwatched)
 }
 
 /// A whole collection.
 #[unsafe(no_mangle)]
-pub extern "C" fn g1_collect_all(alloc: Global, heap: &mut Heap, policy: &mut Policy) -> Answer
+pub extern "C" fn g1_collect_all(heap: &mut Heap, policy: &mut Policy) -> Answer
     ensures { CollectsAll heap.old.handle.core result heap.new.handle.core }
 {
-    collect_all_now(alloc, heap, policy, &mut Unwatched)
+    collect_all_now(heap, policy, &mut Unwatched)
 }
 
 /// The same as `g1_make`, and the steps that were taken are noted: their number, and as many of the first ones as there are entries.
 #[unsafe(no_mangle)]
 pub extern "C" fn g1_make_noted(
-    alloc: Global,
     heap: &mut Heap,
     policy: &mut Policy,
     mutator: u32,
@@ -203,7 +177,7 @@ pub extern "C" fn g1_make_noted(
         with_weaks(mutator, to, pointers, weaks as u8, values)
     };
     let mut notes = Notes { entries, count: 0 };
-    let answer = ask(alloc, heap, policy, op, &mut notes);
+    let answer = ask(heap, policy, op, &mut notes);
     *count = notes.count;
     answer
 }
@@ -211,7 +185,6 @@ pub extern "C" fn g1_make_noted(
 /// The same as `g1_collect`, with notes.
 #[unsafe(no_mangle)]
 pub extern "C" fn g1_collect_noted(
-    alloc: Global,
     heap: &mut Heap,
     policy: &mut Policy,
     entries: &mut [Entry],
@@ -220,7 +193,7 @@ pub extern "C" fn g1_collect_noted(
     ensures { CollectsDue heap.old.handle.core result heap.new.handle.core }
 {
     let mut notes = Notes { entries, count: 0 };
-    let answer = collect_now(alloc, heap, policy, &mut notes);
+    let answer = collect_now(heap, policy, &mut notes);
     *count = notes.count;
     answer
 }
@@ -228,7 +201,6 @@ pub extern "C" fn g1_collect_noted(
 /// The same as `g1_collect_all`, with notes.
 #[unsafe(no_mangle)]
 pub extern "C" fn g1_collect_all_noted(
-    alloc: Global,
     heap: &mut Heap,
     policy: &mut Policy,
     entries: &mut [Entry],
@@ -237,7 +209,7 @@ pub extern "C" fn g1_collect_all_noted(
     ensures { CollectsAll heap.old.handle.core result heap.new.handle.core }
 {
     let mut notes = Notes { entries, count: 0 };
-    let answer = collect_all_now(alloc, heap, policy, &mut notes);
+    let answer = collect_all_now(heap, policy, &mut notes);
     *count = notes.count;
     answer
 }

@@ -10,25 +10,22 @@ ghost use Rattle.g1heap_c.specs.Steps.{Tells, IsNumber, IsRun, IsSign, IsMarking
 ghost use Rattle.g1heap_c.specs.FreeRuns.{IsLongestRun};
 
 use crate::answer::{Answer, answer_of, no_heap, no_step, number};
-use crate::heap::{Heap, handle_of, take_out};
+use crate::heap::Heap;
 use heap_steps::{Register, Reply};
 use heap_words::addr::RegionNo;
 use regions::{Kind, RegionTable};
-use std::alloc::Global;
 use step_core::Core;
 
 /// How many regions are free.
 #[unsafe(no_mangle)]
-pub extern "C" fn g1_free_regions(alloc: Global, heap: &mut Heap) -> Answer
+pub extern "C" fn g1_free_regions(heap: &mut Heap) -> Answer
     ensures { Tells (IsNumber (λ c. free_count c.table)) heap.old.handle.core result heap.new.handle.core }
 {
     if !heap.live {
         return no_heap();
     }
-    let core = take_out(alloc, &mut heap.handle);
-    let answer = number(u64::from(core.free_regions()));
-    heap.handle = handle_of(core);
-    answer
+    let core = heap.handle.core_mut();
+    number(u64::from(core.free_regions()))
 }
 
 /// Whether a region is free.
@@ -59,114 +56,98 @@ fn longest_run(table: &RegionTable) -> u32
 
 /// How many free regions lie side by side, at most.
 #[unsafe(no_mangle)]
-pub extern "C" fn g1_free_run(alloc: Global, heap: &mut Heap) -> Answer
+pub extern "C" fn g1_free_run(heap: &mut Heap) -> Answer
     ensures { Tells IsRun heap.old.handle.core result heap.new.handle.core }
 {
     if !heap.live {
         return no_heap();
     }
-    let core = take_out(alloc, &mut heap.handle);
-    let answer = number(u64::from(longest_run(core.table())));
-    heap.handle = handle_of(core);
-    answer
+    let core = heap.handle.core_mut();
+    number(u64::from(longest_run(core.table())))
 }
 
 /// How many words are handed out.
 #[unsafe(no_mangle)]
-pub extern "C" fn g1_used_words(alloc: Global, heap: &mut Heap) -> Answer
+pub extern "C" fn g1_used_words(heap: &mut Heap) -> Answer
     ensures { Tells (IsNumber used_words) heap.old.handle.core result heap.new.handle.core }
 {
     if !heap.live {
         return no_heap();
     }
-    let core = take_out(alloc, &mut heap.handle);
-    let answer = number(core.used_words());
-    heap.handle = handle_of(core);
-    answer
+    let core = heap.handle.core_mut();
+    number(core.used_words())
 }
 
 /// How many words are live.
 #[unsafe(no_mangle)]
-pub extern "C" fn g1_live_words(alloc: Global, heap: &mut Heap) -> Answer
+pub extern "C" fn g1_live_words(heap: &mut Heap) -> Answer
     ensures { Tells (IsNumber live_words) heap.old.handle.core result heap.new.handle.core }
 {
     if !heap.live {
         return no_heap();
     }
-    let core = take_out(alloc, &mut heap.handle);
-    let answer = number(core.live_words());
-    heap.handle = handle_of(core);
-    answer
+    let core = heap.handle.core_mut();
+    number(core.live_words())
 }
 
 /// 1 while marking runs, else 0.
 #[unsafe(no_mangle)]
-pub extern "C" fn g1_marking(alloc: Global, heap: &mut Heap) -> Answer
+pub extern "C" fn g1_marking(heap: &mut Heap) -> Answer
     ensures { Tells (IsSign IsMarking) heap.old.handle.core result heap.new.handle.core }
 {
     if !heap.live {
         return no_heap();
     }
-    let core = take_out(alloc, &mut heap.handle);
-    let answer = number(u64::from(core.marking()));
-    heap.handle = handle_of(core);
-    answer
+    let core = heap.handle.core_mut();
+    number(u64::from(core.marking()))
 }
 
 /// 1 while marking runs and some marked object isn't scanned yet, else 0.
 #[unsafe(no_mangle)]
-pub extern "C" fn g1_grey(alloc: Global, heap: &mut Heap) -> Answer
+pub extern "C" fn g1_grey(heap: &mut Heap) -> Answer
     ensures { Tells (IsSign HasGrey) heap.old.handle.core result heap.new.handle.core }
 {
     if !heap.live {
         return no_heap();
     }
-    let core = take_out(alloc, &mut heap.handle);
-    let answer = number(u64::from(core.grey()));
-    heap.handle = handle_of(core);
-    answer
+    let core = heap.handle.core_mut();
+    number(u64::from(core.grey()))
 }
 
 /// How many cards wait for refinement.
 #[unsafe(no_mangle)]
-pub extern "C" fn g1_queued(alloc: Global, heap: &mut Heap) -> Answer
+pub extern "C" fn g1_queued(heap: &mut Heap) -> Answer
     ensures { Tells (IsNumber (λ c. length c.cards.queue)) heap.old.handle.core result heap.new.handle.core }
 {
     if !heap.live {
         return no_heap();
     }
-    let core = take_out(alloc, &mut heap.handle);
-    let answer = number(u64::from(core.queued()));
-    heap.handle = handle_of(core);
-    answer
+    let core = heap.handle.core_mut();
+    number(u64::from(core.queued()))
 }
 
 /// How many globals there are.
 #[unsafe(no_mangle)]
-pub extern "C" fn g1_globals(alloc: Global, heap: &mut Heap) -> Answer
+pub extern "C" fn g1_globals(heap: &mut Heap) -> Answer
     ensures { Tells (IsNumber (λ c. globals_of c.config)) heap.old.handle.core result heap.new.handle.core }
 {
     if !heap.live {
         return no_heap();
     }
-    let core = take_out(alloc, &mut heap.handle);
-    let answer = number(u64::from(core.globals()));
-    heap.handle = handle_of(core);
-    answer
+    let core = heap.handle.core_mut();
+    number(u64::from(core.globals()))
 }
 
 /// How many registers each mutator has.
 #[unsafe(no_mangle)]
-pub extern "C" fn g1_registers(alloc: Global, heap: &mut Heap) -> Answer
+pub extern "C" fn g1_registers(heap: &mut Heap) -> Answer
     ensures { Tells (IsNumber (λ c. registers_of c.config)) heap.old.handle.core result heap.new.handle.core }
 {
     if !heap.live {
         return no_heap();
     }
-    let core = take_out(alloc, &mut heap.handle);
-    let answer = number(u64::from(core.registers()));
-    heap.handle = handle_of(core);
-    answer
+    let core = heap.handle.core_mut();
+    number(u64::from(core.registers()))
 }
 
 fn name_at(core: &Core, mutator: u32, which: u32) -> Answer
@@ -181,14 +162,12 @@ fn name_at(core: &Core, mutator: u32, which: u32) -> Answer
 
 /// The name that a register holds.
 #[unsafe(no_mangle)]
-pub extern "C" fn g1_name(alloc: Global, heap: &mut Heap, mutator: u32, which: u32) -> Answer
+pub extern "C" fn g1_name(heap: &mut Heap, mutator: u32, which: u32) -> Answer
     ensures { Tells (IsName mutator which) heap.old.handle.core result heap.new.handle.core }
 {
     if !heap.live {
         return no_heap();
     }
-    let core = take_out(alloc, &mut heap.handle);
-    let answer = name_at(&core, mutator, which);
-    heap.handle = handle_of(core);
-    answer
+    let core = heap.handle.core_mut();
+    name_at(core, mutator, which)
 }

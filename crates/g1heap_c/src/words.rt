@@ -6,9 +6,8 @@ ghost use Rattle.g1heap_c.specs.Steps.{HasRegister};
 ghost use Rattle.g1heap_c.specs.Words.{ReadsIn, ReadsWords, WritesIn, WritesWords};
 
 use crate::answer::{Answer, answer_of, done, no_heap, no_step};
-use crate::heap::{Heap, handle_of, take_out};
+use crate::heap::Heap;
 use heap_steps::{Refusal, Register, Reply};
-use std::alloc::Global;
 use step_core::Core;
 
 /// Whether a mutator has a register.
@@ -42,7 +41,6 @@ fn read(core: &Core, mutator: u32, object: u32, from: u32, out: &mut [u64]) -> A
 /// A buffer takes data words of the object that `object` names, from one on: as many as it has.
 #[unsafe(no_mangle)]
 pub extern "C" fn g1_read_words(
-    alloc: Global,
     heap: &mut Heap,
     mutator: u32,
     object: u32,
@@ -54,10 +52,8 @@ pub extern "C" fn g1_read_words(
     if !heap.live {
         return no_heap();
     }
-    let core = take_out(alloc, &mut heap.handle);
-    let answer = read(&core, mutator, object, from, out);
-    heap.handle = handle_of(core);
-    answer
+    let core = heap.handle.core_mut();
+    read(core, mutator, object, from, out)
 }
 
 fn write(core: &mut Core, mutator: u32, object: u32, from: u32, words: &[u64]) -> Answer
@@ -75,7 +71,6 @@ fn write(core: &mut Core, mutator: u32, object: u32, from: u32, words: &[u64]) -
 /// Data words of the object that `object` names, from one on, take those of a buffer.
 #[unsafe(no_mangle)]
 pub extern "C" fn g1_write_words(
-    alloc: Global,
     heap: &mut Heap,
     mutator: u32,
     object: u32,
@@ -87,8 +82,6 @@ pub extern "C" fn g1_write_words(
     if !heap.live {
         return no_heap();
     }
-    let mut core = take_out(alloc, &mut heap.handle);
-    let answer = write(&mut core, mutator, object, from, words);
-    heap.handle = handle_of(core);
-    answer
+    let core = heap.handle.core_mut();
+    write(core, mutator, object, from, words)
 }

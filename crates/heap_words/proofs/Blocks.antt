@@ -42,6 +42,33 @@ written_more ws n h name i l =
     let len : length (h ∷ name ∷ replicate i 0) ≡ 2 + i = omega (arith, length-replicate {A = ℕ} i 0) in
     rw (e, ← replicate_more {X = ℕ} i 0) (put_more ws n (2 + i) 0 (h ∷ name ∷ replicate i 0) len (omega arith))
 
+-- the words with a fresh object of n fields of which i are written: those fields, or all where there are no more
+abbrev pub AreFresh : List ℕ → List ℕ → ℕ → ℕ → ℕ → ℕ → ℕ → Type 0
+AreFresh old ws at h name n i = (i ≤ n → ws ≡ put old at (h ∷ name ∷ replicate i 0)) × (n ≤ i → ws ≡ put old at (h ∷ name ∷ replicate n 0))
+
+same_count : (old ws : List ℕ) (at h name n m : ℕ) → n ≡ m → ws ≡ put old at (h ∷ name ∷ replicate n 0)
+    → ws ≡ put old at (h ∷ name ∷ replicate m 0)
+same_count old ws at h name n m e is = is ∙ ap (λ (k : ℕ). put old at (h ∷ name ∷ replicate k 0)) e
+
+pub fresh_start : (old : List ℕ) (at h name n : ℕ) → at + 2 ≤ length old → AreFresh old (set (set old at h) (at + 1) name) at h name n 0
+fresh_start old at h name n l =
+    let none = written_start old at h name l in
+    (λ _. none, λ le. same_count old _ at h name 0 n (omega (arith, le)) none)
+
+-- one field more
+pub fresh_more : (old ws : List ℕ) (at h name n i : ℕ) → at + 2 + n ≤ length old → i < n → AreFresh old ws at h name n i
+    → AreFresh old (set ws (at + 2 + i) 0) at h name n (i + 1)
+fresh_more old ws at h name n i l less f =
+    let next : set ws (at + 2 + i) 0 ≡ put old at (h ∷ name ∷ replicate (i + 1) 0) =
+    ap (λ (xs : List ℕ). set xs (at + 2 + i) 0) (f.0 (omega (arith, less))) ∙ written_more old at h name i (omega (arith, l, less)) in
+    (λ _. next, λ le. same_count old _ at h name (i + 1) n (omega (arith, le, less)) next)
+
+-- no field more, where all are written
+pub fresh_still : (old ws : List ℕ) (at h name n i j : ℕ) → n ≤ i → n ≤ j → AreFresh old ws at h name n i → AreFresh old ws at h name n j
+fresh_still old ws at h name n i j all there f =
+    let whole = f.1 all in
+    (λ le. same_count old ws at h name n j (omega (arith, le, there)) whole, λ _. whole)
+
 -- a block is the words before it, its own, and those behind it
 pub put_whole : (ws : List ℕ) (n : ℕ) (block : List ℕ) → n ≤ length ws → put ws n block ≡ take n ws ++ (block ++ drop (n + length block) ws)
 put_whole ws zero block h = rw (zero-add (length block)) refl

@@ -53,15 +53,22 @@ impl Model for Words {
     ghost invariant = { λ w. (length w.items.items ≤ w.count) × (w.count ≤ vec_capacity w.items) };
 }
 
-/// Writes a header, a name and as many zeros as there are fields.
+/// Writes a header, a name and as many zeros as there are fields. Up to four fields are written one by one, which costs less than a
+/// call of C's `memset`.
+#[inline(always)]
 fn write_fresh(words: &mut [u64], at: usize, header: u64, name: u64, fields: usize)
     requires { at + 2 + fields ≤ length words.old }
     ensures { words.new ≡ put words.old at (header ∷ name ∷ replicate fields 0) }
 {
     words[at] = header;
     words[at + 1] = name;
-    for i in 0..fields {
-        words[at + 2 + i] = 0;
+    for i in 0..4 {
+        if i < fields {
+            words[at + 2 + i] = 0;
+        }
+    }
+    for more in 4..fields {
+        words[at + 2 + more] = 0;
     }
 }
 
@@ -231,18 +238,6 @@ impl Words {
         self.items[object.field(field)] = encode_pointer(target);
     }
 
-    /// Where a data word of the object at an address is.
-    fn data_place(&self, object: Addr, field: u32) -> usize
-        requires { object < self.now.written }
-        ensures { result ≡ field_word object (field_count_at self.now.all object) + field }
-    {
-        let fields = match self.object_at(object) {
-            Some(counts) => counts.pointers.get() + u32::from(counts.weaks),
-            None => 0,
-        };
-        object.field(fields) + field as usize
-    }
-
     /// Where a data word of the object at an address is. One is there, so its header isn't looked at for that.
     #[inline(always)]
     fn value_place(&self, object: Addr, field: u32) -> usize
@@ -264,14 +259,15 @@ impl Words {
         self.items[object.field(fields) + field as usize]
     }
 
-    /// Sets a data word of the object at an address.
+    /// Sets a data word of the object at an address. One is there, so its header isn't looked at for that.
     pub fn set_value(&mut self, object: Addr, field: u32, value: u64)
         requires at { object < self.old.written }
+        requires object { IsSome (counts_of (header_at self.old.all object)) }
         requires within { field_word object (field_count_at self.old.all object) + field < self.old.written }
         ensures all { self.new.all ≡ slice_set self.old.all (field_word object (field_count_at self.old.all object) + field) value }
         ensures written { self.new.written ≡ self.old.written }
     {
-        let at = self.data_place(object, field);
+        let at = self.value_place(object, field);
         self.items[at] = value;
     }
 
@@ -299,6 +295,7 @@ impl Words {
     }
 
     /// Writes an object whose pointers and weak slots are nil and whose data words are 0.
+    #[inline(always)]
     pub fn write_object(&mut self, at: Addr, name: u64, counts: HeaderCounts)
         requires { at + size_of counts.pointers counts.weaks counts.values ≤ self.old.written }
         ensures all { self.new.all ≡ put self.old.all at

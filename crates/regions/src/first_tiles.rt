@@ -96,6 +96,24 @@ fn write_start(entries: &mut [u32], shift: u32, at: u32, end: u32)
     }
 }
 
+/// The words from `at` up to `middle` become an object, and those behind it, up to `end`, the rest of a filler: both in one go, so that
+/// each of the three places is looked up once.
+#[inline(always)]
+fn write_front(entries: &mut [u32], shift: u32, at: u32, middle: u32, end: u32)
+    requires narrow { shift < 12 }
+    requires order { at ≤ middle }
+    requires rest { middle ≤ end }
+    requires small { end ≤ max_words }
+    requires within { end ≤ length entries.old * 2 ^ shift }
+    ensures len { length entries.new ≡ length entries.old }
+    ensures entries { (c : ℕ) → slice_index entries.new c
+        ≡ (if is_between middle end (c * 2 ^ shift) && (c * 2 ^ shift == last_card (2 ^ shift) end) then middle
+        else (if is_between at middle (c * 2 ^ shift) then at else slice_index entries.old c)) }
+{
+    write_entries(entries, shift, at, middle, at);
+    write_start(entries, shift, middle, end);
+}
+
 /// The entries of a filler's cards: the last one's is its start, and the others' is that card.
 #[inline(always)]
 fn write_filler(entries: &mut [u32], shift: u32, at: u32, size: u32)
@@ -180,26 +198,20 @@ impl FirstTiles {
         write_entries(&mut self.starts, self.shift, at, at + size, at);
     }
 
-    /// An object takes the front of a filler, whose entries stand. Where it fills the filler, and this is no longer than a card,
-    /// they are the object's own.
+    /// An object takes the front of a filler, whose entries stand, and what is left is a filler or nothing.
     #[inline(always)]
-    pub(crate) fn put_front(&mut self, at: u32, size: u32, filler: u32)
+    pub(crate) fn cut_front(&mut self, at: u32, size: u32, filler: u32)
         requires room { size ≤ filler }
         requires within { at + filler ≤ length self.old.starts * self.old.card_words }
         requires small { at + filler ≤ max_words }
-        requires entries { (c : ℕ) → at ≤ c * self.old.card_words → c * self.old.card_words < at + filler
-            → slice_index self.old.starts c ≡ entry_of self.old.card_words at (Filler filler) (c * self.old.card_words) }
         ensures card_words { self.new.card_words ≡ self.old.card_words }
         ensures len { length self.new.starts ≡ length self.old.starts }
         ensures entries { (c : ℕ) → slice_index self.new.starts c
-            ≡ (if is_between at (at + size) (c * self.old.card_words) then at else slice_index self.old.starts c) }
+            ≡ (if is_between (at + size) (at + filler) (c * self.old.card_words)
+            && (c * self.old.card_words == last_card self.old.card_words (at + filler)) then at + size
+            else (if is_between at (at + size) (c * self.old.card_words) then at else slice_index self.old.starts c)) }
     {
-        if size == filler {
-            if size <= self.card_words {
-                return;
-            }
-        }
-        write_entries(&mut self.starts, self.shift, at, at + size, at);
+        write_front(&mut self.starts, self.shift, at, at + size, at + filler);
     }
 
     /// A filler stands at an address.

@@ -156,9 +156,7 @@ impl RegionTable {
         let size = counts.size();
         self.words.write_object(at, name, counts);
         write_remainder(&mut self.words, at.word() + size, filler.get() - size);
-        self.first_tiles.put_front(at.word(), size, filler.get());
-        self.first_tiles
-            .move_filler(at.word() + size, at.word() + filler.get());
+        self.first_tiles.cut_front(at.word(), size, filler.get());
         self.weak_starts.note(at.word(), weaks);
     }
 

@@ -66,9 +66,64 @@ impl Core {
         }
     }
 
-    /// Stores a pointer into an object that a root names, and keeps marking and remembering right.
+    /// Whether a value leads into another region than the field's word lies in. No promise hangs on the answer.
+    #[inline(always)]
+    fn leads_out(&self, object: Addr, field: u32, target: &Ptr) -> bool {
+        let Some(to) = target else {
+            return false;
+        };
+        let word = (object.field(field) & 0xffff_ffff) as u32;
+        self.table.leads_out(word, *to)
+    }
+
+    /// Stores a pointer into an object that a root names, and keeps marking and remembering right. A store within a region is part of the
+    /// caller, and any other is a call, for which the former saves no registers.
     #[inline(always)]
     pub(crate) fn store(&mut self, mutator: u32, object: Addr, field: u32, target: Ptr)
+        requires known { mutator < self.old.config.mutators }
+        requires rooted { IsRoot (heap_of self.old) object }
+        requires field { field < length (pointers_at self.old.table object) }
+        requires held { IsHeld (heap_of self.old) target }
+        ensures shows { (g : Graph) (x : Stored) (o : Object) (v : Option ℕ) → ShowsGraph g self.old → kept_of self.old object ≡ Some x
+            → object_named g x.name ≡ Some o
+            → IsShown (heap_of self.old) target v
+            → ShowsGraph (with_changed g x.name (record o { pointers = slice_set o.pointers field v })) self.new }
+        ensures keeps { (s : Graph) → KeepsFrom s self.old → KeepsFrom s self.new }
+        ensures core { self.new ≡ record (with_pointer self.old mutator object field target) { marker = self.new.marker } }
+        ensures marker { Overwrites self.old.marker.running self.old.table mutator (pointer_of self.old object field) self.old.marker
+            self.new.marker }
+        ensures leaves { LeavesRegions self.old self.new }
+    {
+        if self.leads_out(object, field, &target) {
+            self.store_apart(mutator, object, field, target);
+        } else {
+            self.store_here(mutator, object, field, target);
+        }
+    }
+
+    /// The same, as a call.
+    #[inline(never)]
+    fn store_apart(&mut self, mutator: u32, object: Addr, field: u32, target: Ptr)
+        requires known { mutator < self.old.config.mutators }
+        requires rooted { IsRoot (heap_of self.old) object }
+        requires field { field < length (pointers_at self.old.table object) }
+        requires held { IsHeld (heap_of self.old) target }
+        ensures shows { (g : Graph) (x : Stored) (o : Object) (v : Option ℕ) → ShowsGraph g self.old → kept_of self.old object ≡ Some x
+            → object_named g x.name ≡ Some o
+            → IsShown (heap_of self.old) target v
+            → ShowsGraph (with_changed g x.name (record o { pointers = slice_set o.pointers field v })) self.new }
+        ensures keeps { (s : Graph) → KeepsFrom s self.old → KeepsFrom s self.new }
+        ensures core { self.new ≡ record (with_pointer self.old mutator object field target) { marker = self.new.marker } }
+        ensures marker { Overwrites self.old.marker.running self.old.table mutator (pointer_of self.old object field) self.old.marker
+            self.new.marker }
+        ensures leaves { LeavesRegions self.old self.new }
+    {
+        self.store_here(mutator, object, field, target);
+    }
+
+    /// The same, as part of the caller.
+    #[inline(always)]
+    fn store_here(&mut self, mutator: u32, object: Addr, field: u32, target: Ptr)
         requires known { mutator < self.old.config.mutators }
         requires rooted { IsRoot (heap_of self.old) object }
         requires field { field < length (pointers_at self.old.table object) }

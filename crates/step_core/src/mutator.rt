@@ -1,7 +1,8 @@
 //! The mutator's steps.
 
 ghost use Rattle.std.specs.Prelude.{◌≡◌, ℕ, ◌<◌, ◌≤◌, ◌*◌, ◌↔◌, ◌≢◌, ◌⊎◌, Option, Some, None, IfSome, IfNone, IfOk, IsErr, OnErr, length};
-ghost use Rattle.heap_words.specs.Configs.{max_object_words};
+ghost use Rattle.std.specs.Prelude.{true, false};
+ghost use Rattle.heap_words.specs.Configs.{max_object_words, object_limit};
 ghost use Rattle.heap_words.specs.Sizes.{size_of};
 ghost use Rattle.heap_model.specs.Graph.{Graph};
 ghost use Rattle.heap_model.specs.Heap.{IsShown};
@@ -402,7 +403,35 @@ impl Core {
         Reply::Done
     }
 
-    /// Makes an object with so many weak slots, 0 of them for a plain one.
+    /// Whether an object of so many words is too big. Of up to 16 none is, since a region has as many.
+    #[inline(always)]
+    fn is_too_big(&self, size: u64) -> bool
+        ensures big { result ≡ true → object_limit self.now.config < size }
+        ensures fits { result ≡ false → size ≤ object_limit self.now.config }
+    {
+        16 < size && self.config.object_limit() < size
+    }
+
+    /// Whether an object has few fields and no weak slot, and leaves something of the mutator's buffer. No promise hangs on the answer.
+    #[inline(always)]
+    fn is_small(&self, mutator: u32, counts: Counts, weaks: u8) -> bool
+        requires { mutator < self.now.config.mutators }
+    {
+        let size = counts.size(weaks);
+        if weaks > 0 || 6 < size || self.next == u64::MAX {
+            return false;
+        }
+        if u64::from(self.table.words_per_region()) < 2 * size {
+            return false;
+        }
+        match self.buffers.open_buffer(mutator) {
+            Some(open) => size < u64::from(open.rest),
+            None => false,
+        }
+    }
+
+    /// Makes an object with so many weak slots, 0 of them for a plain one. A small one is made within the caller, and any other by a call,
+    /// for which a small one saves no registers.
     #[inline(always)]
     fn new_object(&mut self, mutator: u32, to: Register, counts: Counts, weaks: u8) -> Reply
         requires mutator { mutator < self.old.config.mutators }
@@ -416,8 +445,46 @@ impl Core {
             → result ≢ replies.Named name }
         ensures within { IsWithin self.old.config (actions.NewWeak to counts weaks) result }
     {
+        if self.is_small(mutator, counts, weaks) {
+            self.new_here(mutator, to, counts, weaks)
+        } else {
+            self.new_apart(mutator, to, counts, weaks)
+        }
+    }
+
+    /// The same, as a call.
+    #[inline(never)]
+    fn new_apart(&mut self, mutator: u32, to: Register, counts: Counts, weaks: u8) -> Reply
+        requires mutator { mutator < self.old.config.mutators }
+        requires to { IsRegister (places_of self.old.config) to }
+        ensures acts { (g : Graph) → ShowsGraph g self.old → Acts g mutator (actions.NewWeak to counts weaks) result self.new
+            ⊎ RepliesFull g mutator (actions.NewWeak to counts weaks) self.old result self.new }
+        ensures keeps { (s : Graph) → KeepsFrom s self.old → KeepsFrom s self.new }
+        ensures after { ActsOn mutator (actions.NewWeak to counts weaks) result self.old self.new }
+        ensures leaves { LeavesRegions self.old self.new }
+        ensures full { HasNoPlace self.old mutator (size_of counts.pointers weaks counts.values) → (name : Option ℕ)
+            → result ≢ replies.Named name }
+        ensures within { IsWithin self.old.config (actions.NewWeak to counts weaks) result }
+    {
+        self.new_here(mutator, to, counts, weaks)
+    }
+
+    /// The same, as part of the caller.
+    #[inline(always)]
+    fn new_here(&mut self, mutator: u32, to: Register, counts: Counts, weaks: u8) -> Reply
+        requires mutator { mutator < self.old.config.mutators }
+        requires to { IsRegister (places_of self.old.config) to }
+        ensures acts { (g : Graph) → ShowsGraph g self.old → Acts g mutator (actions.NewWeak to counts weaks) result self.new
+            ⊎ RepliesFull g mutator (actions.NewWeak to counts weaks) self.old result self.new }
+        ensures keeps { (s : Graph) → KeepsFrom s self.old → KeepsFrom s self.new }
+        ensures after { ActsOn mutator (actions.NewWeak to counts weaks) result self.old self.new }
+        ensures leaves { LeavesRegions self.old self.new }
+        ensures full { HasNoPlace self.old mutator (size_of counts.pointers weaks counts.values) → (name : Option ℕ)
+            → result ≢ replies.Named name }
+        ensures within { IsWithin self.old.config (actions.NewWeak to counts weaks) result }
+    {
         let size = counts.size(weaks);
-        if self.config.object_limit() < size {
+        if self.is_too_big(size) {
             return Reply::Refused(Refusal::TooBig);
         }
         if self.next == u64::MAX {

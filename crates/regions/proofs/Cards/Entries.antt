@@ -85,15 +85,6 @@ pub new_size : (name p weak d : ℕ) → tile_size (Object (new_object name p we
 new_size name p weak d =
     omega (arith, length-replicate {A = Option ℕ} p None, length-replicate {A = Option ℕ} weak None, length-replicate {A = ℕ} d 0)
 
--- the entries of a filler, by other names of its place and size
-pub filler_entries : (size shift lowest free : ℕ) (entries : Entries) (starts : Starts) (memory : Memory) (rows : List Row) (t : Table)
-    (x n at m c : ℕ) → IsSound size shift lowest free entries starts memory rows → table_of size memory.all rows ≡ t
-    → tile_in t x ≡ Some (Filler n) → at ≡ x → m ≡ n → at ≤ c * entries.card_words → c * entries.card_words < at + m
-    → get_or entries.starts c 0 ≡ entry_of entries.card_words at (Filler m) (c * entries.card_words)
-filler_entries size shift lowest free entries starts memory rows t x n at m c s e was there long low high =
-    s.first_tiles at c (Filler m)
-    (ap (λ (u : Table). tile_in u at) e ∙ ap (tile_in t) there ∙ was ∙ ap (λ (k : ℕ). Some (Filler k)) (sym long)) low high
-
 -- what was written for a tile, by another name of its place and size
 pub filler_written : (new old : List ℕ) (cw at x n m : ℕ) → at ≡ x → n ≡ m
     → ((c : ℕ) → get_or new c 0 ≡ (if is_between at (at + n) (c * cw) then entry_of cw at (Filler n) (c * cw) else get_or old c 0))
@@ -106,6 +97,24 @@ pub object_written : (new old : List ℕ) (cw at x n : ℕ) → at ≡ x
     → ((c : ℕ) → get_or new c 0 ≡ (if is_between at (at + n) (c * cw) then at else get_or old c 0))
     → (c : ℕ) → get_or new c 0 ≡ (if is_between x (x + n) (c * cw) then x else get_or old c 0)
 object_written new old cw at x n e h c = h c ∙ ap (λ (b : ℕ). if is_between b (b + n) (c * cw) then b else get_or old c 0) e
+
+-- what was written for an object and the rest of its filler, by another name of its place
+pub object_cut : (new old : List ℕ) (cw at x n m : ℕ) → at ≡ x
+    → ((c : ℕ) → get_or new c 0 ≡ (if is_between (at + n) (at + m) (c * cw) && (c * cw == last_card cw (at + m)) then at + n
+    else (if is_between at (at + n) (c * cw) then at else get_or old c 0)))
+    → (c : ℕ) → get_or new c 0 ≡ (if is_between (at + n) (at + m) (c * cw) && (c * cw == last_card cw (at + m)) then at + n
+    else (if is_between x (x + n) (c * cw) then x else get_or old c 0))
+object_cut new old cw at x n m e h c = h c
+    ∙ ap (λ (b : ℕ). if is_between (at + n) (at + m) (c * cw) && (c * cw == last_card cw (at + m)) then at + n
+    else (if is_between b (b + n) (c * cw) then b else get_or old c 0)) e
+
+-- what was written in two strokes
+pub written_twice : (mid new : List ℕ) (cw len at end : ℕ) (first : ℕ → ℕ) → len ≡ cw → ((c : ℕ) → get_or mid c 0 ≡ first c)
+    → ((c : ℕ) → get_or new c 0 ≡ (if is_between at end (c * len) && (c * len == last_card len end) then at else get_or mid c 0))
+    → (c : ℕ) → get_or new c 0 ≡ (if is_between at end (c * cw) && (c * cw == last_card cw end) then at else first c)
+written_twice mid new cw len at end first e one two c =
+    two c ∙ ap (λ (k : ℕ). if is_between at end (c * k) && (c * k == last_card k end) then at else get_or mid c 0) e
+    ∙ ap (λ (d : ℕ). if is_between at end (c * cw) && (c * cw == last_card cw end) then at else d) (one c)
 
 -- ---- an object is written
 tile_of : (t : Table) (a : ℕ) (s : Stored) → object_at t a ≡ Some s → tile_in t a ≡ Some (Object s)
@@ -242,37 +251,35 @@ module _ (size shift lowest free : ℕ) (entries : Entries) (starts : Starts) (m
       ])) (within_added t t' memory.written memory'.written a tile more (omega arith) is others)
 
   -- a tile cut off a filler's front
-  pub cut_sound : (mid new : Entries) (starts' : Starts) (memory' : Memory) (t' : Table) (x n r : ℕ) (tile : Tile)
+  pub cut_sound : (new : Entries) (starts' : Starts) (memory' : Memory) (t' : Table) (x n r : ℕ) (tile : Tile)
       → Replaces t t' x n (tile ∷ remainder r) → tile_in t x ≡ Some (Filler n) → 0 < tile_size tile → tile_size tile + r ≡ n
-      → mid.card_words ≡ entries.card_words → new.card_words ≡ mid.card_words
-      → length mid.starts ≡ length entries.starts → length new.starts ≡ length mid.starts
-      → ((c : ℕ) → get_or mid.starts c 0 ≡ (if is_between x (x + tile_size tile) (c * entries.card_words)
-      then entry_of entries.card_words x tile (c * entries.card_words) else get_or entries.starts c 0))
-      → ((c : ℕ) → get_or new.starts c 0 ≡
-      (if is_between (x + tile_size tile) (x + n) (c * mid.card_words) && (c * mid.card_words == last_card mid.card_words (x + n))
-      then x + tile_size tile else get_or mid.starts c 0)) → Notes starts starts' x tile
+      → new.card_words ≡ entries.card_words → length new.starts ≡ length entries.starts
+      → ((c : ℕ) → get_or new.starts c 0
+      ≡ (if is_between (x + tile_size tile) (x + n) (c * entries.card_words)
+      && (c * entries.card_words == last_card entries.card_words (x + n)) then x + tile_size tile
+      else (if is_between x (x + tile_size tile) (c * entries.card_words) then entry_of entries.card_words x tile (c * entries.card_words)
+      else get_or entries.starts c 0))) → Notes starts starts' x tile
       → memory.written ≤ memory'.written → IsWrittenTable size memory'.all rows t'
       → IsSound size shift lowest free new starts' memory' rows
-  cut_sound mid new starts' memory' t' x n r tile cut was some sum len len2 each each2 first second noted more w =
+  cut_sound new starts' memory' t' x n r tile cut was some sum len each two noted more w =
       let cw : ℕ = entries.card_words in
       let end : ℕ = x + tile_size tile in
-      let two : (c : ℕ) → get_or new.starts c 0
-      ≡ (if is_between end (x + n) (c * cw) && (c * cw == last_card cw (x + n)) then end else get_or mid.starts c 0) =
-      rw (← len) second in
-      sound_changed size shift lowest lowest free free entries new starts starts' memory memory' rows rows t t' s e w cut.count (len2 ∙ len)
-      (each2 ∙ each) s.used_below s.free_is noted.region_words noted.len
+      let first : ℕ → ℕ =
+      λ c. if is_between x end (c * cw) then entry_of cw x tile (c * cw) else get_or entries.starts c 0 in
+      sound_changed size shift lowest lowest free free entries new starts starts' memory memory' rows rows t t' s e w cut.count len
+      each s.used_below s.free_is noted.region_words noted.len
       (λ g. starts_cut t t' starts starts' g x n r tile (omega arith) (none_in t x (Filler n) was refl) cut noted)
-      (entries_cut t t' entries new x n r tile (shaped_of size memory'.all rows t' w.is_table w.table_is) (len2 ∙ len) was sum
+      (entries_cut t t' entries new x n r tile (shaped_of size memory'.all rows t' w.is_table w.table_is) len was sum
       (cut_first cut some sum) (cut_rest cut some sum) cut.others
-      (λ c low high. two c ∙ both_below end (x + n) (c * cw) (c * cw == last_card cw (x + n)) end (get_or mid.starts c 0) high ∙ first c
+      (λ c low high. two c ∙ both_below end (x + n) (c * cw) (c * cw == last_card cw (x + n)) end (first c) high
       ∙ if_between x end (c * cw) (entry_of cw x tile (c * cw)) (get_or entries.starts c 0) low high)
-      (λ c low high. two c ∙ both_inside end (x + n) (c * cw) (c * cw == last_card cw (x + n)) end (get_or mid.starts c 0) low high
+      (λ c low high. two c ∙ both_inside end (x + n) (c * cw) (c * cw == last_card cw (x + n)) end (first c) low high
       ∙ ap (λ (m : ℕ). if c * cw == last_card cw (x + n) then end else m)
-      (first c ∙ if_above x end (c * cw) (entry_of cw x tile (c * cw)) (get_or entries.starts c 0) low))
+      (if_above x end (c * cw) (entry_of cw x tile (c * cw)) (get_or entries.starts c 0) low))
       (λ c apart. two c ∙ elim apart [
-        | inl b ↦ both_below end (x + n) (c * cw) (c * cw == last_card cw (x + n)) end (get_or mid.starts c 0) (omega arith) ∙ first c
+        | inl b ↦ both_below end (x + n) (c * cw) (c * cw == last_card cw (x + n)) end (first c) (omega arith)
             ∙ if_below x end (c * cw) (entry_of cw x tile (c * cw)) (get_or entries.starts c 0) b
-        | inr b ↦ both_above end (x + n) (c * cw) (c * cw == last_card cw (x + n)) end (get_or mid.starts c 0) b ∙ first c
+        | inr b ↦ both_above end (x + n) (c * cw) (c * cw == last_card cw (x + n)) end (first c) b
             ∙ if_above x end (c * cw) (entry_of cw x tile (c * cw)) (get_or entries.starts c 0) (omega arith)
       ])) (within_cut t t' memory.written memory'.written x n r tile more cut was sum)
     where
@@ -390,26 +397,24 @@ module _ (size shift lowest free : ℕ) (entries : Entries) (starts : Starts) (m
       (λ y apart. made.others y (λ z. apart (z ∙ sym there))) long len each written (none_there t at void)
       (notes starts starts' at weaks (Object o) known slots flags_are) used counted more fits w
 
-  pub front_sound : (mid new : Entries) (starts' : Starts) (memory' : Memory) (x n r at b end weaks : ℕ) (tile : Tile)
+  pub front_sound : (new : Entries) (starts' : Starts) (memory' : Memory) (x n r at b end weaks : ℕ) (tile : Tile)
       → tile_in t x ≡ Some (Filler n) → 0 < tile_size tile → tile_size tile + r ≡ n → EachForwarded (λ _. ⊥) (tile ∷ [])
       → b ≡ tile_size tile → at ≡ x + tile_size tile → end ≡ x + n
-      → mid.card_words ≡ entries.card_words → new.card_words ≡ mid.card_words
-      → length mid.starts ≡ length entries.starts → length new.starts ≡ length mid.starts
-      → ((c : ℕ) → get_or mid.starts c 0 ≡ (if is_between x (x + b) (c * entries.card_words)
-      then entry_of entries.card_words x tile (c * entries.card_words) else get_or entries.starts c 0))
-      → ((c : ℕ) → get_or new.starts c 0 ≡
-      (if is_between at end (c * mid.card_words) && (c * mid.card_words == last_card mid.card_words end) then at
-      else get_or mid.starts c 0)) → tile_weaks tile ≡ weaks → starts' ≡ noted starts x weaks
+      → new.card_words ≡ entries.card_words → length new.starts ≡ length entries.starts
+      → ((c : ℕ) → get_or new.starts c 0
+      ≡ (if is_between at end (c * entries.card_words) && (c * entries.card_words == last_card entries.card_words end) then at
+      else (if is_between x (x + b) (c * entries.card_words) then entry_of entries.card_words x tile (c * entries.card_words)
+      else get_or entries.starts c 0))) → tile_weaks tile ≡ weaks → starts' ≡ noted starts x weaks
       → memory.written ≤ memory'.written → IsWrittenTable size memory'.all rows (replace_tile t x (tile ∷ remainder r))
       → IsSound size shift lowest free new starts' memory' rows
-  front_sound mid new starts' memory' x n r at b end weaks tile was some sum unmoved b_is at_is end_is len len2
-      each each2 first second slots flags_are more w =
+  front_sound new starts' memory' x n r at b end weaks tile was some sum unmoved b_is at_is end_is len
+      each written slots flags_are more w =
       let total : total_size (tile ∷ remainder r) ≡ n = ap (λ (m : ℕ). tile_size tile + m) (remainder_total r) ∙ sum in
       let cut = filler_replaced t x n (tile ∷ remainder r) shaped.positive shaped.fitting was (omega arith) (some, remainder_positive r)
       total (joined_unmoved tile r unmoved) in
       let n' = notes starts starts' x weaks tile (known_now x (Filler n) was (omega arith)) slots flags_are in
-      cut_sound mid new starts' memory' (replace_tile t x (tile ∷ remainder r)) x n r tile cut was some sum len len2 each each2
-      (rw b_is at first) (rw (at_is, end_is) at second) n' more w
+      cut_sound new starts' memory' (replace_tile t x (tile ∷ remainder r)) x n r tile cut was some sum len each
+      (rw (b_is, at_is, end_is) at written) n' more w
     where
       joined_unmoved : (u : Tile) (r : ℕ) → EachForwarded (λ _. ⊥) (u ∷ []) → EachForwarded (λ _. ⊥) (u ∷ remainder r)
       joined_unmoved (Object o) r h = remainder_unmoved r

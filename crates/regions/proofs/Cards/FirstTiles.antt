@@ -227,22 +227,6 @@ filler_put old mid len at n past c z e h same within fill =
       ]
     ]
 
--- a filler no longer than a card that an object fills has the object's entries
-pub filled_front : (starts : List ℕ) (len at size n c : ℕ) → 0 < len → size ≡ n → size ≤ len
-    → ((k : ℕ) → at ≤ k * len → k * len < at + n → get_or starts k 0 ≡ entry_of len at (Filler n) (k * len))
-    → get_or starts c 0 ≡ (if is_between at (at + size) (c * len) then at else get_or starts c 0)
-filled_front starts len at size n c z fills short each = elim (cases_lt (c * len) at) [
-  | inl b ↦ sym (if_below at (at + size) (c * len) at (get_or starts c 0) b)
-  | inr b ↦ elim (cases_lt (c * len) (at + size)) [
-    | inl d ↦ (
-        let last : (at + n - 1) / len ≡ c = div_is (at + n - 1) len c (omega arith) (omega arith) in
-        let is : (c * len == last_card len (at + n)) ≡ true =
-        eq-eqb (c * len) (last_card len (at + n)) (ap (λ (k : ℕ). k * len) (sym last)) in
-        each c b (omega arith) ∙ rw is refl ∙ sym (if_between at (at + size) (c * len) at (get_or starts c 0) b d))
-    | inr d ↦ sym (if_above at (at + size) (c * len) at (get_or starts c 0) d)
-  ]
-]
-
 -- ---- how they stay right
 holds : (t : Table) (a w : ℕ) (u : Tile) → tile_in t a ≡ Some u → a ≤ w → w < a + tile_size u → IsHolder t a w
 holds t a w u h low high = record { tile = u; tile_is = h; low = low; high = high }

@@ -3,7 +3,7 @@ use Rattle.std.proofs.lemmas.List.{length-replicate}
 use Rattle.regions.specs.WeakStarts.{noted}
 use Rattle.regions.proofs.Tiles.Replaced.{filler_fits, filler_filled}
 use Rattle.regions.proofs.Tiles.Within.{tile_within}
-use Rattle.regions.proofs.Cards.Entries.{front_sound, new_size, object_written, filler_entries}
+use Rattle.regions.proofs.Cards.Entries.{front_sound, new_size, object_cut}
 use Rattle.regions.specs.Tiles.{Object, tile_size}
 use Rattle.regions.specs.Table.{new_object}
 use Rattle.regions.proofs.table.RegionTable.make_object.Goals as goal
@@ -24,31 +24,15 @@ write_remainder-requires-clause-within c =
     rw c.write_object.ensures.written
     (omega (arith, f, c.requires.room, c.word.ensures, c.size-size.ensures, c.get.ensures.value))
 
-pub put_front-requires-clause-within : goal.put_front-requires-clause-within
-put_front-requires-clause-within c =
+pub cut_front-requires-clause-within : goal.cut_front-requires-clause-within
+cut_front-requires-clause-within c =
     let f = filler_fits _ _ _ _ _ _ c.self.invariant.table c.self.view_is c.requires.there in
-    omega (arith, f, c.requires.room, c.self.invariant.table.small, c.self.invariant.each_card, c.word-2.ensures, c.size-size.ensures)
+    omega (arith, f, c.self.invariant.table.small, c.self.invariant.each_card, c.word-2.ensures, c.get-2.ensures.value)
 
-pub put_front-requires-clause-small : goal.put_front-requires-clause-small
-put_front-requires-clause-small c =
+pub cut_front-requires-clause-small : goal.cut_front-requires-clause-small
+cut_front-requires-clause-small c =
     let f = filler_fits _ _ _ _ _ _ c.self.invariant.table c.self.view_is c.requires.there in
-    omega (arith, f, c.requires.room, c.self.invariant.table.small, c.self.invariant.each_card, c.word-2.ensures, c.size-size.ensures)
-
-pub overflow_add-word-2 : goal.overflow_add-word-2
-overflow_add-word-2 c =
-    let f = filler_fits _ _ _ _ _ _ c.self.invariant.table c.self.view_is c.requires.there in
-    omega (arith, f, c.requires.room, c.self.invariant.table.small, c.self.invariant.each_card, c.word-3.ensures, c.size-size.ensures)
-
-pub overflow_add-word-3 : goal.overflow_add-word-3
-overflow_add-word-3 c =
-    let f = filler_fits _ _ _ _ _ _ c.self.invariant.table c.self.view_is c.requires.there in
-    omega (arith, f, c.self.invariant.table.small, c.self.invariant.each_card, c.word-4.ensures, c.get-2.ensures.value)
-
-pub move_filler-requires : goal.move_filler-requires
-move_filler-requires c =
-    let f = filler_fits _ _ _ _ _ _ c.self.invariant.table c.self.view_is c.requires.there in
-    rw (c.put_front.ensures.len, c.put_front.ensures.card_words)
-    (omega (arith, f, c.self.invariant.table.small, c.self.invariant.each_card, c.word-4.ensures, c.get-2.ensures.value))
+    omega (arith, f, c.self.invariant.table.small, c.self.invariant.each_card, c.word-2.ensures, c.get-2.ensures.value)
 
 pub invariant_of-self : goal.invariant_of-self
 invariant_of-self c =
@@ -63,14 +47,14 @@ invariant_of-self c =
     let long : c.size-size.result
     ≡ tile_size (Object (new_object c.args.name c.args.counts.pointers c.args.counts.weaks c.args.counts.values)) =
     omega (arith, c.size-size.ensures, new_size c.args.name c.args.counts.pointers c.args.counts.weaks c.args.counts.values) in
-    let flags = c.note.ensures ∙ ap (λ (k : ℕ). noted c.self.inside.weak_starts k c.from-weaks.result) c.word-5.ensures
+    let flags = c.note.ensures ∙ ap (λ (k : ℕ). noted c.self.inside.weak_starts k c.from-weaks.result) c.word-3.ensures
     ∙ ap (λ (n : ℕ). noted c.self.inside.weak_starts c.args.at n) c.from-weaks.ensures in
-    front_sound _ _ _ _ _ _ _ _ _ c.self.invariant c.self.view_is c.put_front.new.self c.move_filler.new.self _ _ c.args.at c.args.filler
+    front_sound _ _ _ _ _ _ _ _ _ c.self.invariant c.self.view_is c.cut_front.new.self _ _ c.args.at c.args.filler
     _ _ _ _ c.args.counts.weaks (Object (new_object c.args.name c.args.counts.pointers c.args.counts.weaks c.args.counts.values))
     c.requires.there (omega (arith, long)) (omega (arith, c.requires.room, long, c.size-size.ensures)) tt long
-    (omega (arith, c.word-3.ensures, long)) (omega (arith, c.word-4.ensures, c.get-2.ensures.value))
-    c.put_front.ensures.card_words c.move_filler.ensures.card_words c.put_front.ensures.len c.move_filler.ensures.len
-    (object_written _ _ _ _ _ _ c.word-2.ensures c.put_front.ensures.entries) c.move_filler.ensures.entries
+    (omega (arith, c.word-2.ensures, long)) (omega (arith, c.word-2.ensures, c.get-2.ensures.value))
+    c.cut_front.ensures.card_words c.cut_front.ensures.len
+    (object_cut _ _ _ _ _ _ _ c.word-2.ensures c.cut_front.ensures.entries)
     (length-replicate {A = Option ℕ} c.args.counts.weaks None) flags
     (omega (arith, c.write_object.ensures.written, c.write_remainder.ensures.written)) w
 
@@ -85,13 +69,8 @@ returns c =
     c.self.invariant.table c.self.view_is c.requires.there (omega (arith, c.requires.room)) (omega arith) (omega arith)
     (omega arith) c.write_object.ensures.all c.write_remainder.ensures.all size rest).table_is
 
-pub put_front-requires-clause-entries : goal.put_front-requires-clause-entries
-put_front-requires-clause-entries c n low high =
-    filler_entries _ _ _ _ _ _ _ _ _ c.args.at c.args.filler _ _ n c.self.invariant c.self.view_is c.requires.there
-    c.word-2.ensures c.get-2.ensures.value low high
-
 pub note-requires : goal.note-requires
 note-requires c =
     let f = filler_fits _ _ _ _ _ _ c.self.invariant.table c.self.view_is c.requires.there in
     let count = c.self.invariant.weak_count in
-    omega (arith, f, c.requires.room, count, c.word-5.ensures)
+    omega (arith, f, c.requires.room, count, c.word-3.ensures)

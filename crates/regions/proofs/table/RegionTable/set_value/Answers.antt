@@ -9,6 +9,9 @@ set_value-requires-clause-at c =
     word_within _ _ _ _ _ c.self.invariant.written c.self.view_is
     (value_read _ _ _ _ _ _ c.self.invariant.table c.self.view_is c.requires).at
 
+pub set_value-requires-clause-object : goal.set_value-requires-clause-object
+set_value-requires-clause-object c = (value_read _ _ _ _ _ _ c.self.invariant.table c.self.view_is c.requires).object
+
 pub set_value-requires-clause-within : goal.set_value-requires-clause-within
 set_value-requires-clause-within c =
     word_within _ _ _ _ _ c.self.invariant.written c.self.view_is

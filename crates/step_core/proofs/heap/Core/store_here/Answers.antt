@@ -1,7 +1,7 @@
 use Rattle.std.proofs.Common.{◌∙◌, arith}
 use Rattle.step_core.proofs.Mutating.Fields.{fields_count}
 use Rattle.step_core.proofs.Mutating.Noting.{held_noted, kept_noted, shown_noted, shows_noted, keeps_noted}
-use Rattle.step_core.proofs.heap.Core.store.Goals as goal
+use Rattle.step_core.proofs.heap.Core.store_here.Goals as goal
 
 pub note-requires-clause-field : goal.note-requires-clause-field
 note-requires-clause-field c =

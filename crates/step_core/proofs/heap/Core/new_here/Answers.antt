@@ -6,53 +6,61 @@ use Rattle.step_core.proofs.Cores.Added.{creates}
 use Rattle.step_core.proofs.Mutating.Creating.{new_acts, new_kept, new_keeps, new_leaves}
 use Rattle.step_core.proofs.Mutating.Done.{made_in_place, has_place}
 use Rattle.heap_words.specs.Configs.{object_limit}
-use Rattle.step_core.proofs.heap.Core.new_object.Goals as goal
+use Rattle.step_core.proofs.heap.Core.new_here.Goals as goal
 
 pub invariant_of-self-2 : goal.invariant_of-self-2
 invariant_of-self-2 c =
     let m = c.in-Ok.ensures.made.1 in
-    let words : c.object_limit.result ≡ object_limit c.self.inside.config = c.object_limit.ensures in
+    let fits = c.is_too_big.ensures.fits c.if-is_too_big.false in
+    let same : object_limit c.self.inside.config ≡ object_limit c.args.self.now.config =
+    ap (λ (d : CoreState). object_limit d.config) c.self.view_is in
     let layers = c.self.invariant.layers in
     let w = creates _ _ _ _ _ _ c.self.inside.next c.args.counts.pointers c.args.weaks c.args.counts.values c.law.ensures
     m.positive m.fitting layers.unmoved layers.buffers m.placed (omega (arith, c.size-size.ensures)) in
     rw (c.set_register.ensures, register_there _ c.self.invariant c.args.mutator c.args.to.number, m.at, m.made, m.buffers)
     (new_kept _ c.args.mutator c.args.to _ _ _ c.args.counts.pointers c.args.weaks c.args.counts.values c.self.invariant w
-    (omega (arith, words, c.size-size.ensures)) c.if-self.false)
+    (omega (arith, fits, same, c.size-size.ensures)) c.if-self.false)
 
 pub returns-clause-acts : goal.returns-clause-acts
 returns-clause-acts c = λ g s.
     let m = c.in-Ok.ensures.made.1 in
-    let words : c.object_limit.result ≡ object_limit c.self.inside.config = c.object_limit.ensures in
+    let fits = c.is_too_big.ensures.fits c.if-is_too_big.false in
+    let same : object_limit c.self.inside.config ≡ object_limit c.args.self.now.config =
+    ap (λ (d : CoreState). object_limit d.config) c.self.view_is in
     let layers = c.self.invariant.layers in
     let w = creates _ _ _ _ _ _ c.self.inside.next c.args.counts.pointers c.args.weaks c.args.counts.values c.law.ensures
     m.positive m.fitting layers.unmoved layers.buffers m.placed (omega (arith, c.size-size.ensures)) in
     let s' = subst (λ (d : CoreState). ShowsGraph g d) (sym c.self.view_is) s in
     inl (rw (c.set_register.ensures, register_there _ c.self.invariant c.args.mutator c.args.to.number, m.at, m.made, m.buffers)
     (new_acts _ c.args.mutator c.args.to _ _ _ c.args.counts.pointers c.args.weaks c.args.counts.values c.self.invariant w
-    (omega (arith, words, c.size-size.ensures)) c.if-self.false g s'))
+    (omega (arith, fits, same, c.size-size.ensures)) c.if-self.false g s'))
 
 pub returns-clause-keeps : goal.returns-clause-keeps
 returns-clause-keeps c = λ s f.
     let m = c.in-Ok.ensures.made.1 in
-    let words : c.object_limit.result ≡ object_limit c.self.inside.config = c.object_limit.ensures in
+    let fits = c.is_too_big.ensures.fits c.if-is_too_big.false in
+    let same : object_limit c.self.inside.config ≡ object_limit c.args.self.now.config =
+    ap (λ (d : CoreState). object_limit d.config) c.self.view_is in
     let layers = c.self.invariant.layers in
     let w = creates _ _ _ _ _ _ c.self.inside.next c.args.counts.pointers c.args.weaks c.args.counts.values c.law.ensures
     m.positive m.fitting layers.unmoved layers.buffers m.placed (omega (arith, c.size-size.ensures)) in
     let f' = subst (λ (d : CoreState). KeepsFrom s d) (sym c.self.view_is) f in
     rw (c.set_register.ensures, register_there _ c.self.invariant c.args.mutator c.args.to.number, m.at, m.made, m.buffers)
     (new_keeps _ c.args.mutator c.args.to _ _ _ c.args.counts.pointers c.args.weaks c.args.counts.values c.self.invariant w
-    (omega (arith, words, c.size-size.ensures)) c.if-self.false s f')
+    (omega (arith, fits, same, c.size-size.ensures)) c.if-self.false s f')
 
 pub returns-clause-leaves : goal.returns-clause-leaves
 returns-clause-leaves c =
     let m = c.in-Ok.ensures.made.1 in
-    let words : c.object_limit.result ≡ object_limit c.self.inside.config = c.object_limit.ensures in
+    let fits = c.is_too_big.ensures.fits c.if-is_too_big.false in
+    let same : object_limit c.self.inside.config ≡ object_limit c.args.self.now.config =
+    ap (λ (d : CoreState). object_limit d.config) c.self.view_is in
     let layers = c.self.invariant.layers in
     let w = creates _ _ _ _ _ _ c.self.inside.next c.args.counts.pointers c.args.weaks c.args.counts.values c.law.ensures
     m.positive m.fitting layers.unmoved layers.buffers m.placed (omega (arith, c.size-size.ensures)) in
     rw (c.set_register.ensures, register_there _ c.self.invariant c.args.mutator c.args.to.number, m.at, m.made, m.buffers)
     (new_leaves _ c.args.mutator c.args.to _ _ _ c.args.counts.pointers c.args.weaks c.args.counts.values c.self.invariant w
-    (omega (arith, words, c.size-size.ensures)) c.if-self.false _ c.self.view_is)
+    (omega (arith, fits, same, c.size-size.ensures)) c.if-self.false _ c.self.view_is)
 
 pub returns-clause-after : goal.returns-clause-after
 returns-clause-after c =
