@@ -134,17 +134,25 @@ fn marks_rows(rt: HostRuntime) -> Result<(), Fail> {
     Ok(())
 }
 
-/// Of a region that two sets mark whole, each is led to by the cards that entered either. Once the region's own set is emptied, none of
-/// them is, though the sets cover them still; what enters anew is.
-#[test]
-fn forgets_the_cards_of_a_freed_region(rt: HostRuntime) -> Result<(), Fail> {
-    let mut sets = filled(rt.alloc())?;
-    let region = RegionNo::new(7);
-    sets.add(region, Card::new(50));
+/// The same sets, where cards 50 and 60 of region 3 entered a set, and regions 0 to 2 were freed.
+fn left_over(alloc: Global) -> Result<RememberedSets, AllocError>
+    ensures { IfOk result (λ sets. (length sets.sets ≡ 8) × (sets.cards_per_region ≡ 16)) }
+{
+    let mut sets = filled(alloc)?;
+    sets.add(RegionNo::new(7), Card::new(50));
     sets.add(RegionNo::new(6), Card::new(60));
     sets.clear(RegionNo::new(0));
     sets.clear(RegionNo::new(1));
     sets.clear(RegionNo::new(2));
+    Ok(sets)
+}
+
+/// Of a region that two sets mark whole, each is led to by the cards that entered either. Once the region's own set is emptied, none of
+/// them is, though the sets cover them still; what enters anew is.
+#[test]
+fn forgets_the_cards_of_a_freed_region(rt: HostRuntime) -> Result<(), Fail> {
+    let mut sets = left_over(rt.alloc())?;
+    let region = RegionNo::new(7);
     let mut flags = BoundedBits::new(rt.alloc(), 128)?;
     assert!(rt; flags.len() == 128);
     sets.mark_cards(region, &mut flags);
