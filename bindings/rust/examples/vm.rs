@@ -44,10 +44,11 @@ fn cons<'f, 'h>(g: &Frame<'f, 'h>, stack: &Stack<'_, 'h>) -> Result<Option<Local
 }
 
 fn run(stack: &mut Stack<'_, '_>, code: &[Op]) -> Result<i64, Error> {
-    let (mut calls, mut base, mut pc) = (Vec::new(), 0, 0u32);
+    let (mut calls, mut base, mut pc) = (Vec::new(), 0, 0usize);
     loop {
+        let op = code[pc];
         pc += 1;
-        match code[pc as usize - 1] {
+        match op {
             Op::Int(value) => stack.reduce(0, |g, _| new_int(g, value.into()))?,
             Op::Nil => stack.push(g1heap::Nil)?,
             Op::Add => stack.reduce(2, |g, s| new_int(g, s.read(1, Int::value) + s.read(0, Int::value)))?,
@@ -57,22 +58,22 @@ fn run(stack: &mut Stack<'_, '_>, code: &[Op]) -> Result<i64, Error> {
             Op::Cdr => drop(stack.follow(Pair::cdr)),
             Op::Pick(place) => stack.pick(base + place as usize)?,
             Op::Store(place) => stack.store(base + place as usize),
-            Op::Jump(to) => pc = to,
+            Op::Jump(to) => pc = to as usize,
             Op::JumpNil(to) => {
                 if stack.top(0).is_none() {
-                    pc = to;
+                    pc = to as usize;
                 }
                 stack.truncate(stack.len() - 1);
             }
             Op::JumpZero(to) => {
                 if stack.read(0, Int::value) == 0 {
-                    pc = to;
+                    pc = to as usize;
                 }
                 stack.truncate(stack.len() - 1);
             }
             Op::Call(to, arguments) => {
                 calls.push((pc, base));
-                (pc, base) = (to, stack.len() - arguments as usize);
+                (pc, base) = (to as usize, stack.len() - arguments as usize);
             }
             Op::Return => {
                 stack.store(base);
