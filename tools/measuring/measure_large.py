@@ -181,7 +181,8 @@ def measure_library(folder, words):
             continue
         for name, program in programs:
             print(f"{name}: ", end="", flush=True)
-            subprocess.run([program, str(size), str(words.card), str(objects)], check=True)
+            if subprocess.run([program, str(size), str(words.card), str(objects)], check=False).returncode != 0:
+                sys.exit(f"2^{size} words: the rows end here; if a call was refused with 18, ask for fewer --objects")
 
 
 def write_script(folder, name, line, steps):
