@@ -297,6 +297,15 @@ void g1_policy_start(g1_policy *policy, const g1_sizes *sizes);
 /* g1_new_object, or g1_new_weak where there are weak slots, after the steps of the collector that are due. Answers as these do. */
 g1_answer g1_make(g1_heap *heap, g1_policy *policy, uint32_t mutator, uint32_t to, uint32_t pointers, uint32_t weaks, uint32_t values);
 
+/* The same with its fields, as g1_new_filled has them: where g1_make answers NAME, a g1_put for each pointer and a g1_write for each data word.
+   `to` may not be among the sources: G1_NO_STEP, and so where a source is no register. Then nothing changes.
+
+       uint32_t from[] = {FIRST, REST};
+       uint64_t words[] = {PAIR_TAG};
+       g1_make_filled(&heap, &policy, 0, CELL, from, 2, words, 1);     // register CELL: a pair of what FIRST and REST hold */
+g1_answer g1_make_filled(g1_heap *heap, g1_policy *policy, uint32_t mutator, uint32_t to, const uint32_t *from, size_t pointers,
+                         const uint64_t *words, size_t values);
+
 /* Takes the steps that are due: DONE, or NO_HEAP. */
 g1_answer g1_collect(g1_heap *heap, g1_policy *policy);
 

@@ -29,7 +29,8 @@ from measuring.counting import TOP
 ARCHIVE, INLINED, PLAIN, BOEHM = "g1heap", "inlined", "plain heap", "Boehm"
 # Megabytes of the heap in which a benchmark runs.
 JAVA = {"gcbench": 50, "binary_trees": 32}
-CALLS = ["get", "read", "write", "put", "put while marking", "move", "new 2 + 1", "name", "scope", "no such register"]
+CALLS = ["get", "read", "write", "put", "put while marking", "move", "new 2 + 1", "new filled 2 + 1", "make 2 + 1", "make filled 2 + 1",
+         "name", "scope", "no such register"]
 # A step with its size, two numbers of times of which the difference is taken, and what the difference is divided by.
 GROWTH = [
     *[("pause beside marked objects", size, 2, 12, 10) for size in (1000, 1000000)],
