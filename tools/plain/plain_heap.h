@@ -707,7 +707,7 @@ protected:
     }
 
     // Leaves the highest ordinary regions in chosen_, none while marking runs: the longest front of them, from the highest down, whose live
-    // bounds are within the copy limit and of which the last, the k-th, lies above the free region of which 2 k - 2 are lower.
+    // bounds are within the copy limit and of which the last, the k-th, is above the free region of which 2 k - 2 are lower.
     void choose_highest(Number budget) {
         Word limit = std::min(Word(budget), Word(free_count_) * sizes_.words / 2);
         chosen_.clear();
@@ -806,7 +806,7 @@ protected:
     Number free_count_;
     Number current_ = no_region;
     std::vector<Buffer> buffers_;
-    // For each card whose first word lies below its region's top, a tile at or before that word from which a walk
+    // For each card whose first word is below its region's top, a tile at or before that word from which a walk
     // reaches it; for all cards but those inside a filler it is the tile that holds that word.
     std::vector<Address> first_tile_;
 
