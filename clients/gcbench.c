@@ -13,7 +13,7 @@ static void node(reg to, uint32_t pointers, uint32_t values)
     if (!m_new(to, pointers, values)) m_die("the heap is full");
 }
 
-/* A tree from its leaves up, in register `at`. Its frame goes on behind it. */
+/* A tree from its leaves up, in register `at`. Its frame goes on after it. */
 static void make_tree(int depth, reg at)
 {
     if (depth == 0) {

@@ -1,12 +1,12 @@
 /* scheme.c: a Scheme after R4RS. All its values, and its stack, are roots and objects of memory.h: what a runtime in C has in variables and
-   on its stack stands in registers here, so a collection may come at any m_new.
+   on its stack is in registers here, so a collection may come at any m_new.
 
      scheme FILE      evaluates a file, and ends with status 1 at the first mistake
      scheme           reads from a person, and goes on after a mistake; `rlwrap scheme` edits lines
 
    Numbers are integers of 64 bits: there are no fractions and no floats, and what is beyond 64 bits is a mistake. Characters are bytes.
    Beside R4RS it has define-macro, when, error, eval and (gc-stats). Forms that aren't built in are macros of prelude.h. A symbol's object
-   stands in the global of its number. G1HEAP_REGIONS sets the size of the heap, 256 regions of 1,024 words else. */
+   is in the global of its number. G1HEAP_REGIONS sets the size of the heap, 256 regions of 1,024 words else. */
 #include <ctype.h>
 #include <errno.h>
 #include <inttypes.h>
@@ -18,7 +18,7 @@
 #include "memory.h"
 #include "prelude.h"
 
-/* Registers: those of the machine, and behind them its stack, a row of frames. WHOLE holds what is evaluated at the top. */
+/* Registers: those of the machine, and after them its stack, a row of frames. WHOLE holds what is evaluated at the top. */
 enum { EXPRESSION, ENVIRONMENT, VALUE, REST, PART, OTHER, WHOLE, STACK };
 enum { MOST_REGISTERS = 65536, MOST_SYMBOLS = 4096, MOST_NAME = 255, MOST_NESTED = 10000, MOST_PORTS = 64, MOST_TOLD = 60 };
 /* Globals: the symbols, the current ports, and the first ones. */
@@ -152,7 +152,7 @@ static void cons(reg to, reg car, reg cdr)
 static void car(reg to, reg pair) { m_get(to, pair, 0); }
 static int cdr(reg to, reg pair) { return m_get(to, pair, 1); }
 
-/* Symbols: their names stand here, their objects in globals. */
+/* Symbols: their names are here, their objects in globals. */
 static uint32_t symbols;
 static uint32_t lambda_name = RAW_LAMBDA;      /* the form that define makes: that of prelude.h once this is read */
 
@@ -165,7 +165,7 @@ static uint32_t intern(const char *name)
     if (entry.key == NULL || hsearch(entry, ENTER) == NULL) m_die("no memory");
     return symbols++;
 }
-/* The truth values and the end of a file stand in the table of symbols too: so there is one object of each. */
+/* The truth values and the end of a file are in the table of symbols too: so there is one object of each. */
 static void symbol(reg to, uint32_t id)
 {
     if (m_load(to, id)) return;
@@ -189,7 +189,7 @@ static void string(reg to, const char *bytes, size_t length)
         m_write_words(to, 2 + (uint32_t)(i / 8), words, (part + 7) / 8);
     }
 }
-/* The bytes of a string, with a 0 behind them, until the next call but one. */
+/* The bytes of a string, with a 0 after them, until the next call but one. */
 static char *bytes_of(reg it, size_t *length)
 {
     static char *buffers[2];

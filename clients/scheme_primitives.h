@@ -1,4 +1,4 @@
-/* The procedures that scheme.c has of itself, with how many arguments each takes. These stand in registers, one behind the other; the
+/* The procedures that scheme.c has of itself, with how many arguments each takes. These are in registers, one after another; the
    result goes into VALUE. Comparisons are five of numbers, characters and strings each; IS_NULL to IS_END have the order of the tags. */
 #define EACH_PRIMITIVE(X)                                                                                                                 \
     X(ADD, "+", 0, ANY) X(SUBTRACT, "-", 1, ANY) X(MULTIPLY, "*", 0, ANY) X(QUOTIENT, "quotient", 2, 2) X(REMAINDER, "remainder", 2, 2)   \

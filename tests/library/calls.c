@@ -1,4 +1,4 @@
-/* Each call of g1heap.h once or more, by answers that include/g1heap.h promises. Two heaps stand side by side. */
+/* Each call of g1heap.h once or more, by answers that include/g1heap.h promises. Two heaps are used side by side. */
 #include <g1heap.h>
 #include <stdio.h>
 
@@ -160,7 +160,7 @@ static void made_filled(g1_heap *h, const g1_sizes *sizes)
     g1_scope(h, 1, 0);
 }
 
-/* The heap has 4 regions of 16 words and buffers of 8. Two objects stand in it, of 4 and of 5 words: each has a buffer, in one region. */
+/* The heap has 4 regions of 16 words and buffers of 8. Two objects are in it, of 4 and of 5 words: each has a buffer, in one region. */
 static void collect(g1_heap *h, uint64_t name)
 {
     is("free regions", g1_free_regions(h), G1_NUMBER, 3, 0);

@@ -171,7 +171,7 @@ def check_facts(count, name, path, record, facts, sizes, every):
 
 
 def check_told_record(count, name, record, told, moments):
-    """All lines of the record stand in the page, or where they are too many those next to a moment."""
+    """All lines of the record are in the page, or where they are too many those next to a moment."""
     lines, events = record.splitlines(True), {moment.event for moment in moments}
     if len(lines) - 1 > TOLD_EVENTS:
         lines = [line for event, line in enumerate(lines) if event == 0 or event in events or event - 1 in events]

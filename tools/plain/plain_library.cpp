@@ -53,7 +53,7 @@ public:
         return false;
     }
 
-    // How many free regions lie side by side, at most.
+    // How many free regions are side by side, at most.
     Number free_run() const {
         Number most = 0;
         for (Number region = 0, length = 0; region < sizes_.regions; ++region) {

@@ -17,7 +17,7 @@ use heap_words::config::Config;
 use script_text::{Text, WatchedWriter, write_record};
 use std::alloc::{AllocError, Global};
 
-/// Up to how many events all lines of the record stand in the page.
+/// Up to how many events all lines of the record are in the page.
 const MOST_EVENTS: usize = 100_000;
 
 /// The text of a record.
@@ -64,7 +64,7 @@ fn near_lines(alloc: Global, text: &[u8], moments: &[Moment]) -> Result<Vec<u8>,
     Ok(lines)
 }
 
-/// The lines of the record that stand in the page: all of them, or where they are too many some.
+/// The lines of the record that are in the page: all of them, or where they are too many some.
 fn lines_of(alloc: Global, life: &Life) -> Result<Vec<u8>, AllocError>
     ensures { IfOk result (λ lines. length life.now.history.events ≤ 100000 → lines.items ≡ record_text life.now.history) }
 {
@@ -112,7 +112,7 @@ fn put_facts(text: &mut Text, name: &str, names: &[u8], life: &Life)
     put_pace(text, &life.pace, events.len() as u64);
 }
 
-/// What stands between the record's lines and the moments'.
+/// What is between the record's lines and the moments'.
 fn text_between(alloc: Global, name: &str, names: &[u8], life: &Life) -> Result<Vec<u8>, AllocError>
     ensures { IfOk result (λ text. (front : List ℕ) × (text.items ≡ front ++ facts_text name.now names.now life.now)) }
 {
@@ -139,7 +139,7 @@ fn text_behind(alloc: Global) -> Result<Vec<u8>, AllocError> {
     text.into_bytes()
 }
 
-/// What stands before the record's lines.
+/// What comes before the record's lines.
 fn text_before() -> &'static [u8] {
     BEFORE.as_bytes()
 }

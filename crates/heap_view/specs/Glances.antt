@@ -38,12 +38,12 @@ total_line c = ended (codes "in all: " ++ decimal (used_words c) ++ codes " of "
     ++ codes " words handed out, " ++ decimal (live_words c) ++ codes " live, " ++ decimal (free_count c.table) ++ codes " of "
     ++ decimal c.config.regions ++ codes " regions free, " ++ decimal (length c.cards.queue) ++ codes " cards queued")
 
--- what stands below the regions: in a summary what they add up to, else the queue, the roots and the mutators
+-- what is below the regions: in a summary what they add up to, else the queue, the roots and the mutators
 unfoldable pub below_regions : Bool → CoreState → List ℕ
 below_regions true c = total_line c
 below_regions false c = queue_line c.cards.queue ++ actor_lines c
 
--- the region that is asked for, or each region and what stands below them
+-- the region that is asked for, or each region and what is below them
 unfoldable pub viewed_regions : Option ℕ → Bool → CoreState → List ℕ
 viewed_regions (Some k) summary c = numbered_region summary c k
 viewed_regions None summary c =

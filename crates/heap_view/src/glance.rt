@@ -19,7 +19,7 @@ use step_core::Core;
 pub struct Glance {
     /// After so many steps, or where there are fewer after the last one. `None`: after the last one.
     pub at: Option<u32>,
-    /// This region alone. `None`: each region, and what stands beside them.
+    /// This region alone. `None`: each region, and what is beside them.
     pub region: Option<u32>,
     /// A line a region, and what they add up to, in place of tiles, sets and roots.
     pub summary: bool,
@@ -83,7 +83,7 @@ fn put_totals(core: &Core, text: &mut Text)
     text.put("\n");
 }
 
-/// Puts what stands below the regions.
+/// Puts what is below the regions.
 fn put_below(core: &Core, text: &mut Text, summary: bool)
     ensures { Adds text.old (below_regions summary core.now) text.new }
 {
@@ -95,7 +95,7 @@ fn put_below(core: &Core, text: &mut Text, summary: bool)
     put_actors(core, text);
 }
 
-/// Puts the region that is asked for, or each and what stands below them.
+/// Puts the region that is asked for, or each and what is below them.
 fn put_viewed(core: &Core, text: &mut Text, region: Option<u32>, summary: bool)
     ensures { Adds text.old (viewed_regions region summary core.now) text.new }
 {

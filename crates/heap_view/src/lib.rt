@@ -1,4 +1,4 @@
-//! A view of a heap: its regions, objects, cards and roots as they stand, as lines for a person's eyes.
+//! A view of a heap: its regions, objects, cards and roots as they are, as lines for a person's eyes.
 //!
 //! ```text
 //!   heap 4 16 8 1 0                                  the script's first line: the sizes

@@ -82,7 +82,7 @@ fn exchanges_roles(rt: HostRuntime) -> Result<(), Fail> {
     Ok(())
 }
 
-/// Three regions of 16 words over a cycle: at first nothing lies below a top; then region 1 has its next top at
+/// Three regions of 16 words over a cycle: at first nothing is below a top; then region 1 has its next top at
 /// 20, which becomes the previous one, and is released.
 #[test]
 fn lives_over_a_cycle(rt: HostRuntime) -> Result<(), Fail> {
