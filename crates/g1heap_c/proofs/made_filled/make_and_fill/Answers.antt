@@ -14,8 +14,8 @@ returns g c = record {
         core = c.make-reply.new.core;
         tells = c.answer_of.ensures;
         held = refl;
-        makes = unseen_made g.W.Watch.sees _ c.plain-op.result c.make-reply.result c.args.core.now c.make-reply.new.core c.args.watch.now c.make-reply.new.watch
-            c.make-reply.ensures.makes;
+        makes = unseen_made g.W.Watch.sees _ c.plain-op.result c.make-reply.result c.args.core.now c.make-reply.new.core c.args.watch.now
+            c.make-reply.new.watch c.make-reply.ensures.makes;
         full = c.make-reply.ensures.full;
         two = c.make-reply.ensures.two;
       });
