@@ -1,6 +1,7 @@
 //! Texts to values.
 
 pub(crate) mod awaited;
+pub(crate) mod callers;
 pub(crate) mod events;
 pub(crate) mod input;
 pub(crate) mod line_words;

@@ -20,6 +20,7 @@ ghost use Rattle.script_text.specs.Awaited.{Begins, IsUnended, IsNext};
 ghost use Rattle.script_text.specs.Waiting.{EndsWhole};
 
 use crate::fault::{Kind, ReadFault};
+use crate::read::callers::AWAITED_EVENT;
 use crate::read::records::front_event;
 use crate::read::script::{LONGEST_LINE, heap_line};
 use crate::read::watched::WatchedReader;
@@ -183,7 +184,7 @@ impl LineBuffer {
         if self.start == self.whole {
             return None;
         }
-        let front = front_event::<7>(count, config, &self.bytes[self.start..self.end]);
+        let front = front_event::<AWAITED_EVENT>(count, config, &self.bytes[self.start..self.end]);
         match front.event {
             Ok(event) => {
                 self.start += front.length + 1;
