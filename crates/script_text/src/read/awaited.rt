@@ -27,6 +27,7 @@ use crate::read::watched::WatchedReader;
 use crate::read::words::split_front;
 use heap_steps::Event;
 use heap_words::config::Config;
+use memchr::memrchr;
 use std::alloc::{AllocError, Global};
 use std::io::Read;
 use std::marker::Model;
@@ -64,18 +65,15 @@ fn front_heap(text: &[u8]) -> FrontHeap
     }
 }
 
-/// Where the whole lines of some bytes end: after the last line feed, or at the front, where there is none. It is looked for from the end.
+/// Where the whole lines of some bytes end: after the last line feed, or at the front, where there is none.
+#[inline(never)]
 fn whole_end(bytes: &[u8]) -> usize
     ensures { EndsWhole bytes.now 0 result (length bytes.now) }
 {
-    let mut at = bytes.len();
-    while at > 0 {
-        if bytes[at - 1] == b'\n' {
-            return at;
-        }
-        at -= 1;
+    match memrchr(b'\n', bytes) {
+        Some(at) => at + 1,
+        None => 0,
     }
-    0
 }
 
 /// Moves the bytes between two places to the front, and reads once after them. Answers where what was read ends.
