@@ -1,14 +1,15 @@
 //! Texts to values.
 
 pub(crate) mod awaited;
+pub(crate) mod callers;
 pub(crate) mod events;
 pub(crate) mod input;
+pub(crate) mod line_words;
 pub(crate) mod record_events;
 pub(crate) mod records;
 pub(crate) mod replies;
 pub(crate) mod script;
 pub(crate) mod script_steps;
-pub(crate) mod standing;
 pub(crate) mod steps;
 pub(crate) mod usual;
 pub(crate) mod usual_collections;

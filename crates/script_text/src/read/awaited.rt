@@ -20,12 +20,14 @@ ghost use Rattle.script_text.specs.Awaited.{Begins, IsUnended, IsNext};
 ghost use Rattle.script_text.specs.Waiting.{EndsWhole};
 
 use crate::fault::{Kind, ReadFault};
+use crate::read::callers::AWAITED_EVENT;
 use crate::read::records::front_event;
 use crate::read::script::{LONGEST_LINE, heap_line};
 use crate::read::watched::WatchedReader;
 use crate::read::words::split_front;
 use heap_steps::Event;
 use heap_words::config::Config;
+use memchr::memrchr;
 use std::alloc::{AllocError, Global};
 use std::io::Read;
 use std::marker::Model;
@@ -63,18 +65,15 @@ fn front_heap(text: &[u8]) -> FrontHeap
     }
 }
 
-/// Where the whole lines of some bytes end: after the last line feed, or at the front, where there is none. It is looked for from the end.
+/// Where the whole lines of some bytes end: after the last line feed, or at the front, where there is none.
+#[inline(never)]
 fn whole_end(bytes: &[u8]) -> usize
     ensures { EndsWhole bytes.now 0 result (length bytes.now) }
 {
-    let mut at = bytes.len();
-    while at > 0 {
-        if bytes[at - 1] == b'\n' {
-            return at;
-        }
-        at -= 1;
+    match memrchr(b'\n', bytes) {
+        Some(at) => at + 1,
+        None => 0,
     }
-    0
 }
 
 /// Moves the bytes between two places to the front, and reads once after them. Answers where what was read ends.
@@ -183,7 +182,7 @@ impl LineBuffer {
         if self.start == self.whole {
             return None;
         }
-        let front = front_event::<7>(count, config, &self.bytes[self.start..self.end]);
+        let front = front_event::<AWAITED_EVENT>(count, config, &self.bytes[self.start..self.end]);
         match front.event {
             Ok(event) => {
                 self.start += front.length + 1;

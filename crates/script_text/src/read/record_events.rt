@@ -15,6 +15,7 @@ ghost use Rattle.script_text.specs.Events.{record_of};
 ghost use Rattle.script_text.specs.EventsLeft.{fault_ahead, history_of};
 
 use crate::fault::{Kind, LineFault};
+use crate::read::callers::{CHECKED_EVENTS, NEXT_EVENT, USUAL_EVENT};
 use crate::read::records::front_event;
 use crate::read::script::{HeapLine, first_line};
 use crate::read::usual_events::{EventLine, usual_event};
@@ -33,7 +34,7 @@ fn check_events(first: u64, config: &Config, lines: &[u8]) -> Result<(), LineFau
     let mut rest = lines;
     let mut count = first;
     'lines: while has_feed(rest) {
-        let front = front_event::<5>(count, config, rest);
+        let front = front_event::<CHECKED_EVENTS>(count, config, rest);
         if let Err(kind) = front.event {
             return Err(LineFault {
                 line: count + 1,
@@ -131,7 +132,9 @@ impl<'a> RecordEvents<'a> {
             return None;
         }
         let config = self.config;
-        let Some(EventLine { event, length }) = usual_event::<6>(self.count, &config, lines) else {
+        let Some(EventLine { event, length }) = usual_event::<USUAL_EVENT>(
+            self.count, &config, lines,
+        ) else {
             return None;
         };
         self.lines = &lines[length + 1..];
@@ -172,7 +175,7 @@ impl<'a> RecordEvents<'a> {
             });
         }
         let config = self.config;
-        let front = front_event::<8>(self.count, &config, lines);
+        let front = front_event::<NEXT_EVENT>(self.count, &config, lines);
         match front.event {
             Ok(event) => {
                 self.lines = &lines[front.length + 1..];

@@ -7,6 +7,7 @@ ghost use Rattle.script_text.specs.Lines.{words_of, Gives};
 ghost use Rattle.script_text.specs.Events.{event_line_of, record_of};
 
 use crate::fault::{Kind, LineFault};
+use crate::read::callers::RECORD;
 use crate::read::events::event;
 use crate::read::script::{HeapLine, LONGEST_LINE, first_line};
 use crate::read::usual_events::{EventLine, usual_event};
@@ -52,7 +53,8 @@ fn parted_event(count: u64, config: &Config, text: &[u8]) -> FrontEvent
     }
 }
 
-/// The same, where most lines are of the usual events; the words of others are parted first. Each caller has a copy of its own.
+/// The same, where most lines are of the usual events; the words of others are parted first. Each caller has a copy of its own
+/// (`callers`).
 pub(crate) fn front_event<const CALLER: usize>(
     count: u64,
     config: &Config,
@@ -91,7 +93,7 @@ pub fn parse_record(alloc: Global, text: &[u8]) -> Result<Record, LineFault>
     let mut rest = &text[length + 1..];
     let mut count = 1u64;
     'lines: while has_feed(rest) {
-        let FrontEvent { length, event } = front_event::<4>(count, &config, rest);
+        let FrontEvent { length, event } = front_event::<RECORD>(count, &config, rest);
         let event = match event {
             Ok(event) => event,
             Err(kind) => {

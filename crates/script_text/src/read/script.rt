@@ -9,6 +9,7 @@ ghost use Rattle.script_text.specs.Reading.{sizes_in, third_of, sizes_of};
 ghost use Rattle.script_text.specs.Lines.{pieces_of, words_of, heap_line_of, step_line_of, Gives, script_of};
 
 use crate::fault::{Kind, LineFault};
+use crate::read::callers::PLAN;
 use crate::read::steps::step;
 use crate::read::usual::usual_step;
 use crate::read::words::{Front, has_feed, is_word, number, small_number, split_front, split_line};
@@ -220,7 +221,7 @@ pub fn parse(alloc: Global, text: &[u8]) -> Result<Plan, LineFault>
     let mut rest = &text[length + 1..];
     let mut number = 2u64;
     'lines: while has_feed(rest) {
-        let StepLine { step, length } = match front_step::<0>(&config, rest, &mut words) {
+        let StepLine { step, length } = match front_step::<PLAN>(&config, rest, &mut words) {
             Ok(line) => line,
             Err(kind) => return Err(LineFault { line: number, kind }),
         };

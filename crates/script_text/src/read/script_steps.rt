@@ -14,6 +14,7 @@ ghost use Rattle.script_text.specs.StepsLeft.{IsFaultless};
 ghost use Rattle.script_text.specs.Spelling.{step_words, spaced};
 
 use crate::fault::{Kind, LineFault};
+use crate::read::callers::{CHECKED_STEPS, NEXT_STEP};
 use crate::read::script::{HeapLine, StepLine, first_line, front_step};
 use crate::read::words::has_feed;
 use heap_steps::Step;
@@ -30,7 +31,9 @@ fn check_lines(config: &Config, lines: &[u8]) -> Result<(), LineFault>
     let mut rest = lines;
     let mut number = 2u64;
     'lines: while has_feed(rest) {
-        let StepLine { step: _, length } = match front_step::<2>(config, rest, &mut words) {
+        let StepLine { step: _, length } = match front_step::<CHECKED_STEPS>(
+            config, rest, &mut words,
+        ) {
             Ok(line) => line,
             Err(kind) => return Err(LineFault { line: number, kind }),
         };
@@ -139,7 +142,7 @@ impl<'a> ScriptSteps<'a> {
         if !has_feed(lines) {
             return None;
         }
-        let Ok(line) = front_step::<3>(&config, lines, &mut self.words) else {
+        let Ok(line) = front_step::<NEXT_STEP>(&config, lines, &mut self.words) else {
             return None;
         };
         self.lines = &lines[line.length + 1..];

@@ -10,6 +10,7 @@ ghost use Rattle.heap_words.specs.declared.config.Format.{Format};
 ghost use Rattle.heap_steps.specs.Actors.{IsStep};
 
 use crate::fault::Kind;
+use crate::read::callers::STEP_WORDS;
 use crate::read::words::{global, is_word, number, register, small_number, value};
 use heap_steps::{Action, CollectorStep, Counts, Op, Step, is_third};
 use heap_words::config::{Config, Format};
@@ -304,7 +305,7 @@ fn lone_action(config: &Config, verb: &[u8], a: &[u8]) -> Option<Action>
 }
 
 /// A mutator's step that heaps of these sizes have: each root that it names is there, and their format knows it. A caller gives a number of
-/// its own, and so gets a copy of its own, which stands within it.
+/// its own (`callers`), and so gets a copy of its own, which is a part of it.
 #[tactic(auto, unfolding(crate::specs::Reading::action_of, crate::specs::Reading::allowed_of))]
 pub(crate) fn allowed<const CALLER: usize>(config: &Config, words: &[&[u8]]) -> Option<Action>
     ensures { result ≡ allowed_of config.now (map (λ w. w.now) words.now) }
@@ -402,7 +403,7 @@ pub(crate) fn step(config: &Config, words: &[&[u8]]) -> Result<Step, Kind>
         return Ok(Step::Collector(collection));
     }
     let mutator = mutator(config, actor)?;
-    let Some(action) = allowed::<0>(config, rest) else {
+    let Some(action) = allowed::<STEP_WORDS>(config, rest) else {
         return Err(Kind::BadStep);
     };
     Ok(Step::Mutator(Op { mutator, action }))

@@ -17,72 +17,64 @@ ghost use Rattle.script_text.specs.Fronts.{words_from, IsCollection, IsOwnCollec
 ghost use Rattle.script_text.specs.Lines.{step_line_of};
 ghost use Rattle.script_text.specs.Records.{reply_words};
 
+use crate::read::line_words::{
+    Found, after_verb, last_literal, last_number, next_lettered, next_number, number_after,
+};
 use crate::read::script::{LONGEST_LINE, StepLine};
-use crate::read::standing::{behind_verb, last_literal, last_number, next_lettered, next_number};
-use crate::read::usual_events::{EventLine, LastReply};
+use crate::read::usual_events::EventLine;
 use heap_steps::{Actor, CollectorStep, Event, Refusal, Reply, Step};
 
-/// One of the collector's steps in a line, and where its last word ends.
-#[derive(Clone, Copy)]
-struct LastCollection {
-    collection: CollectorStep,
-    past: usize,
-}
-
-/// The collector's step with a number that stands in a line from a place on.
+/// The collector's step with a number in a line from a place on.
 #[inline(always)]
-fn numbered_collection(text: &[u8], at: usize, more: bool) -> Option<LastCollection>
+fn numbered_collection(text: &[u8], at: usize, more: bool) -> Option<Found<CollectorStep>>
     requires ended { end_of text.now < length text.now }
     requires within { at ≤ end_of text.now }
-    ensures { IfSome result (λ k. IsCollection text.now (words_from text.now at) k.collection k.past more) }
+    ensures { IfSome result (λ k. IsCollection text.now (words_from text.now at) k.value k.past more) }
 {
-    if let Some(next) = behind_verb(text, at, b"refine") {
-        let cards = last_number(text, next, more)?;
-        return Some(LastCollection {
-            collection: CollectorStep::Refine(cards.number),
+    if let Some(cards) = number_after(text, at, b"refine", more) {
+        return Some(Found {
+            value: CollectorStep::Refine(cards.value),
             past: cards.past,
         });
     }
-    if let Some(next) = behind_verb(text, at, b"mark") {
-        let units = last_number(text, next, more)?;
-        return Some(LastCollection {
-            collection: CollectorStep::Mark(units.number),
+    if let Some(units) = number_after(text, at, b"mark", more) {
+        return Some(Found {
+            value: CollectorStep::Mark(units.value),
             past: units.past,
         });
     }
-    let next = behind_verb(text, at, b"pause")?;
-    let budget = last_number(text, next, more)?;
-    Some(LastCollection {
-        collection: CollectorStep::Pause(budget.number),
+    let budget = number_after(text, at, b"pause", more)?;
+    Some(Found {
+        value: CollectorStep::Pause(budget.value),
         past: budget.past,
     })
 }
 
-/// The collector's step that stands in a line from a place on. The verbs that are used most are tried first.
+/// The collector's step in a line from a place on. The verbs that are used most are tried first.
 #[inline(always)]
-fn usual_collection(text: &[u8], at: usize, more: bool) -> Option<LastCollection>
+fn usual_collection(text: &[u8], at: usize, more: bool) -> Option<Found<CollectorStep>>
     requires ended { end_of text.now < length text.now }
     requires within { at ≤ end_of text.now }
-    ensures { IfSome result (λ k. IsCollection text.now (words_from text.now at) k.collection k.past more) }
+    ensures { IfSome result (λ k. IsCollection text.now (words_from text.now at) k.value k.past more) }
 {
     if let Some(last) = numbered_collection(text, at, more) {
         return Some(last);
     }
     if let Some(past) = last_literal(text, at, b"begin", more) {
-        return Some(LastCollection {
-            collection: CollectorStep::Begin,
+        return Some(Found {
+            value: CollectorStep::Begin,
             past,
         });
     }
     if let Some(past) = last_literal(text, at, b"remark", more) {
-        return Some(LastCollection {
-            collection: CollectorStep::Remark,
+        return Some(Found {
+            value: CollectorStep::Remark,
             past,
         });
     }
     let past = last_literal(text, at, b"cleanup", more)?;
-    Some(LastCollection {
-        collection: CollectorStep::Cleanup,
+    Some(Found {
+        value: CollectorStep::Cleanup,
         past,
     })
 }
@@ -95,8 +87,11 @@ pub(crate) fn collection_line(text: &[u8]) -> Option<StepLine>
     ensures step { IfSome result (λ l. (c : Config) → step_line_of c (line_of text.now) ≡ Ok l.step) }
     ensures known { IfSome result (λ l. (c : Config) → IsStep c l.step) }
 {
-    let at = behind_verb(text, 0, b"gc")?;
-    let LastCollection { collection, past } = usual_collection(text, at, false)?;
+    let at = after_verb(text, 0, b"gc")?;
+    let Found {
+        value: collection,
+        past,
+    } = usual_collection(text, at, false)?;
     if past > LONGEST_LINE {
         return None;
     }
@@ -114,15 +109,18 @@ struct OwnCollection {
     past: usize,
 }
 
-/// A step of the scripted collector, after its name, that stands in a line from a place on.
+/// A step of the scripted collector, with its name, in a line from a place on.
 #[inline(always)]
 fn scripted_collection(text: &[u8], at: usize) -> Option<OwnCollection>
     requires ended { end_of text.now < length text.now }
     requires within { at ≤ end_of text.now }
     ensures { IfSome result (λ o. IsOwnCollection text.now at o.actor o.collection o.past) }
 {
-    let next = behind_verb(text, at, b"gc")?;
-    let LastCollection { collection, past } = usual_collection(text, next, true)?;
+    let next = after_verb(text, at, b"gc")?;
+    let Found {
+        value: collection,
+        past,
+    } = usual_collection(text, next, true)?;
     Some(OwnCollection {
         actor: Actor::Collector,
         collection,
@@ -138,14 +136,13 @@ fn marker_collection(text: &[u8], at: usize) -> Option<OwnCollection>
     ensures { IfSome result (λ o. IsOwnCollection text.now at o.actor o.collection o.past) }
 {
     let marker = next_lettered(text, at, b'm')?;
-    if marker.number > 7 {
+    if marker.value > 7 {
         return None;
     }
-    let next = behind_verb(text, marker.past, b"mark")?;
-    let units = last_number(text, next, true)?;
+    let units = number_after(text, marker.past, b"mark", true)?;
     Some(OwnCollection {
-        actor: Actor::Marker(marker.number as u8),
-        collection: CollectorStep::Mark(units.number),
+        actor: Actor::Marker(marker.value as u8),
+        collection: CollectorStep::Mark(units.value),
         past: units.past,
     })
 }
@@ -158,14 +155,13 @@ fn refiner_collection(text: &[u8], at: usize) -> Option<OwnCollection>
     ensures { IfSome result (λ o. IsOwnCollection text.now at o.actor o.collection o.past) }
 {
     let refiner = next_lettered(text, at, b'f')?;
-    if refiner.number > 7 {
+    if refiner.value > 7 {
         return None;
     }
-    let next = behind_verb(text, refiner.past, b"refine")?;
-    let cards = last_number(text, next, true)?;
+    let cards = number_after(text, refiner.past, b"refine", true)?;
     Some(OwnCollection {
-        actor: Actor::Refiner(refiner.number as u8),
-        collection: CollectorStep::Refine(cards.number),
+        actor: Actor::Refiner(refiner.value as u8),
+        collection: CollectorStep::Refine(cards.value),
         past: cards.past,
     })
 }
@@ -187,85 +183,82 @@ fn own_collection(text: &[u8], at: usize) -> Option<OwnCollection>
     refiner_collection(text, at)
 }
 
-/// The reply to a pause that stands in a line from a place on and ends it.
+/// The reply to a pause in a line from a place on, which ends the line.
 #[inline(always)]
-fn moved_reply(text: &[u8], at: usize) -> Option<LastReply>
+fn moved_reply(text: &[u8], at: usize) -> Option<Found<Reply>>
     requires ended { end_of text.now < length text.now }
     requires within { at ≤ end_of text.now }
-    ensures words { IfSome result (λ r. words_from text.now at ≡ reply_words r.reply) }
-    ensures fits { IfSome result (λ r. ReplyFits r.reply) }
+    ensures words { IfSome result (λ r. words_from text.now at ≡ reply_words r.value) }
+    ensures fits { IfSome result (λ r. ReplyFits r.value) }
     ensures ends { IfSome result (λ r. r.past ≡ end_of text.now) }
 {
-    let next = behind_verb(text, at, b"moved")?;
+    let next = after_verb(text, at, b"moved")?;
     let regions = next_number(text, next)?;
     let words = last_number(text, regions.past, false)?;
-    Some(LastReply {
-        reply: Reply::Moved {
-            regions: regions.number,
-            words: words.number,
+    Some(Found {
+        value: Reply::Moved {
+            regions: regions.value,
+            words: words.value,
         },
         past: words.past,
     })
 }
 
-/// A refusal of one of the collector's steps that stands in a line from a place on and ends it.
+/// A refusal of one of the collector's steps in a line from a place on, which ends the line.
 #[inline(always)]
-fn refused_reply(text: &[u8], at: usize) -> Option<LastReply>
+fn refused_reply(text: &[u8], at: usize) -> Option<Found<Reply>>
     requires ended { end_of text.now < length text.now }
     requires within { at ≤ end_of text.now }
-    ensures words { IfSome result (λ r. words_from text.now at ≡ reply_words r.reply) }
-    ensures fits { IfSome result (λ r. ReplyFits r.reply) }
+    ensures words { IfSome result (λ r. words_from text.now at ≡ reply_words r.value) }
+    ensures fits { IfSome result (λ r. ReplyFits r.value) }
     ensures ends { IfSome result (λ r. r.past ≡ end_of text.now) }
 {
-    let number = behind_verb(text, at, b"refused")?;
-    if let Some(name) = behind_verb(text, number, b"7") {
+    let number = after_verb(text, at, b"refused")?;
+    if let Some(name) = after_verb(text, number, b"7") {
         let past = last_literal(text, name, b"NotMarking", false)?;
-        return Some(LastReply {
-            reply: Reply::Refused(Refusal::NotMarking),
+        return Some(Found {
+            value: Reply::Refused(Refusal::NotMarking),
             past,
         });
     }
-    let name = behind_verb(text, number, b"6")?;
+    let name = after_verb(text, number, b"6")?;
     let past = last_literal(text, name, b"MarkRunning", false)?;
-    Some(LastReply {
-        reply: Reply::Refused(Refusal::MarkRunning),
+    Some(Found {
+        value: Reply::Refused(Refusal::MarkRunning),
         past,
     })
 }
 
-/// The reply to one of the collector's steps that stands in a line from a place on and ends it.
+/// The reply to one of the collector's steps in a line from a place on, which ends the line.
 #[inline(always)]
-fn collection_reply(text: &[u8], at: usize) -> Option<LastReply>
+fn collection_reply(text: &[u8], at: usize) -> Option<Found<Reply>>
     requires ended { end_of text.now < length text.now }
     requires within { at ≤ end_of text.now }
-    ensures words { IfSome result (λ r. words_from text.now at ≡ reply_words r.reply) }
-    ensures fits { IfSome result (λ r. ReplyFits r.reply) }
+    ensures words { IfSome result (λ r. words_from text.now at ≡ reply_words r.value) }
+    ensures fits { IfSome result (λ r. ReplyFits r.value) }
     ensures ends { IfSome result (λ r. r.past ≡ end_of text.now) }
 {
     if let Some(past) = last_literal(text, at, b"ok", false) {
-        return Some(LastReply {
-            reply: Reply::Done,
+        return Some(Found {
+            value: Reply::Done,
             past,
         });
     }
-    if let Some(next) = behind_verb(text, at, b"refined") {
-        let cards = last_number(text, next, false)?;
-        return Some(LastReply {
-            reply: Reply::Refined(cards.number),
+    if let Some(cards) = number_after(text, at, b"refined", false) {
+        return Some(Found {
+            value: Reply::Refined(cards.value),
             past: cards.past,
         });
     }
-    if let Some(next) = behind_verb(text, at, b"marked") {
-        let objects = last_number(text, next, false)?;
-        return Some(LastReply {
-            reply: Reply::Marked(objects.number),
+    if let Some(objects) = number_after(text, at, b"marked", false) {
+        return Some(Found {
+            value: Reply::Marked(objects.value),
             past: objects.past,
         });
     }
-    if let Some(next) = behind_verb(text, at, b"reclaimed") {
-        let regions = last_number(text, next, false)?;
-        return Some(LastReply {
-            reply: Reply::Reclaimed(regions.number),
+    if let Some(regions) = number_after(text, at, b"reclaimed", false) {
+        return Some(Found {
+            value: Reply::Reclaimed(regions.value),
             past: regions.past,
         });
     }
@@ -275,7 +268,7 @@ fn collection_reply(text: &[u8], at: usize) -> Option<LastReply>
     refused_reply(text, at)
 }
 
-/// The event that stands in a line after its count, where its step is one of the collector's. It stands alone, apart from a mutator's
+/// The event in a line after its count, where its step is one of the collector's. It is a function of its own, apart from a mutator's
 /// events, which are more.
 #[inline(never)]
 fn event_apart(text: &[u8], at: usize) -> Option<EventLine>
@@ -288,9 +281,9 @@ fn event_apart(text: &[u8], at: usize) -> Option<EventLine>
         collection,
         past,
     } = own_collection(text, at)?;
-    let next = behind_verb(text, past + 1, b"=")?;
-    let LastReply {
-        reply,
+    let next = after_verb(text, past + 1, b"=")?;
+    let Found {
+        value: reply,
         past: length,
     } = collection_reply(text, next)?;
     if length > LONGEST_LINE {

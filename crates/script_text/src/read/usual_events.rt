@@ -15,11 +15,11 @@ ghost use Rattle.script_text.specs.Fits.{ReplyFits};
 ghost use Rattle.script_text.specs.Fronts.{words_from};
 ghost use Rattle.script_text.specs.Records.{reply_words};
 
-use crate::read::script::LONGEST_LINE;
-use crate::read::standing::{
-    behind_verb, ends_word, last_literal, last_number, lettered_at, next_number,
+use crate::read::line_words::{
+    Found, after_verb, last_lettered, last_literal, last_number, next_number,
 };
-use crate::read::usual::{LastAction, usual_action};
+use crate::read::script::LONGEST_LINE;
+use crate::read::usual::usual_action;
 use crate::read::usual_collections::collection_event;
 use heap_steps::{Actor, Event, Op, Reply, Step};
 use heap_words::config::Config;
@@ -31,39 +31,29 @@ pub(crate) struct EventLine {
     pub(crate) length: usize,
 }
 
-/// A reply that ends a line, and where it ends.
-#[derive(Clone, Copy)]
-pub(crate) struct LastReply {
-    pub(crate) reply: Reply,
-    pub(crate) past: usize,
-}
-
-/// The name of an object that stands in a line from a place on and ends it.
+/// The name of an object in a line from a place on, which ends the line.
 #[inline(always)]
-fn named_reply(text: &[u8], at: usize) -> Option<LastReply>
+fn named_reply(text: &[u8], at: usize) -> Option<Found<Reply>>
     requires ended { end_of text.now < length text.now }
     requires within { at ≤ end_of text.now }
-    ensures words { IfSome result (λ r. words_from text.now at ≡ reply_words r.reply) }
-    ensures fits { IfSome result (λ r. ReplyFits r.reply) }
+    ensures words { IfSome result (λ r. words_from text.now at ≡ reply_words r.value) }
+    ensures fits { IfSome result (λ r. ReplyFits r.value) }
     ensures ends { IfSome result (λ r. r.past ≡ end_of text.now) }
 {
-    let word = lettered_at(text, at, b'#')?;
-    if !ends_word(text, word.past, false) {
-        return None;
-    }
-    Some(LastReply {
-        reply: Reply::Named(Some(u64::from(word.number))),
+    let word = last_lettered(text, at, b'#', false)?;
+    Some(Found {
+        value: Reply::Named(Some(u64::from(word.value))),
         past: word.past,
     })
 }
 
-/// The reply of one word that stands in a line from a place on and ends it.
+/// The reply of one word in a line from a place on, which ends the line.
 #[inline(always)]
-fn usual_reply(text: &[u8], at: usize) -> Option<LastReply>
+fn usual_reply(text: &[u8], at: usize) -> Option<Found<Reply>>
     requires ended { end_of text.now < length text.now }
     requires within { at ≤ end_of text.now }
-    ensures words { IfSome result (λ r. words_from text.now at ≡ reply_words r.reply) }
-    ensures fits { IfSome result (λ r. ReplyFits r.reply) }
+    ensures words { IfSome result (λ r. words_from text.now at ≡ reply_words r.value) }
+    ensures fits { IfSome result (λ r. ReplyFits r.value) }
     ensures ends { IfSome result (λ r. r.past ≡ end_of text.now) }
 {
     let first = text[at];
@@ -72,26 +62,26 @@ fn usual_reply(text: &[u8], at: usize) -> Option<LastReply>
     }
     if first == b'o' {
         let past = last_literal(text, at, b"ok", false)?;
-        return Some(LastReply {
-            reply: Reply::Done,
+        return Some(Found {
+            value: Reply::Done,
             past,
         });
     }
     if first == b'n' {
         let past = last_literal(text, at, b"nil", false)?;
-        return Some(LastReply {
-            reply: Reply::Named(None),
+        return Some(Found {
+            value: Reply::Named(None),
             past,
         });
     }
     let word = last_number(text, at, false)?;
-    Some(LastReply {
-        reply: Reply::Word(u64::from(word.number)),
+    Some(Found {
+        value: Reply::Word(u64::from(word.value)),
         past: word.past,
     })
 }
 
-/// The event of this count whose line stands at a text's front, where it is one of the usual ones.
+/// The event of this count whose line is at a text's front, where it is one of the usual ones.
 #[inline(always)]
 pub(crate) fn usual_event<const CALLER: usize>(
     count: u64,
@@ -104,30 +94,33 @@ pub(crate) fn usual_event<const CALLER: usize>(
     ensures known { IfSome result (λ l. IsEvent config.now l.event) }
 {
     let number = next_number(text, 0)?;
-    if u64::from(number.number) != count {
+    if u64::from(number.value) != count {
         return None;
     }
     let Some(mutator) = next_number(text, number.past) else {
         return collection_event(text, number.past);
     };
-    if mutator.number >= config.mutators {
+    if mutator.value >= config.mutators {
         return None;
     }
-    let LastAction { action, past } = usual_action::<CALLER>(config, text, mutator.past, true)?;
-    let at = behind_verb(text, past + 1, b"=")?;
-    let LastReply {
-        reply,
+    let Found {
+        value: action,
+        past,
+    } = usual_action::<CALLER>(config, text, mutator.past, true)?;
+    let at = after_verb(text, past + 1, b"=")?;
+    let Found {
+        value: reply,
         past: length,
     } = usual_reply(text, at)?;
     if length > LONGEST_LINE {
         return None;
     }
     let op = Op {
-        mutator: mutator.number,
+        mutator: mutator.value,
         action,
     };
     let event = Event {
-        actor: Actor::Mutator(mutator.number),
+        actor: Actor::Mutator(mutator.value),
         step: Step::Mutator(op),
         reply,
     };

@@ -8,6 +8,7 @@ ghost use Rattle.script_text.specs.Feeds.{end_of};
 ghost use Rattle.script_text.specs.Lines.{pieces_of, words_of};
 
 use heap_steps::{GlobalRoot, Register};
+use memchr::memchr;
 
 /// The line at the front of a text, without its line feed: how many bytes it has, and how many of its words are kept.
 #[derive(Clone, Copy)]
@@ -32,22 +33,16 @@ pub(crate) fn is_word(word: &[u8], text: &[u8]) -> bool
     true
 }
 
-/// Whether a line feed stands in a text, looked for from its front.
+/// Whether a line feed is in a text, looked for from its front.
+#[inline(never)]
 fn finds_feed(text: &[u8]) -> bool
     ensures found { IsTrue result → end_of text.now < length text.now }
     ensures none { result ≡ false → pieces_of text.now ≡ text.now ∷ [] }
 {
-    let mut at = 0;
-    while at < text.len() {
-        if text[at] == b'\n' {
-            return true;
-        }
-        at += 1;
-    }
-    false
+    memchr(b'\n', text).is_some()
 }
 
-/// Whether a line feed stands in a text. Most texts end in one.
+/// Whether a line feed is in a text. Most texts end in one.
 #[inline(always)]
 pub(crate) fn has_feed(text: &[u8]) -> bool
     ensures found { IsTrue result → end_of text.now < length text.now }

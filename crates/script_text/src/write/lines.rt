@@ -190,6 +190,17 @@ fn put_stored(
     put_value(buffer, at, value)
 }
 
+/// The step that makes an object.
+#[inline(always)]
+fn put_new(buffer: &mut [u8], at: usize, to: Register, counts: Counts) -> usize
+    requires { at + 52 ≤ length buffer.old }
+    ensures put { take result buffer.new ≡ take at buffer.old ++ spaced (action_words (Action.New to counts)) }
+    ensures end { result ≤ at + 52 }
+{
+    let at = put_field(buffer, at, b"new ", to, counts.pointers);
+    put_count(buffer, at, b" ", counts.values)
+}
+
 /// The step that makes an object with weak slots.
 fn put_new_weak(buffer: &mut [u8], at: usize, to: Register, counts: Counts, weaks: u8) -> usize
     requires { at + 52 ≤ length buffer.old }
@@ -201,16 +212,60 @@ fn put_new_weak(buffer: &mut [u8], at: usize, to: Register, counts: Counts, weak
     put_count(buffer, at, b" ", counts.values)
 }
 
+/// The step that writes a data word.
+#[inline(always)]
+fn put_write(buffer: &mut [u8], at: usize, object: Register, field: u32, value: u64) -> usize
+    requires { at + 52 ≤ length buffer.old }
+    ensures put { take result buffer.new ≡ take at buffer.old ++ spaced (action_words (Action.Write object field value)) }
+    ensures end { result ≤ at + 52 }
+{
+    let at = put_field(buffer, at, b"write ", object, field);
+    let at = put_byte(buffer, at, b' ');
+    put_number(buffer, at, value)
+}
+
+/// The step that copies a register.
+#[inline(always)]
+fn put_move(buffer: &mut [u8], at: usize, to: Register, from: Register) -> usize
+    requires { at + 52 ≤ length buffer.old }
+    ensures put { take result buffer.new ≡ take at buffer.old ++ spaced (action_words (Action.Move to from)) }
+    ensures end { result ≤ at + 52 }
+{
+    let at = put_named(buffer, at, b"move ", to);
+    put_named(buffer, at, b" ", from)
+}
+
+/// The step that copies a global to a register.
+#[inline(always)]
+fn put_load(buffer: &mut [u8], at: usize, to: Register, from: GlobalRoot) -> usize
+    requires { at + 52 ≤ length buffer.old }
+    ensures put { take result buffer.new ≡ take at buffer.old ++ spaced (action_words (Action.Load to from)) }
+    ensures end { result ≤ at + 52 }
+{
+    let at = put_named(buffer, at, b"load ", to);
+    let at = put_byte(buffer, at, b' ');
+    put_global(buffer, at, from)
+}
+
+/// The step that copies a register to a global.
+#[inline(always)]
+fn put_save(buffer: &mut [u8], at: usize, to: GlobalRoot, from: Register) -> usize
+    requires { at + 52 ≤ length buffer.old }
+    ensures put { take result buffer.new ≡ take at buffer.old ++ spaced (action_words (Action.Save to from)) }
+    ensures end { result ≤ at + 52 }
+{
+    let at = put_literal(buffer, at, b"save ");
+    let at = put_global(buffer, at, to);
+    put_named(buffer, at, b" ", from)
+}
+
 fn put_action(buffer: &mut [u8], at: usize, action: Action) -> usize
     requires { at + 52 ≤ length buffer.old }
     ensures put { take result buffer.new ≡ take at buffer.old ++ spaced (action_words action) }
     ensures end { result ≤ at + 52 }
 {
     match action {
-        Action::New { to, counts } => {
-            let at = put_field(buffer, at, b"new ", to, counts.pointers);
-            put_count(buffer, at, b" ", counts.values)
-        }
+        Action::New { to, counts } => put_new(buffer, at, to, counts),
         Action::Get { to, object, field } => put_taken(buffer, at, b"get ", to, object, field),
         Action::Put {
             object,
@@ -222,26 +277,11 @@ fn put_action(buffer: &mut [u8], at: usize, action: Action) -> usize
             object,
             field,
             value,
-        } => {
-            let at = put_field(buffer, at, b"write ", object, field);
-            let at = put_byte(buffer, at, b' ');
-            put_number(buffer, at, value)
-        }
-        Action::Move { to, from } => {
-            let at = put_named(buffer, at, b"move ", to);
-            put_named(buffer, at, b" ", from)
-        }
+        } => put_write(buffer, at, object, field, value),
+        Action::Move { to, from } => put_move(buffer, at, to, from),
         Action::Drop { register } => put_named(buffer, at, b"drop ", register),
-        Action::Load { to, from } => {
-            let at = put_named(buffer, at, b"load ", to);
-            let at = put_byte(buffer, at, b' ');
-            put_global(buffer, at, from)
-        }
-        Action::Save { to, from } => {
-            let at = put_literal(buffer, at, b"save ");
-            let at = put_global(buffer, at, to);
-            put_named(buffer, at, b" ", from)
-        }
+        Action::Load { to, from } => put_load(buffer, at, to, from),
+        Action::Save { to, from } => put_save(buffer, at, to, from),
         Action::Shape { object } => put_named(buffer, at, b"shape ", object),
         Action::NewWeak { to, counts, weaks } => put_new_weak(buffer, at, to, counts, weaks),
         Action::GetWeak { to, object, slot } => {

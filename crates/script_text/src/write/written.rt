@@ -1,112 +1,82 @@
 //! What is written of a record is read back as that record.
 
-ghost use Rattle.std.specs.Prelude.{◌≡◌, All, Ok};
+ghost use Rattle.std.specs.Prelude.{◌≡◌, ◌≤◌, All, Ok};
 ghost use Rattle.script_text.specs.Events.{record_of};
 ghost use Rattle.script_text.specs.Records.{record_text};
-ghost use Rattle.script_text.specs.Fits.{RegisterFits, GlobalFits, ValueFits, Fits, CollectionFits};
+ghost use Rattle.script_text.specs.Reading.{small, large};
+ghost use Rattle.script_text.specs.Fits.{RegisterFits, ValueFits, Fits, CollectionFits};
 ghost use Rattle.script_text.specs.Fits.{StepFits, ReplyFits, EventFits, ConfigFits};
 
 use crate::laws::spelled_record_is_read;
-use heap_steps::{Action, CollectorStep, Event, GlobalRoot, Record, Register, Reply, Step};
+use heap_steps::{Action, CollectorStep, Event, Record, Register, Reply, Step};
 use heap_words::config::Config;
 
-/// A register's number is one of its type.
-fn register_fits(register: Register)
-    ensures { RegisterFits register }
-{
-    let _ = register.number;
+/// Reads numbers: so it is known of each that it is one of its type.
+macro_rules! read_all {
+    ($($number:expr),*) => {{
+        $(let _ = $number;)*
+    }};
 }
 
-/// A global's number is one of its type.
-fn global_fits(root: GlobalRoot)
-    ensures { GlobalFits root }
-{
-    let _ = root.number;
-}
-
-/// The same of a register's number, where there is one.
+/// A register's number is one of its type, where there is one.
 fn value_fits(value: Option<Register>)
     ensures { ValueFits value }
 {
     match value {
         None => {}
-        Some(register) => register_fits(register),
+        Some(register) => read_all!(register.number),
     }
 }
 
-/// The numbers of a mutator's action are those of its type.
+/// The numbers of a store to a field are those of their types.
+fn store_fits(object: Register, field: u32, value: Option<Register>)
+    ensures { RegisterFits object × (field ≤ small) × ValueFits value }
+{
+    read_all!(object.number, field);
+    value_fits(value);
+}
+
+/// The same of a word that is stored.
+fn write_fits(object: Register, field: u32, value: u64)
+    ensures { RegisterFits object × (field ≤ small) × (value ≤ large) }
+{
+    read_all!(object.number, field, value);
+}
+
+/// The numbers of a mutator's action are those of their types.
 fn action_fits(action: Action)
     ensures { Fits action }
 {
     match action {
-        Action::New { to, counts } => {
-            register_fits(to);
-            let _ = counts.pointers;
-            let _ = counts.values;
-        }
-        Action::Get { to, object, field } => {
-            register_fits(to);
-            register_fits(object);
-            let _ = field;
-        }
+        Action::New { to, counts } => read_all!(to.number, counts.pointers, counts.values),
+        Action::Get { to, object, field } => read_all!(to.number, object.number, field),
         Action::Put {
             object,
             field,
             value,
-        } => {
-            register_fits(object);
-            let _ = field;
-            value_fits(value);
-        }
-        Action::Read { object, field } => {
-            register_fits(object);
-            let _ = field;
-        }
+        } => store_fits(object, field, value),
+        Action::Read { object, field } => read_all!(object.number, field),
         Action::Write {
             object,
             field,
             value,
-        } => {
-            register_fits(object);
-            let _ = field;
-            let _ = value;
-        }
-        Action::Move { to, from } => {
-            register_fits(to);
-            register_fits(from);
-        }
-        Action::Drop { register } => register_fits(register),
-        Action::Load { to, from } => {
-            register_fits(to);
-            global_fits(from);
-        }
-        Action::Save { to, from } => {
-            global_fits(to);
-            register_fits(from);
-        }
-        Action::Shape { object } => register_fits(object),
+        } => write_fits(object, field, value),
+        Action::Move { to, from } => read_all!(to.number, from.number),
+        Action::Drop { register } => read_all!(register.number),
+        Action::Load { to, from } => read_all!(to.number, from.number),
+        Action::Save { to, from } => read_all!(to.number, from.number),
+        Action::Shape { object } => read_all!(object.number),
         Action::NewWeak { to, counts, weaks } => {
-            register_fits(to);
-            let _ = counts.pointers;
-            let _ = weaks;
-            let _ = counts.values;
+            read_all!(to.number, counts.pointers, weaks, counts.values)
         }
-        Action::GetWeak { to, object, slot } => {
-            register_fits(to);
-            register_fits(object);
-            let _ = slot;
-        }
+        Action::GetWeak { to, object, slot } => read_all!(to.number, object.number, slot),
         Action::PutWeak {
             object,
             slot,
             value,
-        } => {
-            register_fits(object);
-            let _ = slot;
-            value_fits(value);
-        }
-        Action::Weaks { object } => register_fits(object),
-        Action::Scope { from } => register_fits(from),
+        } => store_fits(object, slot, value),
+        Action::Weaks { object } => read_all!(object.number),
+        Action::Scope { from } => read_all!(from.number),
     }
 }
 
@@ -115,20 +85,12 @@ fn collection_fits(step: CollectorStep)
 {
     match step {
         CollectorStep::Begin => {}
-        CollectorStep::Mark(units) => {
-            let _ = units;
-        }
+        CollectorStep::Mark(units) => read_all!(units),
         CollectorStep::Remark => {}
         CollectorStep::Cleanup => {}
-        CollectorStep::Refine(cards) => {
-            let _ = cards;
-        }
-        CollectorStep::Pause(budget) => {
-            let _ = budget;
-        }
-        CollectorStep::Compact(budget) => {
-            let _ = budget;
-        }
+        CollectorStep::Refine(cards) => read_all!(cards),
+        CollectorStep::Pause(budget) => read_all!(budget),
+        CollectorStep::Compact(budget) => read_all!(budget),
     }
 }
 
@@ -147,29 +109,13 @@ fn reply_fits(reply: Reply)
     match reply {
         Reply::Done => {}
         Reply::Named(None) => {}
-        Reply::Named(Some(name)) => {
-            let _ = name;
-        }
-        Reply::Word(word) => {
-            let _ = word;
-        }
-        Reply::Shape { pointers, values } => {
-            let _ = pointers;
-            let _ = values;
-        }
-        Reply::Marked(count) => {
-            let _ = count;
-        }
-        Reply::Reclaimed(count) => {
-            let _ = count;
-        }
-        Reply::Refined(count) => {
-            let _ = count;
-        }
-        Reply::Moved { regions, words } => {
-            let _ = regions;
-            let _ = words;
-        }
+        Reply::Named(Some(name)) => read_all!(name),
+        Reply::Word(word) => read_all!(word),
+        Reply::Shape { pointers, values } => read_all!(pointers, values),
+        Reply::Marked(count) => read_all!(count),
+        Reply::Reclaimed(count) => read_all!(count),
+        Reply::Refined(count) => read_all!(count),
+        Reply::Moved { regions, words } => read_all!(regions, words),
         Reply::Refused(_) => {}
     }
 }
@@ -192,11 +138,13 @@ fn events_fit(events: &[Event])
 fn config_fits(config: Config)
     ensures { ConfigFits config }
 {
-    let _ = config.regions;
-    let _ = config.words;
-    let _ = config.buffer;
-    let _ = config.mutators;
-    let _ = config.first_name;
+    read_all!(
+        config.regions,
+        config.words,
+        config.buffer,
+        config.mutators,
+        config.first_name
+    );
 }
 
 /// What `write_record` writes of a record, `parse_record` reads as that record, or it is refused memory: the numbers of a record are those

@@ -19,11 +19,11 @@ returns-clause-step g c =
     let ends = c.in_ok-action.ensures in
     let long : length (line_of text) ≡ end_of text = length-take-le (end_of text) text (omega (arith, c.requires.ended)) in
     let short : length (line_of text) ≤ 120 = omega (arith, c.if-past-gt-LONGEST_LINE.false, ends.ends, c.in_ok-action.past-is) in
-    let words : words_of (line_of text) ≡ decimal mutator.number ∷ action_words last.action =
+    let words : words_of (line_of text) ≡ decimal mutator.value ∷ action_words last.value =
     c.in-Some.ensures.0.words
-    ∙ ap (λ (ws : List (List ℕ)). decimal mutator.number ∷ ws) (ends.words ∙ append-nil (action_words last.action)) in
-    op_line_again c.args.config.now (line_of text) (record { mutator = mutator.number; action = last.action }) short words
-    c.in-Some.ensures.1 (ends.owned mutator.number c.if-mutator-config.false) ends.fits
+    ∙ ap (λ (ws : List (List ℕ)). decimal mutator.value ∷ ws) (ends.words ∙ append-nil (action_words last.value)) in
+    op_line_again c.args.config.now (line_of text) (record { mutator = mutator.value; action = last.value }) short words
+    c.in-Some.ensures.1 (ends.owned mutator.value c.if-mutator-config.false) ends.fits
 
 -- a step of any heap is one of this
 known_here : (c : Config) (r : Option StepLine) → IfSome r (λ l. (any : Config) → IsStep any l.step) → IfSome r (λ l. IsStep c l.step)

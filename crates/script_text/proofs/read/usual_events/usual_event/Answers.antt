@@ -18,11 +18,11 @@ pub returns-clause-event : goal.returns-clause-event
 returns-clause-event g c =
     let text = c.args.text.now in
     let number = c.in_ok-number.number in
-    let m : ℕ = c.in-Some.mutator.number in
-    let a = c.in_ok-action.field-0.action in
-    let r = c.in_ok-reply.field-0.reply in
+    let m : ℕ = c.in-Some.mutator.value in
+    let a = c.in_ok-action.field-0.value in
+    let r = c.in_ok-reply.field-0.value in
     let action = c.in_ok-action.ensures in
-    let counted : number.number ≡ c.args.count = sym c.from.ensures ∙ c.if-from-count.false in
+    let counted : number.value ≡ c.args.count = sym c.from.ensures ∙ c.if-from-count.false in
     let long : length (line_of text) ≡ end_of text = length-take-le (end_of text) text (omega (arith, c.requires.ended)) in
     let short : length (line_of text) ≤ 120 =
     omega (arith, c.if-length-gt-LONGEST_LINE.false, c.in_ok-reply.ensures.ends, c.in_ok-reply.length-is) in
@@ -53,6 +53,6 @@ pub returns-in_default-clause-event : goal.returns-in_default-clause-event
 returns-in_default-clause-event g c =
     let text = c.args.text.now in
     let number = c.in_ok-number.number in
-    let counted : number.number ≡ c.args.count = sym c.from.ensures ∙ c.if-from-count.false in
+    let counted : number.value ≡ c.args.count = sym c.from.ensures ∙ c.if-from-count.false in
     turned c.args.count c.args.config.now text number.past c.collection_event.result c.requires.ended (omega (arith, c.ranges.count.fits))
     (c.in_ok-number.ensures.0.words ∙ ap (λ (n : ℕ). decimal n ∷ words_from text number.past) counted) c.collection_event.ensures

@@ -2,7 +2,7 @@ use Rattle.std.proofs.Common.{◌∙◌, ◌∷◌, [], sym, get_or, arith}
 use Rattle.script_text.specs.Reading.{small}
 use Rattle.script_text.proofs.Parts.Numbers.{number_of_is}
 use Rattle.script_text.proofs.Parts.Fronts.{clear_more, clear_none, part_one}
-use Rattle.script_text.proofs.read.standing.number_at.Goals as goal
+use Rattle.script_text.proofs.read.line_words.number_at.Goals as goal
 
 pub returns-then-digit-ge10-clause-number : goal.returns-then-digit-ge10-clause-number
 returns-then-digit-ge10-clause-number c =

@@ -1,7 +1,7 @@
 use Rattle.std.proofs.Common.{◌≡◌, ◌<◌, ◌-◌, length}
 use Rattle.std.specs.Str.Parse.{AllDigits, digits_value}
 use Rattle.script_text.specs.Fronts.{part, IsClear}
-use Rattle.script_text.proofs.read.standing.long_number.Given as goal
+use Rattle.script_text.proofs.read.line_words.long_number.Given as goal
 
 abbrev pub invariant-digits : goal.invariant-digits
 invariant-digits l = record {

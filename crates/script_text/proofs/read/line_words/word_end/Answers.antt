@@ -3,7 +3,7 @@ use Rattle.std.proofs.lemmas.Bool.{cases_lt}
 use Rattle.script_text.specs.Feeds.{end_of}
 use Rattle.script_text.proofs.Parts.Splitting.{not_yet}
 use Rattle.script_text.proofs.Parts.Fronts.{StandsAt, part_is, clear_word}
-use Rattle.script_text.proofs.read.standing.word_end.Goals as goal
+use Rattle.script_text.proofs.read.line_words.word_end.Goals as goal
 
 pub bytes-preserved : goal.bytes-preserved
 bytes-preserved c =

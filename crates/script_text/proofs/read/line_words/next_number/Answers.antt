@@ -1,7 +1,7 @@
 use Rattle.std.proofs.Common.{◌≡◌, ◌+◌, subst, get_or}
 use Rattle.script_text.specs.Fronts.{IsNext}
 use Rattle.script_text.proofs.Parts.Fronts.{next_word}
-use Rattle.script_text.proofs.read.standing.next_number.Goals as goal
+use Rattle.script_text.proofs.read.line_words.next_number.Goals as goal
 
 pub returns : goal.returns
 returns c =

@@ -1,4 +1,4 @@
-//! Words that are read where they stand in a line.
+//! Words that are read where they are in a line.
 //!
 //! ```text
 //!   0 get r2 r0 1\n       a number, a verb, registers: what ends a word says where the next one starts
@@ -11,43 +11,29 @@
 ghost use Rattle.std.specs.Prelude.{◌≡◌, ◌≤◌, ◌<◌, ◌∷◌, All, IfSome, IsTrue, length, slice_index, if◌then◌else◌};
 ghost use Rattle.std.specs.Fmt.{decimal};
 ghost use Rattle.script_text.specs.Feeds.{end_of};
-ghost use Rattle.script_text.specs.Reading.{small};
+ghost use Rattle.script_text.specs.Reading.{small, most_weaks};
 ghost use Rattle.script_text.specs.Spelling.{register_word, global_word, value_word};
 ghost use Rattle.script_text.specs.Fits.{RegisterFits, GlobalFits, ValueFits};
-ghost use Rattle.script_text.specs.Fronts.{part, IsClear, IsNext, IsLast};
+ghost use Rattle.script_text.specs.Fronts.{part, words_from, words_behind, EndsAt, IsClear, IsNext, IsLast};
 
 use crate::read::words::digit;
 use heap_steps::{GlobalRoot, Register};
 
-/// A number in a line, and a place after it: where its digits end, or where the next word starts.
+/// What is read in a line from a place on, and a place after it: where its last word ends, or where the next word starts.
 #[derive(Clone, Copy)]
-pub(crate) struct NumberWord {
-    pub(crate) number: u32,
+pub(crate) struct Found<T> {
+    pub(crate) value: T,
     pub(crate) past: usize,
 }
 
-/// The same of a register.
-#[derive(Clone, Copy)]
-pub(crate) struct RegisterWord {
-    pub(crate) register: Register,
-    pub(crate) past: usize,
-}
-
-/// The same of a global.
-#[derive(Clone, Copy)]
-pub(crate) struct GlobalWord {
-    pub(crate) global: GlobalRoot,
-    pub(crate) past: usize,
-}
-
-/// A number of digits that stand in a line from a place on, and where they end; no digit, where it has ten digits or more. It stands
+/// A number of digits that are in a line from a place on, and where they end; no digit, where it has ten digits or more. It stands
 /// alone, and answers no option, which would be written to memory.
 #[inline(never)]
-fn long_number(text: &[u8], at: usize) -> NumberWord
+fn long_number(text: &[u8], at: usize) -> Found<u32>
     requires ended { end_of text.now < length text.now }
     requires within { at ≤ end_of text.now }
     ensures number { at < result.past → (slice_index text.now at ≡ 48 → ⊥)
-        → (part text.now at result.past ≡ decimal result.number) × (result.number ≤ small) }
+        → (part text.now at result.past ≡ decimal result.value) × (result.value ≤ small) }
     ensures clear { IsClear text.now at result.past }
 {
     let mut number = 0u32;
@@ -55,25 +41,25 @@ fn long_number(text: &[u8], at: usize) -> NumberWord
     'digits: loop {
         let next = digit(text[past]);
         if next >= 10 {
-            return NumberWord { number, past };
+            return Found {
+                value: number,
+                past,
+            };
         }
         if number >= 100_000_000 {
-            return NumberWord {
-                number: 0,
-                past: at,
-            };
+            return Found { value: 0, past: at };
         }
         number = number * 10 + next;
         past += 1;
     }
 }
 
-/// The number that stands in a line from a place on, and where its digits end.
+/// The number in a line from a place on, and where its digits end.
 #[inline(always)]
-fn number_at(text: &[u8], at: usize) -> Option<NumberWord>
+fn number_at(text: &[u8], at: usize) -> Option<Found<u32>>
     requires ended { end_of text.now < length text.now }
     requires within { at ≤ end_of text.now }
-    ensures number { IfSome result (λ w. (part text.now at w.past ≡ decimal w.number) × (w.number ≤ small)) }
+    ensures number { IfSome result (λ w. (part text.now at w.past ≡ decimal w.value) × (w.value ≤ small)) }
     ensures clear { IfSome result (λ w. IsClear text.now at w.past) }
 {
     let first = digit(text[at]);
@@ -81,8 +67,8 @@ fn number_at(text: &[u8], at: usize) -> Option<NumberWord>
         return None;
     }
     if digit(text[at + 1]) >= 10 {
-        return Some(NumberWord {
-            number: first,
+        return Some(Found {
+            value: first,
             past: at + 1,
         });
     }
@@ -106,29 +92,29 @@ pub(crate) fn ends_word(text: &[u8], past: usize, more: bool) -> bool
     text[past] == if more { b' ' } else { b'\n' }
 }
 
-/// The number that stands in a line from a place on, where a space follows it.
+/// The number in a line from a place on, where a space follows it.
 #[inline(always)]
-pub(crate) fn next_number(text: &[u8], at: usize) -> Option<NumberWord>
+pub(crate) fn next_number(text: &[u8], at: usize) -> Option<Found<u32>>
     requires ended { end_of text.now < length text.now }
     requires within { at ≤ end_of text.now }
-    ensures { IfSome result (λ w. IsNext text.now at (decimal w.number) w.past × (w.number ≤ small)) }
+    ensures { IfSome result (λ w. IsNext text.now at (decimal w.value) w.past × (w.value ≤ small)) }
 {
     let word = number_at(text, at)?;
     if text[word.past] != b' ' {
         return None;
     }
-    Some(NumberWord {
-        number: word.number,
+    Some(Found {
+        value: word.value,
         past: word.past + 1,
     })
 }
 
 /// The same where one more word follows, or the line ends. Its end is where its digits end.
 #[inline(always)]
-pub(crate) fn last_number(text: &[u8], at: usize, more: bool) -> Option<NumberWord>
+pub(crate) fn last_number(text: &[u8], at: usize, more: bool) -> Option<Found<u32>>
     requires ended { end_of text.now < length text.now }
     requires within { at ≤ end_of text.now }
-    ensures { IfSome result (λ w. IsLast text.now at (decimal w.number) w.past more × (w.number ≤ small)) }
+    ensures { IfSome result (λ w. IsLast text.now at (decimal w.value) w.past more × (w.value ≤ small)) }
 {
     let word = number_at(text, at)?;
     if !ends_word(text, word.past, more) {
@@ -137,13 +123,13 @@ pub(crate) fn last_number(text: &[u8], at: usize, more: bool) -> Option<NumberWo
     Some(word)
 }
 
-/// The number after a letter that stands in a line from a place on, and where its digits end.
+/// The number after a letter in a line from a place on, and where its digits end.
 #[inline(always)]
-pub(crate) fn lettered_at(text: &[u8], at: usize, letter: u8) -> Option<NumberWord>
+pub(crate) fn lettered_at(text: &[u8], at: usize, letter: u8) -> Option<Found<u32>>
     requires ended { end_of text.now < length text.now }
     requires within { at ≤ end_of text.now }
     requires letter { 32 < letter }
-    ensures number { IfSome result (λ w. (part text.now at w.past ≡ letter ∷ decimal w.number) × (w.number ≤ small)) }
+    ensures number { IfSome result (λ w. (part text.now at w.past ≡ letter ∷ decimal w.value) × (w.value ≤ small)) }
     ensures clear { IfSome result (λ w. IsClear text.now at w.past) }
 {
     if text[at] != letter {
@@ -152,95 +138,117 @@ pub(crate) fn lettered_at(text: &[u8], at: usize, letter: u8) -> Option<NumberWo
     number_at(text, at + 1)
 }
 
-/// The number after a letter that stands in a line from a place on, where a space follows it.
+/// The number after a letter in a line from a place on, where a space follows it.
 #[inline(always)]
-pub(crate) fn next_lettered(text: &[u8], at: usize, letter: u8) -> Option<NumberWord>
+pub(crate) fn next_lettered(text: &[u8], at: usize, letter: u8) -> Option<Found<u32>>
     requires ended { end_of text.now < length text.now }
     requires within { at ≤ end_of text.now }
     requires letter { 32 < letter }
-    ensures { IfSome result (λ w. IsNext text.now at (letter ∷ decimal w.number) w.past × (w.number ≤ small)) }
+    ensures { IfSome result (λ w. IsNext text.now at (letter ∷ decimal w.value) w.past × (w.value ≤ small)) }
 {
     let word = lettered_at(text, at, letter)?;
     if text[word.past] != b' ' {
         return None;
     }
-    Some(NumberWord {
-        number: word.number,
+    Some(Found {
+        value: word.value,
         past: word.past + 1,
     })
 }
 
-/// The register that stands in a line from a place on, where a space follows it.
+/// The same where one more word follows, or the line ends. Its end is where its digits end.
 #[inline(always)]
-pub(crate) fn next_register(text: &[u8], at: usize) -> Option<RegisterWord>
+pub(crate) fn last_lettered(text: &[u8], at: usize, letter: u8, more: bool) -> Option<Found<u32>>
     requires ended { end_of text.now < length text.now }
     requires within { at ≤ end_of text.now }
-    ensures { IfSome result (λ w. IsNext text.now at (register_word w.register) w.past × RegisterFits w.register) }
+    requires letter { 32 < letter }
+    ensures { IfSome result (λ w. IsLast text.now at (letter ∷ decimal w.value) w.past more × (w.value ≤ small)) }
+{
+    let word = lettered_at(text, at, letter)?;
+    if !ends_word(text, word.past, more) {
+        return None;
+    }
+    Some(word)
+}
+
+/// The number of 8 bits in a line from a place on, where a space follows it.
+#[inline(always)]
+pub(crate) fn next_byte(text: &[u8], at: usize) -> Option<Found<u8>>
+    requires ended { end_of text.now < length text.now }
+    requires within { at ≤ end_of text.now }
+    ensures { IfSome result (λ w. IsNext text.now at (decimal w.value) w.past × (w.value ≤ most_weaks)) }
+{
+    let word = next_number(text, at)?;
+    if word.value > 255 {
+        return None;
+    }
+    Some(Found {
+        value: word.value as u8,
+        past: word.past,
+    })
+}
+
+/// The register in a line from a place on, where a space follows it.
+#[inline(always)]
+pub(crate) fn next_register(text: &[u8], at: usize) -> Option<Found<Register>>
+    requires ended { end_of text.now < length text.now }
+    requires within { at ≤ end_of text.now }
+    ensures { IfSome result (λ w. IsNext text.now at (register_word w.value) w.past × RegisterFits w.value) }
 {
     let word = next_lettered(text, at, b'r')?;
-    Some(RegisterWord {
-        register: Register {
-            number: word.number,
-        },
+    let value = Register { number: word.value };
+    Some(Found {
+        value,
         past: word.past,
     })
 }
 
 /// The same where one more word follows, or the line ends. Its end is where its digits end.
 #[inline(always)]
-pub(crate) fn last_register(text: &[u8], at: usize, more: bool) -> Option<RegisterWord>
+pub(crate) fn last_register(text: &[u8], at: usize, more: bool) -> Option<Found<Register>>
     requires ended { end_of text.now < length text.now }
     requires within { at ≤ end_of text.now }
-    ensures { IfSome result (λ w. IsLast text.now at (register_word w.register) w.past more × RegisterFits w.register) }
+    ensures { IfSome result (λ w. IsLast text.now at (register_word w.value) w.past more × RegisterFits w.value) }
 {
-    let word = lettered_at(text, at, b'r')?;
-    if !ends_word(text, word.past, more) {
-        return None;
-    }
-    Some(RegisterWord {
-        register: Register {
-            number: word.number,
-        },
+    let word = last_lettered(text, at, b'r', more)?;
+    let value = Register { number: word.value };
+    Some(Found {
+        value,
         past: word.past,
     })
 }
 
-/// The global that stands in a line from a place on, where a space follows it.
+/// The global in a line from a place on, where a space follows it.
 #[inline(always)]
-pub(crate) fn next_global(text: &[u8], at: usize) -> Option<GlobalWord>
+pub(crate) fn next_global(text: &[u8], at: usize) -> Option<Found<GlobalRoot>>
     requires ended { end_of text.now < length text.now }
     requires within { at ≤ end_of text.now }
-    ensures { IfSome result (λ w. IsNext text.now at (global_word w.global) w.past × GlobalFits w.global) }
+    ensures { IfSome result (λ w. IsNext text.now at (global_word w.value) w.past × GlobalFits w.value) }
 {
     let word = next_lettered(text, at, b'g')?;
-    Some(GlobalWord {
-        global: GlobalRoot {
-            number: word.number,
-        },
+    let value = GlobalRoot { number: word.value };
+    Some(Found {
+        value,
         past: word.past,
     })
 }
 
 /// The same where one more word follows, or the line ends. Its end is where its digits end.
 #[inline(always)]
-pub(crate) fn last_global(text: &[u8], at: usize, more: bool) -> Option<GlobalWord>
+pub(crate) fn last_global(text: &[u8], at: usize, more: bool) -> Option<Found<GlobalRoot>>
     requires ended { end_of text.now < length text.now }
     requires within { at ≤ end_of text.now }
-    ensures { IfSome result (λ w. IsLast text.now at (global_word w.global) w.past more × GlobalFits w.global) }
+    ensures { IfSome result (λ w. IsLast text.now at (global_word w.value) w.past more × GlobalFits w.value) }
 {
-    let word = lettered_at(text, at, b'g')?;
-    if !ends_word(text, word.past, more) {
-        return None;
-    }
-    Some(GlobalWord {
-        global: GlobalRoot {
-            number: word.number,
-        },
+    let word = last_lettered(text, at, b'g', more)?;
+    let value = GlobalRoot { number: word.value };
+    Some(Found {
+        value,
         past: word.past,
     })
 }
 
-/// Where a word ends that stands in a line from a place on, if it does.
+/// Where a word ends in a line from a place on, if it does.
 #[inline(always)]
 fn word_end(text: &[u8], at: usize, word: &[u8]) -> Option<usize>
     requires ended { end_of text.now < length text.now }
@@ -257,7 +265,7 @@ fn word_end(text: &[u8], at: usize, word: &[u8]) -> Option<usize>
     Some(at + word.len())
 }
 
-/// Where a word ends that stands in a line from a place on, if it does, and one more word follows, or the line ends.
+/// Where a word ends in a line from a place on, if it does, and one more word follows, or the line ends.
 #[inline(always)]
 pub(crate) fn last_literal(text: &[u8], at: usize, word: &[u8], more: bool) -> Option<usize>
     requires ended { end_of text.now < length text.now }
@@ -272,9 +280,9 @@ pub(crate) fn last_literal(text: &[u8], at: usize, word: &[u8], more: bool) -> O
     Some(past)
 }
 
-/// Where the word after a verb starts, if the verb stands in a line from a place on, and a space follows it.
+/// Where the word after a verb starts, if the verb is in a line from a place on, and a space follows it.
 #[inline(always)]
-pub(crate) fn behind_verb(text: &[u8], at: usize, verb: &[u8]) -> Option<usize>
+pub(crate) fn after_verb(text: &[u8], at: usize, verb: &[u8]) -> Option<usize>
     requires ended { end_of text.now < length text.now }
     requires within { at ≤ end_of text.now }
     requires letters { All (λ b. 32 < b) verb.now }
@@ -287,27 +295,34 @@ pub(crate) fn behind_verb(text: &[u8], at: usize, verb: &[u8]) -> Option<usize>
     Some(past + 1)
 }
 
-/// The same of a value.
-#[derive(Clone, Copy)]
-pub(crate) struct ValueWord {
-    pub(crate) value: Option<Register>,
-    pub(crate) past: usize,
+/// The number after a verb that is in a line from a place on, where one more word follows, or the line ends.
+#[inline(always)]
+pub(crate) fn number_after(text: &[u8], at: usize, verb: &[u8], more: bool) -> Option<Found<u32>>
+    requires ended { end_of text.now < length text.now }
+    requires within { at ≤ end_of text.now }
+    requires letters { All (λ b. 32 < b) verb.now }
+    ensures words { IfSome result (λ w. words_from text.now at ≡ verb.now ∷ decimal w.value ∷ words_behind text.now w.past more) }
+    ensures fits { IfSome result (λ w. w.value ≤ small) }
+    ensures ends { IfSome result (λ w. EndsAt text.now w.past more) }
+{
+    let next = after_verb(text, at, verb)?;
+    last_number(text, next, more)
 }
 
-/// The value, nil or a register, that stands in a line from a place on, where one more word follows, or the line ends.
+/// The value, nil or a register, in a line from a place on, where one more word follows, or the line ends.
 #[inline(always)]
-pub(crate) fn last_value(text: &[u8], at: usize, more: bool) -> Option<ValueWord>
+pub(crate) fn last_value(text: &[u8], at: usize, more: bool) -> Option<Found<Option<Register>>>
     requires ended { end_of text.now < length text.now }
     requires within { at ≤ end_of text.now }
     ensures { IfSome result (λ v. IsLast text.now at (value_word v.value) v.past more × ValueFits v.value) }
 {
     if text[at] == b'r' {
         let word = last_register(text, at, more)?;
-        return Some(ValueWord {
-            value: Some(word.register),
+        return Some(Found {
+            value: Some(word.value),
             past: word.past,
         });
     }
     let past = last_literal(text, at, b"nil", more)?;
-    Some(ValueWord { value: None, past })
+    Some(Found { value: None, past })
 }

@@ -1,6 +1,6 @@
 use Rattle.std.proofs.Common.{◌≡◌, ◌≤◌, ◌<◌, ◌+◌, ℕ, get_or}
 use Rattle.script_text.specs.Feeds.{end_of}
-use Rattle.script_text.proofs.read.standing.word_end.Given as goal
+use Rattle.script_text.proofs.read.line_words.word_end.Given as goal
 
 abbrev pub invariant-bytes : goal.invariant-bytes
 invariant-bytes l = record {

@@ -1,7 +1,7 @@
 use Rattle.std.proofs.Common.{◌≡◌, subst, get_or, cond}
 use Rattle.script_text.specs.Fronts.{IsLast}
 use Rattle.script_text.proofs.Parts.Fronts.{last_word}
-use Rattle.script_text.proofs.read.standing.last_register.Goals as goal
+use Rattle.script_text.proofs.read.line_words.last_lettered.Goals as goal
 
 pub returns : goal.returns
 returns c =

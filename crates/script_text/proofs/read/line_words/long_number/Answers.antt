@@ -4,7 +4,7 @@ use Rattle.std.specs.Str.Parse.{AllDigits, digits_value}
 use Rattle.script_text.specs.Fronts.{part}
 use Rattle.script_text.proofs.Parts.Numbers.{spells, digit_is}
 use Rattle.script_text.proofs.Parts.Fronts.{clear_more, part_more, value_more, digits_more, part_front}
-use Rattle.script_text.proofs.read.standing.long_number.Goals as goal
+use Rattle.script_text.proofs.read.line_words.long_number.Goals as goal
 
 pub returns-then-next-ge10-clause-number : goal.returns-then-next-ge10-clause-number
 returns-then-next-ge10-clause-number c = λ some front.
