@@ -1,10 +1,10 @@
 -- Free regions side by side, one by one.
 use Rattle.std.proofs.Common.{◌≡◌, ◌≢◌, ◌+◌, ◌-◌, ◌<◌, ◌≤◌, ◌∙◌, ℕ, zero, suc, Bool, true, false, List, [], ◌∷◌, length, drop, get_or}
-use Rattle.std.proofs.Common.{refl, sym, arith, drop-cons}
+use Rattle.std.proofs.Common.{refl, sym, ap, arith, drop-cons}
 use Rattle.regions.specs.Table.{Table, Region, Free, Ordinary, First, Rest, front_count, is_free, kind_of, nth_region, region_kind}
 use Rattle.regions.specs.declared.row.Kind.{Kind}
 use Rattle.regions.specs.declared.row.Kind.TheVariants as kinds
-use Rattle.heap_view.specs.Folds.{is_free_at, free_run}
+use Rattle.heap_view.specs.Folds.{is_free_at, is_below_free, free_run}
 
 free_region : (r : Region) → region_kind r ≡ kinds.Free → true ≡ is_free r
 free_region Free e = refl
@@ -67,8 +67,20 @@ all_counted t from number within other known =
     let none = front_stops t.regions number within other in
     let r = known.run in omega (arith, r, none)
 
-pub end_counted : (t : Table) (from number : ℕ) → length t.regions ≤ number → IsCounted t from number → number - from ≡ free_run t from
+pub end_counted : (t : Table) (from number count : ℕ) → count ≡ length t.regions → count ≤ number → number ≤ count
+    → IsCounted t from number → count - from ≡ free_run t from
 unfolding free_run
-end_counted t from number past known =
-    let none = front_past t.regions number past in
-    let r = known.run in omega (arith, r, none)
+end_counted t from number count all past within known =
+    let none = front_past t.regions number (omega (arith, all, past)) in
+    let r = known.run in omega (arith, r, none, past, within)
+
+-- ---- the region below one
+pub below_first : (t : Table) (k n : ℕ) → n ≡ k → n ≡ 0 → false ≡ is_below_free t k
+unfolding is_below_free
+below_first t zero n e z = refl
+below_first t (suc k) n e z = absurd (omega (arith, e, z))
+
+pub below_other : (t : Table) (k n m : ℕ) (b : Bool) → n ≡ k → n ≢ 0 → m ≡ n - 1 → b ≡ is_free_at t m → b ≡ is_below_free t k
+unfolding is_below_free
+below_other t zero n m b e some one known = absurd (some e)
+below_other t (suc k) n m b e some one known = known ∙ ap (is_free_at t) (omega (arith, e, one))
