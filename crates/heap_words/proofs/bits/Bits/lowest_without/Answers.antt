@@ -13,7 +13,8 @@ returns-then-word-eq0-clause-lowest c =
     let even : c.other.inside.len ≡ c.self.inside.len = same_len _ _ _ _ _ _ c.self.view_is c.other.view_is c.requires.even in
     let less = and_le_r c.word_at.result (2 ^ 64 - 1 - c.word_at-2.result) in
     let w : IsWord (only i o) (64 * c.args.group) c.args.group (bit_and c.word_at.result (2 ^ 64 - 1 - c.word_at-2.result)) =
-    group_left i o c.args.group c.word_at.result c.word_at-2.result c.word_at.ensures c.word_at-2.ensures (omega arith) (omega (arith, less)) in
+    group_left i o c.args.group c.word_at.result c.word_at-2.result c.word_at.ensures c.word_at-2.ensures (omega arith)
+    (omega (arith, less)) in
     none_left _ _ c.self.inside.len (64 * c.args.group) (64 * c.args.group + 64) (64 * (c.args.group + 1))
     (only_agree _ _ _ _ _ _ c.self.view_is c.other.view_is even) (none_in_word _ _ _ _ w (none_yet _ _) c.if-word-eq0.true) (omega arith)
 
@@ -42,7 +43,8 @@ returns-then-found-self-clause-lowest c =
     let even : c.other.inside.len ≡ c.self.inside.len = same_len _ _ _ _ _ _ c.self.view_is c.other.view_is c.requires.even in
     let less = and_le_r c.word_at.result (2 ^ 64 - 1 - c.word_at-2.result) in
     let w : IsWord (only i o) (64 * c.args.group) c.args.group (bit_and c.word_at.result (2 ^ 64 - 1 - c.word_at-2.result)) =
-    group_left i o c.args.group c.word_at.result c.word_at-2.result c.word_at.ensures c.word_at-2.ensures (omega arith) (omega (arith, less)) in
+    group_left i o c.args.group c.word_at.result c.word_at-2.result c.word_at.ensures c.word_at-2.ensures (omega arith)
+    (omega (arith, less)) in
     found_inside _ _ c.self.inside.len _ _ _ (only_agree _ _ _ _ _ _ c.self.view_is c.other.view_is even) w
     (none_yet _ _) (omega arith) c.if-found-self.true
 
@@ -57,6 +59,7 @@ returns-else-found-self-clause-lowest c =
     let even : c.other.inside.len ≡ c.self.inside.len = same_len _ _ _ _ _ _ c.self.view_is c.other.view_is c.requires.even in
     let less = and_le_r c.word_at.result (2 ^ 64 - 1 - c.word_at-2.result) in
     let w : IsWord (only i o) (64 * c.args.group) c.args.group (bit_and c.word_at.result (2 ^ 64 - 1 - c.word_at-2.result)) =
-    group_left i o c.args.group c.word_at.result c.word_at-2.result c.word_at.ensures c.word_at-2.ensures (omega arith) (omega (arith, less)) in
+    group_left i o c.args.group c.word_at.result c.word_at-2.result c.word_at.ensures c.word_at-2.ensures (omega arith)
+    (omega (arith, less)) in
     found_past _ _ c.self.inside.len _ (64 * c.args.group + 64) _ _ (only_agree _ _ _ _ _ _ c.self.view_is c.other.view_is even) w
     (none_yet _ _) (omega arith) (omega (arith, c.if-found-self.false))

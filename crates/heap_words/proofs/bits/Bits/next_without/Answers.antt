@@ -65,8 +65,8 @@ returns c =
     let even : c.other.inside.len ≡ c.self.inside.len = same_len _ _ _ _ _ _ c.self.view_is c.other.view_is c.requires in
     record {
       lowest = none_left _ _ c.self.inside.len _ c.args.to c.min-end.result (only_agree _ _ _ _ _ _ c.self.view_is c.other.view_is even)
-          (none_written (only i o) i c.args.from c.written_below-past.result c.loop-index.index c.min-end.result (λ a none. only_none i o a none)
-          c.written_below-past.ensures c.loop-index-test.false c.loop-index.invariant)
+          (none_written (only i o) i c.args.from c.written_below-past.result c.loop-index.index c.min-end.result
+          (λ a none. only_none i o a none) c.written_below-past.ensures c.loop-index-test.false c.loop-index.invariant)
           (omega (arith, c.min-end.ensures));
       below = tt;
       within = tt;
