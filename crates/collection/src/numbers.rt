@@ -228,9 +228,9 @@ impl Policy {
         true
     }
 
-    /// Takes note of a pause of new regions. Where its budget left some of them, and not the room for copies, and these pauses brought enough,
-    /// the next look goes on with those. Else the next ones are due later; and not before the next cycle, where more than half of what was
-    /// taken was copied.
+    /// Takes note of a pause of new regions. Where its budget left some of them, and not the room for copies, and these pauses brought
+    /// enough, the next look goes on with those. Else the next ones are due later; and not before the next cycle, where more than half of
+    /// what was taken was copied.
     pub(crate) fn note_young(&mut self, config: &Config, before: u32, after: u32, reply: Reply) {
         let (regions, words) = moved(reply);
         self.gained = self.gained.saturating_add(after.saturating_sub(before));
