@@ -9,8 +9,6 @@ from pathlib import Path
 TOP = Path(__file__).resolve().parents[2]
 MOST_CARDS, MOST_ROOTS, MOST_FIELDS, MOST_TILES = 512, 64, 16, 400
 TOLD_WORDS, TOLD_BYTES, TOLD_EVENTS = 65536, 8_000_000, 100_000
-# Of about 8,000 moments half are for each so many events; a step of the collector has two of the others.
-MOST_STOPS, MOST_TURNS = 4000, 2000
 
 
 def embedding():
@@ -137,18 +135,25 @@ def due_events(record, pace):
     return sorted(due)
 
 
-def fault_of_pace(record, every, pace):
-    """What is wrong with a pace for a run in a small heap, or nothing: moments are left out only where there would be too many."""
+def most_moments(sizes):
+    """About how many moments a life of such a heap has at most."""
+    return max(64, min(8000, 2 ** 18 // sizes.regions, 2 ** 28 // (sizes.regions * sizes.words)))
+
+
+def fault_of_pace(record, every, pace, most):
+    """What is wrong with a pace for a run, or nothing: moments are left out only where there would be too many. Half of the most are for
+    each so many events; a step of the collector has two of the others."""
+    most_stops, most_turns = most // 2, most // 4
     lines = record.splitlines()[1:]
     turns = sum(is_collectors(line) for line in lines)
     large = sum(is_collectors(line) and not is_small(line) for line in lines)
     got_every, stride, small = pace
-    least = max(every, -(-len(lines) // MOST_STOPS))
-    if not (got_every == every if len(lines) <= every * MOST_STOPS else every < got_every <= 2 * least):
+    least = max(every, -(-len(lines) // most_stops))
+    if not (got_every == every if len(lines) <= every * most_stops else every < got_every <= 2 * least):
         return f"a moment each {got_every} events, and {every} was asked for"
-    if turns <= MOST_TURNS:
+    if turns <= most_turns:
         return None if (stride, small) == (1, 1) else f"stride {stride}, small {small} with {turns} turns"
-    least = -(-large // MOST_TURNS)
+    least = -(-large // most_turns)
     return None if small == 0 and 1 <= stride <= max(1, 2 * least) else f"stride {stride}, small {small} with {large} large turns"
 
 
@@ -167,7 +172,7 @@ def told_name(path):
 def check_facts(count, name, path, record, facts, sizes, every):
     wanted = {"file": told_name(path), "card": [sizes.card], "roots": [sizes.globals, sizes.registers], "events": [record.count("\n") - 1]}
     count.note(f"{name}: what the page says of itself", {**wanted, "pace": facts.get("pace")} == facts, facts)
-    fault = fault_of_pace(record, every, facts["pace"]) if len(facts.get("pace", ())) == 3 else "none"
+    fault = fault_of_pace(record, every, facts["pace"], most_moments(sizes)) if len(facts.get("pace", ())) == 3 else "none"
     count.note(f"{name}: its pace", fault is None, fault)
 
 

@@ -1,4 +1,3 @@
-use Rattle.std.proofs.Common.{sym}
 use Rattle.heap_view.proofs.FreeRegions.{free_kind, other_kind}
 use Rattle.heap_view.proofs.folds.is_free.Goals as goal
 

@@ -1,6 +1,6 @@
 use Rattle.heap_view.proofs.Putting.{then_adds, adds_at, adds_then, adds_else}
 use Rattle.std.specs.Fmt.{decimal}
-use Rattle.std.proofs.Common.{◌≡◌, ◌+◌, ◌-◌, sym, arith}
+use Rattle.std.proofs.Common.{sym, arith}
 use Rattle.std.proofs.lemmas.Bool.{lt-ltb, le-ltb}
 use Rattle.heap_view.specs.Lists.{ended}
 use Rattle.heap_view.specs.Folds.{run_line}
