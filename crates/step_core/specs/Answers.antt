@@ -1,5 +1,5 @@
 -- What a step answers, in the words of the graph.
-use Rattle.std.specs.Prelude.{◌≡◌, ◌≤◌, ℕ, ⊤, Some, None}
+use Rattle.std.specs.Prelude.{◌≡◌, ◌≤◌, ℕ, ⊤, Some, None, Result, Ok, Err}
 use Rattle.heap_words.specs.declared.config.Config.{Config}
 use Rattle.heap_words.specs.Configs.{object_limit}
 use Rattle.heap_words.specs.Sizes.{size_of}
@@ -13,6 +13,7 @@ use Rattle.heap_steps.specs.declared.step.Step.{Step}
 use Rattle.heap_steps.specs.declared.step.Step.TheVariants as steps
 use Rattle.heap_steps.specs.declared.step.Reply.{Reply}
 use Rattle.heap_steps.specs.declared.step.Reply.TheVariants as replies
+use Rattle.heap_steps.specs.declared.step.Refusal.{Refusal}
 use Rattle.heap_steps.specs.declared.step.Refusal.TheVariants as refusals
 use Rattle.alloc_buffers.specs.Placement.{place_of}
 use Rattle.step_core.specs.Stands.{CoreState, ShowsGraph, Stands}
@@ -25,6 +26,11 @@ pub record Yields (out : Outcome) (reply : Reply) (c : CoreState) : Type 0 where
 -- the reply is the graph's, and the core shows the graph after it
 abbrev pub Acts : Graph → ℕ → Action → Reply → CoreState → Type 0
 Acts g m a reply c = Yields (act g m a) reply c
+
+-- the reply to who asks for an object: its name, or why it is refused
+abbrev pub new_reply : Result ℕ Refusal → Reply
+new_reply (Ok name) = replies.Named (Some name)
+new_reply (Err why) = replies.Refused why
 
 -- placement finds no place for so many words
 abbrev pub HasNoPlace : CoreState → ℕ → ℕ → Type 0

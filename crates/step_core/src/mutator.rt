@@ -16,7 +16,7 @@ ghost use Rattle.heap_steps.specs.declared.step.Refusal.TheVariants as refusals;
 ghost use Rattle.regions.specs.Table.{new_object};
 ghost use Rattle.alloc_buffers.specs.Placement.{address_of, place_of, CanHold, CanPlace, IsMadeAt, Placement, made_at};
 ghost use Rattle.step_core.specs.Stands.{ShowsGraph, KeepsFrom, Stands, heap_of, IsWordOf, IsRootWord};
-ghost use Rattle.step_core.specs.Answers.{Acts, HasNoPlace, IsFull, IsWithin, RepliesFull, Follows};
+ghost use Rattle.step_core.specs.Answers.{Acts, HasNoPlace, IsFull, IsWithin, RepliesFull, Follows, new_reply};
 ghost use Rattle.step_core.specs.Mutators.{ActsOn, value_of, weaks_made};
 ghost use Rattle.step_core.specs.Cycle.{LeavesRegions};
 
@@ -164,6 +164,17 @@ fn weaks_of(action: Action) -> u8
     match action {
         Action::NewWeak { weaks, .. } => weaks,
         _ => 0,
+    }
+}
+
+/// The reply to who asks for an object: its name, or why it is refused.
+#[inline(always)]
+fn new_reply(made: Result<u64, Refusal>) -> Reply
+    ensures { result ≡ new_reply made }
+{
+    match made {
+        Ok(name) => Reply::Named(Some(name)),
+        Err(refusal) => Reply::Refused(refusal),
     }
 }
 
@@ -412,7 +423,8 @@ impl Core {
         16 < size && self.config.object_limit() < size
     }
 
-    /// Whether an object has few fields and no weak slot, and leaves something of the mutator's buffer. No promise hangs on the answer.
+    /// Whether an object has few fields and no weak slot, and leaves something of the mutator's buffer. No promise hangs on the answer. The
+    /// tests are those of `make_inside` and `cut`, in the same numbers, so that the compiler leaves those out.
     #[inline(always)]
     fn is_small(&self, mutator: u32, counts: Counts, weaks: u8) -> bool
         requires { mutator < self.now.config.mutators }
@@ -421,17 +433,45 @@ impl Core {
         if weaks > 0 || 6 < size || self.next == u64::MAX {
             return false;
         }
-        if u64::from(self.table.words_per_region()) < 2 * size {
+        let size = size as u32;
+        if self.table.words_per_region() < 2 * size {
             return false;
         }
         match self.buffers.open_buffer(mutator) {
-            Some(open) => size < u64::from(open.rest),
+            Some(open) => size < open.rest,
             None => false,
         }
     }
 
-    /// Makes an object with so many weak slots, 0 of them for a plain one. A small one is made within the caller, and any other by a call,
-    /// for which a small one saves no registers.
+    /// Makes an object with so many weak slots, 0 of them for a plain one, and answers its name, or why it is refused. A small one is made
+    /// within the caller, and any other by a call, for which a small one saves no registers.
+    #[inline(always)]
+    fn made(
+        &mut self,
+        mutator: u32,
+        to: Register,
+        counts: Counts,
+        weaks: u8,
+    ) -> Result<u64, Refusal>
+        requires mutator { mutator < self.old.config.mutators }
+        requires to { IsRegister (places_of self.old.config) to }
+        ensures acts { (g : Graph) → ShowsGraph g self.old → Acts g mutator (actions.NewWeak to counts weaks) (new_reply result) self.new
+            ⊎ RepliesFull g mutator (actions.NewWeak to counts weaks) self.old (new_reply result) self.new }
+        ensures keeps { (s : Graph) → KeepsFrom s self.old → KeepsFrom s self.new }
+        ensures after { ActsOn mutator (actions.NewWeak to counts weaks) (new_reply result) self.old self.new }
+        ensures leaves { LeavesRegions self.old self.new }
+        ensures full { HasNoPlace self.old mutator (size_of counts.pointers weaks counts.values) → (name : Option ℕ)
+            → (new_reply result) ≢ replies.Named name }
+        ensures within { IsWithin self.old.config (actions.NewWeak to counts weaks) (new_reply result) }
+    {
+        if self.is_small(mutator, counts, weaks) {
+            self.new_here(mutator, to, counts, weaks)
+        } else {
+            self.new_apart(mutator, to, counts, weaks)
+        }
+    }
+
+    /// The same, and replies.
     #[inline(always)]
     fn new_object(&mut self, mutator: u32, to: Register, counts: Counts, weaks: u8) -> Reply
         requires mutator { mutator < self.old.config.mutators }
@@ -445,50 +485,58 @@ impl Core {
             → result ≢ replies.Named name }
         ensures within { IsWithin self.old.config (actions.NewWeak to counts weaks) result }
     {
-        if self.is_small(mutator, counts, weaks) {
-            self.new_here(mutator, to, counts, weaks)
-        } else {
-            self.new_apart(mutator, to, counts, weaks)
-        }
+        new_reply(self.made(mutator, to, counts, weaks))
     }
 
-    /// The same, as a call.
+    /// Makes an object, as a call. What it answers is in registers, as a reply wouldn't be.
     #[inline(never)]
-    fn new_apart(&mut self, mutator: u32, to: Register, counts: Counts, weaks: u8) -> Reply
+    fn new_apart(
+        &mut self,
+        mutator: u32,
+        to: Register,
+        counts: Counts,
+        weaks: u8,
+    ) -> Result<u64, Refusal>
         requires mutator { mutator < self.old.config.mutators }
         requires to { IsRegister (places_of self.old.config) to }
-        ensures acts { (g : Graph) → ShowsGraph g self.old → Acts g mutator (actions.NewWeak to counts weaks) result self.new
-            ⊎ RepliesFull g mutator (actions.NewWeak to counts weaks) self.old result self.new }
+        ensures acts { (g : Graph) → ShowsGraph g self.old → Acts g mutator (actions.NewWeak to counts weaks) (new_reply result) self.new
+            ⊎ RepliesFull g mutator (actions.NewWeak to counts weaks) self.old (new_reply result) self.new }
         ensures keeps { (s : Graph) → KeepsFrom s self.old → KeepsFrom s self.new }
-        ensures after { ActsOn mutator (actions.NewWeak to counts weaks) result self.old self.new }
+        ensures after { ActsOn mutator (actions.NewWeak to counts weaks) (new_reply result) self.old self.new }
         ensures leaves { LeavesRegions self.old self.new }
         ensures full { HasNoPlace self.old mutator (size_of counts.pointers weaks counts.values) → (name : Option ℕ)
-            → result ≢ replies.Named name }
-        ensures within { IsWithin self.old.config (actions.NewWeak to counts weaks) result }
+            → (new_reply result) ≢ replies.Named name }
+        ensures within { IsWithin self.old.config (actions.NewWeak to counts weaks) (new_reply result) }
     {
         self.new_here(mutator, to, counts, weaks)
     }
 
     /// The same, as part of the caller.
     #[inline(always)]
-    fn new_here(&mut self, mutator: u32, to: Register, counts: Counts, weaks: u8) -> Reply
+    fn new_here(
+        &mut self,
+        mutator: u32,
+        to: Register,
+        counts: Counts,
+        weaks: u8,
+    ) -> Result<u64, Refusal>
         requires mutator { mutator < self.old.config.mutators }
         requires to { IsRegister (places_of self.old.config) to }
-        ensures acts { (g : Graph) → ShowsGraph g self.old → Acts g mutator (actions.NewWeak to counts weaks) result self.new
-            ⊎ RepliesFull g mutator (actions.NewWeak to counts weaks) self.old result self.new }
+        ensures acts { (g : Graph) → ShowsGraph g self.old → Acts g mutator (actions.NewWeak to counts weaks) (new_reply result) self.new
+            ⊎ RepliesFull g mutator (actions.NewWeak to counts weaks) self.old (new_reply result) self.new }
         ensures keeps { (s : Graph) → KeepsFrom s self.old → KeepsFrom s self.new }
-        ensures after { ActsOn mutator (actions.NewWeak to counts weaks) result self.old self.new }
+        ensures after { ActsOn mutator (actions.NewWeak to counts weaks) (new_reply result) self.old self.new }
         ensures leaves { LeavesRegions self.old self.new }
         ensures full { HasNoPlace self.old mutator (size_of counts.pointers weaks counts.values) → (name : Option ℕ)
-            → result ≢ replies.Named name }
-        ensures within { IsWithin self.old.config (actions.NewWeak to counts weaks) result }
+            → (new_reply result) ≢ replies.Named name }
+        ensures within { IsWithin self.old.config (actions.NewWeak to counts weaks) (new_reply result) }
     {
         let size = counts.size(weaks);
         if self.is_too_big(size) {
-            return Reply::Refused(Refusal::TooBig);
+            return Err(Refusal::TooBig);
         }
         if self.next == u64::MAX {
-            return Reply::Refused(Refusal::NamesSpent);
+            return Err(Refusal::NamesSpent);
         }
         self.table.law();
         let name = self.next;
@@ -502,11 +550,11 @@ impl Core {
             counts,
             weaks,
         ) else {
-            return Reply::Refused(Refusal::Full);
+            return Err(Refusal::Full);
         };
         self.roots.set_register(mutator, to.number, Some(at));
         self.next += 1;
-        Reply::Named(Some(name))
+        Ok(name)
     }
 
     /// Does a mutator's step. Where the step is known, as in a call of the C library, its own arm alone is left of this.
