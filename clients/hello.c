@@ -2,7 +2,7 @@
 #include <g1heap.h>
 #include <stdio.h>
 
-enum { LIST, CELL, FRAME }; /* registers: two that main uses; a function's frame begins behind them */
+enum { LIST, CELL, FRAME }; /* registers: two that main uses; a function's frame begins after them */
 enum { NEXT };              /* a cell has a pointer to the next one, and a data word */
 
 static const g1_sizes sizes = {.regions = 64, .words = 1024, .buffer = 127, .mutators = 1, .card = 8, .globals = 0, .registers = 16};
@@ -17,7 +17,7 @@ static uint64_t sum_and_cut(int keep)
         if (i > 0) g1_get(&heap, 0, FRAME, FRAME, NEXT);
         sum += g1_read(&heap, 0, FRAME, 0).first;
     }
-    g1_put(&heap, 0, FRAME, NEXT, G1_NIL_REGISTER); /* what lies behind can't be reached any more */
+    g1_put(&heap, 0, FRAME, NEXT, G1_NIL_REGISTER); /* what follows can't be reached any more */
     g1_scope(&heap, 0, FRAME);                      /* the frame is left: its registers are nil */
     return sum;
 }

@@ -81,11 +81,26 @@ static inline int m_new(reg to, uint32_t pointers, uint32_t values)
     m_objects++;
     return g1_make(&m_heap, &m_policy, 0, to, pointers, 0, values).code == G1_NAME;
 }
+/* The same with its fields: what other registers hold, and data words. */
+static inline int m_filled(reg to, uint32_t pointers, const reg from[], uint32_t values, const uint64_t words[])
+{
+    m_objects++;
+    return g1_make_filled(&m_heap, &m_policy, 0, to, from, pointers, words, values).code == G1_NAME;
+}
 /* 0 where it is nil. */
 static inline int m_get(reg to, reg object, uint32_t field) { return m_done(g1_get(&m_heap, 0, to, object, field)).code == G1_NAME; }
 static inline void m_put(reg object, uint32_t field, reg from) { m_done(g1_put(&m_heap, 0, object, field, from)); }
 static inline uint64_t m_read(reg object, uint32_t field) { return m_done(g1_read(&m_heap, 0, object, field)).first; }
 static inline void m_write(reg object, uint32_t field, uint64_t value) { m_done(g1_write(&m_heap, 0, object, field, value)); }
+/* Several data words, from one on. */
+static inline void m_read_words(reg object, uint32_t from, uint64_t *out, size_t count)
+{
+    m_done(g1_read_words(&m_heap, 0, object, from, out, count));
+}
+static inline void m_write_words(reg object, uint32_t from, const uint64_t *in, size_t count)
+{
+    m_done(g1_write_words(&m_heap, 0, object, from, in, count));
+}
 static inline void m_move(reg to, reg from) { m_done(g1_move(&m_heap, 0, to, from)); }
 static inline void m_drop(reg it) { m_done(g1_drop(&m_heap, 0, it)); }
 static inline int m_load(reg to, uint32_t global) { return m_done(g1_load(&m_heap, 0, to, global)).code == G1_NAME; }
@@ -158,6 +173,17 @@ static inline int m_new(reg to, uint32_t pointers, uint32_t values)
     m_set(to, made);
     return 1;
 }
+static inline int m_filled(reg to, uint32_t pointers, const reg from[], uint32_t values, const uint64_t words[])
+{
+    m_object *made = (m_object *)m_words(pointers, sizeof(m_object) + 8 * ((size_t)pointers + values));
+    m_objects++;
+    if (made == NULL) return 0;
+    made->pointers = pointers, made->values = values;
+    for (uint32_t i = 0; i < pointers; i++) made->words[i].object = from[i] == G1_NIL_REGISTER ? NULL : m_registers[from[i]];
+    for (uint32_t i = 0; i < values; i++) made->words[pointers + i].value = words[i];
+    m_set(to, made);
+    return 1;
+}
 static inline int m_get(reg to, reg object, uint32_t field)
 {
     m_set(to, m_registers[object]->words[field].object);
@@ -174,6 +200,14 @@ static inline uint64_t m_read(reg object, uint32_t field)
 static inline void m_write(reg object, uint32_t field, uint64_t value)
 {
     m_registers[object]->words[m_registers[object]->pointers + field].value = value;
+}
+static inline void m_read_words(reg object, uint32_t from, uint64_t *out, size_t count)
+{
+    memcpy(out, &m_registers[object]->words[m_registers[object]->pointers + from].value, 8 * count);
+}
+static inline void m_write_words(reg object, uint32_t from, const uint64_t *in, size_t count)
+{
+    memcpy(&m_registers[object]->words[m_registers[object]->pointers + from].value, in, 8 * count);
 }
 static inline void m_move(reg to, reg from) { m_set(to, m_registers[from]); }
 static inline void m_drop(reg it) { m_set(it, NULL); }

@@ -1,5 +1,5 @@
-/* What scheme.c reads first: forms that aren't built in, as macros, and procedures. A macro gets its operands as they stand, and what it
-   answers takes their place for good; procedures stand in it as values, so no name of a program's is in their way. Of the names here a
+/* What scheme.c reads first: forms that aren't built in, as macros, and procedures. A macro gets its operands as they are, and what it
+   answers takes their place for good; procedures are in it as values, so no name of a program's is in their way. Of the names here a
    program gets those without %; what it defines anew changes nothing in these texts. */
 static const char *const prelude[] = {
     "(define call-with-current-continuation call/cc)"

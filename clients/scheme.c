@@ -1,12 +1,12 @@
 /* scheme.c: a Scheme after R4RS. All its values, and its stack, are roots and objects of memory.h: what a runtime in C has in variables and
-   on its stack stands in registers here, so a collection may come at any m_new.
+   on its stack is in registers here, so a collection may come at any m_new.
 
      scheme FILE      evaluates a file, and ends with status 1 at the first mistake
      scheme           reads from a person, and goes on after a mistake; `rlwrap scheme` edits lines
 
    Numbers are integers of 64 bits: there are no fractions and no floats, and what is beyond 64 bits is a mistake. Characters are bytes.
    Beside R4RS it has define-macro, when, error, eval and (gc-stats). Forms that aren't built in are macros of prelude.h. A symbol's object
-   stands in the global of its number. G1HEAP_REGIONS sets the size of the heap, 256 regions of 1,024 words else. */
+   is in the global of its number. G1HEAP_REGIONS sets the size of the heap, 256 regions of 1,024 words else. */
 #include <ctype.h>
 #include <errno.h>
 #include <inttypes.h>
@@ -18,7 +18,7 @@
 #include "memory.h"
 #include "prelude.h"
 
-/* Registers: those of the machine, and behind them its stack, a row of frames. WHOLE holds what is evaluated at the top. */
+/* Registers: those of the machine, and after them its stack, a row of frames. WHOLE holds what is evaluated at the top. */
 enum { EXPRESSION, ENVIRONMENT, VALUE, REST, PART, OTHER, WHOLE, STACK };
 enum { MOST_REGISTERS = 65536, MOST_SYMBOLS = 4096, MOST_NAME = 255, MOST_NESTED = 10000, MOST_PORTS = 64, MOST_TOLD = 60 };
 /* Globals: the symbols, the current ports, and the first ones. */
@@ -121,26 +121,38 @@ static void go_deeper(void)
 static void push(reg it) { m_move(room(1), it), top++; }
 static void leave(reg base) { m_scope(base), top = base; }
 
+static void need_room(int made)
+{
+    if (!made) mistake(0, 0, "the heap is full of live objects: give it more by G1HEAP_REGIONS=%u", 2 * m_sizes.regions);
+}
 static void make(reg to, unsigned tag, uint32_t pointers, uint32_t values)
 {
-    if (!m_new(to, pointers, values + 1))
-        mistake(0, 0, "the heap is full of live objects: give it more by G1HEAP_REGIONS=%u", 2 * m_sizes.regions);
+    need_room(m_new(to, pointers, values + 1));
     m_write(to, 0, tag);
 }
+/* The same with its pointers: what other registers hold. */
+static void make_of(reg to, unsigned tag, uint32_t pointers, const reg from[])
+{
+    need_room(m_filled(to, pointers, from, 1, (uint64_t[]){tag}));
+}
 /* A number, a character or a port. */
-static void make_word(reg to, unsigned tag, uint64_t value) { make(to, tag, 0, 1), m_write(to, 1, value); }
+static void make_word(reg to, unsigned tag, uint64_t value) { need_room(m_filled(to, 0, NULL, 2, (uint64_t[]){tag, value})); }
 static void number(reg to, int64_t value) { make_word(to, NUMBER, (uint64_t)value); }
 static int64_t value_of(reg it) { return (int64_t)m_read(it, 1); }
 /* The pair of two registers; `to` may be one of them. */
 static void cons(reg to, reg car, reg cdr)
 {
-    make(OTHER, PAIR, 2, 0), m_put(OTHER, 0, car), m_put(OTHER, 1, cdr);
+    if (to != car && to != cdr) {
+        make_of(to, PAIR, 2, (reg[]){car, cdr});
+        return;
+    }
+    make_of(OTHER, PAIR, 2, (reg[]){car, cdr});
     m_move(to, OTHER), m_drop(OTHER);
 }
 static void car(reg to, reg pair) { m_get(to, pair, 0); }
 static int cdr(reg to, reg pair) { return m_get(to, pair, 1); }
 
-/* Symbols: their names stand here, their objects in globals. */
+/* Symbols: their names are here, their objects in globals. */
 static uint32_t symbols;
 static uint32_t lambda_name = RAW_LAMBDA;      /* the form that define makes: that of prelude.h once this is read */
 
@@ -153,7 +165,7 @@ static uint32_t intern(const char *name)
     if (entry.key == NULL || hsearch(entry, ENTER) == NULL) m_die("no memory");
     return symbols++;
 }
-/* The truth values and the end of a file stand in the table of symbols too: so there is one object of each. */
+/* The truth values and the end of a file are in the table of symbols too: so there is one object of each. */
 static void symbol(reg to, uint32_t id)
 {
     if (m_load(to, id)) return;
@@ -167,15 +179,17 @@ static int is_false(reg it) { return m_tag(it) == BOOLEAN && value_of(it) == FAL
 /* Strings: eight bytes a word. */
 static void string(reg to, const char *bytes, size_t length)
 {
+    uint64_t words[64];
     make(to, STRING, 0, 1 + (uint32_t)(length + 7) / 8);
     m_write(to, 1, length);
-    for (size_t i = 0; i < length; i += 8) {
-        uint64_t word = 0;
-        memcpy(&word, bytes + i, length - i < 8 ? length - i : 8);
-        m_write(to, 2 + (uint32_t)(i / 8), word);
+    for (size_t i = 0, part; i < length; i += part) {
+        part = length - i < sizeof words ? length - i : sizeof words;
+        words[(part - 1) / 8] = 0;
+        memcpy(words, bytes + i, part);
+        m_write_words(to, 2 + (uint32_t)(i / 8), words, (part + 7) / 8);
     }
 }
-/* The bytes of a string, with a 0 behind them, until the next call but one. */
+/* The bytes of a string, with a 0 after them, until the next call but one. */
 static char *bytes_of(reg it, size_t *length)
 {
     static char *buffers[2];
@@ -183,10 +197,7 @@ static char *bytes_of(reg it, size_t *length)
     *length = (size_t)m_read(it, 1), turn = !turn;
     buffers[turn] = (char *)realloc(buffers[turn], *length + 8);
     if (buffers[turn] == NULL) m_die("no memory");
-    for (size_t i = 0; i < *length; i += 8) {
-        uint64_t word = m_read(it, 2 + (uint32_t)(i / 8));
-        memcpy(buffers[turn] + i, &word, 8);
-    }
+    m_read_words(it, 2, (uint64_t *)(void *)buffers[turn], (*length + 7) / 8);
     buffers[turn][*length] = 0;
     return buffers[turn];
 }
@@ -307,9 +318,8 @@ static int is_dot(reg it) { return m_tag(it) == SYMBOL && m_read(it, 1) == DOT; 
 /* Makes the pair of VALUE, which began in a line, and what a register holds. */
 static void read_pair(unsigned line, reg rest)
 {
-    make(OTHER, PAIR, 2, source->name != PRELUDE);
-    if (source->name != PRELUDE) m_write(OTHER, 1, (uint64_t)source->name << 32 | line);
-    m_put(OTHER, 0, VALUE), m_put(OTHER, 1, rest);
+    uint64_t words[] = {PAIR, (uint64_t)source->name << 32 | line};
+    need_room(m_filled(OTHER, 2, (reg[]){VALUE, rest}, source->name == PRELUDE ? 1 : 2, words));
     m_move(VALUE, OTHER), m_drop(OTHER);
 }
 /* A list, into VALUE. Its frame holds its pairs: the first and the last. */
@@ -452,8 +462,7 @@ static uint32_t find(reg name)
 }
 static void bind(reg name, reg value)
 {
-    make(PART, BINDING, 2, 1);
-    m_write(PART, 1, m_read(name, 1)), m_put(PART, 0, ENVIRONMENT), m_put(PART, 1, value);
+    need_room(m_filled(PART, 2, (reg[]){ENVIRONMENT, value}, 2, (uint64_t[]){BINDING, m_read(name, 1)}));
     m_move(ENVIRONMENT, PART);
 }
 static void need_symbol(reg it) { if (m_tag(it) != SYMBOL) mistake(1, it, "a name is wanted here, not %s", kinds[m_tag(it)]); }
@@ -471,7 +480,7 @@ static int has_more(reg list)
     return tag == PAIR;
 }
 /* A closure of the parameters in PART and the body in REST. */
-static void closure(void) { make(VALUE, CLOSURE, 3, 0), m_put(VALUE, 0, PART), m_put(VALUE, 1, REST), m_put(VALUE, 2, ENVIRONMENT); }
+static void closure(void) { make_of(VALUE, CLOSURE, 3, (reg[]){PART, REST, ENVIRONMENT}); }
 /* What a name stands for, into a register; answers whether that is a binding's value. */
 static uint32_t look_up(reg to, reg name)
 {

@@ -1,4 +1,4 @@
-/* The procedures that scheme.c has of itself, with how many arguments each takes. These stand in registers, one behind the other; the
+/* The procedures that scheme.c has of itself, with how many arguments each takes. These are in registers, one after another; the
    result goes into VALUE. Comparisons are five of numbers, characters and strings each; IS_NULL to IS_END have the order of the tags. */
 #define EACH_PRIMITIVE(X)                                                                                                                 \
     X(ADD, "+", 0, ANY) X(SUBTRACT, "-", 1, ANY) X(MULTIPLY, "*", 0, ANY) X(QUOTIENT, "quotient", 2, 2) X(REMAINDER, "remainder", 2, 2)   \
@@ -143,8 +143,10 @@ static void make_string(reg length, reg fill, uint32_t count)
 {
     uint32_t bytes = need_within(MAKE_STRING, length, 0, 16777216, "no string is as long"), words = (bytes + 7) / 8;
     if (count > 1) need(MAKE_STRING, fill, CHARACTER);
+    uint64_t part[64];
+    for (uint32_t i = 0; i < 64; i++) part[i] = 0x0101010101010101u * (uint64_t)(count > 1 ? value_of(fill) : ' ');
     make(VALUE, STRING, 0, 1 + words), m_write(VALUE, 1, bytes);
-    for (uint32_t i = 0; i < words; i++) m_write(VALUE, 2 + i, 0x0101010101010101u * (uint64_t)(count > 1 ? value_of(fill) : ' '));
+    for (uint32_t i = 0; i < words; i += 64) m_write_words(VALUE, 2 + i, part, words - i < 64 ? words - i : 64);
 }
 static void string_place(uint32_t which, reg of, reg at, reg value)
 {

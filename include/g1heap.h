@@ -11,7 +11,7 @@
        g1_new_object(&heap, 0, 0, 1, 1);        // register 0 of mutator 0 holds a new object of one pointer and one data word
        g1_write(&heap, 0, 0, 0, 42);            // its data word 0 is 42
        g1_put(&heap, 0, 0, 0, 0);               // its pointer 0 names the object itself
-       g1_get(&heap, 0, 1, 0, 0);               // register 1 holds what pointer 0 names
+       g1_get(&heap, 0, 1, 0, 0);               // loads pointer 0 into register 1
        g1_free(&heap);
 
    OWNERSHIP. A g1_heap is the caller's, and begins as G1_HEAP_NONE, all zeros. g1_new puts a heap into it, whose memory comes from malloc,
@@ -199,14 +199,14 @@ g1_answer g1_new_filled(g1_heap *heap, uint32_t mutator, uint32_t to, const uint
    Call         Step of a script   What it does                                                             Done         Refused
    g1_begin     gc begin           marking begins, with the present graph as its snapshot                   DONE         MARK_RUNNING
    g1_mark      gc mark            at most so many objects are scanned                                      SCANNED      NOT_MARKING
-   g1_remark    gc remark          marking is brought to its end, and weak slots are cleared                MARKED       NOT_MARKING
+   g1_remark    gc remark          marking ends, and weak slots are cleared                                 MARKED       NOT_MARKING
    g1_cleanup   gc cleanup         regions with nothing live are free again                                 RECLAIMED    MARK_RUNNING
    g1_refine    gc refine          at most so many queued cards are refined                                 REFINED
    g1_pause     gc pause           live objects are copied out of some regions, at most so many words,      MOVED
                                    and at most half the words of the free regions; these regions are
                                    free again
    g1_compact   gc compact         the same of the highest ordinary regions, full ones too, as many as    MOVED
-                                   go down: so free regions come to lie side by side, for objects of
+                                   go down: so free regions are side by side, for objects of
                                    more than half a region, which never move. While marking runs
                                    nothing is copied */
 g1_answer g1_begin(g1_heap *heap);
@@ -221,7 +221,7 @@ g1_answer g1_compact(g1_heap *heap, uint32_t words);
    also NO_STEP.
 
    g1_free_regions   how many regions are free
-   g1_free_run       how many free regions lie side by side at most: so many regions an object of more than half a region may take
+   g1_free_run       how many free regions are side by side at most: so many regions an object of more than half a region may take
    g1_used_words     how many words of the other regions are handed out, to objects and to allocation buffers
    g1_live_words     how many words are live: those of the objects that the last complete marking marked, and all handed out since it began
    g1_marking        1 while marking runs, else 0
@@ -259,7 +259,7 @@ g1_answer g1_name(const g1_heap *heap, uint32_t mutator, uint32_t of);
    after that, and then it is proved:
    - for an object of at most half a region, if 2 regions were free before, that 2 are free, each larger object that is left is reachable,
      and reachable objects have more than half of the words of all regions but 3;
-   - for a larger one, which takes whole regions, that too few free ones lie side by side, or fewer than 2 would stay free; and that from
+   - for a larger one, which takes whole regions, that too few free ones are side by side, or fewer than 2 would stay free; and that from
      the lowest free region on nothing but reachable objects of more than half a region parts the free ones, if 2 were free before.
    Each G1_FULL costs a whole collection: what is dropped isn't seen here, so the next g1_make has to look again. docs/SPACE.md has the
    theorem.
@@ -296,6 +296,15 @@ void g1_policy_start(g1_policy *policy, const g1_sizes *sizes);
 
 /* g1_new_object, or g1_new_weak where there are weak slots, after the steps of the collector that are due. Answers as these do. */
 g1_answer g1_make(g1_heap *heap, g1_policy *policy, uint32_t mutator, uint32_t to, uint32_t pointers, uint32_t weaks, uint32_t values);
+
+/* The same with its fields, as g1_new_filled has them: where g1_make answers NAME, a g1_put for each pointer and a g1_write for each data word.
+   `to` may not be among the sources: G1_NO_STEP, and so where a source is no register. Then nothing changes.
+
+       uint32_t from[] = {FIRST, REST};
+       uint64_t words[] = {PAIR_TAG};
+       g1_make_filled(&heap, &policy, 0, CELL, from, 2, words, 1);     // register CELL: a pair of what FIRST and REST hold */
+g1_answer g1_make_filled(g1_heap *heap, g1_policy *policy, uint32_t mutator, uint32_t to, const uint32_t *from, size_t pointers,
+                         const uint64_t *words, size_t values);
 
 /* Takes the steps that are due: DONE, or NO_HEAP. */
 g1_answer g1_collect(g1_heap *heap, g1_policy *policy);

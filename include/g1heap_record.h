@@ -1,6 +1,6 @@
 /* g1heap_record.h: a heap's run on the record, which `g1heap check` judges. C11 and C++17.
 
-   Link with -lg1heap_recorded in place of -lg1heap. It has all calls of g1heap.h, by the same heap behind them, and each step also
+   Link with -lg1heap_recorded in place of -lg1heap. It has all calls of g1heap.h, over the same heap, and each step also
    writes a line, with its answer, in the third format of docs/TEXTS.md. The program's source needs no change:
 
        cc hello.c -lg1heap_recorded -o hello_recorded
@@ -25,7 +25,7 @@ typedef int (*g1_line_writer)(void *context, const char *line, size_t bytes);
 
 /* From now on each step of the heap is written; NULL for `write` ends that. To be called before the heap's first step, since a record
    begins with an empty heap; the heap line is written at once. G1_DONE; G1_NO_HEAP; or G1_NO_STEP where a step was taken already, and
-   nothing changes. In place of a file of the variable G1HEAP_RECORD, whose heap line stands there then. */
+   nothing changes. In place of a file of the variable G1HEAP_RECORD, which has its heap line then. */
 uint32_t g1_record(g1_heap *heap, g1_line_writer write, void *context);
 
 #ifdef __cplusplus

@@ -56,6 +56,8 @@ typedef struct entry {
 } entry;
 g1_answer g1_make_noted(g1_heap *heap, g1_policy *policy, uint32_t mutator, uint32_t to, uint32_t pointers, uint32_t weaks, uint32_t values,
                         entry *entries, size_t room, uint32_t *count);
+g1_answer g1_make_filled_noted(g1_heap *heap, g1_policy *policy, uint32_t mutator, uint32_t to, const uint32_t *from, size_t pointers,
+                               const uint64_t *words, size_t values, entry *entries, size_t room, uint32_t *count);
 g1_answer g1_collect_noted(g1_heap *heap, g1_policy *policy, entry *entries, size_t room, uint32_t *count);
 g1_answer g1_collect_all_noted(g1_heap *heap, g1_policy *policy, entry *entries, size_t room, uint32_t *count);
 
@@ -242,17 +244,23 @@ g1_answer g1_new_weak(g1_heap *heap, uint32_t mutator, uint32_t to, uint32_t poi
                 (uint64_t[]){mutator, to, pointers, weaks, values});
 }
 
-/* The object's step has the answer, and each step that fills it is done. */
+/* The steps that fill an object, each of which is done. */
+static void note_filling(box *in, uint32_t mutator, uint32_t to, const uint32_t *from, size_t pointers, const uint64_t *words, size_t values)
+{
+    g1_answer done = {G1_DONE, 0, 0};
+    for (size_t i = 0; i < pointers; i++)
+        note(in, done, from[i] == G1_NIL_REGISTER ? "% put r% % nil" : "% put r% % r%", (uint64_t[]){mutator, to, i, from[i]});
+    for (size_t i = 0; i < values; i++) note(in, done, "% write r% % %", (uint64_t[]){mutator, to, i, words[i]});
+}
+
+/* The object's step has the answer. */
 g1_answer g1_new_filled(g1_heap *heap, uint32_t mutator, uint32_t to, const uint32_t *from, size_t pointers, const uint64_t *words,
                         size_t values)
 {
     box *in = box_of(heap);
-    g1_answer made = g1raw_new_filled(&in->heap, mutator, to, from, pointers, words, values), done = {G1_DONE, 0, 0};
+    g1_answer made = g1raw_new_filled(&in->heap, mutator, to, from, pointers, words, values);
     note(in, made, "% new r% % %", (uint64_t[]){mutator, to, pointers, values});
-    if (made.code != G1_NAME) return made;
-    for (size_t i = 0; i < pointers; i++)
-        note(in, done, from[i] == G1_NIL_REGISTER ? "% put r% % nil" : "% put r% % r%", (uint64_t[]){mutator, to, i, from[i]});
-    for (size_t i = 0; i < values; i++) note(in, done, "% write r% % %", (uint64_t[]){mutator, to, i, words[i]});
+    if (made.code == G1_NAME) note_filling(in, mutator, to, from, pointers, words, values);
     return made;
 }
 
@@ -428,6 +436,17 @@ g1_answer g1_make(g1_heap *heap, g1_policy *policy, uint32_t mutator, uint32_t t
     if (!note_all(in, count)) return made;
     if (weaks == 0) return note(in, made, "% new r% % %", (uint64_t[]){mutator, to, pointers, values});
     return note(in, made, "% newweak r% % % %", (uint64_t[]){mutator, to, pointers, weaks, values});
+}
+
+g1_answer g1_make_filled(g1_heap *heap, g1_policy *policy, uint32_t mutator, uint32_t to, const uint32_t *from, size_t pointers,
+                         const uint64_t *words, size_t values)
+{
+    box *in = box_of(heap);
+    uint32_t count = 0;
+    g1_answer made = g1_make_filled_noted(&in->heap, policy, mutator, to, from, pointers, words, values, in->entries, in->room, &count);
+    if (note_all(in, count)) note(in, made, "% new r% % %", (uint64_t[]){mutator, to, pointers, values});
+    if (made.code == G1_NAME) note_filling(in, mutator, to, from, pointers, words, values);
+    return made;
 }
 
 g1_answer g1_collect(g1_heap *heap, g1_policy *policy)

@@ -3,7 +3,7 @@
        example RECORD [crash] */
 #include "g1record.h"
 
-/* The name stands in the object, where it moves with it. A heap whose objects have no room for it keeps a table beside it. */
+/* The name is in the object, and moves with it. A heap whose objects have no room for it keeps a table beside it. */
 typedef struct object {
     uint64_t name;
     unsigned pointers, weaks, words;

@@ -1,5 +1,5 @@
 /* Writes the record of a heap, which `g1heap check` judges: a line for each event, whole and flushed. Copy this file (MIT licence);
-   docs/CHECKING.md tells how to use it. A call stands where its step took effect, under the same lock. Objects have names by birth, from
+   docs/CHECKING.md tells how to use it. Call where the step took effect, under the same lock. Objects have names by birth, from
    0. Registers are the slots of a mutator's stack, globals those of tables that all mutators see. C11 or C++17. */
 #ifndef G1RECORD_H
 #define G1RECORD_H
@@ -202,7 +202,7 @@ typedef struct {
     int64_t left;
 } g1record_walker;
 
-/* The name to write for an object: none of the heap's, where its name stands at two addresses. It is fresh where it is to be looked at. */
+/* The name to write for an object: none of the heap's, where its name is at two addresses. It is fresh where it is to be looked at. */
 static inline uint64_t g1record_meet(g1record_walker *w, void *object, int room, int *fresh) {
     uint64_t name = object == NULL ? G1RECORD_NIL : w->view->name(w->view->heap, object);
     int given = name < w->r->next;

@@ -1,5 +1,5 @@
 """Writes the record of a heap, which `g1heap check` judges: a line for each event, written whole. Copy this file (MIT licence);
-docs/CHECKING.md tells how to use it. A call stands where its step took effect, under the same lock. Objects have names by birth, from 0.
+docs/CHECKING.md tells how to use it. Call where the step took effect, under the same lock. Objects have names by birth, from 0.
 Registers are the slots of a mutator's stack, globals those of tables that all mutators see. g1record.h writes the same text."""
 
 
@@ -21,7 +21,7 @@ class Record:
         self.write_line(f"heap3 {regions} {region} 4 {mutators + 1} 0 8 {global_count + 1} {registers}")
 
     def write_line(self, line):
-        """Writes a line whole. Where that fails the record is closed: what came later would stand in a line that is cut."""
+        """Writes a line whole. Where that fails the record is closed: what came later would be in a line that is cut."""
         try:
             line = line.encode("ascii")
             if len(line) > 120 or b"\n" in line:
@@ -144,7 +144,7 @@ class Walk:
         self.record, self.view, self.places, self.left = record, view, {}, 0
 
     def meet(self, found, room):
-        """The name to write for an object: none of the heap's, where its name stands at two places; and whether it is to be looked at."""
+        """The name to write for an object: none of the heap's, where its name is at two places; and whether it is to be looked at."""
         if found is None:
             return None, False
         name = self.view.name(found)
@@ -185,7 +185,7 @@ class Walk:
 
 
 class Taking(Walk):
-    """What a sync takes: held[i] is in register i of the walk; the one behind them is for what was met before."""
+    """What a sync takes: held[i] is in register i of the walk; the one after them is for what was met before."""
 
     def __init__(self, record, view):
         super().__init__(record, view)

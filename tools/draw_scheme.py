@@ -298,7 +298,7 @@ def constant(draw):
 
 
 def template(draw, depth):
-    """What a backquote stands before."""
+    """What a backquote is put before."""
     if depth == 0 or draw.random() < 0.3:
         return draw.choice(["1", "a", ",(+ 1 2)", ",@'(1 2)", ",x", ",@1", "()", "`b", ",car"])
     inner = " ".join(template(draw, depth - 1) for _ in range(draw.randint(0, 3)))

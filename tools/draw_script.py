@@ -58,7 +58,7 @@ class Row(dict):
             super().__setitem__(number, target)
 
     def leave(self, first):
-        """All from a register on are nil, and no frame begins there or behind it."""
+        """All from a register on are nil, and no frame begins there or after it."""
         for number in [number for number in self if number >= first]:
             del self[number]
         self.frames = [number for number in self.frames if number < first] or [0]
@@ -333,7 +333,7 @@ class Drawer:
                     self.fill(mutator, 0, place, 1)
             if number == 0:
                 self.drop(mutator, registers, 0)
-                # These take another region, so that the objects before don't lie in the current one.
+                # These take another region, so that the objects before aren't in the current one.
                 self.make(mutator, 2, pointers, 0)
                 self.make(mutator, 2, pointers, 0)
                 self.mark_step("begin")
@@ -431,7 +431,7 @@ class Drawer:
         self.globals[place] = registers[register]
 
     def call(self, mutator, registers):
-        """A frame begins behind the present one, mostly with what the caller hands over in its first register."""
+        """A frame begins after the present one, mostly with what the caller hands over in its first register."""
         first, last = registers.frames[-1], registers.count - 1
         if first == last:
             self.scope(mutator, registers)

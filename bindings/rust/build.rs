@@ -1,5 +1,5 @@
 //! Finds the archive: in the folder that G1HEAP_LIB_DIR names; else where pkg-config says; else in lib/ of the checkout that this
-//! crate lies in.
+//! crate is in.
 use std::path::{Path, PathBuf};
 use std::{env, process};
 

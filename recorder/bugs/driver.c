@@ -2,8 +2,8 @@
 
        driver BUG RECORD WALK [LAST [WITHOUT]]
 
-   WALK is `never`, `collections`, behind each of which a walk is recorded then, or the number of the event from which on a walk is
-   recorded behind each. LAST is the event behind which the run ends, or 0. Events of walks don't count. On standard output a line for each
+   WALK is `never`, `collections`, after each of which a walk is recorded, or the number of the event from which on a walk is
+   recorded after each. LAST is the event after which the run ends, or 0. Events of walks don't count. On standard output a line for each
    other event: its number in the record, and 1 where it is the end of a collection. WITHOUT leaves out what shows bugs: `holders` that
    live long, the two tables; `overwriting` fields that aren't nil; objects of all `sizes`: each has two pointers and a data word; steps
    while `marking` runs. */
@@ -23,7 +23,7 @@ static unsigned drawn(unsigned below) {
     return (unsigned)((state >> 20) % below);
 }
 
-/* What the walk sees. An address out of the heap has a name that no object bears. */
+/* What the walk sees. An address out of the heap has a name that no object has. */
 static void *object_at(Word a) { return a == 0 ? NULL : memory + (a < END ? a : END); }
 static Address address_of(void *object) { return (Address)((Word *)object - memory); }
 static int is_object(Address a) { return a < END && memory[a + 1] < next_name; }
@@ -44,7 +44,7 @@ static void walk(void) {
     if (g1record_walk(&record, &view) != 0) abort();
 }
 
-/* Behind each event. */
+/* After each event. */
 static void done(int collected) {
     events++;
     printf("%" PRIu64 " %d\n", record.events, collected);

@@ -1,6 +1,6 @@
-/* A small heap with a collector: right as it stands, and with one mistake where `bug` says which. table.json names them.
+/* A small heap with a collector: right as it is, and with one mistake where `bug` says which. table.json names them.
 
-   New objects lie in eden. `heap_collect` copies the young objects that are reached, those of eden and of a survivor space: the first time
+   New objects are in eden. `heap_collect` copies the young objects that are reached, those of eden and of a survivor space: the first time
    into the other survivor space, then into old regions. Dirty cards tell which old words may lead to young objects. Marking goes by a
    snapshot of all objects while mutators go on. `heap_remark` ends it: it clears weak slots and frees old regions without a marked
    object. `heap_compact` moves marked objects out of regions that hold few. An address is the number of a word, 0 is nil. Words that
@@ -24,7 +24,7 @@ static unsigned greys, copied, queued, all_cards, marking, marked_count;
 static unsigned char marked[END + 1024], dirty[CARDS + 128], chosen[REGIONS];
 
 /* A header has the counts of pointers, weak slots and data words, and OLDER after the first copy; or MOVED and the address of the copy.
-   The name and the fields, pointers before weak slots, stand behind it. */
+   The name and the fields, pointers before weak slots, come after it. */
 static Word header(Address a) { if (a == 0 || a >= END) abort(); return memory[a]; }
 static Address field(Address at) { if (memory[at] >= END) abort(); return (Address)memory[at]; }
 static unsigned pointers_of(Address a) { return header(a) & 0xff; }
@@ -71,7 +71,7 @@ static void free_region(unsigned i) {
     if (old_region == i) old_region = REGIONS;
 }
 
-/* The barrier of cards: an old field that leads to a young object lies in a dirty card. */
+/* The barrier of cards: an old field that leads to a young object is in a dirty card. */
 static void note(Address object, Address at, Address value) {
     Address card = (bug == 11 ? object : at) / CARD;
     if (bug == 14 && !is_young(value)) dirty[card] = 0;
@@ -126,7 +126,7 @@ static unsigned heap_cleanup(void) {
     return count;
 }
 
-/* Compaction, right behind a remark. */
+/* Compaction, right after a remark. */
 static void update(Address a) {
     if (!is_kept(a) || (bug == 7 && is_new(a))) return;
     for (unsigned i = 0; i < (bug == 21 ? pointers_of(a) : fields_of(a)); i++) {

@@ -117,7 +117,7 @@ local function make(stack, to, pointers, weaks, words)
     return spell(stack[to])
 end
 
--- The steps: what is handed over is the mutator's registers and the step's words behind its verb. A step gives its reply.
+-- The steps: what is handed over is the mutator's registers and the step's words after its verb. A step gives its reply.
 local step = {}
 function step.new(stack, to, p, d) return make(stack, number(to), p + 0, 0, d + 0) end
 function step.newweak(stack, to, p, w, d) return make(stack, number(to), p + 0, w + 0, d + 0) end

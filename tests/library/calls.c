@@ -1,4 +1,4 @@
-/* Each call of g1heap.h once or more, by answers that include/g1heap.h promises. Two heaps stand side by side. */
+/* Each call of g1heap.h once or more, by answers that include/g1heap.h promises. Two heaps are used side by side. */
 #include <g1heap.h>
 #include <stdio.h>
 
@@ -139,7 +139,28 @@ static void filled(g1_heap *h)
     g1_scope(h, 1, 0);
 }
 
-/* The heap has 4 regions of 16 words and buffers of 8. Two objects stand in it, of 4 and of 5 words: each has a buffer, in one region. */
+/* The same by the policy. */
+static void made_filled(g1_heap *h, const g1_sizes *sizes)
+{
+    uint32_t from[] = {1, G1_NIL_REGISTER}, itself[] = {1, 0}, none[] = {4};
+    uint64_t in[] = {7, UINT64_MAX}, name = g1_new_object(h, 1, 1, 0, 0).first;
+    g1_policy policy;
+    g1_policy_start(&policy, sizes);
+    is("make_filled", g1_make_filled(h, &policy, 1, 0, from, 2, in, 2), G1_NAME, name + 1, 0);
+    is("shape", g1_shape(h, 1, 0), G1_SHAPE, 2, 2);
+    is("get", g1_get(h, 1, 2, 0, 0), G1_NAME, name, 0);
+    is("get", g1_get(h, 1, 2, 0, 1), G1_NIL_VALUE, 0, 0);
+    is("read", g1_read(h, 1, 0, 0), G1_WORD, 7, 0);
+    is("read", g1_read(h, 1, 0, 1), G1_WORD, UINT64_MAX, 0);
+    is("make_filled", g1_make_filled(h, &policy, 1, 0, itself, 2, in, 2), G1_NO_STEP, 0, 0);
+    is("make_filled", g1_make_filled(h, &policy, 1, 0, none, 1, in, 0), G1_NO_STEP, 0, 0);
+    is("make_filled", g1_make_filled(h, &policy, 1, 4, from, 1, in, 0), G1_NO_STEP, 0, 0);
+    is("make_filled", g1_make_filled(h, &policy, 2, 0, from, 1, in, 0), G1_NO_STEP, 0, 0);
+    is("name", g1_name(h, 1, 0), G1_NAME, name + 1, 0);
+    g1_scope(h, 1, 0);
+}
+
+/* The heap has 4 regions of 16 words and buffers of 8. Two objects are in it, of 4 and of 5 words: each has a buffer, in one region. */
 static void collect(g1_heap *h, uint64_t name)
 {
     is("free regions", g1_free_regions(h), G1_NUMBER, 3, 0);
@@ -195,11 +216,12 @@ int main(void)
     is("no heap", g1_read(&one, 0, 0, 0), G1_NO_HEAP, 0, 0);
     is("no heap", g1_read_words(&one, 0, 0, 0, &sizes.first_name, 1), G1_NO_HEAP, 0, 0);
     is("no heap", g1_new_filled(&one, 0, 0, NULL, 0, NULL, 0), G1_NO_HEAP, 0, 0);
+    is("no heap", g1_make_filled(&one, &(g1_policy){0}, 0, 0, NULL, 0, NULL, 0), G1_NO_HEAP, 0, 0);
     is("no heap", g1_write_words(&one, 0, 0, 0, &sizes.first_name, 1), G1_NO_HEAP, 0, 0);
     is("the other heap", g1_read(&other, 0, 0, 0), G1_WORD, UINT64_MAX, 0);
     is_code("g1_new", g1_new(&one, &sizes), G1_DONE);
     sizes.first_name = 0, g1_free(&one), g1_new(&one, &sizes);
-    words(&one), filled(&one);
+    words(&one), filled(&one), made_filled(&one, &sizes);
     g1_free(&one), g1_free(&one), g1_free(&other);
     if (failed == 0) puts("all calls answered as the header has it");
     return failed != 0;

@@ -1,5 +1,5 @@
 /* A runtime's table of interned strings in a heap of 16 MiB: 330,000 strings come, of which 30,000 are kept, in a table of weak slots that
-   doubles where there is no room. The policy has to bear it.
+   doubles where there is no room. The policy has to cope with it.
 
      interned            the table grows whenever a part of it is full
      interned collect    before it grows, a whole collection clears the slots of what died */

@@ -87,11 +87,12 @@ static g1_answer filled(g1_heap *h, const g1_sizes *s, uint32_t m, uint32_t to)
     for (uint32_t i = 0; i < 6; i++) words[i] = draw();
     if (draw() % 4 != 0)
         for (uint32_t i = 0; i < 8; i++) from[i] = from[i] == to ? G1_NIL_REGISTER : from[i];
-    g1_answer answer = g1_new_filled(h, m, to, from, pointers, words, values), field;
+    g1_answer answer = draw() % 2 ? g1_new_filled(h, m, to, from, pointers, words, values)
+                                  : g1_make_filled(h, &policy, m, to, from, pointers, words, values), field;
     if (answer.code != G1_NAME) return answer;
     for (uint32_t i = 0; i < values; i++)
-        if (g1_read(h, m, to, i).first != words[i]) differ("new_filled");
-    if (g1_shape(h, m, to).first != pointers) differ("new_filled");
+        if (g1_read(h, m, to, i).first != words[i]) differ("filled");
+    if (g1_shape(h, m, to).first != pointers) differ("filled");
     for (uint32_t i = 0; i < pointers; i++) {
         if (from[i] != G1_NIL_REGISTER) field = g1_name(h, m, from[i]);
         else field = (g1_answer){G1_NIL_VALUE, 0, 0};
@@ -100,7 +101,7 @@ static g1_answer filled(g1_heap *h, const g1_sizes *s, uint32_t m, uint32_t to)
             if (spare == to || g1_name(h, m, spare).code != G1_NIL_VALUE) continue;
             g1_answer got = g1_get(h, m, spare, to, i);
             g1_drop(h, m, spare);
-            if (got.code != field.code || got.first != field.first) differ("new_filled");
+            if (got.code != field.code || got.first != field.first) differ("filled");
             break;
         }
     }

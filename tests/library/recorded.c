@@ -75,6 +75,37 @@ static void steps(g1_heap *h)
     g1_mark(h, 3), g1_begin(h), g1_begin(h), g1_mark(h, 1), g1_remark(h), g1_cleanup(h), g1_refine(h, 2), g1_pause(h, 9), g1_compact(h, 9);
 }
 
+/* What is asked of the policy in a heap with room: no step of the collector is due. */
+static const char wanted_of_policy[] =
+    "heap3 64 64 16 1 0 8 1 3\n"
+    "1 0 new r0 0 1 = #0\n"
+    "2 0 new r1 2 1 = #1\n"
+    "3 0 put r1 0 r0 = ok\n"
+    "4 0 put r1 1 nil = ok\n"
+    "5 0 write r1 0 9 = ok\n"
+    "6 0 new r2 1 0 = #2\n"
+    "7 0 put r2 0 r1 = ok\n";
+
+static int ask(void)
+{
+    g1_sizes sizes = {64, 64, 16, 1, 0, 8, 1, 3};
+    g1_heap heap = G1_HEAP_NONE;
+    g1_policy policy;
+    size_t length = 0;
+    if (g1_new(&heap, &sizes) != G1_DONE) return 1;
+    g1_policy_start(&policy, &sizes);
+    left_lines = 100;
+    g1_record(&heap, take, &length);
+    g1_make(&heap, &policy, 0, 0, 0, 0, 1);
+    g1_make_filled(&heap, &policy, 0, 1, (uint32_t[]){0, G1_NIL_REGISTER}, 2, (uint64_t[]){9}, 1);
+    g1_make_filled(&heap, &policy, 0, 2, (uint32_t[]){1}, 1, NULL, 0);
+    g1_make_filled(&heap, &policy, 0, 1, (uint32_t[]){1}, 1, NULL, 0);      /* its own register is no source: no step */
+    g1_free(&heap);
+    if (strcmp(got, wanted_of_policy) == 0) return 0;
+    fprintf(stderr, "the record is\n%s", got);
+    return 1;
+}
+
 int main(void)
 {
     g1_sizes sizes = {4, 16, 8, 1, 7, 8, 1, 2};
@@ -96,6 +127,7 @@ int main(void)
     if (length != before || g1_record(&heap, take, &length) != G1_NO_STEP || g1_record(&heap, NULL, NULL) != G1_DONE) return 1;
     if (g1_record(&other, take, &length) != G1_NO_STEP) return 1;
     g1_free(&heap), g1_free(&other);
+    if (ask() != 0) return 1;
     puts("each line is as it should be");
     return 0;
 }

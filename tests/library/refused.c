@@ -1,5 +1,5 @@
 /* Each request for memory of g1_new refused in turn: it answers G1_NO_MEMORY, leaves no heap, and gives back what it took; no other call
-   asks for memory. It stands before the C library's malloc, and so needs glibc. */
+   asks for memory. It comes before the C library's malloc, and so needs glibc. */
 #include <errno.h>
 #include <g1heap.h>
 #include <stdio.h>
@@ -61,7 +61,7 @@ int main(void)
     }
     g1_free(&heap);
     if (requests != first || turn < 2) {
-        fprintf(stderr, "%ld requests for memory behind g1_new, %ld within\n", requests - first, made);
+        fprintf(stderr, "%ld requests for memory after g1_new, %ld within\n", requests - first, made);
         return 1;
     }
     puts("each request for memory was refused, and told");

@@ -1,9 +1,9 @@
-/* Walks over a list of N objects, the last of which stands in r0 and r1: each one's first pointer names the one before.
+/* Walks over a list of N objects, the last of which is in r0 and r1: each one's first pointer names the one before.
 
        walks RECORD KIND N POINTERS REGISTERS
        walks RECORD sizes WORDS MUTATORS GLOBALS REGISTERS
 
-   POINTERS is how many each has. KIND is `whole`; `twice`: r1 holds a copy, which has the same name; `wild`: the object of r0 bears a name
+   POINTERS is how many each has. KIND is `whole`; `twice`: r1 holds a copy, which has the same name; `wild`: the object of r0 has a name
    that none was given; `without`: its name is that of nil; `sync`: as `whole`, and a sync in place of the walk. Prints how many objects
    weren't followed. By `sizes` a record without events is written. walks.py does the same in Python. */
 #include "../../recorder/g1record.h"

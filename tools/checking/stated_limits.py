@@ -26,7 +26,8 @@ def by_format(source, name, most):
 
 def of(sources):
     """Takes sources by their paths below crates/. Returns the numbers that may be said to be the most of something, by its unit; those of
-    the rows of docs/TEXTS.md, by a fault's or an option's name, each number once; and those of the comments on sizes in include/g1heap.h."""
+    the rows of docs/TEXTS.md, by a fault's or an option's name, each number once; and of include/g1heap.h those of the comments on sizes and
+    the largest sizes."""
     most = Constants((name, value(text)) for file in sources if FILES.fullmatch(file) for name, text in CONSTANT.findall(sources[file]))
     source = sources[CONFIGS]
     names = ("region_limit", "heap_limit", "count_limit", "mutator_limit", "card_limit")
@@ -47,7 +48,9 @@ def of(sources):
             "9 BadRoots": [roots], "--workers": [1, workers], "--refiners": [0, actors]}
     sizes = {"regions": [2, regions[2]], "words": [least, region[2], heap[2]], "card": [short, card[2]], "mutators": [1, mutators[2]],
              "globals": [0, one], "registers": [1, registers, roots]}
-    return limits, {name: once(numbers) for name, numbers in rows.items()}, sizes
+    macros = {"REGIONS": regions[2], "REGION_WORDS": region[2], "WORDS": heap[2], "MUTATORS": mutators[2], "CARD": card[2], "GLOBALS": one,
+              "REGISTERS": registers, "ROOTS": roots, "OBJECT_WORDS": most["max_object_words"], "WEAKS": weak}
+    return limits, {name: once(numbers) for name, numbers in rows.items()}, sizes, macros
 
 
 def once(numbers):

@@ -18,8 +18,8 @@ actors and of the third format, have 1,024 regions of 1,024 words, the largest t
 | candidates_N | 5,000 pauses with N candidates, of which the first, of 100 words, is taken and copied |
 | roots_16 | 2,000 pauses with 16 mutators, where each register and each global names an object of its own |
 | cleanups_256, _512, _1024 | 20 times: all regions but one are filled with garbage, which a marking cycle finds and `cleanup` reclaims |
-| chain_in_order | 100 marking cycles over a list of 10,000 objects, each of which names the next one behind it |
-| chain_apart | the same, and every other object lies in the other half of the heap |
+| chain_in_order | 100 marking cycles over a list of 10,000 objects, each of which names the next one after it |
+| chain_apart | the same, and every other object is in the other half of the heap |
 | chain_in_order_base, chain_apart_base | the same without their marking cycles |
 | actors_1, actors_16 | 50,000 steps of 1 or 16 mutators, in turn, each on an object of its own |
 | actors_1_base, actors_16_base | the same with 10,000 steps |
@@ -109,7 +109,7 @@ def pause_of_nothing_candidates(regions):
     chosen = random.Random(1)
     lines = [heap(8, 1, regions)]
     for _ in range(regions - 2):
-        # Two objects, and too little behind them for a third.
+        # Two objects, and too little after them for a third.
         lines.append(f"0 new r0 {shape(HALF - chosen.randrange(100), 0)}")
         lines.append(f"0 new r0 {shape(HALF - 1 - chosen.randrange(60), 0)}")
     return lines + ["gc pause 0"] * 20000
@@ -203,7 +203,7 @@ def copied_list(size, times):
 
 def covered_cards(count):
     lines = [heap(64)]
-    # The region that is chosen holds seven objects of 8 words; what stands beside them in it at first isn't reached.
+    # The region that is chosen holds seven objects of 8 words; what is beside them in it at first isn't reached.
     lines += [f"0 new r{register} {shape(8, 1)}" for register in range(1, 8)]
     lines.append(f"0 new r0 {shape(450, 0)}")
     # Tables that fill regions in pairs; one field in each card of them names an object of the chosen region.
@@ -218,7 +218,7 @@ def covered_cards(count):
 
 def source_regions(count, pauses):
     lines = [f"heap2 {REGIONS} 16384 512 1 0 64"]
-    # The object that is moved; what stands beside it in its region at first isn't reached.
+    # The object that is moved; what is beside it in its region at first isn't reached.
     lines += [f"0 new r1 {shape(16, 1)}"] + [f"0 new r2 {shape(16, 0)}"] * 1023
     # A list of 1,024 objects of 16 words a region; the first one of each region names the object too.
     for region in range(count):
@@ -233,7 +233,7 @@ def source_regions(count, pauses):
 def candidates(count):
     chosen = random.Random(3)
     lines = [heap(8)]
-    # Ten objects of 10 words, reached from r0; what stands beside them at first isn't reached.
+    # Ten objects of 10 words, reached from r0; what is beside them at first isn't reached.
     for _ in range(10):
         lines += [f"0 new r1 {shape(10, 1)}", "0 put r1 0 r0", "0 move r0 r1"]
     lines.append(f"0 new r1 {shape(413, 0)}")

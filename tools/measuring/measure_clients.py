@@ -4,7 +4,7 @@
 
 ARCHIVE is lib/libg1heap.a where it is left out. Each table goes over memories: g1heap by the archive; the same inlined by the kit's clang,
 where its module is beside the archive; Boehm's collector; malloc, where nothing is freed; the heap without proofs behind the same header; and
-tools/measuring/tuned_heap.c behind it, by calls and inlined, which says what such a heap takes at least, and which never frees either.
+tools/measuring/tuned_heap.c behind the same header, by calls and inlined, which says what such a heap takes at least and never frees either.
 
 `calls` counts the instructions of a call with the making of the question in C, by callgrind, from two runs that differ by 20,000 calls; there
 the archive that records is one more memory, while nothing is recorded. `programs` counts those of whole clients. `clients` takes the user
@@ -29,7 +29,8 @@ from measuring.counting import TOP
 ARCHIVE, INLINED, PLAIN, BOEHM = "g1heap", "inlined", "plain heap", "Boehm"
 # Megabytes of the heap in which a benchmark runs.
 JAVA = {"gcbench": 50, "binary_trees": 32}
-CALLS = ["get", "read", "write", "put", "put while marking", "move", "new 2 + 1", "name", "scope", "no such register"]
+CALLS = ["get", "read", "write", "put", "put while marking", "move", "new 2 + 1", "new filled 2 + 1", "make 2 + 1", "make filled 2 + 1",
+         "name", "scope", "no such register"]
 # A step with its size, two numbers of times of which the difference is taken, and what the difference is divided by.
 GROWTH = [
     *[("pause beside marked objects", size, 2, 12, 10) for size in (1000, 1000000)],

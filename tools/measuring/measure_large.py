@@ -65,7 +65,7 @@ def stores(words, count):
 
 
 def chain(words, count, apart):
-    """Objects of 4 words, each of which names the next one; where they lie apart every other one lies behind all the rest."""
+    """Objects of 4 words, each of which names the next one; where they are apart every other one is after all the rest."""
     lines = ["0 new r0 2 0", "0 save g0 r0"]
     if not apart:
         for _ in range(count - 1):

@@ -1,5 +1,5 @@
-/* Which share of live words the policy of include/g1heap.h bears. A load keeps so many words live and makes others, until 10 times
-   the heap's words were made; the share rises by 5 percent, up to 85, until G1_FULL comes. It prints the last share that was borne, and
+/* Which share of live words the policy of include/g1heap.h sustains. A load keeps so many words live and makes others, until 10 times
+   the heap's words were made; the share rises by 5 percent, up to 85, until G1_FULL comes. It prints the last share that was sustained, and
    what the collector did at 60 percent for each 1,000 words that were made.
 
      cc -O2 -Iinclude tools/measuring/policy_loads.c -Llib -lg1heap -o policy_loads
@@ -18,7 +18,7 @@ static g1_heap heap = G1_HEAP_NONE;
 static g1_sizes sizes;
 static g1_policy policy;
 static uint64_t made, seed;
-static uint32_t kept[BUCKETS * SLOTS];               /* words behind each slot */
+static uint32_t kept[BUCKETS * SLOTS];               /* words of what each slot leads to */
 
 static uint32_t draw(uint32_t below)
 {
@@ -90,8 +90,8 @@ static void drop_slot(uint32_t slot, uint64_t *live)
     *live -= kept[slot], kept[slot] = 0;
 }
 
-/* Whether the load was borne. */
-static int bears(int load, uint32_t share)
+/* Whether the load was sustained. */
+static int sustains(int load, uint32_t share)
 {
     uint64_t all = (uint64_t)sizes.regions * sizes.words, most = all * share / 100, live = 0;
     uint32_t own = 0, slots = BUCKETS * SLOTS;
@@ -124,13 +124,13 @@ static void measure(uint32_t regions)
 {
     sizes = (g1_sizes){regions, 1024, 127, 1, 0, 8, 0, 8};
     for (int load = 0; load < LOADS; load++) {
-        uint32_t share = 50, borne = 0;
+        uint32_t share = 50, sustained = 0;
         uint64_t scanned = 0, copied = 0;
-        for (; share <= MOST_SHARE && bears(load, share); share += 5) {
-            borne = share;
+        for (; share <= MOST_SHARE && sustains(load, share); share += 5) {
+            sustained = share;
             if (share == 60) scanned = policy.scanned * 1000 / made, copied = policy.copied * 1000 / made;
         }
-        printf("| %u | %s | %u %% | %" PRIu64 " | %" PRIu64 " |\n", regions, names[load], borne, scanned, copied);
+        printf("| %u | %s | %u %% | %" PRIu64 " | %" PRIu64 " |\n", regions, names[load], sustained, scanned, copied);
         fflush(stdout);
     }
 }

@@ -33,7 +33,8 @@ def page_around(record, life):
     """The page of two texts, by the files of the page."""
     folder = EMBEDDING.PAGE
     style = (folder / "page.css").read_text(encoding="utf-8")
-    script = "".join((folder / f"{name}.js").read_text(encoding="utf-8") for name in EMBEDDING.SCRIPTS)
+    names = [name for name in EMBEDDING.SCRIPTS if name not in EMBEDDING.THIRD or record.startswith("heap3 ")]
+    script = "".join((folder / f"{name}.js").read_text(encoding="utf-8") for name in names)
     before, rest = (folder / "page.html").read_text(encoding="utf-8").replace("{{style}}\n", style).split("{{record}}")
     between, rest = rest.split("{{life}}")
     return before + record + between + life + rest.replace("{{script}}\n", script)
@@ -171,7 +172,7 @@ def check_facts(count, name, path, record, facts, sizes, every):
 
 
 def check_told_record(count, name, record, told, moments):
-    """All lines of the record stand in the page, or where they are too many those next to a moment."""
+    """All lines of the record are in the page, or where they are too many those next to a moment."""
     lines, events = record.splitlines(True), {moment.event for moment in moments}
     if len(lines) - 1 > TOLD_EVENTS:
         lines = [line for event, line in enumerate(lines) if event == 0 or event in events or event - 1 in events]
@@ -269,6 +270,19 @@ def many_tiles():
 def large():
     """A heap of so many words that no tiles are told."""
     return "\n".join(["heap 65 1024 16 1 0", "0 new r0 1 1", "0 new r1 1100 0", "0 put r1 3 r0", "gc begin", "gc remark", "gc pause 9", ""])
+
+
+def many_regions():
+    """A heap of 4,096 regions, of which some hundred have objects: a cleanup leaves free ones between them, and pauses follow."""
+    lines = ["heap3 4096 1024 127 2 0 64 16 16", "0 new r2 200 0", "0 save g0 r2"]
+    for number in range(800):
+        lines += ["0 new r0 2 500", "1 new r0 1 30"] if number % 8 == 5 else ["0 new r0 2 500"]
+        lines += [f"0 put r2 {number // 4 + number % 8} r0"] if number % 8 < 2 else []
+    lines += ["0 drop r0", "gc begin", "gc mark 50", "gc remark", "gc cleanup", "gc refine 9", "gc pause 3000"]
+    for number in range(2000):
+        lines += ["1 new r1 1 300", "1 put r1 0 r0", "0 get r0 r2 3", "0 write r0 3 7"]
+        lines += ["gc pause 0"] if number % 500 == 499 else []
+    return "\n".join([*lines, "gc begin", "gc remark", "gc cleanup", "gc pause 9999", ""])
 
 
 def long(events):

@@ -388,6 +388,76 @@ def check_bundles(count, browser, name, path, event):
     count.note(f"{name}: arrows in bundles", copies > 24 and few and sum(bundles) == copies, (copies, bundles))
 
 
+BOXES = """
+return [...document.querySelectorAll('.lane')].map((lane) => {
+  const fold = lane.matches('.fold');
+  const first = Number(lane.dataset.region);
+  return [first, fold ? Number(lane.dataset.to) : first, fold ? lane.querySelector('text:last-of-type').textContent : ''];
+});
+"""
+
+
+def boxes_of(moments, place):
+    """What is drawn of the regions at a moment: each that is in use then or at the moment before, and free ones side by side as one box."""
+    used, kinds = set(), {}
+    for at, moment in enumerate(moments[:place + 1]):
+        kinds.update({region: lines[0].split()[2] for region, lines in moment.regions.items()})
+        used |= {region for region, kind in kinds.items() if kind != "f"} if at >= place - 1 else set()
+    boxes = []
+    for region in sorted(kinds):
+        if boxes and region not in used and boxes[-1][1] not in used:
+            boxes[-1][1] = region
+        else:
+            boxes.append([region, region])
+    return [[first, last, f"{last - first + 1:,} free" if first < last else ""] for first, last in boxes]
+
+
+def check_folds(count, browser, name, path, moments):
+    """Free regions side by side are one box with their count; a click or Enter shows them, and a button folds all or none."""
+    browser.open(path)
+    last, regions = len(moments) - 1, browser.run("return heapLife.life.sizes.regions")
+    for place in sorted({0, 1, last // 3, last // 2, last - 1, last}):
+        browser.run("heapLife.show(arguments[0])", place)
+        boxes, wanted = browser.run(BOXES), boxes_of(moments, place)
+        count.note(f"{name}: the boxes of moment {place}", boxes == wanted, (boxes[:20], wanted[:20]))
+    folds = [box for box in boxes if box[0] < box[1]]
+    count.note(f"{name}: many folds", len(folds) > 20 and len(boxes) < regions / 4, (len(folds), len(boxes)))
+
+    def whole():
+        found = browser.run(BOXES)
+        return [region for first, end, _ in found for region in range(first, end + 1)] == list(range(regions)), len(found)
+
+    first, end, _ = folds[3]
+    click = "dispatchEvent(new MouseEvent('click', { bubbles: true }))"
+    browser.run(f"document.querySelector(`.lane[data-region='${{arguments[0]}}']`).{click}", first)
+    count.note(f"{name}: a fold that is clicked", whole() == (True, len(boxes) + end - first), whole())
+    word = "return document.getElementById('fold').textContent"
+    count.note(f"{name}: the button after it", browser.run(word) == "Fold", browser.run(word))
+    tab_to(browser, lambda it: it["id"] == "fold")
+    browser.strike("Enter")
+    count.note(f"{name}: folded by the button", whole() == (True, len(boxes)) and browser.run(word) == "Unfold", whole())
+    browser.strike("Enter")
+    count.note(f"{name}: unfolded by the button", whole() == (True, regions) and browser.run(word) == "Fold", whole())
+    browser.strike("Enter")
+    tab_to(browser, lambda it: it["tag"] == "g")
+    at = next(at for at, box in enumerate(boxes) if box[0] < box[1])
+    browser.strike(*["ArrowRight"] * at)
+    there = browser.run("return document.activeElement.classList.contains('fold')")
+    browser.strike("Enter")
+    here = browser.run("return Number(document.activeElement.dataset.region)")
+    well = there and here == boxes[at][0] and whole() == (True, len(boxes) + boxes[at][1] - boxes[at][0])
+    count.note(f"{name}: a fold by keys", well, (there, here, whole()))
+    count.note(f"{name}: no region is open", browser.run("return heapLife.view.region") is None)
+    browser.strike("ArrowDown", "ArrowUp", "ArrowLeft")
+    count.note(f"{name}: arrows", browser.run("return document.activeElement.matches('.lane')"))
+    chosen = boxes[-1][1] - 7
+    browser.run("heapLife.openRegion(arguments[0])", chosen)
+    boxes = browser.run(BOXES)
+    shown = [chosen, chosen, ""] in boxes and browser.run("return document.querySelectorAll('.lane.chosen').length") == 1
+    count.note(f"{name}: a free region that is open", shown, boxes[-3:])
+    browser.run("heapLife.openRegion(null)")
+
+
 def check_end_of_objects(count, browser, name, path):
     """A page whose objects end before its moments do says so at its last moment, and leads to the last moment that has them."""
     ends = "return life.moments[life.tilesEnd - 1].event"

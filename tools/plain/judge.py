@@ -84,7 +84,7 @@ class Graph:
         return True
 
     def given(self, actor, words, reply):
-        """What may stand in place of a reply with which an event may not come now. The graph is of no use after it."""
+        """What may come in place of a reply with which an event may not come now. The graph is of no use after it."""
         if not actor.isdigit():
             return GIVEN[words[0]]
         told = Told(reply)
@@ -123,7 +123,7 @@ class Graph:
         return True
 
     def part(self, registers, register, index, part):
-        """The list that a word stands in, or the refusal."""
+        """The list that a word is in, or the refusal."""
         name = registers[place_of(register)]
         if name is None:
             return None, "refused 1 Nil"

@@ -42,7 +42,7 @@ struct Step {
     std::uint8_t mutator, length;
 };
 
-// Reads words and numbers from one line, behind which a line feed stands, of a text whose heap has these sizes. Each call answers
+// Reads words and numbers from one line, after which a line feed comes, of a text whose heap has these sizes. Each call answers
 // whether the text goes on so, and goes past it.
 class Cursor {
 public:
@@ -81,7 +81,7 @@ public:
         return true;
     }
 
-    // Mostly a register has one digit, with a space or the line feed behind it.
+    // Mostly a register has one digit, with a space or the line feed after it.
     bool reg(Number& value) {
         if (*at_ != 'r') return false;
         ++at_;

@@ -57,7 +57,7 @@ inline bool is_moved(Word header) { return (header & 3) == 2; }
 inline Number pointer_count(Word header) { return header >> 8 & 0xffffff; }
 inline Number data_count(Word header) { return header >> 32 & 0xffffff; }
 inline Number weak_count(Word header) { return Number(header >> 56); }
-// Fields: pointers and, behind them, weak slots.
+// Fields: pointers and, after them, weak slots.
 inline Number field_count(Word header) { return pointer_count(header) + weak_count(header); }
 inline Number filler_size(Word header) { return header >> 8 & 0xffffff; }
 inline Address moved_to(Word header) { return Address(header >> 8); }
@@ -140,7 +140,7 @@ private:
 };
 
 // The cards that may hold a pointer into one region: some by number, then whole regions of cards. The marks of
-// the source regions of all sets stand in one bitmap of the heap.
+// the source regions of all sets are in one bitmap of the heap.
 struct RememberedSet {
     Number count = 0;
     bool has_sources = false;
@@ -429,7 +429,7 @@ protected:
         --free_count_;
     }
 
-    // Notes that a tile starts at `start`: the cards whose first word lies in it lead to it.
+    // Notes that a tile starts at `start`: the cards whose first word is in it lead to it.
     void note_tile(Address start, Number size) {
         Number end = (start + size - 1) >> card_shift_;
         for (Number card = (start + card_words_ - 1) >> card_shift_; card <= end; ++card) first_tile_[card] = start;
@@ -544,7 +544,7 @@ protected:
         card_log_counts_[mutator] = 0;
     }
 
-    // The queue is a ring with room for every card, since a card stands in it at most once.
+    // The queue is a ring with room for every card, since a card is in it at most once.
     void enqueue(Number card) {
         Number place = queue_first_ + queue_count_++;
         if (place >= queue_.size()) place -= Number(queue_.size());
@@ -614,7 +614,7 @@ protected:
 
     Number live_bound(const Region& region) const { return region.previous_live + (region.top - region.previous_start); }
 
-    // Marks an object and makes it grey, where it stood when marking began and isn't marked.
+    // Marks an object and makes it grey, where it was there when marking began and isn't marked.
     void mark_object(Address at) {
         Region& region = regions_[region_of(at)];
         if (at >= region.next_start || next_marks_.has(at)) return;
@@ -707,7 +707,7 @@ protected:
     }
 
     // Leaves the highest ordinary regions in chosen_, none while marking runs: the longest front of them, from the highest down, whose live
-    // bounds are within the copy limit and of which the last, the k-th, lies above the free region of which 2 k - 2 are lower.
+    // bounds are within the copy limit and of which the last, the k-th, is above the free region of which 2 k - 2 are lower.
     void choose_highest(Number budget) {
         Word limit = std::min(Word(budget), Word(free_count_) * sizes_.words / 2);
         chosen_.clear();
@@ -742,7 +742,7 @@ protected:
                 noted_.add(card);
             });
         });
-        // Copies stand in the order in which they were made, so that a walk over the destinations goes breadth first.
+        // Copies are in the order in which they were made, so that a walk over the destinations goes breadth first.
         for (std::size_t place = 0; place < destinations_.size(); ++place) {
             Number number = destinations_[place];
             for (Address at = bottom(number); at < regions_[number].top; at += object_size(words_[at]))
@@ -806,7 +806,7 @@ protected:
     Number free_count_;
     Number current_ = no_region;
     std::vector<Buffer> buffers_;
-    // For each card whose first word lies below its region's top, a tile at or before that word from which a walk
+    // For each card whose first word is below its region's top, a tile at or before that word from which a walk
     // reaches it; for all cards but those inside a filler it is the tile that holds that word.
     std::vector<Address> first_tile_;
 

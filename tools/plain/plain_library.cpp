@@ -53,7 +53,7 @@ public:
         return false;
     }
 
-    // How many free regions lie side by side, at most.
+    // How many free regions are side by side, at most.
     Number free_run() const {
         Number most = 0;
         for (Number region = 0, length = 0; region < sizes_.regions; ++region) {
@@ -208,17 +208,27 @@ g1_answer g1_write_words(g1_heap* heap, std::uint32_t mutator, std::uint32_t obj
     return has;
 }
 
-g1_answer g1_new_filled(g1_heap* heap, std::uint32_t mutator, std::uint32_t to, const std::uint32_t* from, std::size_t pointers,
-                        const std::uint64_t* words, std::size_t values) {
-    if (!heap->live) return answer(G1_NO_HEAP);
-    if (pointers > UINT32_MAX || values > UINT32_MAX) return answer(G1_NO_STEP);
+/* Whether each source of a filled object is nil or a register, and another one than the object's. */
+static bool has_sources(g1_heap* heap, std::uint32_t to, const std::uint32_t* from, std::size_t pointers, std::size_t values) {
+    if (pointers > UINT32_MAX || values > UINT32_MAX) return false;
     for (std::size_t i = 0; i < pointers; ++i)
-        if (from[i] == to || (from[i] != G1_NIL_REGISTER && !in(heap).has_register(from[i]))) return answer(G1_NO_STEP);
-    g1_answer made = g1_new_object(heap, mutator, to, Number(pointers), Number(values));
+        if (from[i] == to || (from[i] != G1_NIL_REGISTER && !in(heap).has_register(from[i]))) return false;
+    return true;
+}
+
+static g1_answer filled(g1_answer made, g1_heap* heap, std::uint32_t mutator, std::uint32_t to, const std::uint32_t* from,
+                        std::size_t pointers, const std::uint64_t* words, std::size_t values) {
     if (made.code != G1_NAME) return made;
     for (std::size_t i = 0; i < pointers; ++i) g1_put(heap, mutator, to, Number(i), from[i]);
     for (std::size_t i = 0; i < values; ++i) g1_write(heap, mutator, to, Number(i), words[i]);
     return made;
+}
+
+g1_answer g1_new_filled(g1_heap* heap, std::uint32_t mutator, std::uint32_t to, const std::uint32_t* from, std::size_t pointers,
+                        const std::uint64_t* words, std::size_t values) {
+    if (!heap->live) return answer(G1_NO_HEAP);
+    if (!has_sources(heap, to, from, pointers, values)) return answer(G1_NO_STEP);
+    return filled(g1_new_object(heap, mutator, to, Number(pointers), Number(values)), heap, mutator, to, from, pointers, words, values);
 }
 
 g1_answer g1_move(g1_heap* heap, std::uint32_t mutator, std::uint32_t to, std::uint32_t from) {
@@ -344,6 +354,14 @@ g1_answer g1_make(g1_heap* heap, g1_policy* policy, std::uint32_t mutator, std::
     Word size = Word(2) + pointers + weaks + values;
     if (!policy_room(&of, mutator, size)) return answer(G1_FULL);
     return weaks == 0 ? g1_new_object(heap, mutator, to, pointers, values) : g1_new_weak(heap, mutator, to, pointers, weaks, values);
+}
+
+g1_answer g1_make_filled(g1_heap* heap, g1_policy* policy, std::uint32_t mutator, std::uint32_t to, const std::uint32_t* from,
+                         std::size_t pointers, const std::uint64_t* words, std::size_t values) {
+    if (!heap->live) return answer(G1_NO_HEAP);
+    if (!has_sources(heap, to, from, pointers, values)) return answer(G1_NO_STEP);
+    g1_answer made = g1_make(heap, policy, mutator, to, Number(pointers), 0, Number(values));
+    return filled(made, heap, mutator, to, from, pointers, words, values);
 }
 
 g1_answer g1_collect(g1_heap* heap, g1_policy* policy) {

@@ -32,7 +32,7 @@ Sizes read_sizes(const std::string& line) {
     return sizes;
 }
 
-// The number of a word, behind its letter where it has one.
+// The number of a word, after its letter where it has one.
 Word number(const std::string& word) {
     return std::stoull(word[0] == 'r' || word[0] == 'g' ? word.substr(1) : word);
 }
@@ -59,7 +59,7 @@ public:
 private:
     bool is_in_use(Number region) const { return regions_[region].kind == Kind::Ordinary || regions_[region].kind == Kind::First; }
 
-    // The bottom of what is behind the tiles that start in a region: a run's object ends in a later one.
+    // The bottom of what comes after the tiles that start in a region: a run's object ends in a later one.
     Address end_of(Number region) const {
         return regions_[region].kind == Kind::First ? bottom(region) + object_size(words_[bottom(region)]) : regions_[region].top;
     }

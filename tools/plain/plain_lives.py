@@ -22,7 +22,7 @@ class Moment:
             self.lines.append(line)
 
     def words(self, letter):
-        """The words behind a letter, of each line that begins with it."""
+        """The words after a letter, of each line that begins with it."""
         return [line.split()[1:] for line in self.lines if line[0] == letter]
 
 

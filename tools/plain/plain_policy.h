@@ -67,19 +67,22 @@ static inline void policy_plan_cycle(policy_of *of, uint32_t free)
         : policy_within((uint64_t)of->policy->reserve + policy_least(room / 4, of->sizes->regions / 8));
     policy_plan_young(of, free);
 }
+static inline int policy_is_young_due(g1_policy *policy, uint32_t free)
+{
+    if (policy->young != 0) return 1;
+    if (free > policy->young_at) return 0;
+    policy->young = policy_most(1, policy->span), policy->gained = 0, policy->paid = 0;
+    return 1;
+}
 static inline void policy_pause_young(policy_of *of)
 {
     g1_policy *policy = of->policy;
     uint32_t before = policy_free(of->heap), after;
-    g1_answer moved;
-    if (policy->young == 0) {
-        if (before > policy->young_at) return;
-        policy->young = policy_most(1, policy->span), policy->gained = 0, policy->paid = 0;
-    }
-    moved = policy_pause(of, policy->pause_words), after = policy_free(of->heap);
+    g1_answer moved = policy_pause(of, policy->pause_words);
+    after = policy_free(of->heap);
     policy->gained += policy_above(after, before), policy->paid += moved.first;
     uint64_t worth = (uint64_t)policy->gained * of->sizes->words;
-    int is_cut_short = policy->pause_words <= 2 * moved.first;
+    int is_cut_short = (uint64_t)2 * policy->pause_words < (uint64_t)before * of->sizes->words;
     if (moved.second != 0 && moved.second < policy->young && policy->paid <= worth && is_cut_short) {
         policy->young -= moved.second;
         return;
@@ -136,14 +139,19 @@ static inline void policy_begin(policy_of *of)
     g1_begin(of->heap);
     if (free <= policy->reserve) policy_end(of);
 }
-static inline void policy_due(policy_of *of)
+static inline void policy_mark_or_begin(policy_of *of)
 {
-    policy_pause_young(of);
     if (g1_marking(of->heap).first == 1) {
         g1_mark(of->heap, policy_least(of->policy->pace, of->policy->mark_objects));
         if (policy_free(of->heap) <= of->policy->reserve || g1_grey(of->heap).first == 0) policy_end(of);
     } else if (of->policy->wanted == 0) policy_begin(of);
-    policy_evacuate(of);
+}
+static inline void policy_due(policy_of *of)
+{
+    int is_young_due = policy_is_young_due(of->policy, policy_free(of->heap));
+    if (is_young_due) policy_pause_young(of);
+    policy_mark_or_begin(of);
+    if (!is_young_due) policy_evacuate(of);
 }
 static inline void policy_pause_all(policy_of *of)
 {

@@ -146,12 +146,12 @@ HEAP_WORDS = {b"heap": 5, b"heap2": 6, b"heap3": 8}
 
 
 def places_of(texts):
-    """The forms of the words behind each verb."""
+    """The forms of the words after each verb."""
     return {words[0].encode(): words[1:] for words in (text.split(" ") for text in texts)}
 
 
 def verbs_of(actor, sizes):
-    """The verbs of an actor with the forms of the words behind them, and what tells them to a reader."""
+    """The verbs of an actor with the forms of the words after them, and what tells them to a reader."""
     if actor == b"gc":
         third = ["compact N"] if sizes.third else []
         return places_of([*COLLECTOR_TEXTS, *third]), THIRD_COLLECTOR_VERBS if sizes.third else COLLECTOR_VERBS
@@ -164,7 +164,7 @@ def verbs_of(actor, sizes):
 
 
 def stop_of(line, count, sizes):
-    """The word at which reading an event's line stops, counted from 1, and what may stand there."""
+    """The word at which reading an event's line stops, counted from 1, and what may be there."""
     words = line.split(b" ")
     if not is_number(words[0], LARGE) or int(words[0]) != count:
         return 1, f"the count {count}"

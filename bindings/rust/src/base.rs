@@ -1,4 +1,4 @@
-//! What frames stand on: a heap of the library with its policy, and its globals.
+//! What frames are made on: a heap of the library with its policy, and its globals.
 use crate::heap::Error;
 use crate::sys::{g1_sizes, Raw, DONE};
 use crate::threads::Lock;

@@ -87,7 +87,7 @@ impl<'a> Steps<'a> {
     pub fn pause(&self, words: u32) -> Moved {
         moved(self.raw.pause(words))
     }
-    /// The same of the highest ordinary regions, as many as go down, so that free regions come to lie side by side: for objects of more than
+    /// The same of the highest ordinary regions, as many as go down, so that free regions are side by side: for objects of more than
     /// half a region, which never move. While marking runs, nothing is copied.
     pub fn compact(&self, words: u32) -> Moved {
         moved(self.raw.compact(words))

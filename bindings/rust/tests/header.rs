@@ -1,4 +1,4 @@
-//! The declarations of `src/sys.rs` against `include/g1heap.h`, where this crate lies in a checkout.
+//! The declarations of `src/sys.rs` against `include/g1heap.h`, where this crate is in a checkout.
 use std::fs;
 
 fn texts() -> Option<(String, String)> {

@@ -48,7 +48,7 @@ pub record IsLast (c : CoreState) (op : Op) (c' : CoreState) : Type 0 where
 -- Why an object is refused as Full, of the graph as it was when it was asked for. A whole collection was just done. And if the heap has
 -- regions enough to leave two beside the object: for one of at most half a region only two are free, and what roots reach has more than
 -- half of the words of all regions but three; for a larger one there is no run of free regions, or fewer than two are free beside it, and
--- in the third format each ordinary region lies below each free one, so that objects which roots reach are all that parts free regions
+-- in the third format each ordinary region is below each free one, so that objects which roots reach are all that parts free regions
 pub record IsFilled (g : Graph) (c : CoreState) (a : Action) (c' : CoreState) : Type 0 where
   pub collected : IsCollected g c'
   pub small : LeavesTwo c.config a → 2 * asked_words a ≤ c.config.words → 2 ≤ free_count c.table → IsPackedAt g c'

@@ -55,7 +55,7 @@ ordinary_end_of t (suc n) = if is_ordinary (kind_of t n) then suc n else ordinar
 abbrev pub ordinary_end : Table → ℕ
 ordinary_end t = ordinary_end_of t (length t.regions)
 
--- each ordinary region lies below each free one: so from the lowest free region on all others belong to humongous objects
+-- each ordinary region is below each free one: so from the lowest free region on all others belong to humongous objects
 abbrev pub LieBelowFree : Table → Type 0
 LieBelowFree t = (j k : ℕ) → j < k → kind_of t j ≡ kinds.Free → kind_of t k ≢ kinds.Ordinary
 

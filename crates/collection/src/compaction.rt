@@ -28,7 +28,7 @@ fn took_some(reply: Reply) -> bool
 }
 
 /// A compaction of a region of words, which takes one destination at most. Answers whether it took any region: then no ordinary region is
-/// as high as the highest was, else each lies below each free one.
+/// as high as the highest was, else each is below each free one.
 fn compact_once<W: Watch>(core: &mut Core, policy: &mut Policy, watch: &mut W) -> bool
     requires third { IsThird core.old.config.format }
     ensures collects { Collects W.sees 1 core.old watch.old core.new watch.new }

@@ -11,15 +11,12 @@ use crate::whole::pause_all;
 use heap_steps::CollectorStep;
 use step_core::Core;
 
-/// Evacuates new regions, of which most objects are dead by now, where a part of the free regions was filled since the last time.
+/// Evacuates some new regions, of which most objects are dead by now.
 fn pause_young<W: Watch>(core: &mut Core, policy: &mut Policy, watch: &mut W)
     ensures { Collects W.sees 1 core.old watch.old core.new watch.new }
 {
-    let before = core.free_regions();
-    if !policy.is_young_due(before) {
-        return;
-    }
     let config = core.config();
+    let before = core.free_regions();
     let budget = policy.pause_words;
     let reply = take(core, policy, CollectorStep::Pause(budget), watch);
     policy.note_young(&config, before, core.free_regions(), reply);
@@ -129,7 +126,16 @@ fn cycle_on<W: Watch>(core: &mut Core, policy: &mut Policy, watch: &mut W)
     evacuate(core, policy, watch);
 }
 
-/// Takes the steps that are due at a look, at most five and one for each region.
+/// Evacuates some new regions, and goes on with a cycle.
+fn young_on<W: Watch>(core: &mut Core, policy: &mut Policy, watch: &mut W)
+    ensures { Collects W.sees 4 core.old watch.old core.new watch.new }
+{
+    pause_young(core, policy, watch);
+    mark_or_begin(core, policy, watch);
+}
+
+/// Takes the steps that are due at a look, at most five and one for each region. Where new regions are evacuated, the evacuation after a
+/// cycle waits for the next look.
 ///
 /// ```rust
 /// collect_due(&mut core, &mut policy, &mut Unwatched);
@@ -137,7 +143,10 @@ fn cycle_on<W: Watch>(core: &mut Core, policy: &mut Policy, watch: &mut W)
 pub fn collect_due<W: Watch>(core: &mut Core, policy: &mut Policy, watch: &mut W)
     ensures { Collects W.sees (core.old.config.regions + 5) core.old watch.old core.new watch.new }
 {
-    pause_young(core, policy, watch);
+    if policy.is_young_due(core.free_regions()) {
+        young_on(core, policy, watch);
+        return;
+    }
     cycle_on(core, policy, watch);
 }
 

@@ -228,15 +228,16 @@ impl Policy {
         true
     }
 
-    /// Takes note of a pause of new regions. Where its budget cut it short, and these pauses brought enough, the next look goes on with the
-    /// other new regions. Else the next ones are due later; and not before the next cycle, where more than half of what was taken was
-    /// copied.
+    /// Takes note of a pause of new regions. If its budget left some of them, and not the room for copies, and these pauses brought enough,
+    /// the next look goes on with those. Else the next ones are due later; and not before the next cycle, if more than half of what was
+    /// taken was copied.
     pub(crate) fn note_young(&mut self, config: &Config, before: u32, after: u32, reply: Reply) {
         let (regions, words) = moved(reply);
         self.gained = self.gained.saturating_add(after.saturating_sub(before));
         self.paid = self.paid.saturating_add(words);
         let worth = u64::from(self.gained) * u64::from(config.words);
-        let is_cut_short = u64::from(self.pause_words) <= words.saturating_mul(2);
+        let room = u64::from(before) * u64::from(config.words);
+        let is_cut_short = u64::from(self.pause_words) * 2 < room;
         if regions != 0 && regions < self.young && self.paid <= worth && is_cut_short {
             self.young -= regions;
             return;

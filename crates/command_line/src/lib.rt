@@ -241,7 +241,7 @@ fn explain<'a>(alloc: Global) -> Arg<'a>
     flag(alloc, "explain", help)
 }
 
-// What holds a command is let go by `drop`, one call: where it is let go unsaid, each of its fields is written out.
+// What holds a command is dropped by `drop`, one call: a drop that isn't written writes each of its fields out.
 
 /// Adds an argument, unless memory was refused before.
 fn with_arg<'a>(

@@ -42,7 +42,7 @@ Makes File = IsRunInOrder
 Makes (Drawn seed refiners markers) = IsDrawnRun seed refiners markers
 Makes (Concurrent workers refiners markers) = IsThreadedRun workers refiners markers
 
--- the faults of a run with counts: that of counts exactly where one is out of range, and others where none is
+-- the faults of a run with counts: that of counts if and only if one is out of range, else others
 abbrev pub IsCountedFault : Type 0 → (Config → RunFault → Type 0) → Config → RunFault → Type 0
 IsCountedFault CountsSuit IsFault config runs.BadWorkers = CountsSuit → ⊥
 IsCountedFault CountsSuit IsFault config fault = CountsSuit × IsFault config fault
@@ -57,7 +57,7 @@ MayFail (Concurrent workers refiners markers) = IsCountedFault (CanStart workers
 abbrev pub EndsIn : Order → Reader → Reader → Writer → Writer → Result ⊤ JobFault → Type 0
 EndsIn order = Ends (Makes order) (MayFail order)
 
--- A script was run in an order, and its end was told so. The status is 0 exactly where it ended well.
+-- A script was run in an order, and its end was told so. The status is 0 if and only if it ended well.
 pub record Performs (order : Order) (given left : Reader) (old new err err' : Writer) (status : ℕ) : Type 0 where
   pub outcome : Result ⊤ JobFault
   pub ends : EndsIn order given left old new outcome

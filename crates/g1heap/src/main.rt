@@ -7,12 +7,12 @@
 //!                                                            --> thread_script    in turns of threads
 //!                                                            --> judge_record     the verdict on a record
 //!                                                            --> explain_record   the verdict with its reason
-//!                                                            --> view_script      the heap as it stands; view_record of a record
+//!                                                            --> view_script      the heap as it is; view_record of a record
 //!                                                            --> draw_script      the life of the heap, as a page; draw_record of a record
 //! ```
 //!
 //! `program` reads the command line (crate `command_line`), opens the file and calls `do_job`, which does the job and tells its end (crate
-//! `jobs`). The three ways to run a script stand here, since one of them needs threads and waiting.
+//! `jobs`). The three ways to run a script are here, since one of them needs threads and waiting.
 #![tactic(auto)]
 
 mod actors;

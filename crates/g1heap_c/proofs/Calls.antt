@@ -1,7 +1,7 @@
 -- Calls one after another are a run of the graph.
 use Rattle.std.proofs.Common.{◌≡◌, ◌⊎◌, ◌∙◌, ◌+◌, ◌*◌, ◌<◌, ℕ, zero, suc, List, [], ◌∷◌, ◌++◌, length, Some, inl, inr}
-use Rattle.std.proofs.Common.{refl, sym, ap, subst, map, None, arith}
-use Rattle.std.specs.Prelude.{slice_index}
+use Rattle.std.proofs.Common.{refl, sym, ap, subst, map, None, Option, arith}
+use Rattle.std.specs.Prelude.{slice_index, All}
 use Rattle.heap_words.specs.declared.config.Config.{Config}
 use Rattle.heap_steps.specs.declared.step.Event.{Event}
 use Rattle.heap_steps.specs.declared.step.Op.{Op}
@@ -18,15 +18,16 @@ use Rattle.step_core.specs.Stands.{CoreState, Stands}
 use Rattle.step_core.specs.Words.{AreWritten, reading, writing}
 use Rattle.step_core.specs.Words as words
 use Rattle.step_core.proofs.Cores.Following.{history_is_run}
-use Rattle.collection.specs.Steps.{HoldsBack, TakesOwn, own_event}
+use Rattle.collection.specs.Steps.{HoldsBack, IsCollectors, TakesOwn, own_event}
 use Rattle.g1heap_c.specs.Calls.{AreCalls, AreRun, HasEvents, IsCall, event_of, reads_of, writes_of}
-use Rattle.g1heap_c.specs.Calls.{StepCall, MakeCall, DueCall, WholeCall, ReadCall, WriteCall, FilledCall, OtherCall}
-use Rattle.g1heap_c.specs.Calls.{OfStep, OfMaking, OfCollection, OfReads, OfWrites, OfFilling, OfNone}
+use Rattle.g1heap_c.specs.Calls.{StepCall, MakeCall, DueCall, WholeCall, ReadCall, WriteCall, FilledCall, MadeFilledCall, OtherCall}
+use Rattle.g1heap_c.specs.Calls.{OfStep, OfMaking, OfCollection, OfReads, OfWrites, OfFilling, OfMadeFilling, OfNone}
 use Rattle.g1heap_c.specs.Calls.{filling, first_steps}
 use Rattle.g1heap_c.specs.Filled.{FillsIt, RunsTo, Fills, making, pointing, wording}
+use Rattle.g1heap_c.specs.MadeFilled.{AsksToFill}
 use Rattle.g1heap_c.specs.Numbers.{register, told}
 use Rattle.g1heap_c.specs.Steps.{IsMade, Steps}
-use Rattle.g1heap_c.specs.Policies.{Asks, CollectsIn}
+use Rattle.g1heap_c.specs.Policies.{Asks, CollectsIn, asked}
 use Rattle.g1heap_c.specs.Words.{ReadsAll, ReadsNone, WritesAll, WritesNone}
 use Rattle.g1heap_c.specs.declared.answer.Answer.{Answer}
 
@@ -85,17 +86,32 @@ own_from op reply s c c' W sees x x' st (inr h) =
       stands = subst (λ (d : CoreState). Stands s d) (sym h.core) st;
     }
 
-make_done : (op : Op) (s : State) (c c' : CoreState) (answer : Answer) → Stands s c → Asks c op answer (Some c') → Done s c answer c'
-make_done op s c c' answer st h =
-    let same : c' ≡ h.core = held_is c' h.core h.held in
+-- an object that was asked for: the steps of the collector, and its own
+record Asked (s : State) (c : CoreState) (op : Op) (reply : Reply) (d : CoreState) : Type 0 where
+  before : List Event
+  collectors : All IsCollectors before
+  from : From s (before ++ own_event op reply ∷ []) d
+
+asks_from : (op : Op) (s : State) (c : CoreState) (answer : Answer) (after : Option CoreState) → Stands s c
+    → (h : Asks c op answer after) → Asked s c op h.reply h.core
+asks_from op s c answer after st h =
     let before = h.makes.collects in
     let x = collected_from (4 * c.config.regions + 12) s c h.makes.core st before in
     let y = own_from op h.reply x.last h.makes.core h.core _ _ _ _ x.stands h.makes.own in
     record {
-      events = before.events ++ own_event op h.reply ∷ [];
-      from = subst (λ (d : CoreState). From s (before.events ++ own_event op h.reply ∷ []) d) (sym same)
-          (then_from s before.events (own_event op h.reply ∷ []) h.makes.core h.core x y);
-      has = OfMaking op h.reply before.events before.collectors refl h.tells;
+      before = before.events;
+      collectors = before.collectors;
+      from = then_from s before.events (own_event op h.reply ∷ []) h.makes.core h.core x y;
+    }
+
+make_done : (op : Op) (s : State) (c c' : CoreState) (answer : Answer) → Stands s c → Asks c op answer (Some c') → Done s c answer c'
+make_done op s c c' answer st h =
+    let same : c' ≡ h.core = held_is c' h.core h.held in
+    let a = asks_from op s c answer (Some c') st h in
+    record {
+      events = a.before ++ own_event op h.reply ∷ [];
+      from = subst (λ (d : CoreState). From s (a.before ++ own_event op h.reply ∷ []) d) (sym same) a.from;
+      has = OfMaking op h.reply a.before a.collectors refl h.tells;
     }
 
 collect_done : (most : ℕ) (s : State) (c d c' : CoreState) (answer : Answer) → Stands s c → c' ≡ d → CollectsIn most c d
@@ -199,6 +215,24 @@ filled_done m to from words s c c' answer st h =
       has = OfFilling m to from words h.reply rest.events refl rest.steps_are h.tells;
     }
 
+made_filled_done : (m to : ℕ) (from words : List ℕ) (s : State) (c c' : CoreState) (answer : Answer) → Stands s c
+    → AsksToFill c m to from words answer (Some c') → Done s c answer c'
+made_filled_done m to from words s c c' answer st h =
+    let op = asked m to (length from) 0 (length words) in
+    let same : c' ≡ h.filled = held_is c' h.filled h.held in
+    let at : h.made ≡ h.asks.core = held_is h.made h.asks.core h.asks.held in
+    let a = asks_from op s c answer (Some h.made) st h.asks in
+    let fills : FillsIt h.asks.reply h.asks.core m to from words h.filled =
+    subst (λ (d : CoreState). FillsIt h.asks.reply d m to from words h.filled) at h.fills in
+    let rest = fills_from h.asks.reply m to from words a.from.last h.asks.core h.filled a.from.stands fills in
+    let events = (a.before ++ own_event op h.asks.reply ∷ []) ++ rest.events in
+    record {
+      events = events;
+      from = subst (λ (d : CoreState). From s events d) (sym same)
+          (then_from s (a.before ++ own_event op h.asks.reply ∷ []) rest.events h.asks.core h.filled a.from rest.run);
+      has = OfMadeFilling m to from words h.asks.reply a.before rest.events a.collectors refl rest.steps_are h.asks.tells;
+    }
+
 same_done : (s : State) (c c' : CoreState) (answer : Answer) → Stands s c → c' ≡ c → Done s c answer c'
 same_done s c c' answer st same = record {
   events = [];
@@ -238,6 +272,7 @@ call_done s c c' answer st (WriteCall m object from ws is h) = go (h.takes is)
         }
     go (inr n) = same_done s c c' answer st (held_is c' c n.same)
 call_done s c c' answer st (FilledCall m to from words is h) = filled_done m to from words s c c' answer st (h.takes is)
+call_done s c c' answer st (MadeFilledCall m to from words is h) = made_filled_done m to from words s c c' answer st (h.asks is)
 call_done s c c' answer st (OtherCall same) = same_done s c c' answer st same
 
 calls_from : (answers : List Answer) (s : State) (c c' : CoreState) → Stands s c → AreCalls c answers c' → AreRun s c answers c'

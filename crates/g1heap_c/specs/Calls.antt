@@ -15,10 +15,11 @@ use Rattle.step_core.specs.Stands.{CoreState, Stands}
 use Rattle.step_core.specs.Words.{reading, writing}
 use Rattle.collection.specs.Steps.{IsCollectors, own_event}
 use Rattle.g1heap_c.specs.Numbers.{told, numbers, register}
-use Rattle.g1heap_c.specs.Policies.{AsksFor, CollectsAll, CollectsDue}
+use Rattle.g1heap_c.specs.Policies.{AsksFor, CollectsAll, CollectsDue, asked}
 use Rattle.g1heap_c.specs.Steps.{HasRegister, IsMade, Takes}
 use Rattle.g1heap_c.specs.Words.{ReadsWords, WritesWords}
 use Rattle.g1heap_c.specs.Filled.{AreFields, MakesFilled, making, pointing, wording}
+use Rattle.g1heap_c.specs.MadeFilled.{AsksFilled}
 use Rattle.g1heap_c.specs.declared.answer.Answer.{Answer}
 
 -- the event of a step, taken by whose it is
@@ -26,7 +27,7 @@ abbrev pub event_of : Step → Reply → Event
 event_of step reply = record { actor = actor_of step; step = step; reply = reply }
 
 -- What is proved of one call on a heap that is there: of one that takes a step, that makes an object by the policy or collects by it, that
--- reads or writes several data words, and that makes an object and fills it; any other leaves the heap as it was
+-- reads or writes several data words, and that makes an object, by the policy or not, and fills it; any other leaves the heap as it was
 pub data IsCall (c : CoreState) (answer : Answer) (c' : CoreState) : Type 0 where
   StepCall : (tell : CoreState → CoreState → Reply → Answer) (step : Step) → IsStep c.config step
       → Takes tell (Some c) step answer (Some c') → IsCall c answer c'
@@ -39,6 +40,8 @@ pub data IsCall (c : CoreState) (answer : Answer) (c' : CoreState) : Type 0 wher
       → WritesWords (Some c) m object from words answer (Some c') → IsCall c answer c'
   FilledCall : (m to : ℕ) (from words : List ℕ) → AreFields c.config m to from words
       → MakesFilled (Some c) m to from words answer (Some c') → IsCall c answer c'
+  MadeFilledCall : (m to : ℕ) (from words : List ℕ) → AreFields c.config m to from words
+      → AsksFilled (Some c) m to from words answer (Some c') → IsCall c answer c'
   OtherCall : c' ≡ c → IsCall c answer c'
 
 -- calls one after another
@@ -67,7 +70,7 @@ filling _ m to from words = []
 
 -- The events of one call, and what its answer tells of them: a step with its reply; steps of the collector, and the making of an object
 -- with its reply; steps of the collector; data words that were read, or written; the making of an object with its reply, and the steps that
--- fill it; or none
+-- fill it, perhaps after steps of the collector; or none
 pub data HasEvents (c : CoreState) (es : List Event) (answer : Answer) (c' : CoreState) : Type 0 where
   OfStep : (tell : CoreState → CoreState → Reply → Answer) (step : Step) (reply : Reply) → es ≡ event_of step reply ∷ []
       → answer ≡ tell c c' reply → HasEvents c es answer c'
@@ -81,6 +84,9 @@ pub data HasEvents (c : CoreState) (es : List Event) (answer : Answer) (c' : Cor
   OfFilling : (m to : ℕ) (from words : List ℕ) (reply : Reply) (fills : List Event)
       → es ≡ event_of (making m to from words) reply ∷ fills → map step_in fills ≡ filling reply m to from words
       → answer ≡ numbers reply → HasEvents c es answer c'
+  OfMadeFilling : (m to : ℕ) (from words : List ℕ) (reply : Reply) (before fills : List Event) → All IsCollectors before
+      → es ≡ (before ++ own_event (asked m to (length from) 0 (length words)) reply ∷ []) ++ fills
+      → map step_in fills ≡ filling reply m to from words → answer ≡ numbers reply → HasEvents c es answer c'
   OfNone : es ≡ [] → c' ≡ c → HasEvents c es answer c'
 
 -- the events of calls one after another

@@ -6,4 +6,5 @@ pub mod Policies
 pub mod Steps
 pub mod Words
 pub mod Filled
+pub mod MadeFilled
 pub mod FreeRuns

@@ -73,7 +73,7 @@ fn has_sources(core: &Core, mutator: u32, to: u32, from: &[u32]) -> bool
 
 /// Whether the numbers name steps of the heap's.
 #[inline(always)]
-fn has_fields(core: &Core, mutator: u32, to: u32, from: &[u32], words: &[u64]) -> bool
+pub(crate) fn has_fields(core: &Core, mutator: u32, to: u32, from: &[u32], words: &[u64]) -> bool
     ensures has { result ≡ true → AreFields core.now.config mutator to from.now words.now }
     ensures not { result ≡ false → AreFields core.now.config mutator to from.now words.now → ⊥ }
 {
@@ -113,7 +113,14 @@ fn word(core: &mut Core, mutator: u32, to: u32, words: &[u64])
 
 /// Fills an object, if the reply says that it was made.
 #[inline(always)]
-fn fill_made(core: &mut Core, reply: Reply, mutator: u32, to: u32, from: &[u32], words: &[u64])
+pub(crate) fn fill_made(
+    core: &mut Core,
+    reply: Reply,
+    mutator: u32,
+    to: u32,
+    from: &[u32],
+    words: &[u64],
+)
     requires { AreFields core.old.config mutator to from.now words.now }
     ensures { FillsIt reply core.old mutator to from.now words.now core.new }
 {

@@ -17,6 +17,7 @@ mod handle;
 mod heap;
 pub mod laws;
 mod loose;
+pub mod made_filled;
 pub mod making;
 pub mod mutator;
 mod noted;

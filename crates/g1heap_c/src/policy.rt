@@ -17,7 +17,7 @@ use step_core::Core;
 
 /// The step that makes the object that is asked for, a plain one.
 #[inline(always)]
-fn plain(mutator: u32, to: u32, pointers: u32, values: u32) -> Op
+pub(crate) fn plain(mutator: u32, to: u32, pointers: u32, values: u32) -> Op
     ensures op { result ≡ asked mutator to pointers 0 values }
     ensures new { IsNew result.action }
 {

@@ -25,7 +25,7 @@ facts_text name names life = file_text name ++ names_text names ++ sizes_text li
     ++ pace_text life.pace (length life.history.events)
 
 -- A page that is drawn of a file of this name has lines of the life's record, all of them where there are at most 100,000 events, the
--- file's name, the names for shapes, what it says of the life, and what was told of its moments. What stands around them, no clause says
+-- file's name, the names for shapes, what it says of the life, and what was told of its moments. What is around them, no clause says
 pub record IsPageOf (name names : List ℕ) (life : Life) (page : List ℕ) : Type 0 where
   pub before : List ℕ
   pub lines : List ℕ

@@ -49,7 +49,7 @@ impl Course {
     }
 }
 
-/// Where it is let go there is one call, and not a drop for each of its parts.
+/// Its drop is one call, and not one for each of its parts.
 impl Drop for Course {
     fn drop(self) {
         let Course {

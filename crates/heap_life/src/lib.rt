@@ -7,7 +7,7 @@
 //! `live` does the steps of events again in a new heap. The record that comes of it is a run; each moment has the numbers of a core of that
 //! run, after as many events as it says; the moments are exactly those that the life's pace wants, in rising order; and what is told of
 //! them are the lines that `docs/DRAWING.md` describes, of that core. `shares_of` and `live_words` say what the words of a region are. What
-//! stands around the record and the lines in the page is shown by tests.
+//! is around the record and the lines in the page is shown by tests.
 //!
 //! The page's files are in `page/`; `tools/embed_page` makes the sources `page_parts` of them.
 #![tactic(auto)]

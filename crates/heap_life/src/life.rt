@@ -63,7 +63,7 @@ pub struct Life {
     pub told: Vec<u8>,
 }
 
-/// Where it is let go there is one call, and not a drop for each of its parts.
+/// Its drop is one call, and not one for each of its parts.
 impl Drop for Life {
     fn drop(self) {
         let Life {

@@ -1,4 +1,4 @@
-//! Moments as lines. A region stands under a moment only where it isn't as it was told last.
+//! Moments as lines. A region is told of a moment only where it isn't as it was told last.
 //!
 //! ```text
 //!   m EVENT HANDED_OUT LIVE FREE QUEUED DIRTY COPIED MARKING SCANNED NEXT_NAME CURRENT      the heap's numbers; CURRENT a region, or -

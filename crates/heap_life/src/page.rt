@@ -9,15 +9,15 @@ use crate::file_name::{put_file, put_names};
 use crate::life::{Life, Moment};
 use crate::pace::Pace;
 use crate::page_parts::{
-    BEFORE, BEHIND, BETWEEN, END, SCRIPT_CURVES, SCRIPT_FIND, SCRIPT_LANES, SCRIPT_LIFE,
-    SCRIPT_OBJECTS, SCRIPT_OVER, SCRIPT_PAGE, SCRIPT_PANELS, SCRIPT_REACH,
+    BEFORE, BEHIND, BETWEEN, END, SCRIPT_CURVES, SCRIPT_FIND, SCRIPT_FOLD, SCRIPT_LANES,
+    SCRIPT_LIFE, SCRIPT_OBJECTS, SCRIPT_OVER, SCRIPT_PAGE, SCRIPT_PANELS, SCRIPT_REACH,
 };
-use heap_steps::Record;
-use heap_words::config::Config;
+use heap_steps::{Record, is_third};
+use heap_words::config::{Config, Format};
 use script_text::{Text, WatchedWriter, write_record};
 use std::alloc::{AllocError, Global};
 
-/// Up to how many events all lines of the record stand in the page.
+/// Up to how many events all lines of the record are in the page.
 const MOST_EVENTS: usize = 100_000;
 
 /// The text of a record.
@@ -64,7 +64,7 @@ fn near_lines(alloc: Global, text: &[u8], moments: &[Moment]) -> Result<Vec<u8>,
     Ok(lines)
 }
 
-/// The lines of the record that stand in the page: all of them, or where they are too many some.
+/// The lines of the record that are in the page: all of them, or where they are too many some.
 fn lines_of(alloc: Global, life: &Life) -> Result<Vec<u8>, AllocError>
     ensures { IfOk result (λ lines. length life.now.history.events ≤ 100000 → lines.items ≡ record_text life.now.history) }
 {
@@ -112,7 +112,7 @@ fn put_facts(text: &mut Text, name: &str, names: &[u8], life: &Life)
     put_pace(text, &life.pace, events.len() as u64);
 }
 
-/// What stands between the record's lines and the moments'.
+/// What is between the record's lines and the moments'.
 fn text_between(alloc: Global, name: &str, names: &[u8], life: &Life) -> Result<Vec<u8>, AllocError>
     ensures { IfOk result (λ text. (front : List ℕ) × (text.items ≡ front ++ facts_text name.now names.now life.now)) }
 {
@@ -122,8 +122,15 @@ fn text_between(alloc: Global, name: &str, names: &[u8], life: &Life) -> Result<
     text.into_bytes()
 }
 
+/// Adds what folds free regions, which pages of the third format alone have.
+fn put_fold(text: &mut Text, format: Format) {
+    if is_third(format) {
+        text.put(SCRIPT_FOLD);
+    }
+}
+
 /// What is after the moments' lines: what draws a life.
-fn text_behind(alloc: Global) -> Result<Vec<u8>, AllocError> {
+fn text_behind(alloc: Global, format: Format) -> Result<Vec<u8>, AllocError> {
     let mut text = Text::new(alloc);
     text.put(BEHIND);
     text.put(SCRIPT_LIFE);
@@ -134,12 +141,13 @@ fn text_behind(alloc: Global) -> Result<Vec<u8>, AllocError> {
     text.put(SCRIPT_PANELS);
     text.put(SCRIPT_OBJECTS);
     text.put(SCRIPT_FIND);
+    put_fold(&mut text, format);
     text.put(SCRIPT_PAGE);
     text.put(END);
     text.into_bytes()
 }
 
-/// What stands before the record's lines.
+/// What comes before the record's lines.
 fn text_before() -> &'static [u8] {
     BEFORE.as_bytes()
 }
@@ -169,7 +177,7 @@ pub fn page_of(alloc: Global, name: &str, names: &[u8], life: &Life) -> Result<V
 {
     let lines = lines_of(alloc, life)?;
     let between = text_between(alloc, name, names, life)?;
-    let behind = text_behind(alloc)?;
+    let behind = text_behind(alloc, life.history.config().format)?;
     joined(
         alloc,
         lines.as_slice(),

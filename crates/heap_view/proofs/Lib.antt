@@ -1,3 +1,4 @@
+pub mod FreeRegions
 pub mod Fronts
 pub mod Progress
 pub mod Putting

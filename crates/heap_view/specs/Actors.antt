@@ -18,7 +18,7 @@ unfoldable pub queue_line : List ℕ → List ℕ
 queue_line [] = ended (codes "queue of cards: none")
 queue_line (x ∷ xs) = ended (codes "queue of cards:" ++ each_spaced decimal (x ∷ xs))
 
--- a root by its letter, its number, its object, and where that stands: nothing of nil
+-- a root by its letter, its number, its object, and where that is: nothing of nil
 unfoldable pub root_text : Table → List ℕ → ℕ → Option ℕ → List (List ℕ)
 root_text t letter number None = []
 root_text t letter number (Some a) =
@@ -42,7 +42,7 @@ none_text some = if some then [] else codes " all nil"
 unfoldable pub listed_roots : List (List ℕ) → List ℕ
 listed_roots roots = ended (join_with_byte 44 roots ++ none_text (has_some roots))
 
--- a comma where some roots stand before
+-- a comma where some roots come before
 unfoldable pub comma_text : Bool → List ℕ
 comma_text some = if some then codes "," else []
 

@@ -58,7 +58,7 @@ source_text set source = if slice_index_or set.sources source false then codes "
 unfoldable pub sources_text : CardSet → ℕ → List ℕ
 sources_text set regions = flat_map (source_text set) (range_with_len 0 regions)
 
--- a remembered set's line: the cards that stand in it one by one, and those regions; none where no card does
+-- a remembered set's line: the cards that are in it one by one, and those regions; none where no card does
 unfoldable pub set_line : CardSet → ℕ → List ℕ
 set_line set regions = if length set.inline == 0 then [] else
     ended (codes "  remembered cards:" ++ each_spaced decimal set.inline ++ sources_text set regions)

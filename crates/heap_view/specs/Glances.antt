@@ -1,8 +1,9 @@
 -- The text of a view, by what of the heap is viewed.
-use Rattle.std.specs.Prelude.{ℕ, ◌*◌, nat_lt, Bool, true, false, List, ◌++◌, Option, Some, None, length, codes, if◌then◌else◌}
+use Rattle.std.specs.Prelude.{ℕ, ◌*◌, nat_lt, ◌&&◌, Bool, true, false, List, ◌++◌, Option, Some, None, length, codes, if◌then◌else◌}
 use Rattle.std.specs.List.{flat_map, range_with_len}
 use Rattle.std.specs.Fmt.{decimal}
 use Rattle.heap_words.specs.declared.config.Format.{Format}
+use Rattle.heap_steps.specs.Actors.{is_third}
 use Rattle.script_text.specs.Spelling.{format_words, heap_words, line}
 use Rattle.regions.specs.Table.{free_count}
 use Rattle.step_core.specs.Stands.{CoreState}
@@ -10,6 +11,7 @@ use Rattle.step_core.specs.Measures.{used_words, live_words}
 use Rattle.heap_view.specs.declared.glance.Glance.{Glance}
 use Rattle.heap_view.specs.Lists.{ended}
 use Rattle.heap_view.specs.Areas.{region_line, region_lines}
+use Rattle.heap_view.specs.Folds.{folded_line}
 use Rattle.heap_view.specs.Actors.{queue_line, actor_lines}
 
 -- what the first line has after the first name, each after a space
@@ -32,22 +34,30 @@ unfoldable pub numbered_region : Bool → CoreState → ℕ → List ℕ
 numbered_region summary c k = if nat_lt k (length c.table.regions) then one_region summary c k
     else ended (codes "region " ++ decimal k ++ codes ": there is none")
 
+-- whether free regions side by side are one line: in a summary, of the third format alone
+abbrev pub is_folded : Bool → CoreState → Bool
+is_folded summary c = summary && is_third c.config.format
+
+-- region k where all are viewed
+unfoldable pub listed_region : Bool → CoreState → ℕ → List ℕ
+listed_region summary c k = if is_folded summary c then folded_line c k else one_region summary c k
+
 -- what all regions add up to: words handed out, live words, free regions, and cards in the queue
 unfoldable pub total_line : CoreState → List ℕ
 total_line c = ended (codes "in all: " ++ decimal (used_words c) ++ codes " of " ++ decimal (c.config.regions * c.config.words)
     ++ codes " words handed out, " ++ decimal (live_words c) ++ codes " live, " ++ decimal (free_count c.table) ++ codes " of "
     ++ decimal c.config.regions ++ codes " regions free, " ++ decimal (length c.cards.queue) ++ codes " cards queued")
 
--- what stands below the regions: in a summary what they add up to, else the queue, the roots and the mutators
+-- what is below the regions: in a summary what they add up to, else the queue, the roots and the mutators
 unfoldable pub below_regions : Bool → CoreState → List ℕ
 below_regions true c = total_line c
 below_regions false c = queue_line c.cards.queue ++ actor_lines c
 
--- the region that is asked for, or each region and what stands below them
+-- the region that is asked for, or each region and what is below them
 unfoldable pub viewed_regions : Option ℕ → Bool → CoreState → List ℕ
 viewed_regions (Some k) summary c = numbered_region summary c k
 viewed_regions None summary c =
-    flat_map (one_region summary c) (range_with_len 0 (length c.table.regions)) ++ below_regions summary c
+    flat_map (listed_region summary c) (range_with_len 0 (length c.table.regions)) ++ below_regions summary c
 
 -- the text of a view: the sizes as the script's first line has them, the state, and what of the regions is viewed
 unfoldable pub view_text : Glance → CoreState → List ℕ

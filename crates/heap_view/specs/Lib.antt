@@ -1,6 +1,7 @@
 pub mod Lists
 pub mod Tiles
 pub mod Areas
+pub mod Folds
 pub mod Actors
 pub mod Glances
 pub mod Views

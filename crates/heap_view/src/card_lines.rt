@@ -14,7 +14,7 @@ use heap_words::addr::RegionNo;
 use remembered_sets::RememberedSets;
 use script_text::Text;
 
-/// Puts the cards that stand one by one in a region's set.
+/// Puts the cards that are one by one in a region's set.
 fn put_cards(sets: &RememberedSets, text: &mut Text, region: RegionNo)
     requires { region < length sets.now.sets }
     ensures { Adds text.old (each_spaced decimal (set_of sets.now region).inline) text.new }
@@ -48,7 +48,7 @@ fn put_sources(sets: &RememberedSets, text: &mut Text, region: RegionNo, regions
     }
 }
 
-/// Puts a region's remembered set, if it isn't empty. Regions stand in it only beside cards.
+/// Puts a region's remembered set, if it isn't empty. Regions are in it only beside cards.
 pub(crate) fn put_set(sets: &RememberedSets, text: &mut Text, region: RegionNo, regions: u32)
     requires region { region < length sets.now.sets }
     requires regions { regions ≤ length sets.now.sets }

@@ -1,14 +1,17 @@
 //! What of a heap is viewed, and the text of that.
 
-ghost use Rattle.std.specs.Prelude.{◌≡◌, ◌<◌, length, IfOk};
+ghost use Rattle.std.specs.Prelude.{◌≡◌, ◌<◌, ◌&&◌, length, IfOk};
 ghost use Rattle.std.specs.List.{flat_map, range_with_len};
 ghost use Rattle.script_text.specs.Texts.{Adds};
-ghost use Rattle.heap_view.specs.Glances.{state_lines, one_region, numbered_region, total_line, below_regions, viewed_regions, view_text};
+ghost use Rattle.heap_view.specs.Glances.{state_lines, one_region, numbered_region, is_folded, listed_region};
+ghost use Rattle.heap_view.specs.Glances.{total_line, below_regions, viewed_regions, view_text};
 
 use crate::card_lines::put_queue;
+use crate::folds::put_folded;
 use crate::heads::{put_sizes, put_state};
 use crate::region_lines::{put_region, put_region_line};
 use crate::root_lines::put_actors;
+use heap_steps::is_third;
 use heap_words::addr::RegionNo;
 use script_text::Text;
 use std::alloc::{AllocError, Global};
@@ -19,9 +22,10 @@ use step_core::Core;
 pub struct Glance {
     /// After so many steps, or where there are fewer after the last one. `None`: after the last one.
     pub at: Option<u32>,
-    /// This region alone. `None`: each region, and what stands beside them.
+    /// This region alone. `None`: each region, and what is beside them.
     pub region: Option<u32>,
-    /// A line a region, and what they add up to, in place of tiles, sets and roots.
+    /// A line a region, and what they add up to, in place of tiles, sets and roots. Of the third format free regions side by side are one
+    /// line.
     pub summary: bool,
 }
 
@@ -52,13 +56,32 @@ fn put_numbered(core: &Core, text: &mut Text, number: u32, summary: bool)
     text.put("\n");
 }
 
+/// Whether free regions side by side are one line: in a summary of a heap of the third format.
+fn is_folded(core: &Core, summary: bool) -> bool
+    ensures { result ≡ is_folded summary core.now }
+{
+    summary && is_third(core.config().format)
+}
+
+/// Puts a region where all are viewed.
+fn put_listed(core: &Core, text: &mut Text, region: RegionNo, summary: bool)
+    requires { region < length core.now.table.regions }
+    ensures { Adds text.old (listed_region summary core.now region) text.new }
+{
+    if is_folded(core, summary) {
+        put_folded(core, text, region);
+        return;
+    }
+    put_one(core, text, region, summary);
+}
+
 /// Puts each region.
 fn put_each(core: &Core, text: &mut Text, summary: bool)
-    ensures { Adds text.old (flat_map (one_region summary core.now) (range_with_len 0 (length core.now.table.regions))) text.new }
+    ensures { Adds text.old (flat_map (listed_region summary core.now) (range_with_len 0 (length core.now.table.regions))) text.new }
 {
     for number in 0..core.table().region_count() {
         let region = RegionNo::new(number);
-        put_one(core, text, region, summary);
+        put_listed(core, text, region, summary);
     }
 }
 
@@ -83,7 +106,7 @@ fn put_totals(core: &Core, text: &mut Text)
     text.put("\n");
 }
 
-/// Puts what stands below the regions.
+/// Puts what is below the regions.
 fn put_below(core: &Core, text: &mut Text, summary: bool)
     ensures { Adds text.old (below_regions summary core.now) text.new }
 {
@@ -95,7 +118,7 @@ fn put_below(core: &Core, text: &mut Text, summary: bool)
     put_actors(core, text);
 }
 
-/// Puts the region that is asked for, or each and what stands below them.
+/// Puts the region that is asked for, or each and what is below them.
 fn put_viewed(core: &Core, text: &mut Text, region: Option<u32>, summary: bool)
     ensures { Adds text.old (viewed_regions region summary core.now) text.new }
 {

@@ -1,4 +1,4 @@
-//! A view of a heap: its regions, objects, cards and roots as they stand, as lines for a person's eyes.
+//! A view of a heap: its regions, objects, cards and roots as they are, as lines for a person's eyes.
 //!
 //! ```text
 //!   heap 4 16 8 1 0                                  the script's first line: the sizes
@@ -24,6 +24,9 @@
 //! marked. While marking runs, `new` is an object that was made since it began, `unmarked` one that it hasn't found yet, `grey` one
 //! that it has found and hasn't scanned, `scanned` one whose pointers it has followed.
 //!
+//! A summary has a line for each region in place of all this. In the third format free regions side by side are one line there, such as
+//! `regions 17 to 4095: free`.
+//!
 //! A view reads the heap and changes nothing of it, and its cost grows with the heap. It is put together in memory, so that nothing is
 //! written before it is whole: `view_text` gives the text of a heap's view, as `specs` says what that is. `view_script` reads a script,
 //! does its steps in a new heap, and writes the view of that; `view_record` does the same of a record, whose replies have to be the heap's.
@@ -31,6 +34,7 @@
 #![tactic(auto)]
 
 mod card_lines;
+mod folds;
 mod glance;
 mod heads;
 mod names;

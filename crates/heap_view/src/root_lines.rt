@@ -19,7 +19,7 @@ use satb_log::logs::DeletionLogs;
 use script_text::Text;
 use step_core::Core;
 
-/// Puts a comma where roots stand before.
+/// Puts a comma where roots come before.
 fn put_comma(text: &mut Text, some: bool)
     ensures { Adds text.old (comma_text some) text.new }
 {
@@ -29,7 +29,7 @@ fn put_comma(text: &mut Text, some: bool)
     text.put(",");
 }
 
-/// Puts that all roots are nil, where none stand before.
+/// Puts that all roots are nil, where none come before.
 fn put_none(text: &mut Text, some: bool)
     ensures { Adds text.old (none_text some) text.new }
 {
@@ -39,8 +39,8 @@ fn put_none(text: &mut Text, some: bool)
     text.put(" all nil");
 }
 
-/// Puts a root by its letter, its number and its object, and where that stands, after a comma where others stand before it. Answers
-/// whether some stand there now.
+/// Puts a root by its letter, its number and its object, and where that is, after a comma where others come before it. Answers
+/// whether some are there now.
 fn put_root(
     table: &RegionTable,
     text: &mut Text,

@@ -47,7 +47,7 @@ fn view_of(alloc: Global, plan: &Plan, glance: &Glance) -> Result<Vec<u8>, RunFa
     }
 }
 
-/// Reads a script to the end of input, does its steps in a new heap, and writes what is viewed of the heap as it stands then. Nothing is
+/// Reads a script to the end of input, does its steps in a new heap, and writes what is viewed of the heap as it is then. Nothing is
 /// written before the run has ended well.
 pub fn view_script<R: Read, W: Write>(
     alloc: Global,

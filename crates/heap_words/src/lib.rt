@@ -12,6 +12,7 @@ pub mod addr;
 pub mod bits;
 pub mod bounded;
 pub mod config;
+mod groups;
 pub mod header;
 pub mod powers;
 pub mod words;

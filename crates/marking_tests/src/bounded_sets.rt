@@ -20,7 +20,7 @@ fn are(bits: &BoundedBits, members: &[u32]) -> bool {
     bits.next(start).is_none()
 }
 
-/// Members come, go as a range and are cleared; what comes afterwards stands alone.
+/// Members come, go as a range and are cleared; what comes afterwards is alone.
 #[test]
 fn holds_numbers(rt: HostRuntime) -> Result<(), Fail> {
     let mut bits = BoundedBits::new(rt.alloc(), 1000)?;

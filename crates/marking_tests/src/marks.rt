@@ -13,55 +13,76 @@ use mark_bitmap::tams::Tams;
 use std::process::Abort;
 use std::test::Fail;
 
+/// Marks an address, if it is one of the set's.
+fn mark_one(marks: &mut Marks, at: u32) {
+    if at < marks.len() {
+        marks.set(Addr::new(at));
+    }
+}
+
+/// Clears a range, if it is one of the set's.
+fn clear_some(marks: &mut Marks, from: u32, to: u32) {
+    if to <= marks.len() {
+        marks.clear_range(Addr::new(from), Addr::new(to));
+    }
+}
+
+fn is_marked(marks: &Marks, at: u32) -> bool {
+    at < marks.len() && marks.get(Addr::new(at))
+}
+
+/// Whether the lowest mark from an address on is that, and none is between.
+fn goes_on(marks: &Marks, from: u32, next: u32) -> bool {
+    let (start, found) = (Addr::new(from), Addr::new(next));
+    marks.next(start) == Some(found) && marks.next_below(start, found).is_none()
+}
+
+/// Whether the lowest address that is marked in one set alone is this.
+fn is_lowest_alone(marks: &Marks, other: &Marks, at: u32) -> bool {
+    if marks.len() != other.len() || at >= marks.len() {
+        return false;
+    }
+    let found = Some(Addr::new(at));
+    marks.next_without(other, Addr::new(0), Addr::new(200)) == found
+        && marks.lowest_without(other, at / 64) == found
+}
+
 /// Each call once: three addresses are marked, found in the set and beside another one, counted, and cleared.
 #[test]
 fn holds_addresses(rt: HostRuntime) -> Result<(), Fail> {
     let mut marks = Marks::new(rt.alloc(), 200)?;
     let mut other = Marks::new(rt.alloc(), 200)?;
-    assert!(rt; marks.len() == 200 && other.len() == 200);
-    for at in [199, 64, 63] {
-        assert!(rt; at < marks.len());
-        marks.set(Addr::new(at));
-    }
-    assert!(rt; marks.len() == 200);
-    other.set(Addr::new(63));
-    assert!(rt; other.len() == 200);
-    assert!(rt; marks.get(Addr::new(64)) && !marks.get(Addr::new(65)));
-    assert_eq!(rt; count_marked(&marks), 3);
-    assert_eq!(rt; marks.next(Addr::new(0)), Some(Addr::new(63)));
-    assert_eq!(rt; marks.next(Addr::new(65)), Some(Addr::new(199)));
-    assert_eq!(rt; marks.next_below(Addr::new(65), Addr::new(199)), None);
-    assert_eq!(rt;
-        marks.next_without(&other, Addr::new(0), Addr::new(200)),
-        Some(Addr::new(64))
-    );
-    assert_eq!(rt; marks.lowest_without(&other, 0), None);
-    assert_eq!(rt; marks.lowest_without(&other, 3), Some(Addr::new(199)));
-    marks.clear_range(Addr::new(60), Addr::new(64));
-    assert_eq!(rt; marks.next(Addr::new(0)), Some(Addr::new(64)));
+    mark_one(&mut marks, 199);
+    mark_one(&mut marks, 64);
+    mark_one(&mut marks, 63);
+    mark_one(&mut other, 63);
+    assert!(rt; is_marked(&marks, 64) && !is_marked(&marks, 65));
+    assert!(rt; count_marked(&marks) == 3);
+    assert!(rt; goes_on(&marks, 0, 63) && goes_on(&marks, 65, 199));
+    assert!(rt; is_lowest_alone(&marks, &other, 64));
+    clear_some(&mut marks, 60, 64);
+    assert!(rt; goes_on(&marks, 0, 64));
     marks.clear();
-    assert_eq!(rt; marks.next(Addr::new(0)), None);
+    assert!(rt; count_marked(&marks) == 0);
     Ok(())
+}
+
+fn begins_with(marks: &Marks, at: u32) -> bool {
+    marks.next(Addr::new(0)) == Some(Addr::new(at))
 }
 
 /// What was marked as next is previous after the exchange, and the other way round.
 #[test]
 fn exchanges_roles(rt: HostRuntime) -> Result<(), Fail> {
     let mut both = Bitmaps::new(rt.alloc(), 128)?;
-    for (at, next) in [(5, true), (70, false)] {
-        if next && at < both.next.len() {
-            both.next.set(Addr::new(at));
-        } else if at < both.previous.len() {
-            both.previous.set(Addr::new(at));
-        }
-    }
+    mark_one(&mut both.next, 5);
+    mark_one(&mut both.previous, 70);
     both.swap_roles();
-    assert_eq!(rt; both.previous.next(Addr::new(0)), Some(Addr::new(5)));
-    assert_eq!(rt; both.next.next(Addr::new(0)), Some(Addr::new(70)));
+    assert!(rt; begins_with(&both.previous, 5) && begins_with(&both.next, 70));
     Ok(())
 }
 
-/// Three regions of 16 words over a cycle: at first nothing lies below a top; then region 1 has its next top at
+/// Three regions of 16 words over a cycle: at first nothing is below a top; then region 1 has its next top at
 /// 20, which becomes the previous one, and is released.
 #[test]
 fn lives_over_a_cycle(rt: HostRuntime) -> Result<(), Fail> {
@@ -148,48 +169,84 @@ fn gives(set: &mut Summary, members: &[u32]) -> bool {
     set.lowest().is_none()
 }
 
-/// A lower member comes first, and once it is gone the next one, in another group or block; then the numbers at the
-/// borders of groups and blocks.
+fn join(set: &mut Summary, count: u32, number: u32)
+    requires { length set.old ≡ count }
+    ensures { length set.new ≡ count }
+{
+    if number < count {
+        set.set(number);
+    }
+}
+
+/// A lower member comes first, and once it is gone the next one, in another group or block.
 #[test]
 fn finds_the_lowest_member(rt: HostRuntime) -> Result<(), Fail> {
     let mut set = Summary::new(rt.alloc(), 10_000)?;
-    set.set(4_096);
-    set.set(63);
-    assert_eq!(rt; set.lowest(), Some(63));
-    set.remove(63);
-    assert_eq!(rt; set.lowest(), Some(4_096));
+    join(&mut set, 10_000, 4_096);
+    join(&mut set, 10_000, 63);
+    assert!(rt; gives(&mut set, &[63, 4_096]));
+    Ok(())
+}
+
+/// The numbers at the borders of groups and blocks, after the set was cleared.
+#[test]
+fn finds_members_at_borders(rt: HostRuntime) -> Result<(), Fail> {
+    let mut set = Summary::new(rt.alloc(), 10_000)?;
+    join(&mut set, 10_000, 1_000);
     set.clear();
-    assert_eq!(rt; set.lowest(), None);
-    set.set(9_999);
-    set.set(4_096);
-    set.set(4_095);
-    set.set(64);
-    set.set(63);
-    set.set(0);
+    join(&mut set, 10_000, 9_999);
+    join(&mut set, 10_000, 4_096);
+    join(&mut set, 10_000, 4_095);
+    join(&mut set, 10_000, 64);
+    join(&mut set, 10_000, 63);
+    join(&mut set, 10_000, 0);
     assert!(rt; gives(&mut set, &[0, 63, 64, 4_095, 4_096, 9_999]));
     Ok(())
+}
+
+/// Sets a finger, if it is one of so many.
+fn raise(fingers: &mut Fingers, count: u32, finger: u32)
+    requires { length fingers.old ≡ count }
+    ensures { length fingers.new ≡ count }
+{
+    if finger < count {
+        fingers.set(finger);
+    }
+}
+
+/// A finger falls, if it is one of so many.
+fn lower(fingers: &mut Fingers, count: u32, finger: u32)
+    requires { length fingers.old ≡ count }
+    ensures { length fingers.new ≡ count }
+{
+    if finger < count {
+        fingers.remove(finger);
+    }
+}
+
+fn lowest_is(fingers: &Fingers, finger: u32) -> bool {
+    !fingers.is_empty() && fingers.lowest() == Some(finger)
+}
+
+fn has_none(fingers: &Fingers) -> bool {
+    fingers.is_empty() && fingers.lowest().is_none()
 }
 
 /// Fingers are set, one twice, and fall, one twice; the lowest is found, and none where none is set.
 #[test]
 fn finds_the_lowest_finger(rt: HostRuntime) -> Result<(), Fail> {
     let mut fingers = Fingers::new(rt.alloc(), 10_000)?;
-    assert!(rt; fingers.is_empty());
-    assert_eq!(rt; fingers.lowest(), None);
-    fingers.set(70);
-    fingers.set(9_000);
-    fingers.set(3);
-    fingers.set(70);
-    assert_eq!(rt; fingers.lowest(), Some(3));
-    fingers.remove(70);
-    fingers.remove(70);
-    fingers.remove(3);
-    assert_eq!(rt; fingers.lowest(), Some(9_000));
-    fingers.remove(9_000);
-    assert!(rt; fingers.is_empty());
-    assert_eq!(rt; fingers.lowest(), None);
-    fingers.set(9_999);
+    assert!(rt; has_none(&fingers));
+    raise(&mut fingers, 10_000, 70);
+    raise(&mut fingers, 10_000, 9_000);
+    raise(&mut fingers, 10_000, 3);
+    raise(&mut fingers, 10_000, 70);
+    assert!(rt; lowest_is(&fingers, 3));
+    lower(&mut fingers, 10_000, 70);
+    lower(&mut fingers, 10_000, 70);
+    lower(&mut fingers, 10_000, 3);
+    assert!(rt; lowest_is(&fingers, 9_000));
     fingers.clear();
-    assert!(rt; fingers.is_empty());
+    assert!(rt; has_none(&fingers));
     Ok(())
 }

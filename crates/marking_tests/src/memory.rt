@@ -3,7 +3,7 @@
 ghost use Rattle.std.specs.Prelude.{◌≡◌, ◌<◌, IfOk};
 ghost use Rattle.heap_words.specs.Contents.{field_count_at};
 
-use heap_words::addr::Addr;
+use heap_words::addr::{Addr, Ptr};
 use heap_words::header::{Count, FillerSize, Header, HeaderCounts};
 use heap_words::words::Words;
 use std::alloc::{AllocError, Global};
@@ -17,6 +17,63 @@ fn fields_of(words: &Words, object: Addr) -> u32
         Some(counts) => u32::from(counts.weaks) + counts.pointers.get(),
         None => 0,
     }
+}
+
+/// Whether an object with these counts and this name is there.
+fn is_there(words: &Words, object: Addr, counts: HeaderCounts, name: u64) -> bool {
+    let written = words.written();
+    if written < 2 || written - 2 < object.word() as usize {
+        return false;
+    }
+    words.object_at(object) == Some(counts) && words.name(object) == name
+}
+
+/// Whether a field, counted from 0, leads to that.
+fn leads(words: &Words, object: Addr, field: u32, to: Ptr) -> bool {
+    if words.written() <= object.field(field) {
+        return false;
+    }
+    words.get_field(object, field) == to
+}
+
+/// Whether a data word, counted from 0, is this.
+fn has_value(words: &Words, object: Addr, field: u32, value: u64) -> bool {
+    if words.written() <= object.word() as usize {
+        return false;
+    }
+    if words.object_at(object).is_none() {
+        return false;
+    }
+    let fields = fields_of(words, object);
+    if words.written() <= object.field(fields) + field as usize {
+        return false;
+    }
+    words.value(object, field) == value
+}
+
+/// Whether this header is there.
+fn has_header(words: &Words, at: Addr, header: Header) -> bool {
+    if words.written() <= at.word() as usize {
+        return false;
+    }
+    words.header(at) == Some(header)
+}
+
+/// Sets a data word of an object, if it is there.
+fn store(words: &mut Words, object: Addr, field: u32, value: u64)
+    ensures { words.new.written ≡ words.old.written }
+{
+    if words.written() <= object.word() as usize {
+        return;
+    }
+    if words.object_at(object).is_none() {
+        return;
+    }
+    let fields = fields_of(words, object);
+    if words.written() <= object.field(fields) + field as usize {
+        return;
+    }
+    words.set_value(object, field, value);
 }
 
 fn small() -> HeaderCounts
@@ -48,15 +105,13 @@ fn holds_objects(rt: HostRuntime) -> Result<(), Fail> {
     words.write_object(object, 7, small());
     words.write_filler(Addr::new(6), FillerSize::new(2));
     words.set_field(object, 0, Some(Addr::new(8)));
-    assert!(rt; words.written() == 16);
-    assert!(rt; fields_of(&words, object) == 1);
-    words.set_value(object, 1, 9);
-    assert!(rt; words.written() == 16);
-    assert_eq!(rt; words.object_at(object), Some(small()));
-    assert_eq!(rt; words.name(object), 7);
-    assert_eq!(rt; words.get_field(object, 0), Some(Addr::new(8)));
+    store(&mut words, object, 1, 9);
     let size = FillerSize::new(2);
-    assert_eq!(rt; words.header(Addr::new(6)), Some(Header::Filler { size }));
+    assert!(rt;
+        is_there(&words, object, small(), 7) && leads(&words, object, 0, Some(Addr::new(8)))
+    );
+    assert!(rt; has_value(&words, object, 0, 0) && has_value(&words, object, 1, 9));
+    assert!(rt; has_header(&words, Addr::new(6), Header::Filler { size }));
     Ok(())
 }
 
@@ -68,19 +123,13 @@ fn copies_an_object(rt: HostRuntime) -> Result<(), Fail> {
     let copy = Addr::new(8);
     words.write_object(object, 7, small());
     words.set_field(object, 0, Some(copy));
-    assert!(rt; words.written() == 16);
-    assert!(rt; fields_of(&words, object) == 1);
-    words.set_value(object, 1, 9);
+    store(&mut words, object, 1, 9);
     words.copy_apart(object, copy, 5);
     words.write_forwarded(object, copy);
-    assert!(rt; words.written() == 16);
-    assert!(rt; fields_of(&words, copy) == 1);
-    assert_eq!(rt; words.object_at(copy), Some(small()));
-    assert_eq!(rt; words.name(copy), 7);
-    assert_eq!(rt; words.get_field(copy, 0), Some(copy));
-    assert_eq!(rt; (words.value(copy, 0), words.value(copy, 1)), (0, 9));
-    assert_eq!(rt; words.header(object), Some(Header::Forwarded { to: copy }));
-    assert_eq!(rt; words.object_at(object), None);
+    assert!(rt; is_there(&words, copy, small(), 7) && leads(&words, copy, 0, Some(copy)));
+    assert!(rt; has_value(&words, copy, 0, 0) && has_value(&words, copy, 1, 9));
+    assert!(rt; has_header(&words, object, Header::Forwarded { to: copy }));
+    assert!(rt; !is_there(&words, object, small(), 7));
     Ok(())
 }
 
@@ -104,16 +153,11 @@ fn holds_weak_slots(rt: HostRuntime) -> Result<(), Fail> {
     words.write_object(object, 7, slotted());
     words.set_field(object, 1, Some(Addr::new(9)));
     words.set_field(object, 2, Some(object));
-    assert!(rt; words.written() == 16);
-    assert!(rt; fields_of(&words, object) == 3);
-    words.set_value(object, 0, 5);
-    assert!(rt; words.written() == 16);
-    assert!(rt; fields_of(&words, object) == 3);
-    assert_eq!(rt; words.object_at(object), Some(slotted()));
-    assert_eq!(rt; words.name(object), 7);
-    assert_eq!(rt; words.get_field(object, 0), None);
-    assert_eq!(rt; words.get_field(object, 1), Some(Addr::new(9)));
-    assert_eq!(rt; words.get_field(object, 2), Some(object));
-    assert_eq!(rt; words.value(object, 0), 5);
+    store(&mut words, object, 0, 5);
+    assert!(rt; is_there(&words, object, slotted(), 7) && leads(&words, object, 0, None));
+    assert!(rt;
+        leads(&words, object, 1, Some(Addr::new(9))) && leads(&words, object, 2, Some(object))
+    );
+    assert!(rt; has_value(&words, object, 0, 5));
     Ok(())
 }

@@ -152,3 +152,52 @@ fn sets_ranges(rt: HostRuntime) -> Result<(), Fail> {
     }
     Ok(())
 }
+
+/// A large set of which little is written: a high number comes before a low one, one that never came goes, and what is cleared comes
+/// again. The first words that are written end at 13,120.
+#[test]
+fn is_written_in_steps(rt: HostRuntime) -> Result<(), Fail> {
+    let mut bits = Bits::new(rt.alloc(), 20_000)?;
+    assert!(rt; bits.len() == 20_000 && !bits.get(19_999) && are(&bits, &[]));
+    bits.set(9_000);
+    assert!(rt; bits.len() == 20_000 && !bits.get(8_999) && !bits.get(19_999));
+    bits.set(3);
+    assert!(rt; bits.len() == 20_000 && are(&bits, &[3, 9_000]));
+    bits.remove(19_999);
+    assert!(rt; bits.len() == 20_000 && are(&bits, &[3, 9_000]));
+    assert!(rt; bits.len() == 20_000 && bits.lowest_in(312).is_none());
+    bits.set_range(13_119, 13_121);
+    assert!(rt; bits.len() == 20_000 && are(&bits, &[3, 9_000, 13_119, 13_120]));
+    bits.clear_range(9_000, 13_120);
+    assert!(rt; bits.len() == 20_000 && are(&bits, &[3, 13_120]));
+    bits.clear_range(100, 20_000);
+    assert!(rt; are(&bits, &[3]));
+    bits.clear();
+    assert!(rt; bits.len() == 20_000 && !bits.get(3) && are(&bits, &[]));
+    bits.set(64);
+    assert!(rt; are(&bits, &[64]));
+    Ok(())
+}
+
+/// Two large sets of which not the same words are written: what is in the one and not in the other, and what comes from the other.
+#[test]
+fn meets_a_set_of_other_length(rt: HostRuntime) -> Result<(), Fail> {
+    let mut low = Bits::new(rt.alloc(), 20_000)?;
+    let mut high = Bits::new(rt.alloc(), 20_000)?;
+    assert!(rt; low.len() == 20_000 && high.len() == 20_000);
+    low.set(5);
+    assert!(rt; low.len() == 20_000);
+    high.set(15_000);
+    assert!(rt; low.len() == 20_000 && high.len() == 20_000);
+    assert_eq!(rt; high.next_without(&low, 0, 20_000), Some(15_000));
+    assert!(rt; low.len() == 20_000 && high.len() == 20_000);
+    assert_eq!(rt; low.next_without(&high, 6, 20_000), None);
+    assert!(rt; low.len() == 20_000 && high.len() == 20_000);
+    assert_eq!(rt; high.lowest_without(&low, 234), Some(15_000));
+    assert!(rt; low.len() == 20_000 && high.len() == 20_000);
+    low.set_members(&high, 10_000, 20_000);
+    assert!(rt; low.len() == 20_000 && high.len() == 20_000 && are(&low, &[5, 15_000]));
+    high.set_members(&low, 0, 6);
+    assert!(rt; are(&high, &[5, 15_000]));
+    Ok(())
+}

@@ -1,4 +1,4 @@
-//! Where roots stand, and which are found.
+//! Where roots are, and which are found.
 
 use heap_words::addr::{Addr, Ptr};
 use root_table::{Places, Roots};
@@ -19,7 +19,7 @@ fn assert_named(rt: &impl Abort, roots: &Roots, expected: &[usize]) {
     assert_eq!(rt; roots.next_named(from), None);
 }
 
-/// Globals stand first, and then each mutator's registers.
+/// Globals come first, and then each mutator's registers.
 #[test]
 fn places_roots(rt: HostRuntime) {
     let places = Places::new(2, 2, 3);
@@ -30,7 +30,7 @@ fn places_roots(rt: HostRuntime) {
     assert_eq!(rt; places.register(1, 2), 7);
 }
 
-/// What isn't nil is found in order, in whichever row it stands; a frame that is left takes its registers with it, and no other's.
+/// What isn't nil is found in order, in whichever row it is; a frame that is left takes its registers with it, and no other's.
 #[test]
 fn finds_what_is_named(rt: HostRuntime) -> Result<(), Fail> {
     let places = Places::new(2, 2, 3);

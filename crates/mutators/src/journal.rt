@@ -57,7 +57,7 @@ impl Model for Journal {
     }) };
 }
 
-/// Where a journal is let go there is one call, and not a drop for each of its parts.
+/// A journal's drop is one call, and not one for each of its parts.
 impl Drop for Journal {
     fn drop(self) {
         let Journal {

@@ -8,7 +8,7 @@
 //! A place whose script is at its end isn't pushed back. The worker that finds nothing left to do raises a flag; one without a place looks
 //! at that, and leaves the lock to those that have work. As long as a script has lines left its place is in the queue or with a worker.
 //!
-//! Each worker counts its done turns in its share of a ledger, whose book lies under the lock and has the number of events: so the
+//! Each worker counts its done turns in its share of a ledger, whose book is under the lock and has the number of events: so the
 //! counts that the workers hand back sum to it.
 
 ghost use Rattle.std.specs.Prelude.{◌≡◌, ◌+◌, ◌≤◌, ◌<◌, ◌≢◌, ◌↔◌, ◌⊎◌};

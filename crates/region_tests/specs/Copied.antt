@@ -4,7 +4,7 @@ use Rattle.heap_model.specs.Heap.{Stored}
 use Rattle.regions.specs.Tiles.{Object}
 use Rattle.regions.specs.Table.{Table, Free, Ordinary}
 
--- its weak slot names what stands at 0
+-- its weak slot names what is at 0
 abbrev pub copied : Stored
 copied = record { name = 7; pointers = []; weaks = Some 0 ∷ []; values = 0 ∷ [] }
 

@@ -16,7 +16,7 @@ sample_of regions = record { words_per_region = 16; regions = regions }
 abbrev pub selfish : Stored
 selfish = record { name = 7; pointers = Some 0 ∷ []; weaks = Some 0 ∷ []; values = [] }
 
--- it stands at 0, and three regions are free
+-- it is at 0, and three regions are free
 abbrev pub itself : Table
 itself = sample_of (Ordinary (Object selfish ∷ []) ∷ Free ∷ Free ∷ Free ∷ [])
 
@@ -27,11 +27,11 @@ holder w = record { name = 7; pointers = []; weaks = w ∷ []; values = [] }
 abbrev pub held : Stored
 held = record { name = 8; pointers = []; weaks = []; values = [] }
 
--- the first stands at 0, and three regions are free
+-- the first is at 0, and three regions are free
 abbrev pub alone : Table
 alone = sample_of (Ordinary (Object (holder None) ∷ []) ∷ Free ∷ Free ∷ Free ∷ [])
 
--- its weak slot names the second, which stands at 16, and two regions are free
+-- its weak slot names the second, which is at 16, and two regions are free
 abbrev pub by_weak_slot : Table
 by_weak_slot = sample_of (Ordinary (Object (holder (Some 16)) ∷ []) ∷ Ordinary (Object held ∷ []) ∷ Free ∷ Free ∷ [])
 
@@ -39,7 +39,7 @@ by_weak_slot = sample_of (Ordinary (Object (holder (Some 16)) ∷ []) ∷ Ordina
 abbrev pub two_cards : Sets
 two_cards = added (added (empty_sets 4 2 0) 1 0) 1 4
 
--- nothing is marked or dirty, and one root names what stands at 0
+-- nothing is marked or dirty, and one root names what is at 0
 pub record IsFresh (table : Table) (sets : Sets) (h : Layers) : Type 0 where
   pub table_is : h.table ≡ table
   pub previous_tops : h.tams.previous ≡ bottoms 4 16

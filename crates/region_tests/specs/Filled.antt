@@ -4,7 +4,7 @@ use Rattle.heap_model.specs.Heap.{Stored}
 use Rattle.regions.specs.Tiles.{Object, Filler}
 use Rattle.regions.specs.Table.{Table, Free, Ordinary}
 
--- its pointer names what stands at 5
+-- its pointer names what is at 5
 abbrev pub filled : Stored
 filled = record { name = 7; pointers = Some 5 ∷ []; weaks = []; values = 9 ∷ [] }
 

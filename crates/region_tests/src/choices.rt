@@ -147,7 +147,7 @@ fn many_rows(from: u32, step: u32) -> [LiveRow; 100]
     rows
 }
 
-/// Of many rows those are chosen, in the same order, that stand in front of them sorted.
+/// Of many rows those are chosen, in the same order, that come first once they are sorted.
 #[test]
 fn chooses_what_sorting_puts_in_front(rt: HostRuntime) -> Result<(), Fail> {
     let mut seed = 1;

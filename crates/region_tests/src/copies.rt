@@ -54,7 +54,7 @@ fn slots(table: &RegionTable, object: Addr) -> (u32, Ptr)
     (table.weak_count(object), table.get_weak(object, 0))
 }
 
-/// The copy stands at the bottom of the lowest free region, and the object is forwarded to it.
+/// The copy is at the bottom of the lowest free region, and the object is forwarded to it.
 #[test]
 fn copies_to_the_lowest_free_region(rt: HostRuntime) -> Result<(), Fail> {
     let mut table = one_object(rt.alloc())?;

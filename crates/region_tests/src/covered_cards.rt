@@ -19,7 +19,7 @@ fn filled(alloc: Global) -> Result<RememberedSets, AllocError>
     Ok(sets)
 }
 
-/// Sixteen cards stand inline, and no other is covered. The seventeenth marks its region, 3: that one's cards are
+/// Sixteen cards are inline, and no other is covered. The seventeenth marks its region, 3: that one's cards are
 /// covered then, those of the regions beside it aren't, and the sixteen still are.
 #[test]
 fn marks_the_region_of_the_seventeenth(rt: HostRuntime) -> Result<(), Fail> {

@@ -97,7 +97,7 @@ struct Paused {
     queued: u32,
 }
 
-/// Where it is let go there is one call, and not a drop for each of its parts.
+/// Its drop is one call, and not one for each of its parts.
 impl Drop for Paused {
     fn drop(self) {
         let Paused {
@@ -225,7 +225,7 @@ fn copies_what_names_itself(rt: HostRuntime) -> Result<(), Fail> {
 }
 
 /// A pause keeps what a weak slot outside the set names, though nothing else does. The slot names the copy afterwards, and its
-/// card is dirty. That the set covers a card of a free region too, where the copy comes to stand, changes nothing.
+/// card is dirty. That the set covers a card of a free region too, where the copy goes, changes nothing.
 #[test]
 fn updates_a_weak_slot_outside(rt: HostRuntime) -> Result<(), Fail> {
     let paused = pause_held(rt.alloc())?;

@@ -161,7 +161,7 @@ fn five_objects(alloc: Global) -> Result<RegionTable, Fail>
 }
 
 /// An object at 0 with a pointer and two weak slots, which lead to region 1 and to region 0; and one at 5 with three weak
-/// slots, of which the last two lie in card 1: they lead to region 2, nowhere and to region 1.
+/// slots, of which the last two are in card 1: they lead to region 2, nowhere and to region 1.
 fn weak_objects(alloc: Global) -> Result<RegionTable, Fail>
     ensures { IfOk result IsSample }
 {
@@ -219,7 +219,7 @@ struct Sample {
     sets: RememberedSets,
 }
 
-/// Where it is let go there is one call, and not a drop for each of its parts.
+/// Its drop is one call, and not one for each of its parts.
 impl Drop for Sample {
     fn drop(self) {
         let Sample {
@@ -362,7 +362,7 @@ fn skips_dead_objects(rt: HostRuntime) -> Result<(), Fail> {
     Ok(())
 }
 
-/// Weak slots are fields behind the pointers: in card 0 one leads to region 1 and one, the last word, to region 2, and in card
+/// Weak slots are fields after the pointers: in card 0 one leads to region 1 and one, the last word, to region 2, and in card
 /// 1 one leads to region 1. Those of the object at 0 ask for nothing once it is dead.
 #[test]
 fn scans_weak_slots(rt: HostRuntime) -> Result<(), Fail> {

@@ -86,7 +86,7 @@ fn ends(table: &RegionTable, object: Addr) -> (u32, Ptr, Ptr)
     )
 }
 
-/// Compares where the tile starts that a word lies in.
+/// Compares where the tile starts that a word is in.
 fn check_first_tile(rt: &impl Abort, table: &RegionTable, word: Addr, tile: Option<Addr>)
     requires { word < length table.now.regions * table.now.words_per_region }
 {
@@ -200,7 +200,7 @@ fn walks_over_a_region(rt: HostRuntime) -> Result<(), Fail> {
     Ok(())
 }
 
-/// Free regions are counted, a field names a filler, and the filler is the tile behind the field's object.
+/// Free regions are counted, a field names a filler, and the filler is the tile after the field's object.
 #[test]
 fn steps_over_tiles(rt: HostRuntime) -> Result<(), Fail> {
     let Ok(mut table) = small_table(rt.alloc()) else {

@@ -22,6 +22,7 @@
 //! `RegionTable::new` takes memory.
 #![tactic(auto)]
 
+mod entry_row;
 mod first_tiles;
 mod objects;
 pub mod row;

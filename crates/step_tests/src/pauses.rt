@@ -1,4 +1,4 @@
-//! Pauses: where copies come to stand, and what the collector replies.
+//! Pauses: where copies go, and what the collector replies.
 
 ghost use Rattle.std.specs.Prelude.{◌≡◌, ◌<◌};
 
@@ -102,7 +102,7 @@ fn place_of(core: &Core, number: u32) -> Option<u32> {
     }
 }
 
-/// Does the lines with mutator 0, and compares the collector's replies; then each register's object stands at its place.
+/// Does the lines with mutator 0, and compares the collector's replies; then each register's object is at its place.
 pub(crate) fn check(
     rt: &impl Abort,
     alloc: Global,
@@ -215,7 +215,7 @@ fn updates_a_field_outside(rt: HostRuntime) -> Result<(), Fail> {
     check(&rt, rt.alloc(), 4, 4, &lines, &places)
 }
 
-/// A dead object's pointer isn't followed, whatever stands now where it leads. The cards know their first tiles.
+/// A dead object's pointer isn't followed, whatever is now where it leads. The cards know their first tiles.
 #[test]
 fn follows_no_dead_object(rt: HostRuntime) -> Result<(), Fail> {
     let lines = [

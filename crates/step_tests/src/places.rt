@@ -1,5 +1,5 @@
 //! Pauses, ends of marking and steps on weak slots in drawn heaps. Each is compared with a plain one over what was seen of the
-//! heap just before it: where every object stands, what every field and every root names, and what every region is; after a
+//! heap just before it: where every object is, what every field and every root names, and what every region is; after a
 //! pause also which cards wait, in order.
 //!
 //! ```text
@@ -39,7 +39,7 @@ struct Tally {
     outside: u64,
     /// Pauses that copied what only fields of copies named.
     deep: u64,
-    /// Pauses whose copies stand in more than one region.
+    /// Pauses whose copies are in more than one region.
     wide: u64,
     /// Pauses that updated a field in a later region of a run.
     later: u64,

@@ -296,7 +296,7 @@ fn check_cleanup(rt: &impl Abort, core: &mut Core, regions: u32) {
     check_collect(rt, core, CollectorStep::Cleanup, reply);
 }
 
-/// The object of r0 has 20 words, two regions to itself, and 17 weak slots. The first and the last one, which lies in the
+/// The object of r0 has 20 words, two regions to itself, and 17 weak slots. The first and the last one, which is in the
 /// second region, hold the object of r1; the object of r2 has a weak slot that holds the object of r0.
 fn held_in_a_run(rt: &impl Abort, alloc: Global) -> Core {
     let Ok(mut core) = Core::new(alloc, &WEAK) else {

@@ -1,4 +1,4 @@
-//! Each step once, each refusal of the graph, objects whose fields lie side by side, and small records before the judge.
+//! Each step once, each refusal of the graph, objects whose fields are side by side, and small records before the judge.
 
 mod reasons;
 

@@ -20,7 +20,7 @@ fn page_of_script(alloc: Global, name: &str, names: &[u8], script: &str) -> Resu
     Ok(page_of(alloc, name, names, &life)?)
 }
 
-/// How often a text stands in another one.
+/// How often a text is in another one.
 fn count_in(text: &[u8], part: &[u8]) -> usize {
     text.windows(part.len().max(1))
         .filter(|window| *window == part)

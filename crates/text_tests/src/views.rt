@@ -195,7 +195,7 @@ mutator 0: r0 #0 at 0, r1 #1 at 8, r2 #2 at 16, r3 #3 at 24, r4 #4 at 32
     assert_view(&rt, rt.alloc(), script, view)
 }
 
-/// Eighteen cards of region 1 lead into region 0: sixteen stand one by one in its set, and then all of region 1 does.
+/// Eighteen cards of region 1 lead into region 0: sixteen are one by one in its set, and then all of region 1 does.
 #[test]
 fn a_full_set(rt: HostRuntime) -> Result<(), Fail> {
     let alloc = rt.alloc();

@@ -1,4 +1,4 @@
-//! What stands between the life's text and the scripts.
+//! What is between the life's text and the scripts.
 //!
 //! Made by `tools/embed_page` of the files of `page/`: change those.
 

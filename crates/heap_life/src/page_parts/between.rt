@@ -1,4 +1,4 @@
-//! What stands between the record's text and the life's.
+//! What is between the record's text and the life's.
 //!
 //! Made by `tools/embed_page` of the files of `page/`: change those.
 

@@ -35,7 +35,7 @@ fn stored(draw: &mut Lcg64Xsh32) -> Option<Register> {
     }
 }
 
-/// Four fields at most, and now and then so many that the last ones lie after the first 16 words.
+/// Four fields at most, and now and then so many that the last ones are after the first 16 words.
 fn pointers(draw: &mut Lcg64Xsh32) -> u32 {
     if below(draw, 14) == 0 {
         16 + below(draw, 5)

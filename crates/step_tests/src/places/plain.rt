@@ -71,7 +71,7 @@ fn choice(alloc: Global, heap: &Sight, marking: bool, budget: u32) -> Result<Vec
     Ok(chosen)
 }
 
-/// An object as it was, and where its copy stands.
+/// An object as it was, and where its copy is.
 #[derive(Clone, Copy)]
 pub(crate) struct Copied {
     pub(crate) object: Seen,
@@ -88,7 +88,7 @@ pub(crate) struct PlainPause {
     /// The regions that are evacuated.
     pub(crate) chosen: Vec<u32>,
     pub(crate) copies: Vec<Copied>,
-    /// Where the next copy stands, if it ends at `end` or before.
+    /// Where the next copy goes, if it ends at `end` or before.
     place: u32,
     end: u32,
     /// The next free region that is opened has this number or a higher one.
@@ -99,7 +99,7 @@ pub(crate) struct PlainPause {
 }
 
 impl PlainPause {
-    /// Whether an address lies in a region that is evacuated.
+    /// Whether an address is in a region that is evacuated.
     fn leaves(&self, at: u32) -> bool {
         let region = part_of(self.words, at);
         self.chosen.iter().any(|chosen| *chosen == region)
@@ -198,7 +198,7 @@ impl PlainPause {
         sum
     }
 
-    /// Whether the copies stand in more than one region.
+    /// Whether the copies are in more than one region.
     pub(crate) fn is_wide(&self) -> bool {
         let mut regions = self
             .copies
@@ -210,7 +210,7 @@ impl PlainPause {
         }
     }
 
-    /// Whether a field of an object changes that lies in a later region of a run.
+    /// Whether a field of an object changes that is in a later region of a run.
     fn updates_behind(&self, object: &Seen) -> bool {
         let mut word = object.at.saturating_add(1);
         for field in &object.fields {
@@ -291,7 +291,7 @@ impl PlainPause {
         })
     }
 
-    /// Adds the cards of an object's fields that lead into other regions afterwards, where it stands at `to` then. If it
+    /// Adds the cards of an object's fields that lead into other regions afterwards, where it is at `to` then. If it
     /// wasn't copied, only fields that named a copied object count.
     fn add_cards(&self, cards: &mut Vec<u32>, object: &Seen, to: u32) -> Result<(), AllocError> {
         let mut word = to.saturating_add(1);

@@ -11,7 +11,7 @@ use step_core::Core;
 /// How many fields an object of a drawn heap has at most.
 pub(crate) const FIELDS: usize = 24;
 
-/// An object where it stands, and what its fields name: its pointers, and its weak slots after them. The fields that it
+/// An object where it is, and what its fields name: its pointers, and its weak slots after them. The fields that it
 /// hasn't name nothing.
 #[derive(Clone, Copy, Debug, PartialEq, Eq)]
 pub(crate) struct Seen {
@@ -172,7 +172,7 @@ fn space_seen(core: &Core, number: u32) -> Space
     }
 }
 
-/// The heap as it stands, word by word. The words inside an object that was seen are skipped.
+/// The heap as it is, word by word. The words inside an object that was seen are skipped.
 pub(crate) fn look(alloc: Global, core: &Core) -> Result<Sight, AllocError> {
     let words = core.config().words;
     let mut spaces = Vec::new(alloc);

@@ -5,7 +5,7 @@ use super::sight::{Seen, Sight, Space};
 use heap_steps::{Action, Refusal, Register, Reply};
 use std::alloc::{AllocError, Global};
 
-/// Where a mutator's register stands among the roots.
+/// Where a mutator's register is among the roots.
 pub(crate) fn place_of(mutator: u32, register: Register) -> usize {
     16 + 8 * mutator as usize + register.number as usize
 }
@@ -40,7 +40,7 @@ impl Sight {
         }
     }
 
-    /// Whether an address lies below its region's next top at mark start.
+    /// Whether an address is below its region's next top at mark start.
     fn is_old(&self, at: u32) -> bool {
         let region = super::plain::part_of(self.words, at);
         self.spaces
@@ -103,7 +103,7 @@ impl Sight {
     }
 }
 
-/// The heap as it was when marking began, and where the objects stand that were read from weak slots since.
+/// The heap as it was when marking began, and where the objects are that were read from weak slots since.
 #[derive(Drop)]
 pub(crate) struct PlainCycle {
     pub(crate) began: Sight,
@@ -138,7 +138,7 @@ impl PlainCycle {
         Ok(())
     }
 
-    /// Where the objects stand that the roots and these others reached when marking began.
+    /// Where the objects are that the roots and these others reached when marking began.
     pub(crate) fn reached(&self, alloc: Global, touched: &[u32]) -> Result<Vec<u32>, AllocError> {
         let mut found = Vec::new(alloc);
         for root in &self.began.roots {

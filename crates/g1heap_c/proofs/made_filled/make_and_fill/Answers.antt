@@ -1,0 +1,25 @@
+use Rattle.std.proofs.Common.{length, refl, sym, subst}
+use Rattle.heap_steps.specs.declared.step.Op.{Op}
+use Rattle.collection.proofs.Took.{unseen_made}
+use Rattle.g1heap_c.specs.Policies.{Asks, asked}
+use Rattle.std.specs.Prelude.{Some}
+use Rattle.g1heap_c.proofs.made_filled.make_and_fill.Goals as goal
+
+pub returns : goal.returns
+returns g c = record {
+  made = c.make-reply.new.core;
+  asks = subst (λ (op : Op). Asks c.args.core.now op (c.answer_of.result) (Some c.make-reply.new.core)) c.plain-op.ensures.op
+      (record {
+        reply = c.make-reply.result;
+        core = c.make-reply.new.core;
+        tells = c.answer_of.ensures;
+        held = refl;
+        makes = unseen_made g.W.Watch.sees _ c.plain-op.result c.make-reply.result c.args.core.now c.make-reply.new.core c.args.watch.now
+            c.make-reply.new.watch c.make-reply.ensures.makes;
+        full = c.make-reply.ensures.full;
+        two = c.make-reply.ensures.two;
+      });
+  filled = c.fill_made.new.core;
+  fills = c.fill_made.ensures;
+  held = refl;
+}
