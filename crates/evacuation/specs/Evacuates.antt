@@ -10,6 +10,7 @@ use Rattle.heap_model.specs.Evacuation.{IsReached, place_after}
 use Rattle.regions.specs.Tiles.{Tile, Object, tile_size}
 use Rattle.regions.specs.Table.{Table, AreHalves, HasNoForwarded, free_count, kind_of, object_at, tile_in, used_of}
 use Rattle.regions.specs.declared.row.Kind.TheVariants as kinds
+use Rattle.mark_bitmap.specs.declared.bitmaps.Bitmaps.{Bitmaps}
 use Rattle.mark_bitmap.specs.Marks.{is_marked}
 use Rattle.mark_bitmap.specs.Tops.{Tops, below_next}
 use Rattle.mark_bitmap.specs.Kept.{MarksObjects, kept_in}
@@ -33,6 +34,18 @@ pub record Layers : Type 0 where
   -- the remembered set of each region
   pub sets : Sets
   pub roots : List (Option ℕ)
+
+-- the layers, as `evacuate` takes them
+abbrev pub all_layers : Table → Tops → Bitmaps → Cards → Sets → List (Option ℕ) → Layers
+all_layers t tams bitmaps cs sets roots = record {
+  table = t;
+  tams = tams;
+  previous = bitmaps.previous;
+  next = bitmaps.next;
+  cards = cs;
+  sets = sets;
+  roots = roots;
+}
 
 abbrev pub kept_of : Layers → ℕ → Option Stored
 kept_of h = kept_in h.table h.tams h.previous

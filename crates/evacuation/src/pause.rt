@@ -8,7 +8,7 @@ ghost use Rattle.evacuation.specs.Evacuates.{AreReachedWords};
 ghost use Rattle.evacuation.specs.Space.{flag, AllVisited, NewCrossing};
 ghost use Rattle.evacuation.specs.Turns.{Pause, IsPause, IsTurn, EachCard, AreFieldsClean};
 ghost use Rattle.evacuation.specs.Turns.{AreFieldsNoted, in_set, kept_now, layout, plan, space};
-ghost use Rattle.evacuation.specs.Evacuates.{CanEvacuate, HasEvacuated};
+ghost use Rattle.evacuation.specs.Evacuates.{CanEvacuate, HasEvacuated, all_layers};
 
 use crate::copied::settle_copies;
 use crate::outside::update_cards;
@@ -102,15 +102,7 @@ fn evacuate_in(
     chosen: &[LiveRow],
     card_words: u32,
 ) -> Moved
-    requires can { CanEvacuate (record {
-      table = table.old;
-      tams = tams.old;
-      previous = bitmaps.old.previous;
-      next = bitmaps.old.next;
-      cards = cards.old;
-      sets = sets.old;
-      roots = roots.old.words;
-    }) chosen.now card_words }
+    requires can { CanEvacuate (all_layers table.old tams.old bitmaps.old cards.old sets.old roots.old.words) chosen.now card_words }
     requires each_region { length set.old ≡ length table.old.regions }
     requires each_visited { length visited.old ≡ card_count sets.old }
     requires each_noted { length noted.old ≡ card_count sets.old }
@@ -122,24 +114,8 @@ fn evacuate_in(
     ensures places { roots.new.places ≡ roots.old.places }
     ensures regions { result.regions ≡ length chosen.now }
     ensures evacuated { HasEvacuated chosen.now card_words result.words
-        (record {
-          table = table.old;
-          tams = tams.old;
-          previous = bitmaps.old.previous;
-          next = bitmaps.old.next;
-          cards = cards.old;
-          sets = sets.old;
-          roots = roots.old.words;
-        })
-        (record {
-          table = table.new;
-          tams = tams.new;
-          previous = bitmaps.new.previous;
-          next = bitmaps.new.next;
-          cards = cards.new;
-          sets = sets.new;
-          roots = roots.new.words;
-        }) }
+        (all_layers table.old tams.old bitmaps.old cards.old sets.old roots.old.words)
+        (all_layers table.new tams.new bitmaps.new cards.new sets.new roots.new.words) }
 {
     table.law();
     flag_chosen(set, chosen);
@@ -180,39 +156,15 @@ pub fn evacuate(
     chosen: &[LiveRow],
     card_words: u32,
 ) -> Moved
-    requires can { CanEvacuate (record {
-      table = table.old;
-      tams = tams.old;
-      previous = bitmaps.old.previous;
-      next = bitmaps.old.next;
-      cards = cards.old;
-      sets = sets.old;
-      roots = roots.old.words;
-    }) chosen.now card_words }
+    requires can { CanEvacuate (all_layers table.old tams.old bitmaps.old cards.old sets.old roots.old.words) chosen.now card_words }
     requires each_region { room.old.regions ≡ length table.old.regions }
     requires each_card { room.old.cards ≡ card_count sets.old }
     ensures room { room.new ≡ room.old }
     ensures places { roots.new.places ≡ roots.old.places }
     ensures regions { result.regions ≡ length chosen.now }
     ensures evacuated { HasEvacuated chosen.now card_words result.words
-        (record {
-          table = table.old;
-          tams = tams.old;
-          previous = bitmaps.old.previous;
-          next = bitmaps.old.next;
-          cards = cards.old;
-          sets = sets.old;
-          roots = roots.old.words;
-        })
-        (record {
-          table = table.new;
-          tams = tams.new;
-          previous = bitmaps.new.previous;
-          next = bitmaps.new.next;
-          cards = cards.new;
-          sets = sets.new;
-          roots = roots.new.words;
-        }) }
+        (all_layers table.old tams.old bitmaps.old cards.old sets.old roots.old.words)
+        (all_layers table.new tams.new bitmaps.new cards.new sets.new roots.new.words) }
 {
     evacuate_in(
         table,

@@ -4,7 +4,7 @@ ghost use Rattle.std.specs.Prelude.{◌≡◌, ◌≢◌, Bool, if◌then◌else
 ghost use Rattle.command_line.specs.declared.Task.TheVariants.{Check};
 ghost use Rattle.g1heap.specs.Jobs.{DoesExplained, EndsAs, TellsOver, kind_of, no_counts, counts_in, counts_of};
 
-use crate::perform::do_script;
+use crate::job::do_script;
 use command_line::{Order, Task};
 use heap_life::{draw_record, draw_script};
 use heap_view::{Glance, view_record, view_script};

@@ -2,7 +2,7 @@
 //! verdict of the graph comes out.
 //!
 //! ```text
-//!   words -- read_words --> Job -- open --> input -- perform --> run_script       steps in the file's order
+//!   words -- read_words --> Job -- open --> input -- do_job ---> run_script       steps in the file's order
 //!                                                            --> simulate_script  in turns that a seed draws
 //!                                                            --> thread_script    in turns of threads
 //!                                                            --> judge_record     the verdict on a record
@@ -11,14 +11,14 @@
 //!                                                            --> draw_script      the life of the heap, as a page; draw_record of a record
 //! ```
 //!
-//! `program` reads the command line (crate `command_line`), opens the file and calls `perform`, which does the job and tells its end (crate
+//! `program` reads the command line (crate `command_line`), opens the file and calls `do_job`, which does the job and tells its end (crate
 //! `jobs`). The three ways to run a script are here, since one of them needs threads and waiting.
 #![tactic(auto)]
 
 mod actors;
 mod explained;
 mod in_order;
-mod perform;
+mod job;
 mod program;
 
 use program::program;

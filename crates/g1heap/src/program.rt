@@ -8,7 +8,7 @@ ghost use Rattle.command_line.specs.Asked.{Asked, Asks, asked_by, names_by, name
 ghost use Rattle.command_line.specs.declared.Task.TheVariants.{Check};
 ghost use Rattle.g1heap.specs.Jobs.{DoesAsked, DoesCheck, DoesJob, DoesNamed, DoesTask, DoesWith};
 
-use crate::perform::perform;
+use crate::job::do_job;
 use clap::Error;
 use clap::error::ErrorKind;
 use command_line::{Job, Task, misspelt, read_words};
@@ -79,7 +79,7 @@ fn conclude_unopened<E: Write>(job: &Job, reason: Reason, err: &mut WatchedWrite
 
 /// Opens the job's file and does the job, with these names for shapes in a page, and answers the program's status. A file that can't be
 /// opened is told as a reader that refused.
-pub fn open_and_perform<H: Files + Threads + Wait + Sync, W: Write, E: Write>(
+pub fn open_and_do<H: Files + Threads + Wait + Sync, W: Write, E: Write>(
     rt: &H,
     alloc: Global,
     job: &Job,
@@ -90,7 +90,7 @@ pub fn open_and_perform<H: Files + Threads + Wait + Sync, W: Write, E: Write>(
     ensures { (given left : Reader) × DoesJob names.now (asked_by job.now) given left out.old out.new err.old err.new result }
 {
     match fs::open(rt, job.file()) {
-        Ok(file) => perform(
+        Ok(file) => do_job(
             rt,
             alloc,
             job,
@@ -105,7 +105,7 @@ pub fn open_and_perform<H: Files + Threads + Wait + Sync, W: Write, E: Write>(
 
 /// Does the job with the file that it names, or with `input` where that is `-`, and with these names for shapes in a page, and answers the
 /// program's status.
-fn read_and_perform<H: Files + Threads + Wait + Sync, I: Read, W: Write, E: Write>(
+fn do_asked<H: Files + Threads + Wait + Sync, I: Read, W: Write, E: Write>(
     rt: &H,
     alloc: Global,
     job: &Job,
@@ -118,14 +118,14 @@ fn read_and_perform<H: Files + Threads + Wait + Sync, I: Read, W: Write, E: Writ
 {
     let name = job.file();
     if name == "-" {
-        return perform(rt, alloc, job, names, input, out, err);
+        return do_job(rt, alloc, job, names, input, out, err);
     }
-    open_and_perform(rt, alloc, job, names, out, err)
+    open_and_do(rt, alloc, job, names, out, err)
 }
 
 /// Reads names for shapes from the file of this path, to its end, and does the job with them, and answers the program's status. Where the
 /// file can't be read, standard error is told its path, and why.
-fn perform_named<H: Files + Threads + Wait + Sync, N: Read, I: Read, W: Write, E: Write>(
+fn do_with<H: Files + Threads + Wait + Sync, N: Read, I: Read, W: Write, E: Write>(
     rt: &H,
     alloc: Global,
     job: &Job,
@@ -138,7 +138,7 @@ fn perform_named<H: Files + Threads + Wait + Sync, N: Read, I: Read, W: Write, E
     ensures { DoesWith path.now file.old file.new (asked_by job.now) input.old input.new out.old out.new err.old err.new result }
 {
     match read_text(alloc, file) {
-        Ok(names) => read_and_perform(rt, alloc, job, names.as_slice(), input, out, err),
+        Ok(names) => do_asked(rt, alloc, job, names.as_slice(), input, out, err),
         Err(fault) => conclude_unread(fault, path, file.reason(), err),
     }
 }
@@ -156,7 +156,7 @@ fn open_and_name<H: Files + Threads + Wait + Sync, I: Read, W: Write, E: Write>(
     ensures { DoesNamed (Some path.now) (asked_by job.now) input.old input.new out.old out.new err.old err.new result }
 {
     match fs::open(rt, path) {
-        Ok(file) => perform_named(
+        Ok(file) => do_with(
             rt,
             alloc,
             job,
@@ -171,7 +171,7 @@ fn open_and_name<H: Files + Threads + Wait + Sync, I: Read, W: Write, E: Write>(
 }
 
 /// Does the job, with the names for shapes of the file that it names, and answers the program's status.
-fn perform_job<H: Files + Threads + Wait + Sync, I: Read, W: Write, E: Write>(
+fn do_named<H: Files + Threads + Wait + Sync, I: Read, W: Write, E: Write>(
     rt: &H,
     alloc: Global,
     job: &Job,
@@ -183,7 +183,7 @@ fn perform_job<H: Files + Threads + Wait + Sync, I: Read, W: Write, E: Write>(
 {
     match job.names() {
         Some(path) => open_and_name(rt, alloc, job, path, input, out, err),
-        None => read_and_perform(rt, alloc, job, &[], input, out, err),
+        None => do_asked(rt, alloc, job, &[], input, out, err),
     }
 }
 
@@ -227,7 +227,7 @@ pub fn do_words<H: Files + Threads + Wait + Sync, I: Read, W: Write, E: Write>(
     ensures most { result ≤ 3 }
 {
     match read_words(alloc, words) {
-        Ok(job) => perform_job(rt, alloc, &job, input, out, err),
+        Ok(job) => do_named(rt, alloc, &job, input, out, err),
         Err(error) => refuse(&error, out, err),
     }
 }

@@ -206,7 +206,7 @@ fn tell_finding<E: Write>(
 
 /// Judges a record in a file of this name and explains the verdict, and answers the program's status. Where it can't be read, standard
 /// error is told why.
-pub fn perform_explain<R: Read, W: Write, E: Write>(
+pub fn explain_and_conclude<R: Read, W: Write, E: Write>(
     alloc: Global,
     name: &str,
     reader: &mut WatchedReader<R>,

@@ -154,7 +154,7 @@ pub fn follow_record<R: Read, W: Write>(
 }
 
 /// Judges a record as it is written, and answers the program's status.
-pub fn perform_follow<R: Read, W: Write, E: Write>(
+pub fn follow_and_conclude<R: Read, W: Write, E: Write>(
     alloc: Global,
     explained: bool,
     reader: &mut WatchedReader<R>,

@@ -109,7 +109,7 @@ pub fn conclude_verdict<E: Write>(
 }
 
 /// Judges a record, and answers the program's status.
-pub fn perform_check<R: Read, W: Write, E: Write>(
+pub fn judge_and_conclude<R: Read, W: Write, E: Write>(
     alloc: Global,
     reader: &mut WatchedReader<R>,
     out: &mut WatchedWriter<W>,

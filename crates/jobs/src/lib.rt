@@ -24,9 +24,9 @@ mod judge;
 mod script;
 
 pub use causes::{Counts, conclude_explained, conclude_unread};
-pub use explain::{explain_record, explained_law, perform_explain};
+pub use explain::{explain_and_conclude, explain_record, explained_law};
 pub use faults::{JobFault, JudgeFault, conclude, tell};
-pub use follow::{follow_law, follow_record, follow_status_law, perform_follow};
+pub use follow::{follow_and_conclude, follow_law, follow_record, follow_status_law};
 pub use history::{first_other, read_record};
-pub use judge::{conclude_verdict, judge_record, perform_check, status_law, verdict_law};
+pub use judge::{conclude_verdict, judge_and_conclude, judge_record, status_law, verdict_law};
 pub use script::{answer, read_plan};

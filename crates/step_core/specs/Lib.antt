@@ -2,6 +2,7 @@ pub mod Stands
 pub mod Fresh
 pub mod Answers
 pub mod Mutators
+pub mod Storing
 pub mod Measures
 pub mod Reclaimed
 pub mod Refining

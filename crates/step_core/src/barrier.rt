@@ -34,7 +34,8 @@ ghost use Rattle.refinement.specs.Remembering.{field_word, IsNoted};
 ghost use Rattle.heap_words.specs.Configs.{card_words};
 ghost use Rattle.step_core.specs.Stands.{ShowsGraph, KeepsFrom, heap_of, kept_of, IsWordOf};
 ghost use Rattle.marker.specs.Steps.{Overwrites};
-ghost use Rattle.step_core.specs.Mutators.{noted, pointer_of, with_pointer, weak_field, with_weak, with_root_word};
+ghost use Rattle.step_core.specs.Mutators.{noted, pointer_of, weak_field, with_weak, with_root_word};
+ghost use Rattle.step_core.specs.Storing.{StoresPointer};
 ghost use Rattle.step_core.specs.Cycle.{LeavesRegions};
 
 use crate::heap::Core;
@@ -84,15 +85,7 @@ impl Core {
         requires rooted { IsRoot (heap_of self.old) object }
         requires field { field < length (pointers_at self.old.table object) }
         requires held { IsHeld (heap_of self.old) target }
-        ensures shows { (g : Graph) (x : Stored) (o : Object) (v : Option ℕ) → ShowsGraph g self.old → kept_of self.old object ≡ Some x
-            → object_named g x.name ≡ Some o
-            → IsShown (heap_of self.old) target v
-            → ShowsGraph (with_changed g x.name (record o { pointers = slice_set o.pointers field v })) self.new }
-        ensures keeps { (s : Graph) → KeepsFrom s self.old → KeepsFrom s self.new }
-        ensures core { self.new ≡ record (with_pointer self.old mutator object field target) { marker = self.new.marker } }
-        ensures marker { Overwrites self.old.marker.running self.old.table mutator (pointer_of self.old object field) self.old.marker
-            self.new.marker }
-        ensures leaves { LeavesRegions self.old self.new }
+        ensures { StoresPointer mutator object field target self.old self.new }
     {
         if self.leads_out(object, field, &target) {
             self.store_apart(mutator, object, field, target);
@@ -108,15 +101,7 @@ impl Core {
         requires rooted { IsRoot (heap_of self.old) object }
         requires field { field < length (pointers_at self.old.table object) }
         requires held { IsHeld (heap_of self.old) target }
-        ensures shows { (g : Graph) (x : Stored) (o : Object) (v : Option ℕ) → ShowsGraph g self.old → kept_of self.old object ≡ Some x
-            → object_named g x.name ≡ Some o
-            → IsShown (heap_of self.old) target v
-            → ShowsGraph (with_changed g x.name (record o { pointers = slice_set o.pointers field v })) self.new }
-        ensures keeps { (s : Graph) → KeepsFrom s self.old → KeepsFrom s self.new }
-        ensures core { self.new ≡ record (with_pointer self.old mutator object field target) { marker = self.new.marker } }
-        ensures marker { Overwrites self.old.marker.running self.old.table mutator (pointer_of self.old object field) self.old.marker
-            self.new.marker }
-        ensures leaves { LeavesRegions self.old self.new }
+        ensures { StoresPointer mutator object field target self.old self.new }
     {
         self.store_here(mutator, object, field, target);
     }
@@ -128,15 +113,7 @@ impl Core {
         requires rooted { IsRoot (heap_of self.old) object }
         requires field { field < length (pointers_at self.old.table object) }
         requires held { IsHeld (heap_of self.old) target }
-        ensures shows { (g : Graph) (x : Stored) (o : Object) (v : Option ℕ) → ShowsGraph g self.old → kept_of self.old object ≡ Some x
-            → object_named g x.name ≡ Some o
-            → IsShown (heap_of self.old) target v
-            → ShowsGraph (with_changed g x.name (record o { pointers = slice_set o.pointers field v })) self.new }
-        ensures keeps { (s : Graph) → KeepsFrom s self.old → KeepsFrom s self.new }
-        ensures core { self.new ≡ record (with_pointer self.old mutator object field target) { marker = self.new.marker } }
-        ensures marker { Overwrites self.old.marker.running self.old.table mutator (pointer_of self.old object field) self.old.marker
-            self.new.marker }
-        ensures leaves { LeavesRegions self.old self.new }
+        ensures { StoresPointer mutator object field target self.old self.new }
     {
         self.note(mutator, object, field, &target);
         self.store_noted(mutator, object, field, target);

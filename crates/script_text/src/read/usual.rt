@@ -42,8 +42,8 @@ fn last_action(config: &Config, action: Action, past: usize) -> Option<Found<Act
     }
 }
 
-/// Returns the action of the first of these verbs that is in the line. Its words are read one after the other, each from where the one
-/// before it ends, and then it is made of them; a word that doesn't fit returns None.
+/// Where one of these verbs is next in the line, reads its words, each from where the one before it ends, and returns the action that they
+/// make; None, where a word doesn't fit.
 macro_rules! return_action_of {
     (
         $config:ident, $text:ident, $at:ident, $more:ident;

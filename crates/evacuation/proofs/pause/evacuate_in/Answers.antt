@@ -6,7 +6,7 @@ use Rattle.std.proofs.lemmas.List.{length-replicate}
 use Rattle.regions.proofs.Words.Sizes.{EachForwardedIn-imp}
 use Rattle.remembered_sets.specs.Sets.{card_count}
 use Rattle.object_copy.specs.Copies.{Places}
-use Rattle.evacuation.specs.Evacuates.{Layers, is_chosen}
+use Rattle.evacuation.specs.Evacuates.{Layers, all_layers, is_chosen}
 use Rattle.evacuation.specs.Turns.{IsTurn, in_set}
 use Rattle.evacuation.specs.Evacuates.{HasEvacuated, MarksAfter}
 use Rattle.evacuation.proofs.WholePause.Asked as asked
@@ -24,15 +24,8 @@ none_noted (suc n) (suc k) e = none_noted n k e
 
 pub copy_reached-requires : goal.copy_reached-requires
 copy_reached-requires c =
-    let h : Layers = record {
-      table = c.args.table.now;
-      tams = c.args.tams.now;
-      previous = c.args.bitmaps.now.previous;
-      next = c.args.bitmaps.now.next;
-      cards = c.args.cards.now;
-      sets = c.args.sets.now;
-      roots = c.args.roots.now.words;
-    } in
+    let h : Layers =
+    all_layers c.args.table.now c.args.tams.now c.args.bitmaps.now c.args.cards.now c.args.sets.now c.args.roots.now.words in
     let each : length c.flag_visited.new.visited ≡ card_count c.args.sets.now = c.flag_visited.ensures.len ∙ c.requires.each_visited in
     let start = subst (λ (d : Places). IsTurn (asked.pause h c.args.chosen.now c.args.card_words c.requires.can c.law.ensures
     c.flag_chosen.new.set c.flag_chosen.ensures.flags (c.flag_chosen.ensures.len ∙ c.requires.each_region)) c.args.table.now d)
@@ -84,15 +77,8 @@ copy_reached-requires c =
 
 pub release_chosen-requires-clause-unmoved : goal.release_chosen-requires-clause-unmoved
 release_chosen-requires-clause-unmoved c =
-    let h : Layers = record {
-      table = c.args.table.now;
-      tams = c.args.tams.now;
-      previous = c.args.bitmaps.now.previous;
-      next = c.args.bitmaps.now.next;
-      cards = c.args.cards.now;
-      sets = c.args.sets.now;
-      roots = c.args.roots.now.words;
-    } in
+    let h : Layers =
+    all_layers c.args.table.now c.args.tams.now c.args.bitmaps.now c.args.cards.now c.args.sets.now c.args.roots.now.words in
     let s = c.copy_reached.ensures.turn.table in
     EachForwardedIn-imp
     (λ to. in_set (asked.pause h c.args.chosen.now c.args.card_words c.requires.can c.law.ensures c.flag_chosen.new.set
@@ -103,15 +89,8 @@ release_chosen-requires-clause-unmoved c =
 
 pub returns-clause-evacuated : goal.returns-clause-evacuated
 returns-clause-evacuated c =
-    let h : Layers = record {
-      table = c.args.table.now;
-      tams = c.args.tams.now;
-      previous = c.args.bitmaps.now.previous;
-      next = c.args.bitmaps.now.next;
-      cards = c.args.cards.now;
-      sets = c.args.sets.now;
-      roots = c.args.roots.now.words;
-    } in
+    let h : Layers =
+    all_layers c.args.table.now c.args.tams.now c.args.bitmaps.now c.args.cards.now c.args.sets.now c.args.roots.now.words in
     let z = c.copy_reached.ensures.turn.table.size in
     let previous = subst (λ (n : ℕ). MarksAfter n c.args.chosen.now c.args.tams.now.previous c.release_chosen.new.tams.previous
     c.args.bitmaps.now.previous c.release_chosen.new.bitmaps.previous) z c.release_chosen.ensures.previous in
@@ -131,12 +110,5 @@ returns-clause-evacuated c =
       | inr x ↦ x
     ]) in
     subst (λ (n : ℕ). HasEvacuated c.args.chosen.now c.args.card_words n h
-    (record {
-      table = c.release_chosen.new.table;
-      tams = c.release_chosen.new.tams;
-      previous = c.release_chosen.new.bitmaps.previous;
-      next = c.release_chosen.new.bitmaps.next;
-      cards = c.dirty_noted.new.cards;
-      sets = c.release_chosen.new.sets;
-      roots = c.copy_reached.new.roots.words;
-    })) (sym c.words.ensures) all
+    (all_layers c.release_chosen.new.table c.release_chosen.new.tams c.release_chosen.new.bitmaps c.dirty_noted.new.cards
+    c.release_chosen.new.sets c.copy_reached.new.roots.words)) (sym c.words.ensures) all

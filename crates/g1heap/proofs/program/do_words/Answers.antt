@@ -7,7 +7,7 @@ pub returns-in-Ok-clause-asked : goal.returns-in-Ok-clause-asked
 returns-in-Ok-clause-asked g c = λ asked asks.
     let both : Some asked ≡ Some (asked_by c.in-Ok.job) = sym asks.0 ∙ c.in-Ok.ensures.job in
     let same : asked ≡ asked_by c.in-Ok.job = cc in
-    let named = subst (λ (p : Option (List ℕ)). DoesNamed p (asked_by c.in-Ok.job) c.args.input.now c.perform_job.new.input c.args.out.now
-    c.perform_job.new.out c.args.err.now c.perform_job.new.err c.perform_job.result) (sym c.in-Ok.ensures.names) c.perform_job.ensures in
-    inl (subst (λ (a : Asked). DoesNamed (names_of (map string_bytes c.args.words.now)) a c.args.input.now c.perform_job.new.input
-    c.args.out.now c.perform_job.new.out c.args.err.now c.perform_job.new.err c.perform_job.result) (sym same) named)
+    let named = subst (λ (p : Option (List ℕ)). DoesNamed p (asked_by c.in-Ok.job) c.args.input.now c.do_named.new.input c.args.out.now
+    c.do_named.new.out c.args.err.now c.do_named.new.err c.do_named.result) (sym c.in-Ok.ensures.names) c.do_named.ensures in
+    inl (subst (λ (a : Asked). DoesNamed (names_of (map string_bytes c.args.words.now)) a c.args.input.now c.do_named.new.input
+    c.args.out.now c.do_named.new.out c.args.err.now c.do_named.new.err c.do_named.result) (sym same) named)

@@ -1,6 +1,6 @@
 use Rattle.std.proofs.Common.{◌≡◌, inl, inr}
 use Rattle.g1heap.proofs.Unread.{as_job}
-use Rattle.g1heap.proofs.perform.do_explaining.Goals as goal
+use Rattle.g1heap.proofs.job.do_explaining.Goals as goal
 
 pub returns-in-Script : goal.returns-in-Script
 returns-in-Script g c =

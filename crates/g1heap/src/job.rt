@@ -11,7 +11,7 @@ use crate::in_order::run_script;
 use command_line::{Job, Order, Task};
 use heap_life::{draw_record, draw_script};
 use heap_view::{Glance, view_record, view_script};
-use jobs::{JobFault, conclude, perform_check, perform_explain, perform_follow};
+use jobs::{JobFault, conclude, explain_and_conclude, follow_and_conclude, judge_and_conclude};
 use script_text::{WatchedReader, WatchedWriter};
 use std::alloc::Global;
 use std::io::{Read, Write};
@@ -57,11 +57,11 @@ fn do_check<R: Read, W: Write, E: Write>(
     ensures { DoesCheck name.now explained followed reader.old reader.new out.old out.new err.old err.new result }
 {
     if followed {
-        perform_follow(alloc, explained, reader, out, err)
+        follow_and_conclude(alloc, explained, reader, out, err)
     } else if explained {
-        perform_explain(alloc, name, reader, out, err)
+        explain_and_conclude(alloc, name, reader, out, err)
     } else {
-        perform_check(alloc, reader, out, err)
+        judge_and_conclude(alloc, reader, out, err)
     }
 }
 
@@ -168,7 +168,7 @@ fn do_explaining<H: Threads + Wait + Sync, R: Read, W: Write, E: Write>(
 }
 
 /// Does the job, with these names for shapes in a page, and answers the program's status.
-pub fn perform<H: Threads + Wait + Sync, R: Read, W: Write, E: Write>(
+pub fn do_job<H: Threads + Wait + Sync, R: Read, W: Write, E: Write>(
     rt: &H,
     alloc: Global,
     job: &Job,

@@ -1,7 +1,7 @@
 use Rattle.std.proofs.Common.{[], None, true, false, refl}
 use Rattle.std.proofs.KnownBytes.{Keeps-refl}
 use Rattle.script_text.specs.Watched.{Reader}
-use Rattle.g1heap.proofs.program.open_and_perform.Goals as goal
+use Rattle.g1heap.proofs.program.open_and_do.Goals as goal
 
 -- a reader of no file, before and after it refused
 abbrev fresh : Reader

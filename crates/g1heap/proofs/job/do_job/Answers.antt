@@ -1,7 +1,7 @@
 use Rattle.std.proofs.Common.{true, false, sym, ◌∙◌}
 use Rattle.g1heap.specs.Jobs.{DoesJob}
 use Rattle.g1heap.proofs.Asking.{at_parts}
-use Rattle.g1heap.proofs.perform.perform.Goals as goal
+use Rattle.g1heap.proofs.job.do_job.Goals as goal
 
 pub returns-then-explained : goal.returns-then-explained
 returns-then-explained g c =
