@@ -2,6 +2,7 @@
 
     tools/measure large [PROGRAM] [--runs 3] [--plain] [--instructions] [--only NAME ..]
     tools/measure large --library [--words 24 27 30] [--card 64] [--objects N] [--plain]
+    tools/measure large --grey [--words 24 27 30]
 
 Each line has what a script does, the processor seconds of it in the smaller and in the larger heap (the best of some runs,
 less those of the script that only makes ready), and what one of its parts takes: a step, an object, a region, a word. With
@@ -12,6 +13,8 @@ resident sets over what the heap's words and 100 bytes a step take.
 With --library it measures lib/libg1heap.a, by tools/measuring/large_costs.c, in heaps of 2 to these powers of words: each line has what is
 done, the processor time of all of it and of a part, and what is resident then. A size that wants more memory than the system has to give is
 left out, and a line says so. With --plain the plain heap behind the same header is measured too.
+
+With --grey it measures, by tools/measuring/grey_costs.c, what marking costs an object where many are grey, at the top of such heaps.
 """
 import argparse
 import os
@@ -185,6 +188,18 @@ def measure_library(folder, words):
                 sys.exit(f"2^{size} words: the rows end here; if a call was refused with 18, ask for fewer --objects")
 
 
+def measure_grey(folder, words):
+    """Prints a row of each size, of which all words are written."""
+    program = os.path.join(folder, "grey_costs")
+    compiled = ["cc", "-O2", "-std=c11", "-D_DEFAULT_SOURCE", "-I", os.path.join(TOP, "include"), os.path.join(HERE, "grey_costs.c")]
+    subprocess.run([*compiled, os.path.join(TOP, "lib", "libg1heap.a"), "-o", program], check=True)
+    for size in words.words:
+        if available() < (9 << size):
+            print(f"2^{size} words: left out, {9 << size >> 20} MiB are asked for and {available() >> 20} are there", flush=True)
+        elif subprocess.run([program, str(size)], check=False).returncode != 0:
+            sys.exit(f"2^{size} words: a call was refused")
+
+
 def write_script(folder, name, line, steps):
     path = os.path.join(folder, name + ".heap")
     with open(path, "w") as file:
@@ -204,6 +219,7 @@ def main():
     parser.add_argument("--instructions", action="store_true", help="count instructions in the place of seconds")
     parser.add_argument("--only", nargs="+", choices=[script[0] for script in SCRIPTS], metavar="NAME", help="these alone")
     parser.add_argument("--library", action="store_true", help="measure the library for C")
+    parser.add_argument("--grey", action="store_true", help="measure marking where many objects are grey")
     parser.add_argument("--words", nargs="+", type=int, default=[24, 27, 30], help="the heaps, by powers of two of words")
     parser.add_argument("--card", type=int, default=64, help="words of a card")
     parser.add_argument("--objects", type=int, help="objects of 16 words that are marked")
@@ -211,6 +227,9 @@ def main():
     with tempfile.TemporaryDirectory(prefix="measure_large.") as folder:
         if words.library:
             measure_library(folder, words)
+        if words.grey:
+            measure_grey(folder, words)
+        if words.library or words.grey:
             return
         programs = [words.program]
         if words.plain:
