@@ -10,14 +10,13 @@ enum { SHALLOWEST = 4 };
 
 static void make_tree(int depth, reg at)
 {
-    int made;
-    if (depth == 0) made = m_new(at, 2, 0);
-    else {
-        make_tree(depth - 1, at + 1), make_tree(depth - 1, at + 2);
-        made = m_filled(at, 2, (reg[]){at + 1, at + 2}, 0, NULL);
-        m_scope(at + 1);
+    if (!m_new(at, 2, 0)) m_die("the heap is full");
+    if (depth == 0) return;
+    for (uint32_t side = LEFT; side <= RIGHT; side++) {
+        make_tree(depth - 1, at + 1);
+        m_put(at, side, at + 1);
     }
-    if (!made) m_die("the heap is full");
+    m_scope(at + 1);
 }
 
 static uint64_t count(reg at)

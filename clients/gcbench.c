@@ -16,13 +16,14 @@ static void node(reg to, uint32_t pointers, uint32_t values)
 /* A tree from its leaves up, in register `at`. Its frame goes on after it. */
 static void make_tree(int depth, reg at)
 {
-    if (depth == 0) {
-        node(at, 2, 2);
-        return;
+    if (depth > 0) {
+        make_tree(depth - 1, at + 1);
+        make_tree(depth - 1, at + 2);
     }
-    make_tree(depth - 1, at + 1);
-    make_tree(depth - 1, at + 2);
-    if (!m_filled(at, 2, (reg[]){at + 1, at + 2}, 2, (uint64_t[]){0, 0})) m_die("the heap is full");
+    node(at, 2, 2);
+    if (depth == 0) return;
+    m_put(at, LEFT, at + 1);
+    m_put(at, RIGHT, at + 2);
     m_scope(at + 1);
 }
 

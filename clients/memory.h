@@ -81,12 +81,6 @@ static inline int m_new(reg to, uint32_t pointers, uint32_t values)
     m_objects++;
     return g1_make(&m_heap, &m_policy, 0, to, pointers, 0, values).code == G1_NAME;
 }
-/* The same with its fields: what other registers hold, and data words. */
-static inline int m_filled(reg to, uint32_t pointers, const reg from[], uint32_t values, const uint64_t words[])
-{
-    m_objects++;
-    return g1_make_filled(&m_heap, &m_policy, 0, to, from, pointers, words, values).code == G1_NAME;
-}
 /* 0 where it is nil. */
 static inline int m_get(reg to, reg object, uint32_t field) { return m_done(g1_get(&m_heap, 0, to, object, field)).code == G1_NAME; }
 static inline void m_put(reg object, uint32_t field, reg from) { m_done(g1_put(&m_heap, 0, object, field, from)); }
@@ -170,17 +164,6 @@ static inline int m_new(reg to, uint32_t pointers, uint32_t values)
     m_objects++;
     if (made == NULL) return 0;
     made->pointers = pointers, made->values = values;
-    m_set(to, made);
-    return 1;
-}
-static inline int m_filled(reg to, uint32_t pointers, const reg from[], uint32_t values, const uint64_t words[])
-{
-    m_object *made = (m_object *)m_words(pointers, sizeof(m_object) + 8 * ((size_t)pointers + values));
-    m_objects++;
-    if (made == NULL) return 0;
-    made->pointers = pointers, made->values = values;
-    for (uint32_t i = 0; i < pointers; i++) made->words[i].object = from[i] == G1_NIL_REGISTER ? NULL : m_registers[from[i]];
-    for (uint32_t i = 0; i < values; i++) made->words[pointers + i].value = words[i];
     m_set(to, made);
     return 1;
 }

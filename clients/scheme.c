@@ -121,32 +121,20 @@ static void go_deeper(void)
 static void push(reg it) { m_move(room(1), it), top++; }
 static void leave(reg base) { m_scope(base), top = base; }
 
-static void need_room(int made)
-{
-    if (!made) mistake(0, 0, "the heap is full of live objects: give it more by G1HEAP_REGIONS=%u", 2 * m_sizes.regions);
-}
 static void make(reg to, unsigned tag, uint32_t pointers, uint32_t values)
 {
-    need_room(m_new(to, pointers, values + 1));
+    if (!m_new(to, pointers, values + 1))
+        mistake(0, 0, "the heap is full of live objects: give it more by G1HEAP_REGIONS=%u", 2 * m_sizes.regions);
     m_write(to, 0, tag);
 }
-/* The same with its pointers: what other registers hold. */
-static void make_of(reg to, unsigned tag, uint32_t pointers, const reg from[])
-{
-    need_room(m_filled(to, pointers, from, 1, (uint64_t[]){tag}));
-}
 /* A number, a character or a port. */
-static void make_word(reg to, unsigned tag, uint64_t value) { need_room(m_filled(to, 0, NULL, 2, (uint64_t[]){tag, value})); }
+static void make_word(reg to, unsigned tag, uint64_t value) { make(to, tag, 0, 1), m_write(to, 1, value); }
 static void number(reg to, int64_t value) { make_word(to, NUMBER, (uint64_t)value); }
 static int64_t value_of(reg it) { return (int64_t)m_read(it, 1); }
 /* The pair of two registers; `to` may be one of them. */
 static void cons(reg to, reg car, reg cdr)
 {
-    if (to != car && to != cdr) {
-        make_of(to, PAIR, 2, (reg[]){car, cdr});
-        return;
-    }
-    make_of(OTHER, PAIR, 2, (reg[]){car, cdr});
+    make(OTHER, PAIR, 2, 0), m_put(OTHER, 0, car), m_put(OTHER, 1, cdr);
     m_move(to, OTHER), m_drop(OTHER);
 }
 static void car(reg to, reg pair) { m_get(to, pair, 0); }
@@ -318,8 +306,9 @@ static int is_dot(reg it) { return m_tag(it) == SYMBOL && m_read(it, 1) == DOT; 
 /* Makes the pair of VALUE, which began in a line, and what a register holds. */
 static void read_pair(unsigned line, reg rest)
 {
-    uint64_t words[] = {PAIR, (uint64_t)source->name << 32 | line};
-    need_room(m_filled(OTHER, 2, (reg[]){VALUE, rest}, source->name == PRELUDE ? 1 : 2, words));
+    make(OTHER, PAIR, 2, source->name != PRELUDE);
+    if (source->name != PRELUDE) m_write(OTHER, 1, (uint64_t)source->name << 32 | line);
+    m_put(OTHER, 0, VALUE), m_put(OTHER, 1, rest);
     m_move(VALUE, OTHER), m_drop(OTHER);
 }
 /* A list, into VALUE. Its frame holds its pairs: the first and the last. */
@@ -462,7 +451,8 @@ static uint32_t find(reg name)
 }
 static void bind(reg name, reg value)
 {
-    need_room(m_filled(PART, 2, (reg[]){ENVIRONMENT, value}, 2, (uint64_t[]){BINDING, m_read(name, 1)}));
+    make(PART, BINDING, 2, 1);
+    m_write(PART, 1, m_read(name, 1)), m_put(PART, 0, ENVIRONMENT), m_put(PART, 1, value);
     m_move(ENVIRONMENT, PART);
 }
 static void need_symbol(reg it) { if (m_tag(it) != SYMBOL) mistake(1, it, "a name is wanted here, not %s", kinds[m_tag(it)]); }
@@ -480,7 +470,7 @@ static int has_more(reg list)
     return tag == PAIR;
 }
 /* A closure of the parameters in PART and the body in REST. */
-static void closure(void) { make_of(VALUE, CLOSURE, 3, (reg[]){PART, REST, ENVIRONMENT}); }
+static void closure(void) { make(VALUE, CLOSURE, 3, 0), m_put(VALUE, 0, PART), m_put(VALUE, 1, REST), m_put(VALUE, 2, ENVIRONMENT); }
 /* What a name stands for, into a register; answers whether that is a binding's value. */
 static uint32_t look_up(reg to, reg name)
 {

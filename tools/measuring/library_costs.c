@@ -17,7 +17,7 @@ int main(int count, char **words)
     const char *call = count == 3 ? words[1] : "";
     long times = count == 3 ? atol(words[2]) : 0;
     uint64_t sum = 0, words_of_it[] = {7};
-    uint32_t sources[] = {0, 1};
+    uint32_t sources[] = {4, G1_NIL_REGISTER};      /* of a filled object: the one made before it, and nil */
     if (g1_new(&heap, &sizes) != G1_DONE) return 1;
     g1_new_object(&heap, 0, 0, 2, 2), g1_new_object(&heap, 0, 1, 2, 2), g1_put(&heap, 0, 0, 0, 1);
     if (strcmp(call, "get") == 0) for (long i = 0; i < times; i++, again()) sum += g1_get(&heap, 0, 2, 0, 0).first;
@@ -33,10 +33,12 @@ int main(int count, char **words)
         g1_policy_start(&policy, &sizes);
         for (long i = 0; i < times; i++, again()) sum += g1_make(&heap, &policy, 0, 3, 2, 0, 1).code;
     } else if (strcmp(call, "new filled 2 + 1") == 0) {
-        for (long i = 0; i < times; i++, again()) sum += g1_new_filled(&heap, 0, 3, sources, 2, words_of_it, 1).code;
+        for (long i = 0; i < times; i++, again())
+            sources[0] = 4 - (i & 1), sum += g1_new_filled(&heap, 0, 3 + (i & 1), sources, 2, words_of_it, 1).code;
     } else if (strcmp(call, "make filled 2 + 1") == 0) {
         g1_policy_start(&policy, &sizes);
-        for (long i = 0; i < times; i++, again()) sum += g1_make_filled(&heap, &policy, 0, 3, sources, 2, words_of_it, 1).code;
+        for (long i = 0; i < times; i++, again())
+            sources[0] = 4 - (i & 1), sum += g1_make_filled(&heap, &policy, 0, 3 + (i & 1), sources, 2, words_of_it, 1).code;
     } else if (strcmp(call, "name") == 0) for (long i = 0; i < times; i++, again()) sum += g1_name(&heap, 0, 0).first;
     else if (strcmp(call, "scope") == 0) for (long i = 0; i < times; i++, again()) sum += g1_scope(&heap, 0, 4).code;
     else if (strcmp(call, "no such register") == 0) for (long i = 0; i < times; i++, again()) sum += g1_get(&heap, 0, 2, 99, 0).code;
