@@ -33,7 +33,10 @@ fn forwarded(to: u32) -> Header {
 
 /// Whether a header is written as a word, and read from it.
 fn is_word_of(header: Header, word: u64) -> bool {
-    encode_header(header) == word && decode_header(word) == Some(header)
+    let Some(found) = decode_header(word) else {
+        return false;
+    };
+    found == header && encode_header(header) == word
 }
 
 /// Whether a word is no header.
