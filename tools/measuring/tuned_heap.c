@@ -225,13 +225,21 @@ g1_answer g1_make(g1_heap *heap, g1_policy *policy, uint32_t by, uint32_t to, ui
     policy->left -= 2 + pointers + weaks + values;
     return g1_new_weak(heap, by, to, pointers, weaks, values);
 }
-g1_answer g1_make_filled(g1_heap *heap, g1_policy *policy, uint32_t by, uint32_t to, const uint32_t *from, size_t pointers,
-                         const uint64_t *words, size_t values)
+static g1_answer filled(g1_answer made, g1_heap *heap, uint32_t by, uint32_t to, const uint32_t *from, size_t pointers, const uint64_t *words,
+                        size_t values)
 {
-    g1_answer made = g1_make(heap, policy, by, to, (uint32_t)pointers, 0, (uint32_t)values);
     for (size_t i = 0; i < pointers; i++) g1_put(heap, by, to, (uint32_t)i, from[i]);
     for (size_t i = 0; i < values; i++) g1_write(heap, by, to, (uint32_t)i, words[i]);
     return made;
+}
+g1_answer g1_new_filled(g1_heap *heap, uint32_t by, uint32_t to, const uint32_t *from, size_t pointers, const uint64_t *words, size_t values)
+{
+    return filled(g1_new_object(heap, by, to, (uint32_t)pointers, (uint32_t)values), heap, by, to, from, pointers, words, values);
+}
+g1_answer g1_make_filled(g1_heap *heap, g1_policy *policy, uint32_t by, uint32_t to, const uint32_t *from, size_t pointers,
+                         const uint64_t *words, size_t values)
+{
+    return filled(g1_make(heap, policy, by, to, (uint32_t)pointers, 0, (uint32_t)values), heap, by, to, from, pointers, words, values);
 }
 g1_answer g1_collect(g1_heap *heap, g1_policy *policy) { return (void)heap, (void)policy, tell(G1_DONE, 0); }
 g1_answer g1_collect_all(g1_heap *heap, g1_policy *policy) { return g1_collect(heap, policy); }
