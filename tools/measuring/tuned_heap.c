@@ -225,6 +225,18 @@ g1_answer g1_make(g1_heap *heap, g1_policy *policy, uint32_t by, uint32_t to, ui
     policy->left -= 2 + pointers + weaks + values;
     return g1_new_weak(heap, by, to, pointers, weaks, values);
 }
+g1_answer g1_read_words(g1_heap *heap, uint32_t by, uint32_t object, uint32_t from, uint64_t *out, size_t count)
+{
+    g1_answer answer = {G1_DONE, 0, 0};
+    for (size_t i = 0; i < count && answer.code < G1_NIL; i++) answer = g1_read(heap, by, object, from + (uint32_t)i), out[i] = answer.first;
+    return answer.code < G1_NIL ? tell(G1_DONE, 0) : answer;
+}
+g1_answer g1_write_words(g1_heap *heap, uint32_t by, uint32_t object, uint32_t from, const uint64_t *in, size_t count)
+{
+    g1_answer answer = {G1_DONE, 0, 0};
+    for (size_t i = 0; i < count && answer.code < G1_NIL; i++) answer = g1_write(heap, by, object, from + (uint32_t)i, in[i]);
+    return answer;
+}
 static g1_answer filled(g1_answer made, g1_heap *heap, uint32_t by, uint32_t to, const uint32_t *from, size_t pointers, const uint64_t *words,
                         size_t values)
 {
