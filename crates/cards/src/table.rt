@@ -13,14 +13,13 @@ ghost use Rattle.cards.specs.Cards.{appended, clean_cards, dirtied, flushed, is_
 
 use crate::log::{CardLog, LOG_LEN};
 use heap_words::addr::Card;
-use heap_words::bits::Bits;
 use std::alloc::{AllocError, Global};
 use std::collections::VecDeque;
 use std::marker::Model;
 
 /// A dirty flag for each card, a log for each mutator, and the queue. Clauses see the three lists.
 pub struct CardTable {
-    dirty: Bits,
+    dirty: Vec<bool>,
     logs: Vec<CardLog>,
     queue: VecDeque<u32>,
 }
@@ -53,7 +52,7 @@ impl CardTable {
     pub fn new(alloc: Global, cards: u32, mutators: u32) -> Result<CardTable, AllocError>
         ensures { IfOk result (λ table. table ≡ clean_cards cards mutators) }
     {
-        let dirty = Bits::new(alloc, cards)?;
+        let dirty = vec![in alloc; false; cards as usize]?;
         let mut logs = Vec::with_capacity(alloc, mutators as usize)?;
         for _ in 0..mutators {
             logs.push(CardLog::new(alloc))?;
@@ -76,7 +75,7 @@ impl CardTable {
         requires { card < length self.now.dirty }
         ensures { result ≡ is_dirty self.now card }
     {
-        self.dirty.get(card.number())
+        self.dirty[card.number() as usize]
     }
 
     /// How many cards are in the queue.
@@ -125,7 +124,7 @@ impl CardTable {
         if self.is_dirty(card) {
             return;
         }
-        self.dirty.set(card.number());
+        self.dirty[card.number() as usize] = true;
         let log = &mut self.logs[mutator as usize];
         log.push(card);
         if log.len() == LOG_LEN {
@@ -143,7 +142,7 @@ impl CardTable {
         ensures known { IfSome result (λ card. card < length self.old.dirty) }
     {
         let card = self.queue.pop_front()?;
-        self.dirty.remove(card);
+        self.dirty[card as usize] = false;
         Some(Card::new(card))
     }
 
@@ -153,7 +152,7 @@ impl CardTable {
         requires clean { is_dirty self.old card ≡ false }
         ensures { self.new ≡ appended self.old card }
     {
-        self.dirty.set(card.number());
+        self.dirty[card.number() as usize] = true;
         self.queue.push_back_reserved(card.number());
     }
 

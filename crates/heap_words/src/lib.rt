@@ -12,7 +12,6 @@ pub mod addr;
 pub mod bits;
 pub mod bounded;
 pub mod config;
-mod groups;
 pub mod header;
 pub mod powers;
 pub mod words;

@@ -1,4 +1,3 @@
-pub mod Written
 pub mod FirstTile
 pub mod CardStarts
 pub mod FirstTiles

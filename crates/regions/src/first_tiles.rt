@@ -22,7 +22,6 @@ ghost use Rattle.regions.specs.Tiles.{Filler};
 ghost use Rattle.regions.specs.FirstTiles.{last_card, entry_of, start_in};
 ghost use Rattle.heap_words.specs.Configs.{max_words};
 
-use crate::entry_row::EntryRow;
 use std::alloc::{AllocError, Global};
 use std::marker::Model;
 
@@ -32,7 +31,7 @@ use std::marker::Model;
 pub(crate) struct FirstTiles {
     card_words: u32,
     shift: u32,
-    starts: EntryRow,
+    starts: Vec<u32>,
 }
 
 impl Model for FirstTiles {
@@ -40,7 +39,7 @@ impl Model for FirstTiles {
 
     ghost Value = { Entries };
 
-    ghost view = { λ f. record { card_words = f.card_words; starts = f.starts } };
+    ghost view = { λ f. record { card_words = f.card_words; starts = f.starts.items } };
 
     ghost invariant = { λ f. IsPower f.card_words f.shift };
 }
@@ -56,19 +55,19 @@ fn card_from(shift: u32, word: u32) -> u32
 }
 
 /// The cards from one on up to another, which is not one of them, have this entry.
-fn fill_cards(entries: &mut EntryRow, from: u32, to: u32, entry: u32)
+fn fill_cards(entries: &mut [u32], from: u32, to: u32, entry: u32)
     requires { to ≤ length entries.old }
     ensures len { length entries.new ≡ length entries.old }
     ensures entries { (c : ℕ) → slice_index entries.new c ≡ (if is_between from to c then entry else slice_index entries.old c) }
 {
     for card in from..to {
-        entries.set(card, entry);
+        entries[card as usize] = entry;
     }
 }
 
 /// Each card that begins in the words from `at` up to `end` has this entry.
 #[inline(always)]
-fn write_entries(entries: &mut EntryRow, shift: u32, at: u32, end: u32, entry: u32)
+fn write_entries(entries: &mut [u32], shift: u32, at: u32, end: u32, entry: u32)
     requires narrow { shift < 12 }
     requires order { at ≤ end }
     requires small { end ≤ max_words }
@@ -82,7 +81,7 @@ fn write_entries(entries: &mut EntryRow, shift: u32, at: u32, end: u32, entry: u
 
 /// The last card that begins in the words from `at` up to `end`, if one does, has `at` as its entry.
 #[inline(always)]
-fn write_start(entries: &mut EntryRow, shift: u32, at: u32, end: u32)
+fn write_start(entries: &mut [u32], shift: u32, at: u32, end: u32)
     requires narrow { shift < 12 }
     requires order { at ≤ end }
     requires small { end ≤ max_words }
@@ -93,14 +92,14 @@ fn write_start(entries: &mut EntryRow, shift: u32, at: u32, end: u32)
 {
     let past = card_from(shift, end);
     if card_from(shift, at) < past {
-        entries.set(past - 1, at);
+        entries[past as usize - 1] = at;
     }
 }
 
 /// The words from `at` up to `middle` become an object, and those behind it, up to `end`, the rest of a filler: both in one go, so that
 /// each of the three places is looked up once.
 #[inline(always)]
-fn write_front(entries: &mut EntryRow, shift: u32, at: u32, middle: u32, end: u32)
+fn write_front(entries: &mut [u32], shift: u32, at: u32, middle: u32, end: u32)
     requires narrow { shift < 12 }
     requires order { at ≤ middle }
     requires rest { middle ≤ end }
@@ -117,7 +116,7 @@ fn write_front(entries: &mut EntryRow, shift: u32, at: u32, middle: u32, end: u3
 
 /// The entries of a filler's cards: the last one's is its start, and the others' is that card.
 #[inline(always)]
-fn write_filler(entries: &mut EntryRow, shift: u32, at: u32, size: u32)
+fn write_filler(entries: &mut [u32], shift: u32, at: u32, size: u32)
     requires narrow { shift < 12 }
     requires positive { 0 < size }
     requires small { at + size ≤ max_words }
@@ -132,22 +131,27 @@ fn write_filler(entries: &mut EntryRow, shift: u32, at: u32, size: u32)
     if first < past {
         let last = past - 1;
         fill_cards(entries, first, last, last << shift);
-        entries.set(last, at);
+        entries[last as usize] = at;
     }
 }
 
 /// Where the entries say that the tile of a card's first word starts.
-fn find_start(entries: &EntryRow, shift: u32, card: u32) -> u32
+fn find_start(entries: &[u32], shift: u32, card: u32) -> u32
     requires narrow { shift < 12 }
     requires known { card < length entries.now }
     requires small { length entries.now * 2 ^ shift ≤ max_words }
     ensures { result ≡ start_in (2 ^ shift) entries.now card }
 {
-    let entry = entries.get(card);
+    let entry = entries[card as usize];
     if entry <= card << shift {
         return entry;
     }
-    entries.get(entry >> shift)
+    let last = (entry >> shift) as usize;
+    if last < entries.len() {
+        entries[last]
+    } else {
+        0
+    }
 }
 
 impl FirstTiles {
@@ -157,7 +161,7 @@ impl FirstTiles {
         requires small { card_words < 2 ^ 12 }
         ensures { IfOk result (λ f. f ≡ record { card_words = card_words; starts = replicate (words / card_words) 0 }) }
     {
-        let starts = EntryRow::new(alloc, words / card_words)?;
+        let starts = vec![in alloc; 0; (words / card_words) as usize]?;
         let shift = card_words.ilog2();
         Ok(FirstTiles {
             card_words,

@@ -22,7 +22,6 @@
 //! `RegionTable::new` takes memory.
 #![tactic(auto)]
 
-mod entry_row;
 mod first_tiles;
 mod objects;
 pub mod row;

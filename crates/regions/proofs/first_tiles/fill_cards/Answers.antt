@@ -7,13 +7,8 @@ loop-card-init c = (omega arith, written_none _ _ _ _)
 
 pub loop-card-preserved : goal.loop-card-preserved
 loop-card-preserved c =
-    let w = c.loop-card.invariant in (
-      omega (arith, w.0),
-      rw c.set.ensures (written_more _ _ _ _ _ _ w.0 c.loop-card-test.true (omega (arith, c.loop-card-test.true, c.requires)) w.1),
-    )
-
-pub set-requires : goal.set-requires
-set-requires c = omega (arith, c.loop-card-test.true, c.requires, c.loop-card.invariant.1.len)
+    let w = c.loop-card.invariant in
+    (omega (arith, w.0), written_more _ _ _ _ _ _ w.0 c.loop-card-test.true (omega (arith, c.loop-card-test.true, c.requires)) w.1)
 
 pub returns-clause-entries : goal.returns-clause-entries
 returns-clause-entries c n = filled _ _ _ _ _ _ c.loop-card-test.false c.loop-card.invariant.1 n
