@@ -1,5 +1,5 @@
-/* What marking costs an object where many are grey at once, at the top of a heap: a table names them all, in a drawn order. The regions
-   below are filled and dropped before.
+/* What marking costs an object where many are grey at once, at the top of a heap: tables name them all. The regions below are filled and
+   dropped before.
 
      cc -O2 -Iinclude tools/measuring/grey_costs.c -Llib -lg1heap -o grey_costs
      ./grey_costs [POWER [OBJECTS]]        2^24 words and 200,000 objects of 4 words
@@ -25,13 +25,6 @@ static g1_answer good(g1_answer answer)
     if (answer.code >= 16) fprintf(stderr, "grey_costs: a call was refused: %u\n", answer.code), exit(1);
     return answer;
 }
-static uint32_t draw(uint32_t below)
-{
-    static uint64_t seed = 88172645463325252u;
-    seed ^= seed << 13, seed ^= seed >> 7, seed ^= seed << 17;
-    return (uint32_t)((seed >> 16) % below);
-}
-
 /* Fills all regions but those that the objects need, and drops what is in them. */
 static void fill(const g1_sizes *sizes, uint32_t objects)
 {
@@ -40,22 +33,16 @@ static void fill(const g1_sizes *sizes, uint32_t objects)
     good(g1_drop(&heap, 0, OBJECT));
 }
 
-/* The objects are in tables, which a table of global 0 names; which place an object has is drawn. */
+/* The objects are named by tables, which a table of global 0 names. */
 static void make_tables(uint32_t objects)
 {
-    uint32_t tables = objects / MOST + 1, *place = calloc(objects, sizeof *place);
-    if (place == NULL) exit(1);
-    for (uint32_t i = 0; i < objects; i++) {
-        uint32_t other = draw(i + 1);
-        place[i] = place[other], place[other] = i;
-    }
+    uint32_t tables = objects / MOST + 1;
     good(g1_new_object(&heap, 0, TOP, tables, 0));
     for (uint32_t i = 0; i < tables; i++) good(g1_new_object(&heap, 0, TABLE, MOST, 0)), good(g1_put(&heap, 0, TOP, i, TABLE));
     for (uint32_t i = 0; i < objects; i++) {
-        good(g1_new_object(&heap, 0, OBJECT, 2, 0)), good(g1_get(&heap, 0, TABLE, TOP, place[i] / MOST));
-        good(g1_put(&heap, 0, TABLE, place[i] % MOST, OBJECT));
+        good(g1_new_object(&heap, 0, OBJECT, 2, 0)), good(g1_get(&heap, 0, TABLE, TOP, i / MOST));
+        good(g1_put(&heap, 0, TABLE, i % MOST, OBJECT));
     }
-    free(place);
     good(g1_save(&heap, 0, 0, TOP)), good(g1_scope(&heap, 0, 0));
 }
 
