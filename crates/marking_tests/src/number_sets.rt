@@ -186,8 +186,7 @@ fn go_all(bits: &mut Bits, from: u32, to: u32) {
     }
 }
 
-/// A large set of which little is written: a high number comes before a low one, one that never came goes, and what is cleared comes
-/// again. After the first number the words of those below 13,120 are written.
+/// A large set with few members: a high number comes before a low one, one that never came goes, and what is cleared comes again.
 #[test]
 fn is_written_in_steps(rt: HostRuntime) -> Result<(), Fail> {
     let mut bits = set_among(rt.alloc(), 20_000, &[9_000])?;
@@ -225,7 +224,7 @@ fn join(bits: &mut Bits, other: &Bits, to: u32) {
     }
 }
 
-/// Two large sets of which not the same words are written: what is in the one and not in the other, and what comes from the other.
+/// Two large sets with members far apart: what is in the one and not in the other, and what comes from the other.
 #[test]
 fn meets_a_set_of_other_length(rt: HostRuntime) -> Result<(), Fail> {
     let mut low = set_among(rt.alloc(), 20_000, &[5])?;
