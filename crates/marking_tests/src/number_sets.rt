@@ -6,12 +6,7 @@ use std::test::Fail;
 
 /// The set of these numbers, all below 200.
 fn set_of(alloc: Global, members: &[u32]) -> Result<Bits, AllocError> {
-    set_among(alloc, 200, members)
-}
-
-/// The set of these numbers, all below a count.
-fn set_among(alloc: Global, count: u32, members: &[u32]) -> Result<Bits, AllocError> {
-    let mut bits = Bits::new(alloc, count)?;
+    let mut bits = Bits::new(alloc, 200)?;
     for member in members {
         if *member < bits.len() {
             bits.set(*member);
@@ -155,86 +150,5 @@ fn sets_ranges(rt: HostRuntime) -> Result<(), Fail> {
         }
         assert!(rt; are(&bits, members), "from {from} to {to}");
     }
-    Ok(())
-}
-
-/// A number comes, if the set knows it.
-fn come(bits: &mut Bits, number: u32) {
-    if number < bits.len() {
-        bits.set(number);
-    }
-}
-
-/// A number goes, if the set knows it.
-fn go(bits: &mut Bits, number: u32) {
-    if number < bits.len() {
-        bits.remove(number);
-    }
-}
-
-/// The numbers of a range come, if the set knows them.
-fn come_all(bits: &mut Bits, from: u32, to: u32) {
-    if to <= bits.len() {
-        bits.set_range(from, to);
-    }
-}
-
-/// The numbers of a range go, if the set knows them.
-fn go_all(bits: &mut Bits, from: u32, to: u32) {
-    if to <= bits.len() {
-        bits.clear_range(from, to);
-    }
-}
-
-/// A large set with few members: a high number comes before a low one, one that never came goes, and what is cleared comes again.
-#[test]
-fn is_written_in_steps(rt: HostRuntime) -> Result<(), Fail> {
-    let mut bits = set_among(rt.alloc(), 20_000, &[9_000])?;
-    assert!(rt; bits.len() == 20_000 && are(&bits, &[9_000]));
-    come(&mut bits, 3);
-    go(&mut bits, 19_999);
-    assert!(rt; are(&bits, &[3, 9_000]));
-    come_all(&mut bits, 13_119, 13_121);
-    assert!(rt; are(&bits, &[3, 9_000, 13_119, 13_120]));
-    go_all(&mut bits, 9_000, 13_120);
-    assert!(rt; are(&bits, &[3, 13_120]));
-    go_all(&mut bits, 100, 20_000);
-    assert!(rt; are(&bits, &[3]));
-    bits.clear();
-    assert!(rt; are(&bits, &[]));
-    come(&mut bits, 64);
-    assert!(rt; are(&bits, &[64]));
-    Ok(())
-}
-
-/// The lowest number at or above `from` that is in the one set and not in the other.
-fn left(bits: &Bits, other: &Bits, from: u32) -> Option<u32> {
-    if bits.len() == other.len() {
-        return bits.next_without(other, from, bits.len());
-    }
-    None
-}
-
-/// The members of the other set below `to` come into the one.
-fn join(bits: &mut Bits, other: &Bits, to: u32) {
-    if to <= bits.len() {
-        if other.len() == bits.len() {
-            bits.set_members(other, 0, to);
-        }
-    }
-}
-
-/// Two large sets with members far apart: what is in the one and not in the other, and what comes from the other.
-#[test]
-fn meets_a_set_of_other_length(rt: HostRuntime) -> Result<(), Fail> {
-    let mut low = set_among(rt.alloc(), 20_000, &[5])?;
-    let mut high = set_among(rt.alloc(), 20_000, &[15_000])?;
-    assert_eq!(rt; left(&high, &low, 0), Some(15_000));
-    assert_eq!(rt; left(&low, &high, 0), Some(5));
-    assert_eq!(rt; left(&low, &high, 6), None);
-    join(&mut low, &high, 20_000);
-    assert!(rt; are(&low, &[5, 15_000]));
-    join(&mut high, &low, 6);
-    assert!(rt; are(&high, &[5, 15_000]));
     Ok(())
 }
