@@ -25,7 +25,7 @@ log_count t m old known e =
     omega (arith, get_or-le-sum_by (λ (l : List ℕ). length l) t.logs m [] known, ap length log)
 
 -- room for a log, and for a clean card after it
-pub log_room : (s : Inside) (m : ℕ) (old : List ℕ) → IsCounted (cards_of s) → length s.dirty.items ≤ deque_capacity s.queue
+pub log_room : (s : Inside) (m : ℕ) (old : List ℕ) → IsCounted (cards_of s) → length s.dirty ≤ deque_capacity s.queue
     → m < length s.logs.items → old ≡ get_or s.logs.items m old → length s.queue.items + length old ≤ deque_capacity s.queue
 log_room s m old all room known e = omega (arith, log_count (cards_of s) m old known e, room_for_listed (cards_of s) all)
 
@@ -50,7 +50,7 @@ now_is s v m c old now view known e is =
 -- the fields where a clean card entered a log, which went to the queue or not
 pub sent_view : (s t : Inside) (v : Cards) (m c : ℕ) (now : List ℕ) → cards_of s ≡ v → is_dirty v c ≡ false → m < length v.logs
     → now ≡ log_of v m ++ c ∷ [] → length now ≡ 4
-    → t.dirty.items ≡ set s.dirty.items c true → t.logs.items ≡ set s.logs.items m [] → t.queue.items ≡ s.queue.items ++ now
+    → t.dirty ≡ set s.dirty c true → t.logs.items ≡ set s.logs.items m [] → t.queue.items ≡ s.queue.items ++ now
     → cards_of t ≡ dirtied v m c
 sent_view s t v m c now view clean known is four flags logs queue =
     rw (flags, logs, queue, dirtied_full v m c now clean known is four)
@@ -58,7 +58,7 @@ sent_view s t v m c now view clean known is four flags logs queue =
 
 pub stays_view : (s t : Inside) (v : Cards) (m c : ℕ) (now : List ℕ) → cards_of s ≡ v → is_dirty v c ≡ false → m < length v.logs
     → now ≡ log_of v m ++ c ∷ [] → (length now ≡ 4 → ⊥)
-    → t.dirty.items ≡ set s.dirty.items c true → t.logs.items ≡ set s.logs.items m now → t.queue.items ≡ s.queue.items
+    → t.dirty ≡ set s.dirty c true → t.logs.items ≡ set s.logs.items m now → t.queue.items ≡ s.queue.items
     → cards_of t ≡ dirtied v m c
 stays_view s t v m c now view clean known is short flags logs queue =
     rw (flags, logs, queue, dirtied_short v m c now clean known is short)
@@ -69,7 +69,7 @@ pub IsSound-dirtied : (s t : Inside) (v : Cards) (m c : ℕ) → cards_of s ≡ 
 IsSound-dirtied s t v m c view sound after known h queue =
     let all : IsCounted v = subst IsCounted view sound.cards in
     let short : All (λ log. length log < 4) v.logs = subst (λ (u : Cards). All (λ log. length log < 4) u.logs) view sound.short in
-    let same : length t.dirty.items ≡ length s.dirty.items =
+    let same : length t.dirty ≡ length s.dirty =
     ap (λ (u : Cards). length u.dirty) after ∙ length-dirtied v m c ∙ ap (λ (u : Cards). length u.dirty) (sym view) in
     record {
       cards = subst IsCounted (sym after) (IsCounted-dirtied v m c all known h);
@@ -80,23 +80,23 @@ IsSound-dirtied s t v m c view sound after known h queue =
 
 -- ---- the fields as the logs go to the queue one after another
 pub sent_fields : (t u : Inside) (i : ℕ) (old : List ℕ) → i < length t.logs.items → old ≡ get_or t.logs.items i old
-    → u.dirty.items ≡ t.dirty.items → u.logs.items ≡ set t.logs.items i [] → u.queue.items ≡ t.queue.items ++ old
+    → u.dirty ≡ t.dirty → u.logs.items ≡ set t.logs.items i [] → u.queue.items ≡ t.queue.items ++ old
     → cards_of u ≡ sent (cards_of t) i
 sent_fields t u i old known e flags logs queue =
     let log : old ≡ log_of (cards_of t) i = e ∙ sym (get_or_default t.logs.items i [] old known) in
-    rw (flags, logs, queue) (ap (λ l. record { dirty = t.dirty.items; logs = set t.logs.items i []; queue = t.queue.items ++ l }) log)
+    rw (flags, logs, queue) (ap (λ l. record { dirty = t.dirty; logs = set t.logs.items i []; queue = t.queue.items ++ l }) log)
 
 pub logs_stay : (s t : Inside) (i : ℕ) → cards_of t ≡ flushed_up_to i (cards_of s) → i ≤ length s.logs.items
     → length t.logs.items ≡ length s.logs.items
 logs_stay s t i view h = ap (λ (u : Cards). length u.logs) view ∙ length-flushed_up_to (cards_of s) i h
 
-pub dirty_stays : (s t : Inside) (i : ℕ) → cards_of t ≡ flushed_up_to i (cards_of s) → length t.dirty.items ≡ length s.dirty.items
+pub dirty_stays : (s t : Inside) (i : ℕ) → cards_of t ≡ flushed_up_to i (cards_of s) → length t.dirty ≡ length s.dirty
 dirty_stays s t i view = ap (λ (u : Cards). length u.dirty) view
 
 pub IsSound-flushed : (s t : Inside) → IsSound s → cards_of t ≡ flushed (cards_of s) → IsCounted (cards_of t)
     → deque_capacity t.queue ≡ deque_capacity s.queue → IsSound t
 IsSound-flushed s t sound view all queue =
-    let same : length t.dirty.items ≡ length s.dirty.items = ap (λ (u : Cards). length u.dirty) view in
+    let same : length t.dirty ≡ length s.dirty = ap (λ (u : Cards). length u.dirty) view in
     record {
       cards = all;
       short = subst (λ (u : Cards). All (λ log. length log < 4) u.logs) (sym view) (no_log_is_full (length s.logs.items));

@@ -3,3 +3,4 @@ pub mod Flushed
 pub mod Dirtied
 pub mod Fields
 pub mod Laws
+pub mod Flagged

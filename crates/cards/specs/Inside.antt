@@ -6,7 +6,7 @@ use Rattle.cards.specs.declared.table.CardTable.TheInside.{Inside}
 
 -- what contracts see of the fields
 abbrev pub cards_of : Inside → Cards
-cards_of s = record { dirty = s.dirty.items; logs = s.logs.items; queue = s.queue.items }
+cards_of s = record { dirty = s.dirty; logs = s.logs.items; queue = s.queue.items }
 
 -- how many cards the queue and the logs hold
 abbrev pub listed_count : Cards → ℕ
@@ -21,5 +21,5 @@ pub record IsCounted (t : Cards) : Type 0 where
 pub record IsSound (s : Inside) : Type 0 where
   pub cards : IsCounted (cards_of s)
   pub short : All (λ log. length log < 4) s.logs.items
-  pub room : length s.dirty.items ≤ deque_capacity s.queue
-  pub few : length s.dirty.items < 2 ^ 32
+  pub room : length s.dirty ≤ deque_capacity s.queue
+  pub few : length s.dirty < 2 ^ 32

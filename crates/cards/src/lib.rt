@@ -22,6 +22,7 @@
 //! fails.
 #![tactic(auto)]
 
+mod flags;
 mod log;
 pub mod table;
 

@@ -11,6 +11,7 @@ ghost use Rattle.std.specs.Prelude.{Contains, ℕ, false, true, not, All, IfNone
 ghost use Rattle.std.specs.Prelude.{slice_set, Some};
 ghost use Rattle.cards.specs.Cards.{appended, clean_cards, dirtied, flushed, is_dirty, Cards, ListsDirtyOnce};
 
+use crate::flags::Flags;
 use crate::log::{CardLog, LOG_LEN};
 use heap_words::addr::Card;
 use std::alloc::{AllocError, Global};
@@ -19,7 +20,7 @@ use std::marker::Model;
 
 /// A dirty flag for each card, a log for each mutator, and the queue. Clauses see the three lists.
 pub struct CardTable {
-    dirty: Vec<bool>,
+    dirty: Flags,
     logs: Vec<CardLog>,
     queue: VecDeque<u32>,
 }
@@ -52,7 +53,7 @@ impl CardTable {
     pub fn new(alloc: Global, cards: u32, mutators: u32) -> Result<CardTable, AllocError>
         ensures { IfOk result (λ table. table ≡ clean_cards cards mutators) }
     {
-        let dirty = vec![in alloc; false; cards as usize]?;
+        let dirty = Flags::new(alloc, cards)?;
         let mut logs = Vec::with_capacity(alloc, mutators as usize)?;
         for _ in 0..mutators {
             logs.push(CardLog::new(alloc))?;
@@ -75,7 +76,7 @@ impl CardTable {
         requires { card < length self.now.dirty }
         ensures { result ≡ is_dirty self.now card }
     {
-        self.dirty[card.number() as usize]
+        self.dirty.get(card.number())
     }
 
     /// How many cards are in the queue.
@@ -124,7 +125,7 @@ impl CardTable {
         if self.is_dirty(card) {
             return;
         }
-        self.dirty[card.number() as usize] = true;
+        self.dirty.set(card.number());
         let log = &mut self.logs[mutator as usize];
         log.push(card);
         if log.len() == LOG_LEN {
@@ -142,7 +143,7 @@ impl CardTable {
         ensures known { IfSome result (λ card. card < length self.old.dirty) }
     {
         let card = self.queue.pop_front()?;
-        self.dirty[card as usize] = false;
+        self.dirty.remove(card);
         Some(Card::new(card))
     }
 
@@ -152,7 +153,7 @@ impl CardTable {
         requires clean { is_dirty self.old card ≡ false }
         ensures { self.new ≡ appended self.old card }
     {
-        self.dirty[card.number() as usize] = true;
+        self.dirty.set(card.number());
         self.queue.push_back_reserved(card.number());
     }
 

@@ -7,10 +7,12 @@ use Rattle.std.specs.Prelude.{if◌then◌else◌, ◌&&◌, ◌||◌}
 use Rattle.std.specs.Int.{bit_at, div_ceil}
 use Rattle.std.proofs.lemmas.Nat.Bits.{bit_at-lt, bit_at_and, bit_at_or}
 use Rattle.heap_words.specs.Bits.{is_between, has}
-use Rattle.heap_words.specs.BitWords.{bit_of, flags_of}
+use Rattle.heap_words.specs.BitWords.{bit_of, flags_of, AreSame}
 use Rattle.heap_words.specs.Bounded.{AreWithin}
 use Rattle.heap_words.proofs.BitWords.{and-false, bit_of-set_here, bit_of-set_there, length-flags_of, has-flags_of, has_past}
-use Rattle.heap_words.proofs.BitRanges.{IsMask, between_yes, between_no_below, between_no_above, between_same, between_matches}
+use Rattle.heap_words.proofs.BitWords.{div_ceil_reaches}
+use Rattle.heap_words.proofs.Written.{bit_past, bit_same}
+use Rattle.heap_words.proofs.BitRanges.{IsMask, between_yes, between_no_below, between_no_above, between_same}
 use Rattle.heap_words.proofs.LowestBits.{one_or_zero}
 use Rattle.heap_words.proofs.Bounds.{AreWide, still}
 
@@ -53,11 +55,13 @@ put_by_join index from to w other mask is j h = join_bit (is_between from to (64
 abbrev pub IsJoinedUpTo : List ℕ → List ℕ → List ℕ → ℕ → ℕ → Type 0
 IsJoinedUpTo members initial ws from upto = (a : ℕ) → bit_of ws a ≡ (bit_of initial a || (is_between from upto a && bit_of members a))
 
-pub joined_none : (members ws : List ℕ) (from upto : ℕ) → upto ≤ from → IsJoinedUpTo members ws ws from upto
-joined_none members ws from upto h a =
+pub joined_none : (members initial ws : List ℕ) (from upto : ℕ) → upto ≤ from → AreSame ws initial
+    → IsJoinedUpTo members initial ws from upto
+joined_none members initial ws from upto h same a =
     let no : is_between from upto a ≡ false =
     ⊎_elim (λ b. between_no_below from upto a b) (λ b. between_no_above from upto a (omega arith)) (cases_lt a from) in
-    or_none (bit_of ws a) ∙ sym (ap (λ (b : Bool). bit_of ws a || (b && bit_of members a)) no)
+    bit_same ws initial a same ∙ or_none (bit_of initial a)
+    ∙ sym (ap (λ (b : Bool). bit_of initial a || (b && bit_of members a)) no)
 
 module _ (members initial ws : List ℕ) (from to i before other after : ℕ) (read : before ≡ slice_index ws i)
     (named : other ≡ slice_index members i) (inside : i < length ws) (join : IsJoin i from to before other after)
@@ -89,15 +93,28 @@ module _ (members initial ws : List ℕ) (from to i before other after : ℕ) (r
   pub joined_more : IsJoinedUpTo members initial (set ws i after) from (min to (64 * (i + 1)))
   joined_more a = ⊎_elim (λ e. here a e) (λ ne. elsewhere a ne) (cases_eq (a / 64) i)
 
--- where each word of the range is done
-pub joined_all : (flags others : List Bool) (members initial ws : List ℕ) (n m from to i end : ℕ) → flags_of initial n ≡ flags
-    → flags_of members m ≡ others → m ≡ n → to ≤ n → end ≡ div_ceil to 64 → end ≤ i → from / 64 ≤ i
+-- where each word of the range is done that is written in the other set
+pub joined_done : (members initial ws : List ℕ) (from to i past : ℕ) → past ≡ min (div_ceil to 64) (length members) → past ≤ i
     → IsJoinedUpTo members initial ws from (min to (64 * i))
+    → (a : ℕ) → bit_of ws a ≡ (bit_of initial a || (is_between from to a && bit_of members a))
+joined_done members initial ws from to i past e h done a =
+    let upto : ℕ = min to (64 * i) in
+    done a ∙ (elim (cases_lt (a / 64) (length members)) [
+      | inl r ↦ ap (λ (b : Bool). bit_of initial a || (b && bit_of members a))
+          (between_same from upto to a (λ b. omega arith) (λ b. omega (arith, div_ceil_reaches to)))
+      | inr r ↦ ap (λ (b : Bool). bit_of initial a || (is_between from upto a && b)) (bit_past members a r)
+          ∙ ap (λ (b : Bool). bit_of initial a || b) (and-false (is_between from upto a) ∙ sym (and-false (is_between from to a)))
+          ∙ sym (ap (λ (b : Bool). bit_of initial a || (is_between from to a && b)) (bit_past members a r))
+    ])
+
+-- the flags of what came, by its bits
+pub flags_joined : (flags others : List Bool) (members initial ws : List ℕ) (n m from to : ℕ) → flags_of initial n ≡ flags
+    → flags_of members m ≡ others → m ≡ n → to ≤ n
+    → ((a : ℕ) → bit_of ws a ≡ (bit_of initial a || (is_between from to a && bit_of members a)))
     → (a : ℕ) → has (flags_of ws n) a ≡ (has flags a || (is_between from to a && has others a))
-joined_all flags others members initial ws n m from to i end view other even short e h k done a =
+flags_joined flags others members initial ws n m from to view other even short done a =
     let inside : a < n → has (flags_of ws n) a ≡ (has flags a || (is_between from to a && has others a)) = λ l.
     has-flags_of ws n a l ∙ done a
-    ∙ ap (λ (b : Bool). bit_of initial a || (b && bit_of members a)) (between_matches from to i end e h k a)
     ∙ ap₂ (λ (x y : Bool). x || (is_between from to a && y)) (sym (has-flags_of initial n a l) ∙ ap (λ (v : List Bool). has v a) view)
     (sym (has-flags_of members m a (omega arith)) ∙ ap (λ (v : List Bool). has v a) other) in
     let past : n ≤ a → has (flags_of ws n) a ≡ (has flags a || (is_between from to a && has others a)) = λ l.

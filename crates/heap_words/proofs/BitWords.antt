@@ -32,7 +32,7 @@ pub and-false : (b : Bool) → (b && false) ≡ false
 and-false true = refl
 and-false false = refl
 
-all_zeros : (k i : ℕ) → slice_index (replicate k 0) i ≡ 0
+pub all_zeros : (k i : ℕ) → slice_index (replicate k 0) i ≡ 0
 all_zeros k i =
     let inside : i < k → slice_index (replicate k 0) i ≡ 0 = λ h. get_or-replicate k i 0 0 h in
     let past : k ≤ i → slice_index (replicate k 0) i ≡ 0 =
@@ -66,10 +66,9 @@ bit_of-with_bit ws w a b h e ne =
     (λ differs. bit_of-set_there ws (a / 64) (with_bit w a) b differs)
     (cases_eq (b / 64) (a / 64))
 
-pub flags_of-set : (ws : List ℕ) (n w a : ℕ) → a < n → n ≤ 64 * length ws → w ≡ get_or ws (a / 64) 0
+pub flags_of-set : (ws : List ℕ) (n w a : ℕ) → a < n → a / 64 < length ws → w ≡ get_or ws (a / 64) 0
     → flags_of (set ws (a / 64) (with_bit w a)) n ≡ set (flags_of ws n) a true
-flags_of-set ws n w a h len e =
-    let inside : a / 64 < length ws = omega arith in
+flags_of-set ws n w a h inside e =
     let long : a < length (flags_of ws n) = omega (arith, length-flags_of ws n) in
     flags_of_is (set ws (a / 64) (with_bit w a)) n (set (flags_of ws n) a true) (length-set (flags_of ws n) a true ∙ length-flags_of ws n)
     (λ b below. ⊎_elim
@@ -95,10 +94,9 @@ bit_of-without_bit ws w a b h e ne =
     (λ differs. bit_of-set_there ws (a / 64) (without_bit w a) b differs)
     (cases_eq (b / 64) (a / 64))
 
-pub flags_of-remove : (ws : List ℕ) (n w a : ℕ) → a < n → n ≤ 64 * length ws → w ≡ get_or ws (a / 64) 0
+pub flags_of-remove : (ws : List ℕ) (n w a : ℕ) → a < n → a / 64 < length ws → w ≡ get_or ws (a / 64) 0
     → flags_of (set ws (a / 64) (without_bit w a)) n ≡ set (flags_of ws n) a false
-flags_of-remove ws n w a h len e =
-    let inside : a / 64 < length ws = omega arith in
+flags_of-remove ws n w a h inside e =
     let long : a < length (flags_of ws n) = omega (arith, length-flags_of ws n) in
     flags_of_is (set ws (a / 64) (without_bit w a)) n (set (flags_of ws n) a false)
     (length-set (flags_of ws n) a false ∙ length-flags_of ws n) (λ b below. ⊎_elim
@@ -113,15 +111,8 @@ flags_of-remove ws n w a h len e =
 pub bit_read : (ws : List ℕ) (w a : ℕ) → w ≡ get_or ws (a / 64) 0 → eqb (bit_and (w / 2 ^ (a % 64)) 1) 1 ≡ bit_of ws a
 bit_read ws w a e = rw (shr_and_one, e) refl
 
-pub word_inside : (flags : List Bool) (ws : List ℕ) (n k a : ℕ) → k ≡ length ws → flags_of ws n ≡ flags
-    → n ≤ 64 * k → a < length flags → a / 64 < k
-word_inside flags ws n k a long view len h = omega (arith, length-flags_of ws n, ap length view)
-
 pub number_inside : (flags : List Bool) (ws : List ℕ) (n a : ℕ) → flags_of ws n ≡ flags → a < length flags → a < n
 number_inside flags ws n a view h = omega (arith, length-flags_of ws n, ap length view)
-
-pub long_enough : (ws : List ℕ) (n k : ℕ) → k ≡ length ws → n ≤ 64 * k → n ≤ 64 * length ws
-long_enough ws n k e h = omega arith
 
 pub min_one : (x y : ℕ) → y ≡ 1 → x < 2 → min x y ≡ x
 min_one x y e h = omega arith
@@ -185,12 +176,6 @@ has_past flags a h = get_or_past flags a false h
 
 pub div_ceil_reaches : (n : ℕ) → n ≤ 64 * div_ceil n 64
 div_ceil_reaches n = omega arith
-
-pub div_ceil_starts : (n i : ℕ) → i < div_ceil n 64 → 64 * i < n
-div_ceil_starts n i h = omega arith
-
-pub div_ceil_inside : (n i k len : ℕ) → len ≤ 64 * k → n ≤ len → i < div_ceil n 64 → i < k
-div_ceil_inside n i k len h l d = omega (arith, div_ceil_starts n i d)
 
 pub part_fits : (w low : ℕ) → bit_and w (high_mask low) < 2 ^ 64
 part_fits w low =

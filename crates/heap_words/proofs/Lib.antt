@@ -1,6 +1,7 @@
 pub mod Codec
 pub mod Blocks
 pub mod BitWords
+pub mod Written
 pub mod LowestBits
 pub mod BitRanges
 pub mod Bounds

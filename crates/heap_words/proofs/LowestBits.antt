@@ -10,7 +10,8 @@ use Rattle.std.proofs.lemmas.Nat.Bits.{bit_at-zero, bit_at-lt, bit_at_and, bit_a
 use Rattle.heap_words.specs.Bits.{has, has_alone, HasNone, HasNoneBelow, IsLowest}
 use Rattle.heap_words.specs.BitWords.{bit_of, flags_of}
 use Rattle.heap_words.proofs.BitWords.{high_mask, bit_at-high_part, bit_at-high_part_below, part_fits}
-use Rattle.heap_words.proofs.BitWords.{has-flags_of, length-flags_of, has_past, div_ceil_inside}
+use Rattle.heap_words.proofs.BitWords.{has-flags_of, length-flags_of, has_past, div_ceil_reaches}
+use Rattle.heap_words.proofs.Written.{bit_past}
 
 -- m has the numbers of word i from `from` on, the word's first `low` ones lying below that
 pub record IsWord (has : ℕ → Bool) (from i m : ℕ) : Type 0 where
@@ -82,11 +83,10 @@ none_at_all flags from n None e none = λ a h. ⊎_elim (λ b. none a h (omega a
 none_at_all flags from n (Some found) e lowest = lowest
 
 -- ---- one set of bits
-pub bits_word : (ws : List ℕ) (n from end i low w k : ℕ) → k ≡ length ws → n ≤ 64 * k → end ≤ n → i < div_ceil end 64 → w ≡ get_or ws i w
-    → low ≡ from - 64 * i → low < 64 → IsWord (bit_of ws) from i (bit_and w (high_mask low))
-bits_word ws n from end i low w k long len short before read start near =
-    let inside : i < k = div_ceil_inside end i k n len short before in
-    let word : w ≡ slice_index ws i = get_or_read ws i w (omega arith) read 0 in
+pub bits_word : (ws : List ℕ) (from i low w : ℕ) → i < length ws → w ≡ get_or ws i w → low ≡ from - 64 * i → low < 64
+    → IsWord (bit_of ws) from i (bit_and w (high_mask low))
+bits_word ws from i low w inside read start near =
+    let word : w ≡ slice_index ws i = get_or_read ws i w inside read 0 in
     record {
       low = low;
       start = start;
@@ -104,9 +104,18 @@ bits_agree flags ws n view = record {
   past = λ a h. has_past flags a (omega (arith, length-flags_of ws n, ap length view));
 }
 
+-- where no word is left that is written, it is looked through to the end
+pub none_written : (is_in : ℕ → Bool) (ws : List ℕ) (from past i end : ℕ) → ((a : ℕ) → bit_of ws a ≡ false → is_in a ≡ false)
+    → past ≡ min (div_ceil end 64) (length ws) → past ≤ i → HasNoneBelow is_in from (64 * i) → HasNoneBelow is_in from end
+none_written is_in ws from past i end unset e h none a k l =
+    ⊎_elim (λ b. none a k b) (λ b. unset a (bit_past ws a (omega (arith, e, h, div_ceil_reaches end)))) (cases_lt a (64 * i))
+
 -- ---- the difference of two sets of bits
 abbrev pub only : List ℕ → List ℕ → ℕ → Bool
 only ws vs a = bit_of ws a && not (bit_of vs a)
+
+pub only_none : (ws vs : List ℕ) (a : ℕ) → bit_of ws a ≡ false → only ws vs a ≡ false
+only_none ws vs a e = ap (λ (b : Bool). b && not (bit_of vs a)) e
 
 abbrev pub left_part : ℕ → ℕ → ℕ → ℕ
 left_part w v low = bit_and (bit_and w (2 ^ 64 - 1 - v)) (high_mask low)
@@ -135,14 +144,10 @@ only_in_word ws vs from i low w v read other fits start near a h e =
     ∙ ap (λ x. min (bit_at w j) x) (bit_at_not w64 v j fits (omega arith)) in
     rw (ws_bit, vs_bit) (sym (and_not_bits (bit_at w j) (bit_at v j) (bit_at (left_part w v low) j) (bit_at-lt w j) (bit_at-lt v j) part))
 
-pub left_word : (ws vs : List ℕ) (n from end i low w v k l : ℕ) → k ≡ length ws → l ≡ length vs → n ≤ 64 * k → n ≤ 64 * l → end ≤ n
-    → i < div_ceil end 64 → w ≡ get_or ws i w → v ≡ get_or vs i v → v < 2 ^ 64 → low ≡ from - 64 * i → low < 64
-    → IsWord (only ws vs) from i (left_part w v low)
-left_word ws vs n from end i low w v k l long other_long len other_len short before read other_read v_fits start near =
-    let inside : i < k = div_ceil_inside end i k n len short before in
-    let other_inside : i < l = div_ceil_inside end i l n other_len short before in
-    let word : w ≡ slice_index ws i = get_or_read ws i w (omega arith) read 0 in
-    let other_word : v ≡ slice_index vs i = get_or_read vs i v (omega arith) other_read 0 in
+pub left_word : (ws vs : List ℕ) (from i low w v : ℕ) → i < length ws → w ≡ get_or ws i w → v ≡ slice_index vs i → v < 2 ^ 64
+    → low ≡ from - 64 * i → low < 64 → IsWord (only ws vs) from i (left_part w v low)
+left_word ws vs from i low w v inside read other_word v_fits start near =
+    let word : w ≡ slice_index ws i = get_or_read ws i w inside read 0 in
     record {
       low = low;
       start = start;

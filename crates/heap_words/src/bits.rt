@@ -8,71 +8,38 @@
 //!                                            next_below(64, 128): none, without a look at word 2
 //! ```
 //!
-//! A set takes one bit a number, all reserved when it is made. To clear it, or a range of it, touches its words and not each
-//! number, and to go over its members costs the members and the words between them.
+//! A set takes one bit a number. Room for all is reserved when it is made, and none of it touched: a word is written when the first
+//! number of its group, or of one above it, comes (`groups`), so of a large set costs what is used. To clear a range of it touches the
+//! range's words and not each number, to clear it whole none, and to go over its members costs the members and the words between them.
+//! A set of few numbers, which isn't to pay for tests of what is written, is a `SmallBits`.
 
 ghost use Rattle.std.specs.Prelude.{◌≡◌, ◌+◌, ◌*◌, ◌^◌, ◌<◌, ◌≤◌, ◌||◌, ◌&&◌, if◌then◌else◌};
-ghost use Rattle.std.specs.Prelude.{ℕ, false, true, IfOk, IfSome, length, MatchOption, replicate, slice_index, slice_set};
-ghost use Rattle.std.specs.Int.{bit_at};
+ghost use Rattle.std.specs.Prelude.{ℕ, false, true, IfOk, IfSome, length, MatchOption, replicate, slice_set};
 ghost use Rattle.heap_words.specs.Bits.{has, has_alone, is_between, is_passing, HasNone, HasNoneBelow, IsLowest};
 
+use crate::groups::{
+    clear_bits, fill_groups, join_bits, reach, set_bits, whole_word, word_at, written_below,
+};
 use std::alloc::{AllocError, Global};
 use std::marker::Model;
 
 /// A set of numbers below a length that is given when it is made. Clauses see a flag for each number.
 #[derive(Drop)]
 pub struct Bits {
+    /// The words that are written. There is room for all.
     words: Vec<u64>,
     len: u32,
 }
 
 impl Model for Bits {
-    ghost use Rattle.std.specs.Prelude.{List, Bool, ◌≤◌, ◌*◌, vec_len};
+    ghost use Rattle.std.specs.Prelude.{List, Bool, ◌≤◌, ◌*◌, vec_capacity};
     ghost use Rattle.heap_words.specs.BitWords.{flags_of};
 
     ghost Value = { List Bool };
 
     ghost view = { λ s. flags_of s.words.items s.len };
 
-    ghost invariant = { λ s. s.len ≤ 64 * vec_len s.words };
-}
-
-/// The bits of a word that stand for numbers from `from` up to `to`, which is not one of them. The word's first bit stands
-/// for 64 times its index.
-fn mask_of(index: u32, from: u32, to: u32) -> u64
-    requires starts { from < 64 * index + 64 }
-    requires ends { 64 * index < to }
-    ensures { (j : ℕ) → j < 64 → bit_at result j ≡ (if is_between from to (64 * index + j) then 1 else 0) }
-{
-    let low = from.saturating_sub(64 * index);
-    let high = (to - 64 * index).min(64);
-    u64::MAX << low & u64::MAX >> (64 - high)
-}
-
-/// The word of a group whose numbers all are in the set, or none of them.
-fn whole_word(value: bool) -> u64
-    ensures { (j : ℕ) → j < 64 → bit_at result j ≡ (if value then 1 else 0) }
-{
-    if value { u64::MAX } else { 0 }
-}
-
-/// All of these words hold this value.
-fn fill_all(words: &mut [u64], value: u64)
-    ensures { words.new ≡ replicate (length words.old) value }
-{
-    for word in words.iter_mut() {
-        *word = value;
-    }
-}
-
-/// The words from one up to another, which is not one of them, hold this value.
-fn fill_words(words: &mut [u64], from: usize, to: usize, value: u64)
-    requires order { from ≤ to }
-    requires within { to ≤ length words.old }
-    ensures len { length words.new ≡ length words.old }
-    ensures each { (i : ℕ) → slice_index words.new i ≡ (if is_between from to i then value else slice_index words.old i) }
-{
-    fill_all(&mut words[from..to], value);
+    ghost invariant = { λ s. s.len ≤ 64 * vec_capacity s.words };
 }
 
 impl Bits {
@@ -80,7 +47,7 @@ impl Bits {
     pub fn new(alloc: Global, count: u32) -> Result<Bits, AllocError>
         ensures { IfOk result (λ bits. bits ≡ replicate count false) }
     {
-        let words = vec![in alloc; 0; count.div_ceil(64) as usize]?;
+        let words = Vec::with_capacity(alloc, count.div_ceil(64) as usize)?;
         Ok(Bits { words, len: count })
     }
 
@@ -99,18 +66,21 @@ impl Bits {
     }
 
     /// Whether a number is in the set.
+    #[inline(always)]
     pub fn get(&self, number: u32) -> bool
         requires { number < length self.now }
         ensures { result ≡ has self.now number }
     {
-        self.words[number as usize / 64] >> (number % 64) & 1 == 1
+        word_at(&self.words, number / 64) >> (number % 64) & 1 == 1
     }
 
     /// A number is in the set.
+    #[inline(always)]
     pub fn set(&mut self, number: u32)
         requires { number < length self.old }
         ensures { self.new ≡ slice_set self.old number true }
     {
+        reach(&mut self.words, number / 64 + 1);
         self.words[number as usize / 64] |= 1 << (number % 64);
     }
 
@@ -119,14 +89,18 @@ impl Bits {
         requires { number < length self.old }
         ensures { self.new ≡ slice_set self.old number false }
     {
-        self.words[number as usize / 64] &= !(1 << (number % 64));
+        let group = number as usize / 64;
+        if self.words.len() <= group {
+            return;
+        }
+        self.words[group] &= !(1 << (number % 64));
     }
 
-    /// The set is empty.
+    /// The set is empty: none of its words counts as written any more, and none is touched.
     pub fn clear(&mut self)
         ensures { self.new ≡ replicate (length self.old) false }
     {
-        fill_all(&mut self.words, 0);
+        self.words.clear();
     }
 
     /// The numbers of whole groups, from one up to another, which is not one of them, are in the set, or they aren't.
@@ -137,7 +111,7 @@ impl Bits {
         ensures flags { (a : ℕ) → has self.new a ≡ (if is_between (64 * first) (64 * past) a then value else has self.old a) }
     {
         let word = whole_word(value);
-        fill_words(&mut self.words, first as usize, past as usize, word);
+        fill_groups(&mut self.words, first, past, word);
     }
 
     /// The numbers from `from` up to `to`, which is not one of them, are in the set: word by word, by the bits of each.
@@ -146,9 +120,7 @@ impl Bits {
         ensures len { length self.new ≡ length self.old }
         ensures flags { (a : ℕ) → has self.new a ≡ (if is_between from to a then true else has self.old a) }
     {
-        for index in from / 64..to.div_ceil(64) {
-            self.words[index as usize] |= mask_of(index, from, to);
-        }
+        set_bits(&mut self.words, from, to);
     }
 
     /// The numbers from `from` up to `to`, which is not one of them, are in the set. Words whose numbers all are in the range are
@@ -177,10 +149,7 @@ impl Bits {
         ensures len { length self.new ≡ length self.old }
         ensures flags { (a : ℕ) → has self.new a ≡ (has self.old a || (is_between from to a && has members.now a)) }
     {
-        for index in from / 64..to.div_ceil(64) {
-            let more = members.words[index as usize] & mask_of(index, from, to);
-            self.words[index as usize] |= more;
-        }
+        join_bits(&mut self.words, &members.words, from, to);
     }
 
     /// Of the 64 numbers of a group those come into this set that are members of another set of as many numbers, and whose places in two
@@ -201,8 +170,9 @@ impl Bits {
         ensures flags { (a : ℕ) → has self.new a ≡ (has self.old a || (is_between (64 * group) (64 * group + 64) a
             && (has members.now a && is_passing filter.now first second a))) }
     {
-        let passing = filter.words[first as usize] & filter.words[second as usize];
-        let more = members.words[group as usize] & passing;
+        let passing = word_at(&filter.words, first) & word_at(&filter.words, second);
+        let more = word_at(&members.words, group) & passing;
+        reach(&mut self.words, group + 1);
         self.words[group as usize] |= more;
     }
 
@@ -212,9 +182,7 @@ impl Bits {
         ensures len { length self.new ≡ length self.old }
         ensures flags { (a : ℕ) → has self.new a ≡ (if is_between from to a then false else has self.old a) }
     {
-        for index in from / 64..to.div_ceil(64) {
-            self.words[index as usize] &= !mask_of(index, from, to);
-        }
+        clear_bits(&mut self.words, from, to);
     }
 
     /// The numbers from `from` up to `to`, which is not one of them, are not in the set. Words whose numbers all are in the range
@@ -267,7 +235,8 @@ impl Bits {
         ensures within { IfSome result (λ found. found < length self.now) }
     {
         let end = to.min(self.len);
-        for index in from / 64..end.div_ceil(64) {
+        let past = written_below(&self.words, end);
+        for index in from / 64..past {
             let all = self.words[index as usize];
             if all == 0 {
                 continue;
@@ -282,23 +251,6 @@ impl Bits {
         None
     }
 
-    /// The lowest number of the set in a group: group g has the 64 numbers from 64 g on. It looks at one word.
-    pub fn lowest_in(&self, group: u32) -> Option<u32>
-        requires { 64 * group < length self.now }
-        ensures lowest { MatchOption result (HasNoneBelow (has self.now) (64 * group) (64 * group + 64))
-            (IsLowest (has self.now) (64 * group)) }
-        ensures below { IfSome result (λ found. found < 64 * group + 64) }
-        ensures within { IfSome result (λ found. found < length self.now) }
-    {
-        self.law();
-        let word = self.words[group as usize];
-        if word == 0 {
-            return None;
-        }
-        let found = 64 * group + word.trailing_zeros();
-        if found < self.len { Some(found) } else { None }
-    }
-
     /// The lowest number of a group that is in this set and not in `other`. It looks at one word of each.
     pub fn lowest_without(&self, other: &Bits, group: u32) -> Option<u32>
         requires known { 64 * group < length self.now }
@@ -310,7 +262,7 @@ impl Bits {
         ensures within { IfSome result (λ found. found < length self.now) }
     {
         self.law();
-        let word = self.words[group as usize] & !other.words[group as usize];
+        let word = word_at(&self.words, group) & !word_at(&other.words, group);
         if word == 0 {
             return None;
         }
@@ -320,6 +272,7 @@ impl Bits {
 
     /// The lowest number at or above `from` and below `to` that is in this set and not in `other`. It looks at the words
     /// of this range alone.
+    #[inline(never)]
     pub fn next_without(&self, other: &Bits, from: u32, to: u32) -> Option<u32>
         requires { length other.now ≡ length self.now }
         ensures lowest { MatchOption result (HasNoneBelow (has_alone self.now other.now) from to)
@@ -328,9 +281,10 @@ impl Bits {
         ensures within { IfSome result (λ found. found < length self.now) }
     {
         let end = to.min(self.len);
-        for index in from / 64..end.div_ceil(64) {
+        let past = written_below(&self.words, end);
+        for index in from / 64..past {
             let low = from.saturating_sub(64 * index);
-            let word = self.words[index as usize] & !other.words[index as usize] & u64::MAX << low;
+            let word = self.words[index as usize] & !word_at(&other.words, index) & u64::MAX << low;
             if word != 0 {
                 let found = 64 * index + word.trailing_zeros();
                 return if found < end { Some(found) } else { None };

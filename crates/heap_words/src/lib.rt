@@ -12,6 +12,8 @@ pub mod addr;
 pub mod bits;
 pub mod bounded;
 pub mod config;
+mod groups;
 pub mod header;
 pub mod powers;
+pub mod small_bits;
 pub mod words;

@@ -2,7 +2,7 @@
 use Rattle.std.proofs.Common.{◌≡◌, ◌≢◌, ◌*◌, ◌/◌, ◌<◌, ◌∙◌}
 use Rattle.std.proofs.Common.{ℕ, Bool, true, false, List, length, set, replicate, refl, sym, ap, arith, ⊎_elim, Option, Some}
 use Rattle.std.proofs.Common.{None, get_or-set_same, get_or-set_other, length-set}
-use Rattle.std.specs.Prelude.{MatchOption, IfSome}
+use Rattle.std.specs.Prelude.{MatchOption, IfSome, IsSome}
 use Rattle.std.proofs.lemmas.Bool.{cases_eq, cases_lt}
 use Rattle.std.proofs.lemmas.List.{get_or-replicate, length-replicate}
 use Rattle.heap_words.specs.Bits.{has, HasNone, IsLowest}
@@ -45,6 +45,33 @@ module _ (members groups : List Bool) (n : ℕ) (inside : n < length members) (g
         (λ ne. let m = s.only i (sym (has_set_there groups (n / 64) i true ne) ∙ e) in
         record { number = m.number; inside = m.inside; is_in = has_set_true members n m.number inside m.is_in }) (cases_eq i (n / 64));
   }
+
+-- a number more in a group that has one
+pub summary_more : (members groups : List Bool) (n : ℕ) → n < length members → HasMember (has members) (n / 64)
+    → IsSummary (has members) groups → IsSummary (has (set members n true)) groups
+summary_more members groups n inside m s = record {
+  each = λ a e. ⊎_elim
+      (λ same. ap (λ (k : ℕ). has groups (k / 64)) same ∙ ap (λ (i : ℕ). has groups i) (sym m.inside) ∙ s.each m.number m.is_in)
+      (λ ne. s.each a (sym (has_set_there members n a true ne) ∙ e)) (cases_eq a n);
+  only = λ i e.
+      let k = s.only i e in
+      record { number = k.number; inside = k.inside; is_in = has_set_true members n k.number inside k.is_in };
+}
+
+pub levels_more : (members groups blocks : List Bool) (n : ℕ) → n < length members → HasMember (has members) (n / 64)
+    → AreLevels members groups blocks → AreLevels (set members n true) groups blocks
+levels_more members groups blocks n inside m l = record {
+  group_count = l.group_count ∙ ap (λ (k : ℕ). div_ceil k 64) (sym (length-set members n true));
+  block_count = l.block_count;
+  group_summary = summary_more members groups n inside m l.group_summary;
+  block_summary = l.block_summary;
+}
+
+-- the lowest member is one
+pub some_member : (test : ℕ → Bool) (group : ℕ) (found : Option ℕ) → MatchOption found (HasNoMember test group) (IsMember test group)
+    → IsSome found → HasMember test group
+some_member test group None m h = absurd (cc)
+some_member test group (Some x) m h = record { number = x; inside = m.inside; is_in = m.lowest.is_in }
 
 module _ (test less : ℕ → Bool) (groups : List Bool) (n : ℕ) (s : IsSummary test groups) where
   pub leave_others : ((a : ℕ) → a ≢ n → less a ≡ test a) → (i : ℕ) → i ≢ n / 64 → has groups i ≡ true → HasMember less i

@@ -8,7 +8,8 @@
 //! ```
 //!
 //! Over a marking cycle a set is cleared, then grows as objects are marked, and then stays, but that a region that
-//! is released loses its part of it. It is kept as bits, one an address.
+//! is released loses its part of it. It is kept as bits, one an address, of which those up to the highest marked one are written:
+//! so a heap of which little is in use pays for that little.
 
 ghost use Rattle.std.specs.Prelude.{◌≡◌, ◌+◌, ◌*◌, ◌^◌, ◌<◌, ◌≤◌, if◌then◌else◌};
 ghost use Rattle.std.specs.Prelude.{ℕ, List, Bool, false, true, IfOk, IfSome, length, MatchOption, replicate, slice_set};
@@ -24,20 +25,14 @@ use std::marker::Model;
 #[derive(Drop)]
 pub struct Marks {
     bits: Bits,
-    /// No address from here on is marked: so to clear the set touches the words below alone, and a heap of which little is in use
-    /// pays for that little.
-    end: u32,
 }
 
 impl Model for Marks {
     ghost use Rattle.std.specs.Prelude.{List, Bool};
-    ghost use Rattle.heap_words.specs.Bounded.{AreWithin};
 
     ghost Value = { List Bool };
 
     ghost view = { λ s. s.bits };
-
-    ghost invariant = { λ s. AreWithin s.bits 0 s.end };
 }
 
 impl Marks {
@@ -46,7 +41,7 @@ impl Marks {
         ensures { IfOk result (λ marks. marks ≡ replicate count false) }
     {
         let bits = Bits::new(alloc, count)?;
-        Ok(Marks { bits, end: 0 })
+        Ok(Marks { bits })
     }
 
     /// Tells a proof what is known of each set: its addresses are below 2 to the 32nd. It does nothing.
@@ -64,6 +59,7 @@ impl Marks {
     }
 
     /// Whether an address is marked.
+    #[inline(always)]
     pub fn get(&self, at: Addr) -> bool
         requires { at < length self.now }
         ensures { result ≡ is_marked self.now at }
@@ -72,21 +68,19 @@ impl Marks {
     }
 
     /// Marks an address.
+    #[inline(always)]
     pub fn set(&mut self, at: Addr)
         requires { at < length self.old }
         ensures { self.new ≡ slice_set self.old at true }
     {
-        self.bits.law();
         self.bits.set(at.word());
-        self.end = self.end.max(at.word() + 1);
     }
 
-    /// Clears each address.
+    /// Clears each address. It touches none of them: what is marked afterwards is written anew.
     pub fn clear(&mut self)
         ensures { self.new ≡ replicate (length self.old) false }
     {
-        self.bits.clear_range(0, self.end);
-        self.end = 0;
+        self.bits.clear();
     }
 
     /// Clears the addresses from `from` up to `to`, which is not one of them.

@@ -20,15 +20,15 @@ ghost use Rattle.std.specs.Int.{div_ceil};
 ghost use Rattle.heap_words.specs.Bits.{has, HasNone, IsLowest};
 ghost use Rattle.mark_bitmap.specs.Summary.{AreLevels, HasMember, HasNoMember, IsMember, IsSummary};
 
-use heap_words::bits::Bits;
+use heap_words::small_bits::SmallBits;
 use std::alloc::{AllocError, Global};
 use std::marker::Model;
 
 /// A set of numbers below a length that is given when it is made. Clauses see a flag for each number.
 pub struct Summary {
-    members: Bits,
-    groups: Bits,
-    blocks: Bits,
+    members: SmallBits,
+    groups: SmallBits,
+    blocks: SmallBits,
 }
 
 impl Model for Summary {
@@ -54,7 +54,7 @@ impl Drop for Summary {
 }
 
 /// The lowest member of a group.
-fn lowest_of(set: &Bits, group: u32) -> Option<u32>
+fn lowest_of(set: &SmallBits, group: u32) -> Option<u32>
     requires { 64 * group < length set.now }
     ensures { MatchOption result (HasNoMember (has set.now) group) (IsMember (has set.now) group) }
 {
@@ -62,7 +62,7 @@ fn lowest_of(set: &Bits, group: u32) -> Option<u32>
 }
 
 /// The lowest block. Mostly it stands in the first word.
-fn lowest_block(blocks: &Bits) -> Option<u32>
+fn lowest_block(blocks: &SmallBits) -> Option<u32>
     ensures { MatchOption result (HasNone (has blocks.now) 0) (IsLowest (has blocks.now) 0) }
 {
     if blocks.len() == 0 {
@@ -75,7 +75,7 @@ fn lowest_block(blocks: &Bits) -> Option<u32>
 }
 
 /// A group leaves the groups if it has no member. Whether it left.
-fn leave(set: &Bits, groups: &mut Bits, group: u32) -> bool
+fn leave(set: &SmallBits, groups: &mut SmallBits, group: u32) -> bool
     requires known { group < length groups.old }
     requires count { length groups.old ≡ div_ceil (length set.now) 64 }
     requires each { (a : ℕ) → has set.now a ≡ true → has groups.old (a / 64) ≡ true }
@@ -94,7 +94,7 @@ fn leave(set: &Bits, groups: &mut Bits, group: u32) -> bool
 }
 
 /// A number that isn't in the set any more leaves the groups, and its group the blocks, where it was the last one.
-fn leave_levels(members: &Bits, groups: &mut Bits, blocks: &mut Bits, number: u32)
+fn leave_levels(members: &SmallBits, groups: &mut SmallBits, blocks: &mut SmallBits, number: u32)
     requires known { number < length members.now }
     requires group_count { length groups.old ≡ div_ceil (length members.now) 64 }
     requires block_count { length blocks.old ≡ div_ceil (length groups.old) 64 }
@@ -117,9 +117,9 @@ impl Summary {
     {
         let groups = count.div_ceil(64);
         Ok(Summary {
-            members: Bits::new(alloc, count)?,
-            groups: Bits::new(alloc, groups)?,
-            blocks: Bits::new(alloc, groups.div_ceil(64))?,
+            members: SmallBits::new(alloc, count)?,
+            groups: SmallBits::new(alloc, groups)?,
+            blocks: SmallBits::new(alloc, groups.div_ceil(64))?,
         })
     }
 
@@ -138,12 +138,16 @@ impl Summary {
         self.members.get(number)
     }
 
-    /// A number is in the set.
+    /// A number is in the set. Where its group has a member already, so have the levels above.
     pub fn set(&mut self, number: u32)
         requires { number < length self.old }
         ensures { self.new ≡ slice_set self.old number true }
     {
+        let lowest = lowest_of(&self.members, number / 64);
         self.members.set(number);
+        if lowest.is_some() {
+            return;
+        }
         self.groups.set(number / 64);
         self.blocks.set(number / 64 / 64);
     }

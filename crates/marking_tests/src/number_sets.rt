@@ -1,6 +1,7 @@
 //! Sets of numbers as bits: over the borders of words of 64 bits.
 
 use heap_words::bits::Bits;
+use heap_words::small_bits::SmallBits;
 use std::alloc::{AllocError, Global};
 use std::test::Fail;
 
@@ -69,14 +70,20 @@ fn finds_the_lowest(rt: HostRuntime) -> Result<(), Fail> {
 fn finds_the_lowest_of_a_group(rt: HostRuntime) -> Result<(), Fail> {
     let bits = set_of(rt.alloc(), &[0, 63, 191, 199])?;
     let other = set_of(rt.alloc(), &[0, 191])?;
-    if bits.len() == 200 && other.len() == 200 {
+    let mut small = SmallBits::new(rt.alloc(), 200)?;
+    for member in [0, 63, 191, 199] {
+        if member < small.len() {
+            small.set(member);
+        }
+    }
+    if small.len() == 200 && bits.len() == 200 && other.len() == 200 {
         for (group, found, without) in [
             (0, Some(0), Some(63)),
             (1, None, None),
             (2, Some(191), None),
             (3, Some(199), Some(199)),
         ] {
-            assert_eq!(rt; bits.lowest_in(group), found, "group {group}");
+            assert_eq!(rt; small.lowest_in(group), found, "group {group}");
             assert_eq!(rt;
                 bits.lowest_without(&other, group),
                 without,

@@ -1,3 +1,4 @@
+pub mod Written
 pub mod FirstTile
 pub mod CardStarts
 pub mod FirstTiles

@@ -13,11 +13,15 @@
 //!
 //! A new tile costs an entry for each card that begins in it, and a first tile is found by a look at one entry or two, however
 //! far from the region's bottom or the run's first region the card lies. Tables of this kind are known as block offset tables.
+//!
+//! There is room for an entry of each card, and those of the first cards are written. The others are 0 to who asks, and nothing of
+//! them is touched until a tile comes there (`reach`): so a table that is made touches nothing, however many cards a heap has.
 
 ghost use Rattle.std.specs.Prelude.{◌≡◌, ◌+◌, ◌*◌, ◌/◌, ◌<◌, ◌≤◌, ◌^◌, ◌==◌, ◌&&◌, if◌then◌else◌};
-ghost use Rattle.std.specs.Prelude.{ℕ, IfOk, IsTrue, length, replicate, slice_index};
+ghost use Rattle.std.specs.Prelude.{ℕ, IfOk, IsTrue, length, replicate, slice_index, vec_capacity, vec_len};
 ghost use Rattle.std.specs.Int.{div_ceil, is_power_of_two};
 ghost use Rattle.heap_words.specs.Bits.{is_between};
+ghost use Rattle.heap_words.specs.Memory.{memory};
 ghost use Rattle.regions.specs.Tiles.{Filler};
 ghost use Rattle.regions.specs.FirstTiles.{last_card, entry_of, start_in};
 ghost use Rattle.heap_words.specs.Configs.{max_words};
@@ -31,17 +35,66 @@ use std::marker::Model;
 pub(crate) struct FirstTiles {
     card_words: u32,
     shift: u32,
+    /// The entries that are written. There is room for all.
     starts: Vec<u32>,
+    /// How many cards there are.
+    cards: u32,
 }
 
 impl Model for FirstTiles {
+    ghost use Rattle.std.specs.Prelude.{◌≤◌, length, vec_capacity};
+    ghost use Rattle.heap_words.specs.Memory.{Memory, memory};
     ghost use Rattle.regions.specs.FirstTiles.{Entries, IsPower};
 
     ghost Value = { Entries };
 
-    ghost view = { λ f. record { card_words = f.card_words; starts = f.starts.items } };
+    ghost view = { λ f. record { card_words = f.card_words; starts = (memory f.starts.items f.cards).all } };
 
-    ghost invariant = { λ f. IsPower f.card_words f.shift };
+    ghost invariant = { λ f. IsPower f.card_words f.shift × (length f.starts.items ≤ f.cards) × (f.cards ≤ vec_capacity f.starts) };
+}
+
+/// So many entries are written, the new ones as 0, and up to 64 more of those that there are: so who goes up seldom comes here.
+#[cold]
+#[inline(never)]
+fn write_zeros(entries: &mut Vec<u32>, past: u32, cards: u32)
+    requires more { vec_len entries.old ≤ past }
+    requires within { past ≤ cards }
+    requires room { cards ≤ vec_capacity entries.old }
+    ensures all { (memory entries.new.items cards).all ≡ (memory entries.old.items cards).all }
+    ensures written { past ≤ vec_len entries.new }
+    ensures within { vec_len entries.new ≤ cards }
+    ensures room { cards ≤ vec_capacity entries.new }
+{
+    let end = past.saturating_add(64).min(cards);
+    entries.resize(end as usize, 0).unwrap();
+}
+
+/// The entries of the first cards are written, of so many of those that there are: as 0 where they weren't.
+#[inline(always)]
+fn reach(entries: &mut Vec<u32>, past: u32, cards: u32)
+    requires short { vec_len entries.old ≤ cards }
+    requires within { past ≤ cards }
+    requires room { cards ≤ vec_capacity entries.old }
+    ensures all { (memory entries.new.items cards).all ≡ (memory entries.old.items cards).all }
+    ensures written { past ≤ vec_len entries.new }
+    ensures within { vec_len entries.new ≤ cards }
+    ensures room { cards ≤ vec_capacity entries.new }
+{
+    if entries.len() < past as usize {
+        write_zeros(entries, past, cards);
+    }
+}
+
+/// A card's entry, 0 where it isn't written.
+fn entry_at(entries: &[u32], card: u32) -> u32
+    ensures { result ≡ slice_index entries.now card }
+{
+    let place = card as usize;
+    if place < entries.len() {
+        entries[place]
+    } else {
+        0
+    }
 }
 
 /// The first card that begins at a word or behind it, where a card has 2 to the `shift`th words.
@@ -138,20 +191,14 @@ fn write_filler(entries: &mut [u32], shift: u32, at: u32, size: u32)
 /// Where the entries say that the tile of a card's first word starts.
 fn find_start(entries: &[u32], shift: u32, card: u32) -> u32
     requires narrow { shift < 12 }
-    requires known { card < length entries.now }
-    requires small { length entries.now * 2 ^ shift ≤ max_words }
+    requires small { card * 2 ^ shift ≤ max_words }
     ensures { result ≡ start_in (2 ^ shift) entries.now card }
 {
-    let entry = entries[card as usize];
+    let entry = entry_at(entries, card);
     if entry <= card << shift {
         return entry;
     }
-    let last = (entry >> shift) as usize;
-    if last < entries.len() {
-        entries[last]
-    } else {
-        0
-    }
+    entry_at(entries, entry >> shift)
 }
 
 impl FirstTiles {
@@ -161,12 +208,13 @@ impl FirstTiles {
         requires small { card_words < 2 ^ 12 }
         ensures { IfOk result (λ f. f ≡ record { card_words = card_words; starts = replicate (words / card_words) 0 }) }
     {
-        let starts = vec![in alloc; 0; (words / card_words) as usize]?;
+        let cards = words / card_words;
         let shift = card_words.ilog2();
         Ok(FirstTiles {
             card_words,
             shift,
-            starts,
+            starts: Vec::with_capacity(alloc, cards as usize)?,
+            cards,
         })
     }
 
@@ -195,7 +243,9 @@ impl FirstTiles {
         ensures entries { (c : ℕ) → slice_index self.new.starts c
             ≡ (if is_between at (at + size) (c * self.old.card_words) then at else slice_index self.old.starts c) }
     {
-        write_entries(&mut self.starts, self.shift, at, at + size, at);
+        let shift = self.shift;
+        reach(&mut self.starts, card_from(shift, at + size), self.cards);
+        write_entries(&mut self.starts, shift, at, at + size, at);
     }
 
     /// An object takes the front of a filler, whose entries stand, and what is left is a filler or nothing.
@@ -211,7 +261,9 @@ impl FirstTiles {
             && (c * self.old.card_words == last_card self.old.card_words (at + filler)) then at + size
             else (if is_between at (at + size) (c * self.old.card_words) then at else slice_index self.old.starts c)) }
     {
-        write_front(&mut self.starts, self.shift, at, at + size, at + filler);
+        let shift = self.shift;
+        reach(&mut self.starts, card_from(shift, at + filler), self.cards);
+        write_front(&mut self.starts, shift, at, at + size, at + filler);
     }
 
     /// A filler stands at an address.
@@ -226,7 +278,9 @@ impl FirstTiles {
             ≡ (if is_between at (at + size) (c * self.old.card_words)
             then entry_of self.old.card_words at (Filler size) (c * self.old.card_words) else slice_index self.old.starts c) }
     {
-        write_filler(&mut self.starts, self.shift, at, size);
+        let shift = self.shift;
+        reach(&mut self.starts, card_from(shift, at + size), self.cards);
+        write_filler(&mut self.starts, shift, at, size);
     }
 
     /// A filler that ended at `end` starts at `at` now, or is gone where that is its end.
@@ -241,7 +295,9 @@ impl FirstTiles {
             ≡ (if is_between at end (c * self.old.card_words) && (c * self.old.card_words == last_card self.old.card_words end) then at
             else slice_index self.old.starts c) }
     {
-        write_start(&mut self.starts, self.shift, at, end);
+        let shift = self.shift;
+        reach(&mut self.starts, card_from(shift, end), self.cards);
+        write_start(&mut self.starts, shift, at, end);
     }
 
     /// Where the tile of a card's first word starts.

@@ -21,13 +21,13 @@ returns-then-len-eq-LOG_LEN-clause-after c =
     let now = now_is c.self.inside c.args.self.now c.args.mutator c.args.card c.index_mut-log.result.now c.push.new.self c.self.view_is
     c.requires.mutator c.index_mut-log.ensures.value c.push.ensures in
     let after : Inside = record {
-      dirty = with_item c.self.inside.dirty c.number.result true;
+      dirty = c.set.new.self;
       logs = with_item c.self.inside.logs c.args.mutator c.move_to.new.self;
       queue = c.move_to.new.queue;
     } in
     sent_view c.self.inside after c.args.self.now c.args.mutator c.args.card c.push.new.self c.self.view_is clean c.requires.mutator now
     (omega arith)
-    (ap (λ n. set c.self.inside.dirty.items n true) c.number.ensures)
+    (c.set.ensures ∙ ap (λ n. set c.self.inside.dirty n true) c.number.ensures)
     (ap (λ l. set c.self.inside.logs.items c.args.mutator l) c.move_to.ensures.emptied) c.move_to.ensures.queue
 
 pub invariant_of-self : goal.invariant_of-self
@@ -36,13 +36,13 @@ invariant_of-self c =
     let now = now_is c.self.inside c.args.self.now c.args.mutator c.args.card c.index_mut-log.result.now c.push.new.self c.self.view_is
     c.requires.mutator c.index_mut-log.ensures.value c.push.ensures in
     let after : Inside = record {
-      dirty = with_item c.self.inside.dirty c.number.result true;
+      dirty = c.set.new.self;
       logs = with_item c.self.inside.logs c.args.mutator c.move_to.new.self;
       queue = c.move_to.new.queue;
     } in
     let view = sent_view c.self.inside after c.args.self.now c.args.mutator c.args.card c.push.new.self c.self.view_is clean
     c.requires.mutator now (omega arith)
-    (ap (λ n. set c.self.inside.dirty.items n true) c.number.ensures)
+    (c.set.ensures ∙ ap (λ n. set c.self.inside.dirty n true) c.number.ensures)
     (ap (λ l. set c.self.inside.logs.items c.args.mutator l) c.move_to.ensures.emptied) c.move_to.ensures.queue in
     IsSound-dirtied c.self.inside after c.args.self.now c.args.mutator c.args.card c.self.view_is c.self.invariant view c.requires.mutator
     c.requires.card c.move_to.ensures.capacity
@@ -53,12 +53,12 @@ invariant_of-self-else-len-eq-LOG_LEN c =
     let now = now_is c.self.inside c.args.self.now c.args.mutator c.args.card c.index_mut-log.result.now c.push.new.self c.self.view_is
     c.requires.mutator c.index_mut-log.ensures.value c.push.ensures in
     let after : Inside = record {
-      dirty = with_item c.self.inside.dirty c.number.result true;
+      dirty = c.set.new.self;
       logs = with_item c.self.inside.logs c.args.mutator c.push.new.self;
       queue = c.self.inside.queue;
     } in
     let view = stays_view c.self.inside after c.args.self.now c.args.mutator c.args.card c.push.new.self c.self.view_is clean
     c.requires.mutator now (λ four. c.if-len-eq-LOG_LEN.false (c.len.ensures ∙ four))
-    (ap (λ n. set c.self.inside.dirty.items n true) c.number.ensures) refl refl in
+    (c.set.ensures ∙ ap (λ n. set c.self.inside.dirty n true) c.number.ensures) refl refl in
     IsSound-dirtied c.self.inside after c.args.self.now c.args.mutator c.args.card c.self.view_is c.self.invariant view c.requires.mutator
     c.requires.card refl

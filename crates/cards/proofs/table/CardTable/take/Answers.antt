@@ -1,28 +1,27 @@
-use Rattle.std.proofs.Common.{false, set, arith, refl, length-set}
+use Rattle.std.proofs.Common.{◌≡◌, ◌∙◌, List, Bool, length, false, arith, refl, ap, length-set}
 use Rattle.cards.proofs.Listed.{IsCounted-taken, front_is_card, front_is_dirty}
 use Rattle.cards.specs.Inside.{cards_of}
 use Rattle.cards.proofs.table.CardTable.take.Goals as goal
 
-pub index_mut-requires : goal.index_mut-requires
-index_mut-requires c =
-    omega (
-      arith,
-      c.self.inside.dirty.ok.0,
-      front_is_card (cards_of c.self.inside) c.in_ok-card.card c.pop_front.new.self.items c.self.invariant.cards c.in_ok-card.ensures.items,
-    )
+pub remove-requires : goal.remove-requires
+remove-requires c =
+    front_is_card (cards_of c.self.inside) c.in_ok-card.card c.pop_front.new.self.items c.self.invariant.cards c.in_ok-card.ensures.items
 
 pub invariant_of-self-2 : goal.invariant_of-self-2
-invariant_of-self-2 c = record {
-  cards = IsCounted-taken (cards_of c.self.inside)
-      (record {
-        dirty = set c.self.inside.dirty.items c.in_ok-card.card false;
-        logs = c.self.inside.logs.items;
-        queue = c.pop_front.new.self.items;
-      }) c.in_ok-card.card c.self.invariant.cards c.in_ok-card.ensures.items refl refl;
-  short = c.self.invariant.short;
-  room = omega (arith, c.self.invariant.room, c.in_ok-card.ensures.capacity, length-set c.self.inside.dirty.items c.in_ok-card.card false);
-  few = omega (arith, c.self.invariant.few, length-set c.self.inside.dirty.items c.in_ok-card.card false);
-}
+invariant_of-self-2 c =
+    let long : length c.remove.new.self ≡ length c.self.inside.dirty =
+    ap (λ (flags : List Bool). length flags) c.remove.ensures ∙ length-set c.self.inside.dirty c.in_ok-card.card false in
+    record {
+      cards = IsCounted-taken (cards_of c.self.inside)
+          (record {
+            dirty = c.remove.new.self;
+            logs = c.self.inside.logs.items;
+            queue = c.pop_front.new.self.items;
+          }) c.in_ok-card.card c.self.invariant.cards c.in_ok-card.ensures.items c.remove.ensures refl;
+      short = c.self.invariant.short;
+      room = omega (arith, c.self.invariant.room, c.in_ok-card.ensures.capacity, long);
+      few = omega (arith, c.self.invariant.few, long);
+    }
 
 pub returns-clause-known : goal.returns-clause-known
 returns-clause-known c =

@@ -1,5 +1,4 @@
-use Rattle.std.proofs.Common.{◌≡◌, ◌<◌, ◌+◌, ◌-◌, ◌*◌, ◌^◌, arith, length, ap, w64, bit_and}
-use Rattle.std.proofs.lemmas.List.{get_or_read}
+use Rattle.std.proofs.Common.{◌≡◌, ◌+◌, ◌-◌, ◌*◌, ◌^◌, arith, length, ap, w64, bit_and}
 use Rattle.std.proofs.lemmas.Nat.{and_le_r}
 use Rattle.std.proofs.lemmas.Nat.Bits.{bit_at-trailing_zeros}
 use Rattle.heap_words.proofs.BitWords.{length-flags_of}
@@ -7,48 +6,15 @@ use Rattle.heap_words.proofs.LowestBits.{IsWord, only, group_left, none_yet, onl
 use Rattle.heap_words.proofs.LowestBits.{none_in_word, none_left, found_past, found_inside}
 use Rattle.heap_words.proofs.bits.Bits.lowest_without.Goals as goal
 
-pub index-requires : goal.index-requires
-index-requires c =
-    omega (arith, c.requires.known, c.self.invariant, length-flags_of c.self.inside.words.items c.self.inside.len, ap length c.self.view_is)
-
-pub index-requires-2 : goal.index-requires-2
-index-requires-2 c =
-    let even : c.other.inside.len ≡ c.self.inside.len = same_len _ _ _ _ _ _ c.self.view_is c.other.view_is c.requires.even in
-    omega (
-      arith,
-      c.requires.known,
-      even,
-      c.other.invariant,
-      length-flags_of c.self.inside.words.items c.self.inside.len,
-      ap length c.self.view_is,
-    )
-
 pub returns-then-word-eq0-clause-lowest : goal.returns-then-word-eq0-clause-lowest
 returns-then-word-eq0-clause-lowest c =
     let i = c.self.inside.words.items in
     let o = c.other.inside.words.items in
     let even : c.other.inside.len ≡ c.self.inside.len = same_len _ _ _ _ _ _ c.self.view_is c.other.view_is c.requires.even in
-    let inside : c.args.group < length i = omega (
-      arith,
-      c.requires.known,
-      c.self.invariant,
-      c.self.inside.words.ok.0,
-      length-flags_of i c.self.inside.len,
-      ap length c.self.view_is,
-    ) in
-    let inside_other : c.args.group < length o = omega (
-      arith,
-      c.requires.known,
-      even,
-      c.other.invariant,
-      c.other.inside.words.ok.0,
-      length-flags_of i c.self.inside.len,
-      ap length c.self.view_is,
-    ) in
-    let less = and_le_r c.index.result.now (2 ^ 64 - 1 - c.index-2.result.now) in
-    let w : IsWord (only i o) (64 * c.args.group) c.args.group (bit_and c.index.result.now (2 ^ 64 - 1 - c.index-2.result.now)) =
-    group_left i o c.args.group c.index.result.now c.index-2.result.now (get_or_read i _ _ inside c.index.ensures 0)
-    (get_or_read o _ _ inside_other c.index-2.ensures 0) (omega arith) (omega (arith, less)) in
+    let less = and_le_r c.word_at.result (2 ^ 64 - 1 - c.word_at-2.result) in
+    let w : IsWord (only i o) (64 * c.args.group) c.args.group (bit_and c.word_at.result (2 ^ 64 - 1 - c.word_at-2.result)) =
+    group_left i o c.args.group c.word_at.result c.word_at-2.result c.word_at.ensures c.word_at-2.ensures (omega arith)
+    (omega (arith, less)) in
     none_left _ _ c.self.inside.len (64 * c.args.group) (64 * c.args.group + 64) (64 * (c.args.group + 1))
     (only_agree _ _ _ _ _ _ c.self.view_is c.other.view_is even) (none_in_word _ _ _ _ w (none_yet _ _) c.if-word-eq0.true) (omega arith)
 
@@ -58,9 +24,9 @@ overflow_mul-found c =
 
 pub overflow_add-found : goal.overflow_add-found
 overflow_add-found c =
-    let less = and_le_r c.index.result.now (2 ^ 64 - 1 - c.index-2.result.now) in
+    let less = and_le_r c.word_at.result (2 ^ 64 - 1 - c.word_at-2.result) in
     let lowest =
-    bit_at-trailing_zeros w64 (bit_and c.index.result.now (2 ^ 64 - 1 - c.index-2.result.now)) (omega arith) (omega (arith, less)) in
+    bit_at-trailing_zeros w64 (bit_and c.word_at.result (2 ^ 64 - 1 - c.word_at-2.result)) (omega arith) (omega (arith, less)) in
     omega (
       arith,
       c.requires.known,
@@ -75,27 +41,10 @@ returns-then-found-self-clause-lowest c =
     let i = c.self.inside.words.items in
     let o = c.other.inside.words.items in
     let even : c.other.inside.len ≡ c.self.inside.len = same_len _ _ _ _ _ _ c.self.view_is c.other.view_is c.requires.even in
-    let inside : c.args.group < length i = omega (
-      arith,
-      c.requires.known,
-      c.self.invariant,
-      c.self.inside.words.ok.0,
-      length-flags_of i c.self.inside.len,
-      ap length c.self.view_is,
-    ) in
-    let inside_other : c.args.group < length o = omega (
-      arith,
-      c.requires.known,
-      even,
-      c.other.invariant,
-      c.other.inside.words.ok.0,
-      length-flags_of i c.self.inside.len,
-      ap length c.self.view_is,
-    ) in
-    let less = and_le_r c.index.result.now (2 ^ 64 - 1 - c.index-2.result.now) in
-    let w : IsWord (only i o) (64 * c.args.group) c.args.group (bit_and c.index.result.now (2 ^ 64 - 1 - c.index-2.result.now)) =
-    group_left i o c.args.group c.index.result.now c.index-2.result.now (get_or_read i _ _ inside c.index.ensures 0)
-    (get_or_read o _ _ inside_other c.index-2.ensures 0) (omega arith) (omega (arith, less)) in
+    let less = and_le_r c.word_at.result (2 ^ 64 - 1 - c.word_at-2.result) in
+    let w : IsWord (only i o) (64 * c.args.group) c.args.group (bit_and c.word_at.result (2 ^ 64 - 1 - c.word_at-2.result)) =
+    group_left i o c.args.group c.word_at.result c.word_at-2.result c.word_at.ensures c.word_at-2.ensures (omega arith)
+    (omega (arith, less)) in
     found_inside _ _ c.self.inside.len _ _ _ (only_agree _ _ _ _ _ _ c.self.view_is c.other.view_is even) w
     (none_yet _ _) (omega arith) c.if-found-self.true
 
@@ -108,26 +57,9 @@ returns-else-found-self-clause-lowest c =
     let i = c.self.inside.words.items in
     let o = c.other.inside.words.items in
     let even : c.other.inside.len ≡ c.self.inside.len = same_len _ _ _ _ _ _ c.self.view_is c.other.view_is c.requires.even in
-    let inside : c.args.group < length i = omega (
-      arith,
-      c.requires.known,
-      c.self.invariant,
-      c.self.inside.words.ok.0,
-      length-flags_of i c.self.inside.len,
-      ap length c.self.view_is,
-    ) in
-    let inside_other : c.args.group < length o = omega (
-      arith,
-      c.requires.known,
-      even,
-      c.other.invariant,
-      c.other.inside.words.ok.0,
-      length-flags_of i c.self.inside.len,
-      ap length c.self.view_is,
-    ) in
-    let less = and_le_r c.index.result.now (2 ^ 64 - 1 - c.index-2.result.now) in
-    let w : IsWord (only i o) (64 * c.args.group) c.args.group (bit_and c.index.result.now (2 ^ 64 - 1 - c.index-2.result.now)) =
-    group_left i o c.args.group c.index.result.now c.index-2.result.now (get_or_read i _ _ inside c.index.ensures 0)
-    (get_or_read o _ _ inside_other c.index-2.ensures 0) (omega arith) (omega (arith, less)) in
+    let less = and_le_r c.word_at.result (2 ^ 64 - 1 - c.word_at-2.result) in
+    let w : IsWord (only i o) (64 * c.args.group) c.args.group (bit_and c.word_at.result (2 ^ 64 - 1 - c.word_at-2.result)) =
+    group_left i o c.args.group c.word_at.result c.word_at-2.result c.word_at.ensures c.word_at-2.ensures (omega arith)
+    (omega (arith, less)) in
     found_past _ _ c.self.inside.len _ (64 * c.args.group + 64) _ _ (only_agree _ _ _ _ _ _ c.self.view_is c.other.view_is even) w
     (none_yet _ _) (omega arith) (omega (arith, c.if-found-self.false))

@@ -1,7 +1,7 @@
-use Rattle.std.proofs.Common.{ℕ, ◌*◌, arith, bit_and, length, ap}
+use Rattle.std.proofs.Common.{ℕ, ◌<◌, arith, bit_and, length, ap}
 use Rattle.heap_words.specs.BitWords.{bit_of}
-use Rattle.heap_words.proofs.BitWords.{high_mask, div_ceil_reaches, length-flags_of}
-use Rattle.heap_words.proofs.LowestBits.{IsWord, bits_word, bits_agree, none_in_word, none_left, found_past, found_inside}
+use Rattle.heap_words.proofs.BitWords.{high_mask, length-flags_of}
+use Rattle.heap_words.proofs.LowestBits.{IsWord, bits_word, bits_agree, none_in_word, none_left, none_written, found_past, found_inside}
 use Rattle.heap_words.proofs.bits.Bits.search_below.Goals as goal
 
 pub loop-index-init : goal.loop-index-init
@@ -10,18 +10,18 @@ loop-index-init c = λ a h k. absurd (omega arith)
 pub loop-index-preserved : goal.loop-index-preserved
 loop-index-preserved c =
     let low : ℕ = c.saturating_sub-low.result in
+    let inside : c.loop-index.index < length c.self.inside.words.items = omega (arith, c.written_below-past.ensures) in
     let w : IsWord (bit_of c.self.inside.words.items) c.args.from c.loop-index.index (bit_and c.index-all.result.now (high_mask low)) =
-    bits_word c.self.inside.words.items c.self.inside.len c.args.from c.min-end.result c.loop-index.index low c.index-all.result.now _
-    c.self.inside.words.ok.0 c.self.invariant (omega (arith, c.min-end.ensures)) (omega (arith, c.div_ceil-index-end.ensures))
+    bits_word c.self.inside.words.items c.args.from c.loop-index.index low c.index-all.result.now inside
     c.index-all.ensures (omega (arith, c.saturating_sub-low.ensures)) (omega (arith, c.saturating_sub-low.ensures)) in
     none_in_word _ _ _ _ w c.loop-index.invariant c.if-word-ne0.false
 
 pub returns-then-found-end : goal.returns-then-found-end
 returns-then-found-end c =
     let low : ℕ = c.saturating_sub-low.result in
+    let inside : c.loop-index.index < length c.self.inside.words.items = omega (arith, c.written_below-past.ensures) in
     let w : IsWord (bit_of c.self.inside.words.items) c.args.from c.loop-index.index (bit_and c.index-all.result.now (high_mask low)) =
-    bits_word c.self.inside.words.items c.self.inside.len c.args.from c.min-end.result c.loop-index.index low c.index-all.result.now _
-    c.self.inside.words.ok.0 c.self.invariant (omega (arith, c.min-end.ensures)) (omega (arith, c.div_ceil-index-end.ensures))
+    bits_word c.self.inside.words.items c.args.from c.loop-index.index low c.index-all.result.now inside
     c.index-all.ensures (omega (arith, c.saturating_sub-low.ensures)) (omega (arith, c.saturating_sub-low.ensures)) in
     record {
       lowest = found_inside _ _ c.self.inside.len _ _ _ (bits_agree _ _ _ c.self.view_is) w c.loop-index.invariant (omega arith)
@@ -39,9 +39,9 @@ returns-then-found-end c =
 pub returns-else-found-end : goal.returns-else-found-end
 returns-else-found-end c =
     let low : ℕ = c.saturating_sub-low.result in
+    let inside : c.loop-index.index < length c.self.inside.words.items = omega (arith, c.written_below-past.ensures) in
     let w : IsWord (bit_of c.self.inside.words.items) c.args.from c.loop-index.index (bit_and c.index-all.result.now (high_mask low)) =
-    bits_word c.self.inside.words.items c.self.inside.len c.args.from c.min-end.result c.loop-index.index low c.index-all.result.now _
-    c.self.inside.words.ok.0 c.self.invariant (omega (arith, c.min-end.ensures)) (omega (arith, c.div_ceil-index-end.ensures))
+    bits_word c.self.inside.words.items c.args.from c.loop-index.index low c.index-all.result.now inside
     c.index-all.ensures (omega (arith, c.saturating_sub-low.ensures)) (omega (arith, c.saturating_sub-low.ensures)) in
     record {
       lowest = found_past _ _ c.self.inside.len _ c.args.to _ _ (bits_agree _ _ _ c.self.view_is) w c.loop-index.invariant (omega arith)
@@ -52,8 +52,10 @@ returns-else-found-end c =
 
 pub returns : goal.returns
 returns c = record {
-  lowest = none_left _ _ c.self.inside.len _ c.args.to (64 * c.loop-index.index) (bits_agree _ _ _ c.self.view_is) c.loop-index.invariant
-      (omega (arith, div_ceil_reaches c.min-end.result, c.div_ceil-index-end.ensures, c.min-end.ensures));
+  lowest = none_left _ _ c.self.inside.len _ c.args.to c.min-end.result (bits_agree _ _ _ c.self.view_is)
+      (none_written (bit_of c.self.inside.words.items) c.self.inside.words.items c.args.from c.written_below-past.result c.loop-index.index
+      c.min-end.result (λ a none. none) c.written_below-past.ensures c.loop-index-test.false c.loop-index.invariant)
+      (omega (arith, c.min-end.ensures));
   below = tt;
   within = tt;
 }

@@ -1,19 +1,23 @@
-use Rattle.std.proofs.Common.{◌<◌, ◌/◌, length, refl}
+use Rattle.std.proofs.Common.{◌<◌, ◌/◌, ◌∙◌, List, Bool, true, length, set, ap, arith}
 use Rattle.std.proofs.lemmas.List.{get_or_read}
-use Rattle.heap_words.proofs.BitWords.{word_inside, number_inside, long_enough, flags_of-set}
+use Rattle.heap_words.proofs.BitWords.{number_inside, flags_of-set}
+use Rattle.heap_words.proofs.Written.{flags_same}
 use Rattle.heap_words.proofs.bits.Bits.set.Goals as goal
 
-pub index_mut-requires : goal.index_mut-requires
-index_mut-requires c =
+pub reach-requires : goal.reach-requires
+reach-requires c =
     let inside : c.args.number < length c.args.self.now = c.requires in
-    word_inside _ _ _ _ c.args.number c.self.inside.words.ok.0 c.self.view_is c.self.invariant inside
+    omega (arith, number_inside _ _ _ c.args.number c.self.view_is inside, c.self.invariant)
+
+pub index_mut-requires : goal.index_mut-requires
+index_mut-requires c = omega (arith, c.reach.ensures.written)
 
 pub returns : goal.returns
 returns c =
     let inside : c.args.number < length c.args.self.now = c.requires in
-    let word : c.args.number / 64 < length c.self.inside.words.items =
-    word_inside _ _ _ _ c.args.number refl c.self.view_is (long_enough _ _ _ c.self.inside.words.ok.0 c.self.invariant) inside in
+    let ws = c.reach.new.words in
+    let word : c.args.number / 64 < length ws.items = omega (arith, c.reach.ensures.written, ws.ok.0) in
     rw (← c.self.view_is)
-    (flags_of-set _ _ _ _ (number_inside _ _ _ c.args.number c.self.view_is inside)
-    (long_enough _ _ _ c.self.inside.words.ok.0 c.self.invariant)
-    (get_or_read c.self.inside.words.items _ _ word c.index_mut.ensures.value 0))
+    (flags_of-set ws.items _ _ _ (number_inside _ _ _ c.args.number c.self.view_is inside) word
+    (get_or_read ws.items _ _ word c.index_mut.ensures.value 0)
+    ∙ ap (λ (flags : List Bool). set flags c.args.number true) (flags_same ws.items _ _ c.reach.ensures.same))

@@ -1,0 +1,6 @@
+-- Flags of which the first are written.
+use Rattle.std.specs.Prelude.{ℕ, ◌-◌, ◌++◌, Bool, List, false, length, replicate}
+
+-- the flags of so many cards, of which these are written: the others are clear
+abbrev pub flags_of : List Bool → ℕ → List Bool
+flags_of written count = written ++ replicate (count - length written) false

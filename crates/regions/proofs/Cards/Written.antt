@@ -1,0 +1,31 @@
+-- Entries of which the first are written: the others are 0.
+use Rattle.std.proofs.Common.{◌≡◌, ◌+◌, ◌-◌, ◌*◌, ◌^◌, ◌≤◌, ◌++◌, ◌∙◌, ℕ, List, length, get_or, replicate, take, refl, sym, ap, arith, ⊎_elim}
+use Rattle.std.proofs.lemmas.Bool.{cases_lt}
+use Rattle.std.specs.Int.{div_ceil}
+use Rattle.std.proofs.lemmas.Grind.{div_ceil_times}
+use Rattle.std.proofs.lemmas.Nat.{mul-le, pow_pos}
+use Rattle.std.proofs.lemmas.List.{length-append, length-replicate, get_or-append_right, get_or_append_left, get_or_past, take_at}
+use Rattle.heap_words.specs.Memory.{memory}
+use Rattle.heap_words.proofs.BitWords.{all_zeros}
+
+-- a card's entry, written or not
+pub entry_is : (xs : List ℕ) (n i : ℕ) → get_or (memory xs n).all i 0 ≡ get_or xs i 0
+entry_is xs n i =
+    ⊎_elim (λ b. get_or_append_left xs (replicate {A = ℕ} (n - length xs) 0) 0 i b)
+    (λ b. get_or-append_right xs (replicate (n - length xs) 0) (length xs) i 0 refl b ∙ all_zeros (n - length xs) (i - length xs)
+    ∙ sym (get_or_past xs i 0 b)) (cases_lt i (length xs))
+
+-- the same, as a slice of those that are written was lent and came back
+pub entry_lent : (xs rest : List ℕ) (len n i : ℕ) → length xs ≡ len → get_or (memory (take len (xs ++ rest)) n).all i 0 ≡ get_or xs i 0
+entry_lent xs rest len n i h = ap (λ (ys : List ℕ). get_or (memory ys n).all i 0) (take_at xs rest len h) ∙ entry_is xs n i
+
+-- how many entries there are
+pub length_all : (xs : List ℕ) (n : ℕ) → length xs ≤ n → length (memory xs n).all ≡ n
+length_all xs n h = length-append xs (replicate (n - length xs) 0)
+    ∙ ap (λ (k : ℕ). length xs + k) (length-replicate {A = ℕ} (n - length xs) 0) ∙ (omega arith)
+
+-- those of the cards below an end are written
+pub end_written : (end shift n past : ℕ) → past ≡ div_ceil end (2 ^ shift) → past ≤ n → end ≤ n * 2 ^ shift
+end_written end shift n past e h =
+    let reached : end ≤ div_ceil end (2 ^ shift) * 2 ^ shift = (div_ceil_times end (2 ^ shift) (pow_pos shift)).0 in
+    omega (arith, rw (sym e) at reached, mul-le past (2 ^ shift) n (2 ^ shift) h (omega arith))
