@@ -4,7 +4,7 @@ ghost use Rattle.std.specs.Prelude.{◌≡◌, ◌<◌, ◌≤◌, ◌+◌, ◌-
 ghost use Rattle.std.specs.Prelude.{None, IfOk, IfSome, IsSome, length, MatchOption, replicate, slice_index_or, slice_set};
 ghost use Rattle.heap_model.specs.Graph.{register_place, root_places, with_nils};
 ghost use Rattle.root_table.specs.Roots.{row_start, AreNil, IsNextNamed};
-ghost use Rattle.root_table.specs.Bounds.{AreStarts};
+ghost use Rattle.root_table.specs.Bounds.{AreStarts, AreFew};
 
 use crate::places::Places;
 use heap_words::addr::Ptr;
@@ -15,21 +15,23 @@ use std::marker::Model;
 pub struct Roots {
     places: Places,
     words: Vec<Ptr>,
-    /// Where each row starts, so that a register's place is a look and a sum, and no product.
-    starts: Vec<usize>,
+    /// Where each row starts, so that a register's place is a look and a sum, and no product. Places are below 2 to the 32nd, so the sum
+    /// needs no wider numbers.
+    starts: Vec<u32>,
     /// For each row a number from which on its roots are nil.
     used: Vec<u32>,
 }
 
 impl Model for Roots {
     ghost use Rattle.root_table.specs.Roots.{RootTable};
-    ghost use Rattle.root_table.specs.Bounds.{AreBounded, AreStarts};
+    ghost use Rattle.root_table.specs.Bounds.{AreBounded, AreStarts, AreFew};
 
     ghost Value = { RootTable };
 
     ghost view = { λ r. record { places = r.places; words = r.words.items } };
 
-    ghost invariant = { λ r. AreBounded r.places r.words.items r.used.items × AreStarts r.places r.starts.items };
+    ghost invariant = { λ r. AreBounded r.places r.words.items r.used.items × AreStarts r.places r.starts.items
+        × AreFew r.places };
 }
 
 /// Where it is let go there is one call, and not a drop for each of its parts.
@@ -70,25 +72,30 @@ fn fill_nil(words: &mut [Ptr], first: usize, count: usize)
 }
 
 /// Writes where each row starts.
-fn fill_starts(starts: &mut [usize], places: Places)
-    requires { length starts.old ≡ places.mutators + 1 }
+fn fill_starts(starts: &mut [u32], places: Places)
+    requires rows { length starts.old ≡ places.mutators + 1 }
+    requires few { AreFew places }
     ensures { AreStarts places starts.new }
 {
     for row in 0..starts.len() {
-        starts[row] = places.start_of(row);
+        starts[row] = places.start_of(row) as u32;
     }
 }
 
 impl Roots {
-    /// All roots nil.
+    /// All roots nil. There is no memory for 2 to the 32nd places or more.
     pub fn new(alloc: Global, places: Places) -> Result<Roots, AllocError>
         ensures { IfOk result (λ r. r ≡ record { places = places; words = replicate (root_places places) None }) }
     {
+        let count = places.count();
+        if count > u32::MAX as usize {
+            return Err(AllocError);
+        }
         let mut starts = vec![in alloc; 0; places.mutators() as usize + 1]?;
         fill_starts(&mut starts, places);
         Ok(Roots {
             places,
-            words: vec![in alloc; None; places.count()]?,
+            words: vec![in alloc; None; count]?,
             starts,
             used: vec![in alloc; 0; places.mutators() as usize + 1]?,
         })
@@ -117,7 +124,7 @@ impl Roots {
         requires register { register < self.now.places.registers }
         ensures { result ≡ register_place self.now.places mutator register }
     {
-        self.starts[mutator as usize + 1] + register as usize
+        (self.starts[mutator as usize + 1] + register) as usize
     }
 
     /// What a place holds.
@@ -212,7 +219,7 @@ impl Roots {
             if used == 0 {
                 continue;
             }
-            let start = self.starts[row];
+            let start = self.starts[row] as usize;
             let end = start + used as usize;
             let Some(place) = first_named(&self.words, from.max(start), end) else {
                 continue;

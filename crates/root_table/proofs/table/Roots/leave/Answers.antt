@@ -37,6 +37,7 @@ invariant_of-self c =
           (omega (arith, c.requires.mutator, mutators)) c.if-used-register.false place
           (with_items_is c.self.inside.words c.fill_nil.new.words len ∙ filled) c.index-used.ensures,
       c.self.invariant.1,
+      c.self.invariant.2,
     )
 
 pub returns : goal.returns

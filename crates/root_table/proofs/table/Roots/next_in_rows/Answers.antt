@@ -17,9 +17,9 @@ first_named-requires c =
     omega (arith, c.loop-row-test.true, c.len-row-end.ensures, c.self.inside.used.ok.0) in
     let counted : c.loop-row.row < length c.self.inside.starts.items =
     omega (arith, inside, c.self.invariant.0.rows, c.self.invariant.1.rows) in
-    let start : c.index-start.result.now ≡ row_start c.self.inside.places c.loop-row.row =
-    start_read c.self.inside.places c.self.inside.starts.items c.loop-row.row c.index-start.result.now c.self.invariant.1 counted
-    c.index-start.ensures in
+    let start : c.index.result.now ≡ row_start c.self.inside.places c.loop-row.row =
+    start_read c.self.inside.places c.self.inside.starts.items c.loop-row.row c.index.result.now c.self.invariant.1 counted
+    c.index.ensures in
     let bound = bound_within c.self.inside.places c.self.inside.words.items c.self.inside.used.items c.loop-row.row
     c.index-used.result.now c.self.invariant.0 inside c.index-used.ensures in
     omega (arith, bound, start, ap length c.deref.ensures.value)
@@ -30,11 +30,11 @@ loop-row-preserved c =
     omega (arith, c.loop-row-test.true, c.len-row-end.ensures, c.self.inside.used.ok.0) in
     let counted : c.loop-row.row < length c.self.inside.starts.items =
     omega (arith, inside, c.self.invariant.0.rows, c.self.invariant.1.rows) in
-    let start : c.index-start.result.now ≡ row_start c.self.inside.places c.loop-row.row =
-    start_read c.self.inside.places c.self.inside.starts.items c.loop-row.row c.index-start.result.now c.self.invariant.1 counted
-    c.index-start.ensures in
+    let start : c.index.result.now ≡ row_start c.self.inside.places c.loop-row.row =
+    start_read c.self.inside.places c.self.inside.starts.items c.loop-row.row c.index.result.now c.self.invariant.1 counted
+    c.index.ensures in
     let which : (c.max.result ≤ c.args.from) ⊎ (c.max.result ≤ row_start c.self.inside.places c.loop-row.row) =
-    elim (cases_lt c.args.from c.index-start.result.now) [
+    elim (cases_lt c.args.from c.index.result.now) [
       | inl less ↦ inr (omega (arith, less, c.max.ensures, start))
       | inr more ↦ inl (omega (arith, more, c.max.ensures))
     ] in
@@ -49,9 +49,9 @@ overflow_add-end c =
     omega (arith, c.loop-row-test.true, c.len-row-end.ensures, c.self.inside.used.ok.0) in
     let counted : c.loop-row.row < length c.self.inside.starts.items =
     omega (arith, inside, c.self.invariant.0.rows, c.self.invariant.1.rows) in
-    let start : c.index-start.result.now ≡ row_start c.self.inside.places c.loop-row.row =
-    start_read c.self.inside.places c.self.inside.starts.items c.loop-row.row c.index-start.result.now c.self.invariant.1 counted
-    c.index-start.ensures in
+    let start : c.index.result.now ≡ row_start c.self.inside.places c.loop-row.row =
+    start_read c.self.inside.places c.self.inside.starts.items c.loop-row.row c.index.result.now c.self.invariant.1 counted
+    c.index.ensures in
     let bound = bound_within c.self.inside.places c.self.inside.words.items c.self.inside.used.items c.loop-row.row
     c.index-used.result.now c.self.invariant.0 inside c.index-used.ensures in
     omega (arith, bound, start, c.self.inside.words.ok.0)

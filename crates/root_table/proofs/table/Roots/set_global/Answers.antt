@@ -10,6 +10,7 @@ invariant_of-self c =
           c.args.value c.self.invariant.0
           (omega arith) (omega (arith, c.requires, globals)) (omega arith) c.index.ensures c.if-index-global.true,
       c.self.invariant.1,
+      c.self.invariant.2,
     )
 
 pub invariant_of-self-else-index-global : goal.invariant_of-self-else-index-global
@@ -19,4 +20,5 @@ invariant_of-self-else-index-global c =
           c.args.value c.self.invariant.0
           (omega arith) (omega (arith, c.requires, globals)) (omega arith) c.index.ensures c.if-index-global.false,
       c.self.invariant.1,
+      c.self.invariant.2,
     )

@@ -15,6 +15,7 @@ invariant_of-self c =
           (omega (arith, c.requires.mutator, mutators))
           (omega (arith, c.requires.register, registers)) place c.index.ensures c.if-index-register.true,
       c.self.invariant.1,
+      c.self.invariant.2,
     )
 
 pub invariant_of-self-else-index-register : goal.invariant_of-self-else-index-register
@@ -28,4 +29,5 @@ invariant_of-self-else-index-register c =
           (omega (arith, c.requires.mutator, mutators))
           (omega (arith, c.requires.register, registers)) place c.index.ensures c.if-index-register.false,
       c.self.invariant.1,
+      c.self.invariant.2,
     )

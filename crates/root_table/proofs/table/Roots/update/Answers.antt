@@ -10,4 +10,5 @@ invariant_of-self c =
       updated c.self.inside.places c.self.inside.words.items c.self.inside.used.items c.args.place named.0 c.args.value c.self.invariant.0
           (ap (λ (ws : List (Option ℕ)). get_or ws c.args.place None) words ∙ named.1),
       c.self.invariant.1,
+      c.self.invariant.2,
     )
