@@ -20,7 +20,8 @@ use Rattle.regions.proofs.LongRuns.Blocks.{void_object}
 use Rattle.alloc_buffers.proofs.Above.{above_same, above_buffers, above_pushed, above_filler}
 use Rattle.alloc_buffers.specs.declared.buffers.Buffer.{Buffer}
 use Rattle.alloc_buffers.specs.declared.placement.Place.TheVariants as places
-use Rattle.alloc_buffers.specs.Placement.{Buffers, BuffersStand, HasFiller, IsPlaced, HasRoom, buffer_of, with_buffer, IsAbove, AreAbove}
+use Rattle.alloc_buffers.specs.Placement.{Buffers, BuffersStand, HasFiller, IsPlaced, HasRoom, with_buffer, IsAbove, AreAbove}
+use Rattle.alloc_buffers.specs.OpenBuffers.{buffer_of}
 use Rattle.alloc_buffers.specs.Placement.{alone, room_for, in_new_buffer, with_filler, closed, in_buffer, place_of, CanPlace, IsMadeAt}
 
 -- an open buffer is at its address
@@ -432,25 +433,6 @@ pub in_new_is : (t t1 t2 t3 : Table) (c b : Buffers) (m n k size a : ℕ) (v : O
 in_new_is t t1 t2 t3 c b m n k size a v e same is at push more v_is =
     ap (λ (d : Buffers). in_new_buffer d m size (room_for t d.current d.words)) (sym e) ∙ ap (in_new_buffer c m size) is
     ∙ rw (v_is, more, push, at, same) refl
-
-some_filler : (t : Table) (k r : ℕ) → 0 < r → with_filler t k r ≡ push_tile t k (Filler r)
-some_filler t k zero z = absurd (omega arith)
-some_filler t k (suc r) z = refl
-
-pub nothing_more : (t : Table) (k r next : ℕ) → r ≡ 0 → (t ≡ with_filler t k r) × (None ≡ buffer_of next r)
-nothing_more t k r next z = (ap (with_filler t k) (sym z), ap (buffer_of next) (sym z))
-
-pub more_is : (t1 t2 t3 : Table) (k n1 n2 size rest a a2 next : ℕ) (v : Option Buffer) → n1 ≡ k → n2 ≡ k → 0 < rest
-    → Pushed t1 t2 k a (Filler size) → a ≡ n1 * t1.words_per_region + used_of t1 n1
-    → a2 ≡ n2 * t2.words_per_region + used_of t2 n2 → t3 ≡ push_tile t2 n2 (Filler rest) → next ≡ a2 → v ≡ buffer_of next rest
-    → (t3 ≡ with_filler t2 k rest) × (v ≡ buffer_of (a + size) rest)
-more_is t1 t2 t3 k n1 n2 size rest a a2 next v e1 e2 z p at at2 is next_is v_is =
-    let x : a ≡ k * t1.words_per_region + used_of t1 k = at ∙ ap (λ (j : ℕ). j * t1.words_per_region + used_of t1 j) e1 in
-    let y : a2 ≡ k * t2.words_per_region + used_of t2 k = at2 ∙ ap (λ (j : ℕ). j * t2.words_per_region + used_of t2 j) e2 in
-    let size_is : k * t2.words_per_region ≡ k * t1.words_per_region = ap (λ (j : ℕ). k * j) p.size in
-    let used = p.used in
-    let there : next ≡ a + size = omega arith in
-    (is ∙ ap (λ (j : ℕ). push_tile t2 j (Filler rest)) e2 ∙ sym (some_filler t2 k rest z), v_is ∙ ap (λ (j : ℕ). buffer_of j rest) there)
 
 none_open : (n m : ℕ) (x : Buffer) → slice_get (replicate {A = Option Buffer} n None) m ≡ Some (Some x) → ⊥
 none_open zero m x e = cc

@@ -1,1 +1,2 @@
+pub mod OpenBuffers
 pub mod Placement

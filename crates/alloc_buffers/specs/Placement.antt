@@ -8,6 +8,7 @@ use Rattle.regions.specs.Table.{Table, used_of, top_of, kind_of, first_free, tak
 use Rattle.regions.specs.Table.{HasNoForwarded, first_run, is_free, with_regions, run_regions}
 use Rattle.regions.specs.Walks.{AreFitting}
 use Rattle.alloc_buffers.specs.declared.buffers.Buffer.{Buffer}
+use Rattle.alloc_buffers.specs.OpenBuffers.{buffer_of}
 use Rattle.alloc_buffers.specs.declared.placement.Place.{Place}
 use Rattle.alloc_buffers.specs.declared.placement.Place.TheVariants as places
 
@@ -38,11 +39,6 @@ abbrev pub room_for : Table → Option ℕ → ℕ → Option Room
 room_for t None w = fresh_room t (first_free t)
 room_for t (Some k) w = if nat_le (used_of t k + w) t.words_per_region then Some (record { region = k; table = t }) else fresh_room t
     (first_free t)
-
--- an open buffer, unless it has no words
-abbrev pub buffer_of : ℕ → ℕ → Option Buffer
-buffer_of next zero = None
-buffer_of next (suc n) = Some (record { next = next; rest = suc n })
 
 abbrev pub with_filler : Table → ℕ → ℕ → Table
 with_filler t k zero = t

@@ -1,8 +1,9 @@
 //! The open buffers of the mutators, and the region that new ones are cut from.
 
-ghost use Rattle.std.specs.Prelude.{◌≡◌, ℕ, ◌<◌, ◌≤◌, ◌↔◌, length, Some, None, replicate, IsTrue, IfOk, slice_get};
+ghost use Rattle.std.specs.Prelude.{◌≡◌, ℕ, ◌<◌, ◌≤◌, ◌↔◌, length, Some, None, replicate, IsTrue, IfOk, slice_get, slice_index_or};
 ghost use Rattle.regions.specs.Table.{Table, top_of};
-ghost use Rattle.alloc_buffers.specs.Placement.{BuffersStand, AreAbove, buffer_of};
+ghost use Rattle.alloc_buffers.specs.Placement.{BuffersStand, AreAbove};
+ghost use Rattle.alloc_buffers.specs.OpenBuffers.{buffer_of, rest_of};
 
 use heap_words::addr::RegionNo;
 use heap_words::config::Config;
@@ -16,12 +17,75 @@ pub struct Buffer {
     pub rest: u32,
 }
 
+/// What is left of a mutator's buffer, or nothing: then both numbers are 0. So whether so many words are left is one look.
+#[derive(Clone, Copy)]
+pub(crate) struct OpenBuffer {
+    next: u32,
+    rest: u32,
+}
+
+impl Model for OpenBuffer {
+    ghost use Rattle.std.specs.Prelude.{◌≡◌, Option};
+    ghost use Rattle.alloc_buffers.specs.declared.buffers.Buffer.{Buffer};
+    ghost use Rattle.alloc_buffers.specs.OpenBuffers.{buffer_of, next_of, rest_of, parts_of};
+
+    ghost Value = { Option Buffer };
+
+    ghost view = { λ b. buffer_of b.next b.rest };
+
+    ghost invariant = { λ b. b.rest ≡ 0 → b.next ≡ 0 };
+
+    ghost inverse = { λ o. record { next = next_of o; rest = rest_of o } };
+
+    ghost inverse_ok = { λ a h. rw (parts_of a.next a.rest h).0 (rw (parts_of a.next a.rest h).1 (λ i. a)) };
+}
+
+impl OpenBuffer {
+    /// No buffer.
+    fn none() -> OpenBuffer
+        ensures { result ≡ None }
+    {
+        OpenBuffer { next: 0, rest: 0 }
+    }
+
+    /// What is left, none where nothing is.
+    #[inline(always)]
+    pub(crate) fn get(&self) -> Option<Buffer>
+        ensures { result ≡ self.now }
+    {
+        if self.rest == 0 {
+            return None;
+        }
+        Some(Buffer {
+            next: self.next,
+            rest: self.rest,
+        })
+    }
+
+    /// How many words are left.
+    #[inline(always)]
+    fn rest(&self) -> u32
+        ensures { result ≡ rest_of self.now }
+    {
+        self.rest
+    }
+
+    /// The words from an address on are left, or nothing is. The two numbers are written one by one, where they are.
+    #[inline(always)]
+    pub(crate) fn put(&mut self, next: u32, rest: u32)
+        ensures { self.new ≡ buffer_of next rest }
+    {
+        self.next = if rest == 0 { 0 } else { next };
+        self.rest = rest;
+    }
+}
+
 /// The current region, and the open buffer of each mutator that has one.
 #[derive(Drop)]
 pub struct AllocBuffers {
     pub(crate) words: u32,
     pub(crate) current: Option<u32>,
-    pub(crate) open_buffers: Vec<Option<Buffer>>,
+    pub(crate) open_buffers: Vec<OpenBuffer>,
 }
 
 impl Model for AllocBuffers {
@@ -32,28 +96,17 @@ impl Model for AllocBuffers {
     ghost view = { λ b. record { words = b.words; current = b.current; open_buffers = b.open_buffers.items } };
 }
 
-/// A buffer from an address on, unless no words are left.
-pub(crate) fn open_buffer(next: u32, rest: u32) -> Option<Buffer>
-    ensures { result ≡ buffer_of next rest }
-{
-    if rest == 0 {
-        None
-    } else {
-        Some(Buffer { next, rest })
-    }
-}
-
-fn no_buffers(alloc: Global, count: usize) -> Result<Vec<Option<Buffer>>, AllocError>
+fn no_buffers(alloc: Global, count: usize) -> Result<Vec<OpenBuffer>, AllocError>
     ensures { IfOk result (λ v. v.items ≡ replicate count None) }
 {
-    vec![in alloc; None; count]
+    vec![in alloc; OpenBuffer::none(); count]
 }
 
 /// Forgets each buffer.
-fn forget(buffers: &mut [Option<Buffer>])
+fn forget(buffers: &mut [OpenBuffer])
     ensures { buffers.new ≡ replicate (length buffers.old) None }
 {
-    buffers.fill(None);
+    buffers.fill(OpenBuffer::none());
 }
 
 impl AllocBuffers {
@@ -109,10 +162,20 @@ impl AllocBuffers {
     }
 
     /// What is left of a mutator's buffer, none where none is open.
+    #[inline(always)]
     pub fn open_buffer(&self, mutator: u32) -> Option<Buffer>
         requires { mutator < length self.now.open_buffers }
         ensures { slice_get self.now.open_buffers mutator ≡ Some result }
     {
-        self.open_buffers[mutator as usize]
+        self.open_buffers[mutator as usize].get()
+    }
+
+    /// How many words are left of a mutator's buffer, 0 where none is open. It is a look at one number.
+    #[inline(always)]
+    pub fn rest(&self, mutator: u32) -> u32
+        requires { mutator < length self.now.open_buffers }
+        ensures { result ≡ rest_of (slice_index_or self.now.open_buffers mutator None) }
+    {
+        self.open_buffers[mutator as usize].rest()
     }
 }

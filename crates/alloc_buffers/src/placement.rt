@@ -7,9 +7,10 @@ ghost use Rattle.regions.specs.Table.{used_of, kind_of, tile_in, push_tile, repl
 ghost use Rattle.regions.specs.Tiles.{Filler};
 ghost use Rattle.regions.specs.declared.row.Kind.TheVariants as kinds;
 ghost use Rattle.alloc_buffers.specs.Placement.{room_for, place_of, small_place_of, run_count, CanPlace, IsPlaced, IsPlace, HasRoom};
-ghost use Rattle.alloc_buffers.specs.Placement.{in_buffer, alone, in_new_buffer, with_buffer, buffer_of};
+ghost use Rattle.alloc_buffers.specs.Placement.{in_buffer, alone, in_new_buffer, with_buffer};
+ghost use Rattle.alloc_buffers.specs.OpenBuffers.{buffer_of};
 
-use crate::buffers::{AllocBuffers, Buffer, open_buffer};
+use crate::buffers::{AllocBuffers, Buffer};
 use heap_words::addr::{Addr, RegionNo};
 use heap_words::header::FillerSize;
 use regions::RegionTable;
@@ -134,7 +135,7 @@ impl AllocBuffers {
         if buffer.rest < size {
             return None;
         }
-        self.open_buffers[mutator as usize] = open_buffer(buffer.next + size, buffer.rest - size);
+        self.open_buffers[mutator as usize].put(buffer.next + size, buffer.rest - size);
         Some(buffer)
     }
 
@@ -151,7 +152,7 @@ impl AllocBuffers {
         ensures buffers_same { IfNone result (self.new ≡ self.old) }
         ensures placed { IfSome result (λ a. IsPlaced table.old table.new self.old self.new size a) }
     {
-        if let Some(open) = self.open_buffers[mutator as usize] {
+        if let Some(open) = self.open_buffer(mutator) {
             if size <= open.rest {
                 return Some(self.place_inside(table, mutator, size, open));
             }
@@ -182,7 +183,7 @@ impl AllocBuffers {
     {
         table.law();
         let next = split_filler(table, Addr::new(buffer.next), buffer.rest, size);
-        self.open_buffers[mutator as usize] = open_buffer(next.word(), buffer.rest - size);
+        self.open_buffers[mutator as usize].put(next.word(), buffer.rest - size);
         Addr::new(buffer.next)
     }
 
@@ -205,7 +206,7 @@ impl AllocBuffers {
         Some(at)
     }
 
-    /// At the start of a new buffer.
+    /// At the start of a new buffer, which is pushed as one filler.
     #[inline(never)]
     fn place_in_new(&mut self, table: &mut RegionTable, mutator: u32, size: u32) -> Option<Addr>
         requires mutator { mutator < length self.old.open_buffers }
@@ -220,16 +221,11 @@ impl AllocBuffers {
     {
         let region = room(table, self.current, self.words)?;
         table.law();
-        let at = push_filler(table, RegionNo::new(region), size);
-        let rest = self.words - size;
+        let at = push_filler(table, RegionNo::new(region), self.words);
         self.current = Some(region);
-        if rest == 0 {
-            self.open_buffers[mutator as usize] = None;
-            return Some(at);
-        }
         table.law();
-        let next = push_filler(table, RegionNo::new(region), rest);
-        self.open_buffers[mutator as usize] = open_buffer(next.word(), rest);
+        let next = split_filler(table, at, self.words, size);
+        self.open_buffers[mutator as usize].put(next.word(), self.words - size);
         Some(at)
     }
 }

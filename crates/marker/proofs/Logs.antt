@@ -53,6 +53,23 @@ early_more t log n b m m' m'' e p q =
     (λ a i. record { place = i.place; front = omega (arith, i.front); is = i.is })
     (λ a f. record { place = n; front = omega arith; is = e ∙ f }) p q
 
+-- what is marked already wants nothing
+pub early_marked : (t : Table) (log : List ℕ) (n b : ℕ) (m m' : Marker) → slice_get log n ≡ Some b → is_marked m'.bitmaps.next b ≡ true
+    → Reached t (IsEarly log n) m m' → Reached t (IsEarly log (n + 1)) m m'
+early_marked t log n b m m' e marked p =
+    early_more t log n b m m' m' e p (record {
+      stands = p.stands;
+      marks = record {
+        stays = λ a k. k;
+        only = λ a k. inl k;
+        each = λ a w _. let same : b ≡ a = cc in subst (λ (x : ℕ). is_marked m'.bitmaps.next x ≡ true) same marked;
+      };
+      same = record { previous = refl; tams = refl; running = refl };
+      scanned = refl;
+      scans = refl;
+      logs = refl;
+    })
+
 pub early_contained : (log : List ℕ) (n a : ℕ) → IsEarly log n a → Contains log a
 early_contained log n a i = (i.place, slice_get_within log i.place a i.is, get_or_from_slice_get log i.place a a i.is)
 

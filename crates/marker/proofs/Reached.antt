@@ -140,16 +140,24 @@ set_stands t m a n g l k size z st run below kept unmarked e scanned finger more
     (ap (λ (x : LiveCounts). x.previous) more)
     (subst (λ (x : LiveCounts). CountsWords t n x.next) (sym more) (counts_marked t m a n k size z st below unmarked e own words))
 
-pub set_marks : (t : Table) (m : Marker) (a : ℕ) (target : Option ℕ) (n : List Bool) (g : Scans) (l : LiveCounts)
-    → target ≡ Some a → a < length m.bitmaps.next → n ≡ set m.bitmaps.next a true
-    → MarksWanted t (λ b. target ≡ Some b) m (with_next m n g l)
-set_marks t m a target n g l is h e =
+pub set_marks_at : (t : Table) (m : Marker) (a : ℕ) (n : List Bool) (g : Scans) (l : LiveCounts)
+    → a < length m.bitmaps.next → n ≡ set m.bitmaps.next a true → MarksWanted t (λ b. a ≡ b) m (with_next m n g l)
+set_marks_at t m a n g l h e =
     let now : (b : ℕ) → is_marked n b ≡ is_marked (set m.bitmaps.next a true) b = λ b. ap (λ (l : List Bool). is_marked l b) e in
     record {
       stays = λ b k. now b ∙ set_stays m.bitmaps.next a b h k;
-      only = λ b k. elim (marked_set m.bitmaps.next a b (sym (now b) ∙ k)) [ inl old ↦ inl old | inr same ↦ inr (is ∙ ap Some (sym same)) ];
-      each = λ b w _. let same : b ≡ a = cc in now b ∙ rw same (get_or-set_same m.bitmaps.next a true false h);
+      only = λ b k. elim (marked_set m.bitmaps.next a b (sym (now b) ∙ k)) [ inl old ↦ inl old | inr same ↦ inr (sym same) ];
+      each = λ b w _. now b ∙ rw (sym w) (get_or-set_same m.bitmaps.next a true false h);
     }
+
+-- what is wanted is what a pointer leads to
+pub wanted_as : (t : Table) (m m' : Marker) (a : ℕ) (target : Option ℕ) → target ≡ Some a → MarksWanted t (λ b. a ≡ b) m m'
+    → MarksWanted t (λ b. target ≡ Some b) m m'
+wanted_as t m m' a target is w = record {
+  stays = w.stays;
+  only = λ b k. elim (w.only b k) [ inl old ↦ inl old | inr same ↦ inr (is ∙ ap Some same) ];
+  each = λ b e below. w.each b (let same : a ≡ b = cc in same) below;
+}
 
 -- the wanted addresses that are old are marked, and nothing else has changed but the fingers
 pub record Reached (t : Table) (wanted : ℕ → Type 0) (m m' : Marker) : Type 0 where

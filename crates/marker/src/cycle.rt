@@ -132,7 +132,7 @@ impl Marker {
         }
     }
 
-    /// Marks what a log names.
+    /// Marks what a log names. What is marked costs one look at a bit.
     fn reach_all(&mut self, table: &RegionTable, log: &DeletionLog)
         requires stands { MarkerStands table.now self.old }
         requires running { self.old.running ≡ true }
@@ -144,8 +144,13 @@ impl Marker {
         ensures scans { self.new.scans ≡ self.old.scans }
         ensures logs { self.new.logs ≡ self.old.logs }
     {
+        table.law();
         for place in 0..log.len() {
-            self.reach(table, Some(log.get(place)));
+            let at = log.get(place);
+            if self.bitmaps.next.get(at) {
+                continue;
+            }
+            self.reach(table, Some(at));
         }
     }
 

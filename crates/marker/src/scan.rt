@@ -5,9 +5,9 @@
 //!   scanned  marked, and so are its old targets as they were at the scan
 //! ```
 
-ghost use Rattle.std.specs.Prelude.{◌≡◌, ℕ, ◌+◌, ◌<◌, ◌≤◌, true, Some, length, slice_set};
+ghost use Rattle.std.specs.Prelude.{◌≡◌, ℕ, ◌+◌, ◌<◌, ◌≤◌, true, false, Some, length, slice_set};
 ghost use Rattle.regions.specs.Table.{pointers_at};
-ghost use Rattle.mark_bitmap.specs.Marks.{marked_count, HasNone};
+ghost use Rattle.mark_bitmap.specs.Marks.{is_marked, marked_count, HasNone};
 ghost use Rattle.mark_bitmap.specs.Tops.{below_next};
 ghost use Rattle.mark_bitmap.specs.Grey.{is_grey};
 ghost use Rattle.marker.specs.Stands.{MarkerStands, IsKept};
@@ -19,8 +19,8 @@ use heap_words::addr::{Addr, Ptr};
 use regions::RegionTable;
 
 impl Marker {
-    /// Marks what a pointer leads to, unless it is marked or was made since marking began. What is newly marked is grey, and its words
-    /// are counted.
+    /// Marks what a pointer leads to, unless it is marked or was made since marking began. The tests are part of the caller.
+    #[inline(always)]
     pub(crate) fn reach(&mut self, table: &RegionTable, target: Ptr)
         requires stands { MarkerStands table.now self.old }
         requires running { self.old.running ≡ true }
@@ -39,6 +39,25 @@ impl Marker {
         if !self.tams.lies_below_next(table, at) || self.bitmaps.next.get(at) {
             return;
         }
+        self.reach_unmarked(table, at);
+    }
+
+    /// Marks an old object that isn't marked. It is grey then, and its words are counted.
+    #[inline(never)]
+    fn reach_unmarked(&mut self, table: &RegionTable, at: Addr)
+        requires stands { MarkerStands table.now self.old }
+        requires running { self.old.running ≡ true }
+        requires below { below_next table.now self.old.tams at ≡ true }
+        requires unmarked { is_marked self.old.bitmaps.next at ≡ false }
+        requires kept { IsKept table.now self.old at }
+        ensures stands { MarkerStands table.now self.new }
+        ensures marks { MarksWanted table.now (λ a. at ≡ a) self.old self.new }
+        ensures same { SameRoles self.old self.new }
+        ensures scanned { self.new.grey.scanned ≡ self.old.grey.scanned }
+        ensures scans { self.new.scans ≡ self.old.scans }
+        ensures logs { self.new.logs ≡ self.old.logs }
+    {
+        table.law();
         let size = table.object_size(at);
         self.bitmaps.next.set(at);
         self.grey.add(at);

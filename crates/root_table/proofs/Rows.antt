@@ -98,12 +98,12 @@ some_address (Some a) some = (a, refl)
 some_address None some = absurd (cc)
 
 -- all roots are nil, and each bound 0
-pub new_bounded : (p : Places) → AreBounded p (replicate {A = Option ℕ} (root_places p) None) (replicate {A = ℕ} (p.mutators + 1) 0)
-new_bounded p = record {
+pub new_bounded : (p : Places) (used : List ℕ) → length used ≡ p.mutators + 1 → ((row : ℕ) → row ≤ p.mutators → get_or used row 0 ≡ 0)
+    → AreBounded p (replicate {A = Option ℕ} (root_places p) None) used
+new_bounded p used rows none = record {
   places = length-replicate {A = Option ℕ} (root_places p) None;
-  rows = length-replicate {A = ℕ} (p.mutators + 1) 0;
-  within = λ row low. let at : get_or (replicate (p.mutators + 1) 0) row 0 ≡ 0 =
-      get_or-replicate {A = ℕ} (p.mutators + 1) row 0 0 (omega arith) in omega (arith, at);
+  rows = rows;
+  within = λ row low. let at = none row low in omega (arith, at);
   nil = λ row low place from to. let end = row_within p row low in
       get_or-replicate {A = Option ℕ} (root_places p) place None None (omega (arith, to, end));
 }

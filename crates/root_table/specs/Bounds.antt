@@ -1,5 +1,5 @@
 -- The bounds of rows.
-use Rattle.std.specs.Prelude.{◌≡◌, ℕ, ◌+◌, ◌≤◌, List, Option, length, slice_index}
+use Rattle.std.specs.Prelude.{◌≡◌, ℕ, ◌+◌, ◌<◌, ◌≤◌, ◌^◌, List, Option, length, slice_index}
 use Rattle.heap_model.specs.Graph.{Places, root_places}
 use Rattle.root_table.specs.Roots.{row_start, row_length, AreNil}
 
@@ -14,3 +14,7 @@ pub record AreBounded (p : Places) (words : List (Option ℕ)) (used : List ℕ)
 pub record AreStarts (p : Places) (starts : List ℕ) : Type 0 where
   pub rows : length starts ≡ p.mutators + 1
   pub each : (row : ℕ) → row ≤ p.mutators → slice_index starts row ≡ row_start p row
+
+-- a place's number has 32 bits
+abbrev pub AreFew : Places → Type 0
+AreFew p = root_places p < 2 ^ 32

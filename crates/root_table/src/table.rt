@@ -1,35 +1,46 @@
 //! The table of roots.
 
-ghost use Rattle.std.specs.Prelude.{◌≡◌, ◌<◌, ◌≤◌, ◌+◌, ◌-◌, ◌^◌};
-ghost use Rattle.std.specs.Prelude.{None, IfOk, IfSome, IsSome, length, MatchOption, replicate, slice_index_or, slice_set};
+ghost use Rattle.std.specs.Prelude.{◌≡◌, ◌<◌, ◌≤◌, ◌+◌, ◌-◌, ◌^◌, ℕ};
+ghost use Rattle.std.specs.Prelude.{None, IfOk, IfSome, IsSome, length, map, MatchOption, replicate, slice_index, slice_index_or, slice_set};
 ghost use Rattle.heap_model.specs.Graph.{register_place, root_places, with_nils};
 ghost use Rattle.root_table.specs.Roots.{row_start, AreNil, IsNextNamed};
-ghost use Rattle.root_table.specs.Bounds.{AreStarts};
+ghost use Rattle.root_table.specs.Bounds.{AreStarts, AreFew};
+ghost use Rattle.root_table.specs.Rows.{start_of, used_of};
 
 use crate::places::Places;
 use heap_words::addr::Ptr;
 use std::alloc::{AllocError, Global};
 use std::marker::Model;
 
+/// A row of roots: the globals, or a mutator's registers.
+#[derive(Clone, Copy)]
+pub(crate) struct Row {
+    /// Where it starts, so that a register's place is a look and a sum, and no product. Places are below 2 to the 32nd, so the sum needs no
+    /// wider numbers.
+    pub(crate) start: u32,
+    /// A number from which on its roots are nil.
+    pub(crate) used: u32,
+}
+
 /// What each root place holds: nil, or the address of an object.
 pub struct Roots {
     places: Places,
     words: Vec<Ptr>,
-    /// Where each row starts, so that a register's place is a look and a sum, and no product.
-    starts: Vec<usize>,
-    /// For each row a number from which on its roots are nil.
-    used: Vec<u32>,
+    rows: Vec<Row>,
 }
 
 impl Model for Roots {
     ghost use Rattle.root_table.specs.Roots.{RootTable};
-    ghost use Rattle.root_table.specs.Bounds.{AreBounded, AreStarts};
+    ghost use Rattle.std.specs.Prelude.{map};
+    ghost use Rattle.root_table.specs.Bounds.{AreBounded, AreStarts, AreFew};
+    ghost use Rattle.root_table.specs.Rows.{start_of, used_of};
 
     ghost Value = { RootTable };
 
     ghost view = { λ r. record { places = r.places; words = r.words.items } };
 
-    ghost invariant = { λ r. AreBounded r.places r.words.items r.used.items × AreStarts r.places r.starts.items };
+    ghost invariant = { λ r. AreBounded r.places r.words.items (map used_of r.rows.items)
+        × AreStarts r.places (map start_of r.rows.items) × AreFew r.places };
 }
 
 /// Where it is let go there is one call, and not a drop for each of its parts.
@@ -38,8 +49,7 @@ impl Drop for Roots {
         let Roots {
             places: _,
             words: _,
-            starts: _,
-            used: _,
+            rows: _,
         } = self;
     }
 }
@@ -69,28 +79,36 @@ fn fill_nil(words: &mut [Ptr], first: usize, count: usize)
     }
 }
 
-/// Writes where each row starts.
-fn fill_starts(starts: &mut [usize], places: Places)
-    requires { length starts.old ≡ places.mutators + 1 }
-    ensures { AreStarts places starts.new }
+/// Writes where each row starts, and that nothing of it is in use.
+fn fill_rows(rows: &mut [Row], places: Places)
+    requires rows { length rows.old ≡ places.mutators + 1 }
+    requires few { AreFew places }
+    ensures starts { AreStarts places (map start_of rows.new) }
+    ensures unused { (row : ℕ) → row ≤ places.mutators → slice_index (map used_of rows.new) row ≡ 0 }
 {
-    for row in 0..starts.len() {
-        starts[row] = places.start_of(row);
+    for row in 0..rows.len() {
+        rows[row] = Row {
+            start: places.start_of(row) as u32,
+            used: 0,
+        };
     }
 }
 
 impl Roots {
-    /// All roots nil.
+    /// All roots nil. There is no memory for 2 to the 32nd places or more.
     pub fn new(alloc: Global, places: Places) -> Result<Roots, AllocError>
         ensures { IfOk result (λ r. r ≡ record { places = places; words = replicate (root_places places) None }) }
     {
-        let mut starts = vec![in alloc; 0; places.mutators() as usize + 1]?;
-        fill_starts(&mut starts, places);
+        let count = places.count();
+        if count > u32::MAX as usize {
+            return Err(AllocError);
+        }
+        let mut rows = vec![in alloc; Row { start: 0, used: 0 }; places.mutators() as usize + 1]?;
+        fill_rows(&mut rows, places);
         Ok(Roots {
             places,
-            words: vec![in alloc; None; places.count()]?,
-            starts,
-            used: vec![in alloc; 0; places.mutators() as usize + 1]?,
+            words: vec![in alloc; None; count]?,
+            rows,
         })
     }
 
@@ -117,7 +135,7 @@ impl Roots {
         requires register { register < self.now.places.registers }
         ensures { result ≡ register_place self.now.places mutator register }
     {
-        self.starts[mutator as usize + 1] + register as usize
+        (self.rows[mutator as usize + 1].start + register) as usize
     }
 
     /// What a place holds.
@@ -137,10 +155,10 @@ impl Roots {
         ensures { self.new ≡ record self.old { words = slice_set self.old.words (register_place self.old.places mutator register) value } }
     {
         let place = self.place_of(mutator, register);
+        let row = &mut self.rows[mutator as usize + 1];
         self.words[place] = value;
-        let row = mutator as usize + 1;
-        if self.used[row] <= register {
-            self.used[row] = register + 1;
+        if row.used <= register {
+            row.used = register + 1;
         }
     }
 
@@ -150,8 +168,8 @@ impl Roots {
         ensures { self.new ≡ record self.old { words = slice_set self.old.words global value } }
     {
         self.words[global as usize] = value;
-        if self.used[0] <= global {
-            self.used[0] = global + 1;
+        if self.rows[0].used <= global {
+            self.rows[0].used = global + 1;
         }
     }
 
@@ -173,12 +191,12 @@ impl Roots {
         } }
     {
         let row = mutator as usize + 1;
-        let used = self.used[row];
+        let used = self.rows[row].used;
         if used <= register {
             return;
         }
         let first = self.place_of(mutator, register);
-        self.used[row] = register;
+        self.rows[row].used = register;
         fill_nil(&mut self.words, first, (used - register) as usize);
     }
 
@@ -207,12 +225,12 @@ impl Roots {
         ensures within { IfSome result (λ place. place < length self.now.words) }
         ensures small { IfSome result (λ place. place + 1 < 2 ^ 64) }
     {
-        for row in self.places.row_of(from)..self.used.len() {
-            let used = self.used[row];
+        for row in self.places.row_of(from)..self.rows.len() {
+            let used = self.rows[row].used;
             if used == 0 {
                 continue;
             }
-            let start = self.starts[row];
+            let start = self.rows[row].start as usize;
             let end = start + used as usize;
             let Some(place) = first_named(&self.words, from.max(start), end) else {
                 continue;

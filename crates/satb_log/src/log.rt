@@ -6,9 +6,8 @@
 
 ghost use Rattle.std.specs.Prelude.{◌≡◌, ◌<◌, ◌≤◌, [], ◌∷◌, ◌++◌, ◌==◌, Some, length, slice_get};
 
+use arrayvec::ArrayVec;
 use heap_words::addr::Addr;
-use smallvec::SmallVec;
-use std::alloc::Global;
 use std::marker::Model;
 
 /// How many addresses a deletion log has room for.
@@ -17,34 +16,25 @@ pub const LOG_LEN: usize = 8;
 /// Addresses in the order in which they were logged, eight at most. Clauses see the list of them.
 #[derive(Drop)]
 pub struct DeletionLog {
-    addresses: SmallVec<u32, 8>,
+    addresses: ArrayVec<u32, 8>,
 }
 
 impl Model for DeletionLog {
-    ghost use Rattle.std.specs.Prelude.{List, ℕ, ◌≡◌};
+    ghost use Rattle.std.specs.Prelude.{List, ℕ};
 
     ghost Value = { List ℕ };
 
     ghost view = { λ log. log.addresses.items };
-
-    ghost invariant = { λ log. log.addresses.capacity ≡ 8 };
 }
 
 impl DeletionLog {
     /// An empty log. Its addresses stand in the value: no call takes memory.
-    pub(crate) fn new(alloc: Global) -> DeletionLog
+    pub(crate) fn new() -> DeletionLog
         ensures { result ≡ [] }
     {
         DeletionLog {
-            addresses: SmallVec::new(alloc),
+            addresses: ArrayVec::new(),
         }
-    }
-
-    /// An empty log, made where there is one already.
-    pub(crate) fn another(&self) -> DeletionLog
-        ensures { result ≡ [] }
-    {
-        DeletionLog::new(*self.addresses.allocator())
     }
 
     /// How many addresses are in the log.
@@ -69,7 +59,7 @@ impl DeletionLog {
         requires { length self.old < 8 }
         ensures { self.new ≡ self.old ++ address ∷ [] }
     {
-        self.addresses.push_reserved(address.word());
+        self.addresses.push(address.word());
     }
 
     /// The address at a place, in the order in which they were logged.

@@ -41,7 +41,7 @@ impl DeletionLogs {
     {
         let mut logs = Vec::with_capacity(alloc, mutators as usize)?;
         for _ in 0..mutators {
-            logs.push(DeletionLog::new(alloc))?;
+            logs.push(DeletionLog::new())?;
         }
         Ok(DeletionLogs { logs })
     }
@@ -104,8 +104,7 @@ impl DeletionLogs {
         ensures emptied { self.new ≡ slice_set self.old mutator [] }
     {
         let taken = &mut self.logs[mutator as usize];
-        let empty = taken.another();
-        std::mem::replace(taken, empty)
+        std::mem::replace(taken, DeletionLog::new())
     }
 }
 

@@ -3,6 +3,7 @@ pub mod Fresh
 pub mod Answers
 pub mod Mutators
 pub mod Storing
+pub mod Making
 pub mod Measures
 pub mod Reclaimed
 pub mod Refining

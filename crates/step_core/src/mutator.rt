@@ -16,7 +16,8 @@ ghost use Rattle.heap_steps.specs.declared.step.Refusal.TheVariants as refusals;
 ghost use Rattle.regions.specs.Table.{new_object};
 ghost use Rattle.alloc_buffers.specs.Placement.{address_of, place_of, CanHold, CanPlace, IsMadeAt, Placement, made_at};
 ghost use Rattle.step_core.specs.Stands.{ShowsGraph, KeepsFrom, Stands, heap_of, IsWordOf, IsRootWord};
-ghost use Rattle.step_core.specs.Answers.{Acts, HasNoPlace, IsFull, IsWithin, RepliesFull, Follows, new_reply};
+ghost use Rattle.step_core.specs.Answers.{Acts, IsFull, IsWithin, Follows, new_reply};
+ghost use Rattle.step_core.specs.Making.{MakesObject};
 ghost use Rattle.step_core.specs.Mutators.{ActsOn, value_of, weaks_made};
 ghost use Rattle.step_core.specs.Cycle.{LeavesRegions};
 
@@ -79,6 +80,7 @@ fn make_inside(
     requires within { size ≤ length table.old.regions * table.old.words_per_region }
     requires small { size ≤ max_object_words }
     requires ready { CanPlace table.old buffers.old size }
+    requires half { 2 * size ≤ table.old.words_per_region }
     requires size { size ≡ size_of counts.pointers weaks counts.values }
     ensures made { IfSome result (λ a. (p : Placement) × IsMadeAt table.old table.new buffers.old buffers.new mutator size
         (new_object name counts.pointers weaks counts.values) a p) }
@@ -86,9 +88,6 @@ fn make_inside(
     ensures buffers_same { IfNone result (buffers.new ≡ buffers.old) }
 {
     table.law();
-    if table.words_per_region() < 2 * size {
-        return None;
-    }
     let open = buffers.cut(table, mutator, size)?;
     let at = Addr::new(open.next);
     table.make_object(
@@ -129,13 +128,14 @@ fn make_in_place(
     Ok(make(table, place, name, header_counts(counts, weaks)))
 }
 
-/// Makes a new object, and answers its address.
+/// Makes a new object, and answers its address: in the mutator's buffer, if it can't be humongous and there is room.
 #[inline(always)]
 fn create(
     table: &mut RegionTable,
     buffers: &mut AllocBuffers,
     mutator: u32,
     size: u32,
+    humongous: bool,
     name: u64,
     counts: Counts,
     weaks: u8,
@@ -144,6 +144,7 @@ fn create(
     requires within { size ≤ length table.old.regions * table.old.words_per_region }
     requires small { size ≤ max_object_words }
     requires ready { CanPlace table.old buffers.old size }
+    requires half { humongous ≡ false → 2 * size ≤ table.old.words_per_region }
     requires size { size ≡ size_of counts.pointers weaks counts.values }
     ensures made { IfOk result (λ a. (p : Placement) × IsMadeAt table.old table.new buffers.old buffers.new mutator size
         (new_object name counts.pointers weaks counts.values) a p) }
@@ -151,10 +152,12 @@ fn create(
     ensures table_same { OnErr result (table.new ≡ table.old) }
     ensures buffers_same { OnErr result (buffers.new ≡ buffers.old) }
 {
-    match make_inside(table, buffers, mutator, size, name, counts, weaks) {
-        Some(at) => Ok(at),
-        None => make_in_place(table, buffers, mutator, size, name, counts, weaks),
+    if !humongous {
+        if let Some(at) = make_inside(table, buffers, mutator, size, name, counts, weaks) {
+            return Ok(at);
+        }
     }
+    make_in_place(table, buffers, mutator, size, name, counts, weaks)
 }
 
 /// How many weak slots the object that an action makes has. `act` asks it, so that `new_object` stands there once.
@@ -423,8 +426,17 @@ impl Core {
         16 < size && self.config.object_limit() < size
     }
 
+    /// Whether an object of so many words may be humongous, which has more than half a region. Of up to 8 none is, since a region has 16.
+    #[inline(always)]
+    fn is_humongous(&self, size: u32) -> bool
+        requires { size ≤ max_object_words }
+        ensures { result ≡ false → 2 * size ≤ self.now.table.words_per_region }
+    {
+        8 < size && self.table.words_per_region() < 2 * size
+    }
+
     /// Whether an object has few fields and no weak slot, and leaves something of the mutator's buffer. No promise hangs on the answer. The
-    /// tests are those of `make_inside` and `cut`, in the same numbers, so that the compiler leaves those out.
+    /// last test is that of `cut`, in the same numbers, so that the compiler leaves that out.
     #[inline(always)]
     fn is_small(&self, mutator: u32, counts: Counts, weaks: u8) -> bool
         requires { mutator < self.now.config.mutators }
@@ -433,14 +445,7 @@ impl Core {
         if weaks > 0 || 6 < size || self.next == u64::MAX {
             return false;
         }
-        let size = size as u32;
-        if self.table.words_per_region() < 2 * size {
-            return false;
-        }
-        match self.buffers.open_buffer(mutator) {
-            Some(open) => size < open.rest,
-            None => false,
-        }
+        (size as u32) < self.buffers.rest(mutator)
     }
 
     /// Makes an object with so many weak slots, 0 of them for a plain one, and answers its name, or why it is refused. A small one is made
@@ -455,19 +460,12 @@ impl Core {
     ) -> Result<u64, Refusal>
         requires mutator { mutator < self.old.config.mutators }
         requires to { IsRegister (places_of self.old.config) to }
-        ensures acts { (g : Graph) → ShowsGraph g self.old → Acts g mutator (actions.NewWeak to counts weaks) (new_reply result) self.new
-            ⊎ RepliesFull g mutator (actions.NewWeak to counts weaks) self.old (new_reply result) self.new }
-        ensures keeps { (s : Graph) → KeepsFrom s self.old → KeepsFrom s self.new }
-        ensures after { ActsOn mutator (actions.NewWeak to counts weaks) (new_reply result) self.old self.new }
-        ensures leaves { LeavesRegions self.old self.new }
-        ensures full { HasNoPlace self.old mutator (size_of counts.pointers weaks counts.values) → (name : Option ℕ)
-            → (new_reply result) ≢ replies.Named name }
-        ensures within { IsWithin self.old.config (actions.NewWeak to counts weaks) (new_reply result) }
+        ensures { MakesObject mutator to counts weaks (new_reply result) self.old self.new }
     {
         if self.is_small(mutator, counts, weaks) {
             self.new_here(mutator, to, counts, weaks)
         } else {
-            self.new_apart(mutator, to, counts, weaks)
+            self.made_apart(mutator, to, counts, weaks)
         }
     }
 
@@ -476,19 +474,29 @@ impl Core {
     fn new_object(&mut self, mutator: u32, to: Register, counts: Counts, weaks: u8) -> Reply
         requires mutator { mutator < self.old.config.mutators }
         requires to { IsRegister (places_of self.old.config) to }
-        ensures acts { (g : Graph) → ShowsGraph g self.old → Acts g mutator (actions.NewWeak to counts weaks) result self.new
-            ⊎ RepliesFull g mutator (actions.NewWeak to counts weaks) self.old result self.new }
-        ensures keeps { (s : Graph) → KeepsFrom s self.old → KeepsFrom s self.new }
-        ensures after { ActsOn mutator (actions.NewWeak to counts weaks) result self.old self.new }
-        ensures leaves { LeavesRegions self.old self.new }
-        ensures full { HasNoPlace self.old mutator (size_of counts.pointers weaks counts.values) → (name : Option ℕ)
-            → result ≢ replies.Named name }
-        ensures within { IsWithin self.old.config (actions.NewWeak to counts weaks) result }
+        ensures { MakesObject mutator to counts weaks result self.old self.new }
     {
         new_reply(self.made(mutator, to, counts, weaks))
     }
 
-    /// Makes an object, as a call. What it answers is in registers, as a reply wouldn't be.
+    /// Makes an object by a call, which writes its answer into memory. That memory is cleared here, so that who makes a small object doesn't
+    /// clear any.
+    #[inline(always)]
+    fn made_apart(
+        &mut self,
+        mutator: u32,
+        to: Register,
+        counts: Counts,
+        weaks: u8,
+    ) -> Result<u64, Refusal>
+        requires mutator { mutator < self.old.config.mutators }
+        requires to { IsRegister (places_of self.old.config) to }
+        ensures { MakesObject mutator to counts weaks (new_reply result) self.old self.new }
+    {
+        self.new_apart(mutator, to, counts, weaks)
+    }
+
+    /// Makes an object, as a call.
     #[inline(never)]
     fn new_apart(
         &mut self,
@@ -499,14 +507,7 @@ impl Core {
     ) -> Result<u64, Refusal>
         requires mutator { mutator < self.old.config.mutators }
         requires to { IsRegister (places_of self.old.config) to }
-        ensures acts { (g : Graph) → ShowsGraph g self.old → Acts g mutator (actions.NewWeak to counts weaks) (new_reply result) self.new
-            ⊎ RepliesFull g mutator (actions.NewWeak to counts weaks) self.old (new_reply result) self.new }
-        ensures keeps { (s : Graph) → KeepsFrom s self.old → KeepsFrom s self.new }
-        ensures after { ActsOn mutator (actions.NewWeak to counts weaks) (new_reply result) self.old self.new }
-        ensures leaves { LeavesRegions self.old self.new }
-        ensures full { HasNoPlace self.old mutator (size_of counts.pointers weaks counts.values) → (name : Option ℕ)
-            → (new_reply result) ≢ replies.Named name }
-        ensures within { IsWithin self.old.config (actions.NewWeak to counts weaks) (new_reply result) }
+        ensures { MakesObject mutator to counts weaks (new_reply result) self.old self.new }
     {
         self.new_here(mutator, to, counts, weaks)
     }
@@ -522,14 +523,7 @@ impl Core {
     ) -> Result<u64, Refusal>
         requires mutator { mutator < self.old.config.mutators }
         requires to { IsRegister (places_of self.old.config) to }
-        ensures acts { (g : Graph) → ShowsGraph g self.old → Acts g mutator (actions.NewWeak to counts weaks) (new_reply result) self.new
-            ⊎ RepliesFull g mutator (actions.NewWeak to counts weaks) self.old (new_reply result) self.new }
-        ensures keeps { (s : Graph) → KeepsFrom s self.old → KeepsFrom s self.new }
-        ensures after { ActsOn mutator (actions.NewWeak to counts weaks) (new_reply result) self.old self.new }
-        ensures leaves { LeavesRegions self.old self.new }
-        ensures full { HasNoPlace self.old mutator (size_of counts.pointers weaks counts.values) → (name : Option ℕ)
-            → (new_reply result) ≢ replies.Named name }
-        ensures within { IsWithin self.old.config (actions.NewWeak to counts weaks) (new_reply result) }
+        ensures { MakesObject mutator to counts weaks (new_reply result) self.old self.new }
     {
         let size = counts.size(weaks);
         if self.is_too_big(size) {
@@ -539,13 +533,16 @@ impl Core {
             return Err(Refusal::NamesSpent);
         }
         self.table.law();
+        let size = size as u32;
+        let humongous = self.is_humongous(size);
         let name = self.next;
         let table = &mut self.table;
         let Ok(at) = create(
             table,
             &mut self.buffers,
             mutator,
-            size as u32,
+            size,
+            humongous,
             name,
             counts,
             weaks,

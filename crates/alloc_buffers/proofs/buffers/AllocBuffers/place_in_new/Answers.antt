@@ -1,50 +1,37 @@
-use Rattle.std.proofs.Common.{refl, ap, ◌+◌, ◌-◌, ◌≤◌, arith}
+use Rattle.std.proofs.Common.{◌<◌, ◌≤◌, ◌-◌, ◌∙◌, ℕ, ap, refl, arith}
+use Rattle.regions.specs.Tiles.{Filler}
+use Rattle.regions.specs.Table.{push_tile}
+use Rattle.alloc_buffers.specs.OpenBuffers.{buffer_of}
 use Rattle.alloc_buffers.specs.Placement.{Buffers}
-use Rattle.alloc_buffers.proofs.Placed.{pushed_by, next_room, whole_placed, part_placed, in_new_is, nothing_more, more_is}
+use Rattle.alloc_buffers.proofs.Placed.{pushed_by, in_new_is}
+use Rattle.alloc_buffers.proofs.Whole.{new_placed, new_split}
 use Rattle.alloc_buffers.proofs.buffers.AllocBuffers.place_in_new.Goals as goal
-
-pub returns-then-rest-eq0-clause-placed : goal.returns-then-rest-eq0-clause-placed
-returns-then-rest-eq0-clause-placed c = let r = c.in_ok-region.ensures.room in
-    let fits = ap (λ (d : Buffers). d.words) c.self.view_is in
-    let p = pushed_by _ _ _ _ _ _ _ _ r (let f = c.requires.fits in
-    omega arith) c.new.ensures c.law.ensures.positive c.law.ensures.fitting c.requires.ready.positive c.push_filler-at.ensures.at
-    c.push_filler-at.ensures.pushed in
-    whole_placed _ _ _ _ _ _ _ _ _ _ c.self.view_is c.requires.ready.stand c.requires.ready.unmoved r p
-
-pub push_filler-next-requires : goal.push_filler-next-requires
-push_filler-next-requires c = let r = c.in_ok-region.ensures.room in
-    let fits = ap (λ (d : Buffers). d.words) c.self.view_is in
-    let le : c.args.size ≤ c.self.inside.words = (let f = c.requires.fits in omega arith) in
-    let p = pushed_by _ _ _ _ _ _ _ _ r le c.new.ensures c.law.ensures.positive c.law.ensures.fitting c.requires.ready.positive
-    c.push_filler-at.ensures.at c.push_filler-at.ensures.pushed in
-    let n = next_room _ _ _ _ _ _ _ _ c.requires.ready.unmoved r le p c.new-2.ensures in
-    record { known = n.known; ordinary = n.ordinary; positive = omega arith; room = n.room }
 
 pub returns-clause-placed : goal.returns-clause-placed
 returns-clause-placed c = let r = c.in_ok-region.ensures.room in
     let fits = ap (λ (d : Buffers). d.words) c.self.view_is in
-    let le : c.args.size ≤ c.self.inside.words = (let f = c.requires.fits in omega arith) in
-    let p = pushed_by _ _ _ _ _ _ _ _ r le c.new.ensures c.law.ensures.positive c.law.ensures.fitting c.requires.ready.positive
-    c.push_filler-at.ensures.at c.push_filler-at.ensures.pushed in
-    part_placed _ _ _ _ _ _ _ _ _ _ _ _ _ _ _ _ c.self.view_is c.requires.ready.stand c.requires.ready.unmoved r le p c.new-2.ensures refl
-    (omega arith) c.law-2.ensures.positive c.law-2.ensures.fitting c.push_filler-next.ensures.at c.push_filler-next.ensures.pushed
-    c.word.ensures c.open_buffer.ensures
+    let le : c.args.size ≤ c.self.inside.words = (let f = c.requires.fits in omega (arith, f, fits)) in
+    new_placed _ _ _ _ _ _ _ _ _ _ _ _ _ _ c.self.view_is c.requires.ready.stand c.requires.ready.unmoved r le c.new.ensures
+    c.law.ensures.positive c.law.ensures.fitting c.requires.ready.positive c.push_filler-at.ensures.at c.push_filler-at.ensures.pushed
+    c.split_filler-next.ensures.split (c.word.ensures ∙ c.split_filler-next.ensures.rest) c.put.ensures
 
 pub returns-clause-some : goal.returns-clause-some
 returns-clause-some c = let r = c.in_ok-region.ensures.room in
     let fits = ap (λ (d : Buffers). d.words) c.self.view_is in
-    let le : c.args.size ≤ c.self.inside.words = (let f = c.requires.fits in omega arith) in
-    let p = pushed_by _ _ _ _ _ _ _ _ r le c.new.ensures c.law.ensures.positive c.law.ensures.fitting c.requires.ready.positive
-    c.push_filler-at.ensures.at c.push_filler-at.ensures.pushed in
-    let m = more_is _ _ _ _ _ _ _ (c.self.inside.words - c.args.size) _ _ _ _ c.new.ensures c.new-2.ensures
-    (omega arith) p c.push_filler-at.ensures.at c.push_filler-next.ensures.at c.push_filler-next.ensures.pushed c.word.ensures
-    c.open_buffer.ensures in
-    in_new_is c.args.table.now _ _ _ _ _ c.args.mutator _ _ _ _ _ c.self.view_is c.new.ensures c.in_ok-region.ensures.some
-    c.push_filler-at.ensures.at c.push_filler-at.ensures.pushed m.0 m.1
+    let le : c.args.size ≤ c.self.inside.words = (let f = c.requires.fits in omega (arith, f, fits)) in
+    let s = new_split c.room.new.table c.push_filler-at.new.table c.split_filler-next.new.table c.new.result c.in_ok-region.region
+    c.self.inside.words c.args.size c.push_filler-at.result c.law.ensures.fitting r.known r.ordinary c.requires.ready.positive le r.room
+    c.new.ensures c.push_filler-at.ensures.at c.push_filler-at.ensures.pushed c.split_filler-next.ensures.split in
+    in_new_is c.args.table.now c.room.new.table (push_tile c.room.new.table c.in_ok-region.region (Filler c.args.size)) _ _ _ c.args.mutator
+    c.in_ok-region.region _ c.args.size c.push_filler-at.result _ c.self.view_is refl c.in_ok-region.ensures.some s.1 refl s.0
+    (c.put.ensures ∙ ap (λ (j : ℕ). buffer_of j (c.self.inside.words - c.args.size))
+    (c.word.ensures ∙ c.split_filler-next.ensures.rest))
 
-pub returns-then-rest-eq0-clause-some : goal.returns-then-rest-eq0-clause-some
-returns-then-rest-eq0-clause-some c =
-    let m = nothing_more c.push_filler-at.new.table c.in_ok-region.region (c.self.inside.words - c.args.size)
-    (c.push_filler-at.result + c.args.size) (omega arith) in
-    in_new_is c.args.table.now _ _ _ _ _ c.args.mutator _ _ _ _ _ c.self.view_is c.new.ensures c.in_ok-region.ensures.some
-    c.push_filler-at.ensures.at c.push_filler-at.ensures.pushed m.0 m.1
+-- the buffer is one filler
+pub split_filler-next-requires-clause-filler : goal.split_filler-next-requires-clause-filler
+split_filler-next-requires-clause-filler c = let r = c.in_ok-region.ensures.room in
+    let fits = ap (λ (d : Buffers). d.words) c.self.view_is in
+    let some : 0 < c.self.inside.words =
+    (let f = c.requires.fits in let some = c.requires.ready.positive in omega (arith, f, fits, some)) in
+    (pushed_by _ _ _ _ _ _ _ _ r (omega arith) c.new.ensures c.law.ensures.positive c.law.ensures.fitting some
+    c.push_filler-at.ensures.at c.push_filler-at.ensures.pushed).is

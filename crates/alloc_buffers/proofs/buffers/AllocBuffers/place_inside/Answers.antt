@@ -6,7 +6,7 @@ use Rattle.alloc_buffers.proofs.buffers.AllocBuffers.place_inside.Goals as goal
 pub returns-clause-placed : goal.returns-clause-placed
 returns-clause-placed c = inside_placed _ _ _ _ _ _ _ _ _ _ _ c.self.view_is c.requires.ready.stand c.requires.ready.unmoved
     c.law.ensures.positive c.law.ensures.fitting c.requires.opened c.requires.ready.positive c.requires.room c.new.ensures
-    c.split_filler-next.ensures.split (c.word.ensures ∙ c.split_filler-next.ensures.rest) c.open_buffer.ensures c.new-2.ensures
+    c.split_filler-next.ensures.split (c.word.ensures ∙ c.split_filler-next.ensures.rest) c.put.ensures c.new-2.ensures
 
 pub split_filler-next-requires-clause-small : goal.split_filler-next-requires-clause-small
 split_filler-next-requires-clause-small c =

@@ -1,9 +1,6 @@
-use Rattle.std.proofs.Common.{arith, ◌≡◌, ◌∙◌, true, refl, sym, inl, inr}
-use Rattle.std.proofs.lemmas.Bool.{cases_Bool}
-use Rattle.mark_bitmap.specs.Marks.{is_marked}
+use Rattle.std.proofs.Common.{◌≡◌, ◌∙◌, true, sym}
 use Rattle.mark_bitmap.specs.Tops.{below_next}
-use Rattle.marker.proofs.Reached.{old_within, mark_fits, set_stands, set_marks}
-use Rattle.marker.proofs.Views.{kept_object}
+use Rattle.marker.proofs.Reached.{old_within, wanted_as}
 use Rattle.marker.proofs.marker.Marker.reach.Goals as goal
 
 pub get-requires : goal.get-requires
@@ -11,62 +8,18 @@ get-requires c =
     let below : below_next c.args.table.now c.args.self.now.tams c.in-Some.at ≡ true = cc in
     old_within c.args.table.now c.args.self.now c.in-Some.at c.law.ensures.positive c.requires.stands below
 
-pub set-requires : goal.set-requires
-set-requires c =
-    let below : below_next c.args.table.now c.args.self.now.tams c.in-Some.at ≡ true = cc in
-    old_within c.args.table.now c.args.self.now c.in-Some.at c.law.ensures.positive c.requires.stands below
+pub reach_unmarked-requires-clause-below : goal.reach_unmarked-requires-clause-below
+reach_unmarked-requires-clause-below c = cc
 
-pub object_size-size-requires : goal.object_size-size-requires
-object_size-size-requires c =
-    let below : below_next c.args.table.now c.args.self.now.tams c.in-Some.at ≡ true = cc in
-    let kept = c.requires.kept c.in-Some.at c.in-Some.is below in
-    let object = kept_object c.args.table.now c.args.self.now.tams c.args.self.now.bitmaps.previous c.in-Some.at kept.object kept.is in
-    rw object refl
+pub reach_unmarked-requires-clause-unmarked : goal.reach_unmarked-requires-clause-unmarked
+reach_unmarked-requires-clause-unmarked c = sym c.get.ensures ∙ c.if-get.false
 
-pub add-requires-2-clause-known : goal.add-requires-2-clause-known
-add-requires-2-clause-known c =
+pub reach_unmarked-requires-clause-kept : goal.reach_unmarked-requires-clause-kept
+reach_unmarked-requires-clause-kept c =
     let below : below_next c.args.table.now c.args.self.now.tams c.in-Some.at ≡ true = cc in
-    (mark_fits c.args.table.now c.args.self.now c.in-Some.at c.region_of.result c.object_size-size.result c.law.ensures c.requires.stands
-    below (sym c.get.ensures ∙ c.if-get.false) c.region_of.ensures c.object_size-size.ensures).0
-
-pub add-requires-2-clause-room : goal.add-requires-2-clause-room
-add-requires-2-clause-room c =
-    let below : below_next c.args.table.now c.args.self.now.tams c.in-Some.at ≡ true = cc in
-    (mark_fits c.args.table.now c.args.self.now c.in-Some.at c.region_of.result c.object_size-size.result c.law.ensures c.requires.stands
-    below (sym c.get.ensures ∙ c.if-get.false) c.region_of.ensures c.object_size-size.ensures).1
-
-pub returns-clause-stands : goal.returns-clause-stands
-returns-clause-stands c =
-    let below : below_next c.args.table.now c.args.self.now.tams c.in-Some.at ≡ true = cc in
-    let finger = c.add.ensures.fingers c.args.self.now.bitmaps.next (sym c.requires.stands.scanned)
-    (c.requires.stands.finger c.requires.running) in
-    set_stands c.args.table.now c.args.self.now c.in-Some.at c.set.new.self c.add.new.self c.add-2.new.self c.region_of.result
-    c.object_size-size.result c.law.ensures.positive c.requires.stands c.requires.running below
-    (c.requires.kept c.in-Some.at c.in-Some.is below) (sym c.get.ensures ∙ c.if-get.false) c.set.ensures
-    c.add.ensures.scanned (rw c.set.ensures finger) c.add-2.ensures c.region_of.ensures c.object_size-size.ensures
+    c.requires.kept c.in-Some.at c.in-Some.is below
 
 pub returns-clause-marks : goal.returns-clause-marks
 returns-clause-marks c =
-    let below : below_next c.args.table.now c.args.self.now.tams c.in-Some.at ≡ true = cc in
-    let inside = old_within c.args.table.now c.args.self.now c.in-Some.at c.law.ensures.positive c.requires.stands below in
-    set_marks c.args.table.now c.args.self.now c.in-Some.at c.args.target c.set.new.self c.add.new.self c.add-2.new.self c.in-Some.is inside
-    c.set.ensures
-
-pub add-requires-clause-known : goal.add-requires-clause-known
-add-requires-clause-known c =
-    let below : below_next c.args.table.now c.args.self.now.tams c.in-Some.at ≡ true = cc in
-    omega (
-      arith,
-      old_within c.args.table.now c.args.self.now c.in-Some.at c.law.ensures.positive c.requires.stands below,
-      c.requires.stands.scanned,
-    )
-
--- what isn't marked isn't scanned
-pub add-requires-clause-unscanned : goal.add-requires-clause-unscanned
-add-requires-clause-unscanned c = elim (cases_Bool (is_marked c.args.self.now.grey.scanned c.in-Some.at)) [
-  | inl scanned ↦
-      let marked = c.requires.stands.scanned_marked c.requires.running c.in-Some.at scanned in
-      let unmarked = sym c.get.ensures ∙ c.if-get.false in
-      absurd cc
-  | inr unscanned ↦ unscanned
-]
+    wanted_as c.args.table.now c.args.self.now c.reach_unmarked.new.self c.in-Some.at c.args.target c.in-Some.is
+    c.reach_unmarked.ensures.marks

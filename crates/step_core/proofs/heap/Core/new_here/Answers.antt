@@ -1,4 +1,4 @@
-use Rattle.std.proofs.Common.{◌≡◌, ◌<◌, ◌*◌, ℕ, arith, subst, sym, ap, ◌∙◌, inl}
+use Rattle.std.proofs.Common.{◌≡◌, ◌<◌, arith, rules, subst, sym, ap, inl}
 use Rattle.heap_model.specs.Graph.{Places}
 use Rattle.step_core.proofs.Cores.Keeping.{placed_in, register_there}
 use Rattle.step_core.specs.Stands.{CoreState, ShowsGraph, KeepsFrom}
@@ -21,8 +21,8 @@ invariant_of-self-2 c =
     (new_kept _ c.args.mutator c.args.to _ _ _ c.args.counts.pointers c.args.weaks c.args.counts.values c.self.invariant w
     (omega (arith, fits, same, c.size-size.ensures)) c.if-self.false)
 
-pub returns-clause-acts : goal.returns-clause-acts
-returns-clause-acts c = λ g s.
+pub returns : goal.returns
+returns c =
     let m = c.in-Ok.ensures.made.1 in
     let fits = c.is_too_big.ensures.fits c.if-is_too_big.false in
     let same : object_limit c.self.inside.config ≡ object_limit c.args.self.now.config =
@@ -30,48 +30,36 @@ returns-clause-acts c = λ g s.
     let layers = c.self.invariant.layers in
     let w = creates _ _ _ _ _ _ c.self.inside.next c.args.counts.pointers c.args.weaks c.args.counts.values c.law.ensures
     m.positive m.fitting layers.unmoved layers.buffers m.placed (omega (arith, c.size-size.ensures)) in
-    let s' = subst (λ (d : CoreState). ShowsGraph g d) (sym c.self.view_is) s in
-    inl (rw (c.set_register.ensures, register_there _ c.self.invariant c.args.mutator c.args.to.number, m.at, m.made, m.buffers)
-    (new_acts _ c.args.mutator c.args.to _ _ _ c.args.counts.pointers c.args.weaks c.args.counts.values c.self.invariant w
-    (omega (arith, fits, same, c.size-size.ensures)) c.if-self.false g s'))
-
-pub returns-clause-keeps : goal.returns-clause-keeps
-returns-clause-keeps c = λ s f.
-    let m = c.in-Ok.ensures.made.1 in
-    let fits = c.is_too_big.ensures.fits c.if-is_too_big.false in
-    let same : object_limit c.self.inside.config ≡ object_limit c.args.self.now.config =
-    ap (λ (d : CoreState). object_limit d.config) c.self.view_is in
-    let layers = c.self.invariant.layers in
-    let w = creates _ _ _ _ _ _ c.self.inside.next c.args.counts.pointers c.args.weaks c.args.counts.values c.law.ensures
-    m.positive m.fitting layers.unmoved layers.buffers m.placed (omega (arith, c.size-size.ensures)) in
-    let f' = subst (λ (d : CoreState). KeepsFrom s d) (sym c.self.view_is) f in
-    rw (c.set_register.ensures, register_there _ c.self.invariant c.args.mutator c.args.to.number, m.at, m.made, m.buffers)
-    (new_keeps _ c.args.mutator c.args.to _ _ _ c.args.counts.pointers c.args.weaks c.args.counts.values c.self.invariant w
-    (omega (arith, fits, same, c.size-size.ensures)) c.if-self.false s f')
-
-pub returns-clause-leaves : goal.returns-clause-leaves
-returns-clause-leaves c =
-    let m = c.in-Ok.ensures.made.1 in
-    let fits = c.is_too_big.ensures.fits c.if-is_too_big.false in
-    let same : object_limit c.self.inside.config ≡ object_limit c.args.self.now.config =
-    ap (λ (d : CoreState). object_limit d.config) c.self.view_is in
-    let layers = c.self.invariant.layers in
-    let w = creates _ _ _ _ _ _ c.self.inside.next c.args.counts.pointers c.args.weaks c.args.counts.values c.law.ensures
-    m.positive m.fitting layers.unmoved layers.buffers m.placed (omega (arith, c.size-size.ensures)) in
-    rw (c.set_register.ensures, register_there _ c.self.invariant c.args.mutator c.args.to.number, m.at, m.made, m.buffers)
-    (new_leaves _ c.args.mutator c.args.to _ _ _ c.args.counts.pointers c.args.weaks c.args.counts.values c.self.invariant w
-    (omega (arith, fits, same, c.size-size.ensures)) c.if-self.false _ c.self.view_is)
-
-pub returns-clause-after : goal.returns-clause-after
-returns-clause-after c =
-    let m = c.in-Ok.ensures.made.1 in
-    rw (c.set_register.ensures, register_there _ c.self.invariant c.args.mutator c.args.to.number, m.at, m.made, m.buffers)
-    (made_in_place _ _ c.args.mutator c.args.to c.args.counts c.args.weaks c.size-size.result _ _ _ c.self.view_is
-    m.place c.size-size.ensures)
-
-pub returns-clause-full : goal.returns-clause-full
-returns-clause-full c =
-    λ none name e. has_place _ _ c.args.mutator c.size-size.result _ _ c.self.view_is c.in-Ok.ensures.made.1.place c.size-size.ensures none
+    record {
+      acts = λ g s. inl (rw (
+        c.set_register.ensures,
+        register_there _ c.self.invariant c.args.mutator c.args.to.number,
+        m.at,
+        m.made,
+        m.buffers,
+      )
+          (new_acts _ c.args.mutator c.args.to _ _ _ c.args.counts.pointers c.args.weaks c.args.counts.values c.self.invariant w
+          (omega (arith, fits, same, c.size-size.ensures)) c.if-self.false g
+          (subst (λ (d : CoreState). ShowsGraph g d) (sym c.self.view_is) s)));
+      keeps = λ s f. rw (
+        c.set_register.ensures,
+        register_there _ c.self.invariant c.args.mutator c.args.to.number,
+        m.at,
+        m.made,
+        m.buffers,
+      )
+          (new_keeps _ c.args.mutator c.args.to _ _ _ c.args.counts.pointers c.args.weaks c.args.counts.values c.self.invariant w
+          (omega (arith, fits, same, c.size-size.ensures)) c.if-self.false s
+          (subst (λ (d : CoreState). KeepsFrom s d) (sym c.self.view_is) f));
+      after = rw (c.set_register.ensures, register_there _ c.self.invariant c.args.mutator c.args.to.number, m.at, m.made, m.buffers)
+          (made_in_place _ _ c.args.mutator c.args.to c.args.counts c.args.weaks c.size-size.result _ _ _ c.self.view_is
+          m.place c.size-size.ensures);
+      leaves = rw (c.set_register.ensures, register_there _ c.self.invariant c.args.mutator c.args.to.number, m.at, m.made, m.buffers)
+          (new_leaves _ c.args.mutator c.args.to _ _ _ c.args.counts.pointers c.args.weaks c.args.counts.values c.self.invariant w
+          (omega (arith, fits, same, c.size-size.ensures)) c.if-self.false _ c.self.view_is);
+      full = λ none name e. has_place _ _ c.args.mutator c.size-size.result _ _ c.self.view_is m.place c.size-size.ensures none;
+      within = search rules;
+    }
 
 pub set_register-requires-clause-mutator : goal.set_register-requires-clause-mutator
 set_register-requires-clause-mutator c =
