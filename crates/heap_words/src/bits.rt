@@ -18,7 +18,8 @@ ghost use Rattle.std.specs.Prelude.{ℕ, false, true, IfOk, IfSome, length, Matc
 ghost use Rattle.heap_words.specs.Bits.{has, has_alone, is_between, is_passing, HasNone, HasNoneBelow, IsLowest};
 
 use crate::groups::{
-    clear_bits, fill_groups, join_bits, reach, set_bits, whole_word, word_at, written_below,
+    clear_bits, fill_groups, join_bits, reach, reach_group, set_bits, whole_word, word_at,
+    word_without, written_below,
 };
 use std::alloc::{AllocError, Global};
 use std::marker::Model;
@@ -71,7 +72,8 @@ impl Bits {
         requires { number < length self.now }
         ensures { result ≡ has self.now number }
     {
-        word_at(&self.words, number / 64) >> (number % 64) & 1 == 1
+        let group = number as usize / 64;
+        group < self.words.len() && self.words[group] >> (number % 64) & 1 == 1
     }
 
     /// A number is in the set.
@@ -80,7 +82,7 @@ impl Bits {
         requires { number < length self.old }
         ensures { self.new ≡ slice_set self.old number true }
     {
-        reach(&mut self.words, number / 64 + 1);
+        reach_group(&mut self.words, number / 64);
         self.words[number as usize / 64] |= 1 << (number % 64);
     }
 
@@ -262,7 +264,7 @@ impl Bits {
         ensures within { IfSome result (λ found. found < length self.now) }
     {
         self.law();
-        let word = word_at(&self.words, group) & !word_at(&other.words, group);
+        let word = word_without(word_at(&self.words, group), &other.words, group);
         if word == 0 {
             return None;
         }

@@ -9,8 +9,8 @@
 //! There is room for all words. A word that isn't written is read as 0, and nothing of it is touched. What brings a number into such
 //! a group writes zeros up to it first, and a few more (`reach`).
 
-ghost use Rattle.std.specs.Prelude.{◌≡◌, ◌+◌, ◌*◌, ◌<◌, ◌≤◌, ◌||◌, ◌&&◌, if◌then◌else◌};
-ghost use Rattle.std.specs.Prelude.{ℕ, true, false, length, min, replicate, slice_index, vec_capacity, vec_len};
+ghost use Rattle.std.specs.Prelude.{◌≡◌, ◌+◌, ◌-◌, ◌*◌, ◌^◌, ◌<◌, ◌≤◌, ◌||◌, ◌&&◌, if◌then◌else◌};
+ghost use Rattle.std.specs.Prelude.{ℕ, bit_and, true, false, length, min, replicate, slice_index, vec_capacity, vec_len};
 ghost use Rattle.std.specs.Int.{bit_at, div_ceil};
 ghost use Rattle.heap_words.specs.Bits.{is_between};
 ghost use Rattle.heap_words.specs.BitWords.{bit_of, AreSame};
@@ -74,6 +74,20 @@ pub(crate) fn word_at(words: &Vec<u64>, group: u32) -> u64
     if place < words.len() { words[place] } else { 0 }
 }
 
+/// The bits of a group's word that aren't in another set's word of that group.
+#[inline(always)]
+pub(crate) fn word_without(word: u64, others: &Vec<u64>, group: u32) -> u64
+    ensures left { result ≡ bit_and word (2 ^ 64 - 1 - slice_index others.now.items group) }
+    ensures fits { slice_index others.now.items group < 2 ^ 64 }
+{
+    let place = group as usize;
+    if place < others.len() {
+        word & !others[place]
+    } else {
+        word
+    }
+}
+
 /// How many of the words that hold the numbers below `to` are written.
 #[inline(always)]
 pub(crate) fn written_below(words: &Vec<u64>, to: u32) -> u32
@@ -106,6 +120,20 @@ pub(crate) fn reach(words: &mut Vec<u64>, count: u32)
 {
     if words.len() < count as usize {
         write_zeros(words, count);
+    }
+}
+
+/// A group's word is written, as 0 where it wasn't.
+#[inline(always)]
+pub(crate) fn reach_group(words: &mut Vec<u64>, group: u32)
+    requires room { group < vec_capacity words.old }
+    requires small { group + 1 < 2 ^ 32 }
+    ensures same { AreSame words.new.items words.old.items }
+    ensures written { group < vec_len words.new }
+    ensures room { vec_capacity words.old ≤ vec_capacity words.new }
+{
+    if words.len() <= group as usize {
+        write_zeros(words, group + 1);
     }
 }
 

@@ -1,4 +1,4 @@
-use Rattle.std.proofs.Common.{◌≡◌, ◌+◌, ◌-◌, ◌*◌, ◌^◌, arith, length, ap, w64, bit_and}
+use Rattle.std.proofs.Common.{slice_index, refl, ◌≡◌, ◌+◌, ◌-◌, ◌*◌, ◌^◌, arith, length, ap, w64}
 use Rattle.std.proofs.lemmas.Nat.{and_le_r}
 use Rattle.std.proofs.lemmas.Nat.Bits.{bit_at-trailing_zeros}
 use Rattle.heap_words.proofs.BitWords.{length-flags_of}
@@ -11,10 +11,11 @@ returns-then-word-eq0-clause-lowest c =
     let i = c.self.inside.words.items in
     let o = c.other.inside.words.items in
     let even : c.other.inside.len ≡ c.self.inside.len = same_len _ _ _ _ _ _ c.self.view_is c.other.view_is c.requires.even in
-    let less = and_le_r c.word_at.result (2 ^ 64 - 1 - c.word_at-2.result) in
-    let w : IsWord (only i o) (64 * c.args.group) c.args.group (bit_and c.word_at.result (2 ^ 64 - 1 - c.word_at-2.result)) =
-    group_left i o c.args.group c.word_at.result c.word_at-2.result c.word_at.ensures c.word_at-2.ensures (omega arith)
-    (omega (arith, less)) in
+    let less = and_le_r c.word_at.result (2 ^ 64 - 1 - slice_index c.other.inside.words.items c.args.group) in
+    let w : IsWord (only i o) (64 * c.args.group) c.args.group c.word_without-word.result =
+    rw c.word_without-word.ensures.left
+    (group_left i o c.args.group c.word_at.result (slice_index o c.args.group) c.word_at.ensures refl c.word_without-word.ensures.fits
+    (omega (arith, less))) in
     none_left _ _ c.self.inside.len (64 * c.args.group) (64 * c.args.group + 64) (64 * (c.args.group + 1))
     (only_agree _ _ _ _ _ _ c.self.view_is c.other.view_is even) (none_in_word _ _ _ _ w (none_yet _ _) c.if-word-eq0.true) (omega arith)
 
@@ -24,9 +25,9 @@ overflow_mul-found c =
 
 pub overflow_add-found : goal.overflow_add-found
 overflow_add-found c =
-    let less = and_le_r c.word_at.result (2 ^ 64 - 1 - c.word_at-2.result) in
+    let less = and_le_r c.word_at.result (2 ^ 64 - 1 - slice_index c.other.inside.words.items c.args.group) in
     let lowest =
-    bit_at-trailing_zeros w64 (bit_and c.word_at.result (2 ^ 64 - 1 - c.word_at-2.result)) (omega arith) (omega (arith, less)) in
+    bit_at-trailing_zeros w64 c.word_without-word.result (omega arith) (omega arith) in
     omega (
       arith,
       c.requires.known,
@@ -41,10 +42,11 @@ returns-then-found-self-clause-lowest c =
     let i = c.self.inside.words.items in
     let o = c.other.inside.words.items in
     let even : c.other.inside.len ≡ c.self.inside.len = same_len _ _ _ _ _ _ c.self.view_is c.other.view_is c.requires.even in
-    let less = and_le_r c.word_at.result (2 ^ 64 - 1 - c.word_at-2.result) in
-    let w : IsWord (only i o) (64 * c.args.group) c.args.group (bit_and c.word_at.result (2 ^ 64 - 1 - c.word_at-2.result)) =
-    group_left i o c.args.group c.word_at.result c.word_at-2.result c.word_at.ensures c.word_at-2.ensures (omega arith)
-    (omega (arith, less)) in
+    let less = and_le_r c.word_at.result (2 ^ 64 - 1 - slice_index c.other.inside.words.items c.args.group) in
+    let w : IsWord (only i o) (64 * c.args.group) c.args.group c.word_without-word.result =
+    rw c.word_without-word.ensures.left
+    (group_left i o c.args.group c.word_at.result (slice_index o c.args.group) c.word_at.ensures refl c.word_without-word.ensures.fits
+    (omega (arith, less))) in
     found_inside _ _ c.self.inside.len _ _ _ (only_agree _ _ _ _ _ _ c.self.view_is c.other.view_is even) w
     (none_yet _ _) (omega arith) c.if-found-self.true
 
@@ -57,9 +59,10 @@ returns-else-found-self-clause-lowest c =
     let i = c.self.inside.words.items in
     let o = c.other.inside.words.items in
     let even : c.other.inside.len ≡ c.self.inside.len = same_len _ _ _ _ _ _ c.self.view_is c.other.view_is c.requires.even in
-    let less = and_le_r c.word_at.result (2 ^ 64 - 1 - c.word_at-2.result) in
-    let w : IsWord (only i o) (64 * c.args.group) c.args.group (bit_and c.word_at.result (2 ^ 64 - 1 - c.word_at-2.result)) =
-    group_left i o c.args.group c.word_at.result c.word_at-2.result c.word_at.ensures c.word_at-2.ensures (omega arith)
-    (omega (arith, less)) in
+    let less = and_le_r c.word_at.result (2 ^ 64 - 1 - slice_index c.other.inside.words.items c.args.group) in
+    let w : IsWord (only i o) (64 * c.args.group) c.args.group c.word_without-word.result =
+    rw c.word_without-word.ensures.left
+    (group_left i o c.args.group c.word_at.result (slice_index o c.args.group) c.word_at.ensures refl c.word_without-word.ensures.fits
+    (omega (arith, less))) in
     found_past _ _ c.self.inside.len _ (64 * c.args.group + 64) _ _ (only_agree _ _ _ _ _ _ c.self.view_is c.other.view_is even) w
     (none_yet _ _) (omega arith) (omega (arith, c.if-found-self.false))
