@@ -23,7 +23,7 @@ use mark_bitmap::marks::Marks;
 use mark_bitmap::tams::Tams;
 use regions::RegionTable;
 use root_table::Roots;
-use satb_log::log::DeletionLog;
+use satb_log::logs::DeletionLog;
 
 /// The next top of each region becomes its present top.
 fn set_tops(tams: &mut Tams, table: &RegionTable)
@@ -145,7 +145,7 @@ impl Marker {
         ensures logs { self.new.logs ≡ self.old.logs }
     {
         for place in 0..log.len() {
-            self.reach(table, Some(log.get(place)));
+            self.reach(table, Some(Addr::new(log.get(place))));
         }
     }
 

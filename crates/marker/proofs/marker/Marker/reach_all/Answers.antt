@@ -1,4 +1,4 @@
-use Rattle.std.proofs.Common.{◌∙◌, arith}
+use Rattle.std.proofs.Common.{◌∙◌, Some, sym, ap, arith}
 use Rattle.marker.proofs.Views.{same_kept}
 use Rattle.marker.proofs.Logs.{contained, early_more, all_marks}
 use Rattle.marker.proofs.marker.Marker.reach_all.Goals as goal
@@ -6,13 +6,13 @@ use Rattle.marker.proofs.marker.Marker.reach_all.Goals as goal
 pub reach-requires-clause-kept : goal.reach-requires-clause-kept
 reach-requires-clause-kept c = λ a e _.
     same_kept c.args.table.now c.args.self.now c.loop-place.self a c.loop-place.invariant.same
-    (c.requires.kept a (contained c.args.log.now c.loop-place.place a (c.get.ensures ∙ e)))
+    (c.requires.kept a (contained c.args.log.now c.loop-place.place a (c.get.ensures ∙ ap Some (sym c.new.ensures) ∙ e)))
 
 pub loop-place-preserved : goal.loop-place-preserved
 loop-place-preserved c =
     let q = c.reach.ensures in
-    early_more c.args.table.now c.args.log.now c.loop-place.place c.get.result c.args.self.now c.loop-place.self c.reach.new.self
-    c.get.ensures c.loop-place.invariant
+    early_more c.args.table.now c.args.log.now c.loop-place.place c.new.result c.args.self.now c.loop-place.self c.reach.new.self
+    (c.get.ensures ∙ ap Some (sym c.new.ensures)) c.loop-place.invariant
     (record { stands = q.stands; marks = q.marks; same = q.same; scanned = q.scanned; scans = q.scans; logs = q.logs })
 
 pub returns-clause-marks : goal.returns-clause-marks

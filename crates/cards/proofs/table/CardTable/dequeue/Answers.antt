@@ -1,7 +1,7 @@
 use Rattle.std.proofs.Common.{false, set, arith, refl, length-set}
 use Rattle.cards.proofs.Listed.{IsCounted-taken, front_is_card, front_is_dirty}
 use Rattle.cards.specs.Inside.{cards_of}
-use Rattle.cards.proofs.table.CardTable.take.Goals as goal
+use Rattle.cards.proofs.table.CardTable.dequeue.Goals as goal
 
 pub index_mut-requires : goal.index_mut-requires
 index_mut-requires c =
