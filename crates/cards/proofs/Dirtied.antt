@@ -1,4 +1,4 @@
--- A mutator makes a card dirty: what stands where, by cases, and what that keeps.
+-- A mutator makes a card dirty: what is where, by cases, and what that keeps.
 use Rattle.std.proofs.Common.{◌≡◌, ◌≢◌, ◌+◌, ◌<◌, if◌then◌else◌, ◌∷◌, ◌++◌, ◌∙◌}
 use Rattle.std.proofs.Common.{ℕ, true, false, eqb, List, [], length, set, All, lit<, refl, sym, ap, arith, get_or-set_same, length-set}
 use Rattle.std.proofs.Common.{length-append}

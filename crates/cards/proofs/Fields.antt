@@ -11,6 +11,10 @@ use Rattle.cards.proofs.Listed.{room_for_clean, room_for_listed, no_log_is_full}
 use Rattle.cards.proofs.Flushed.{flushed_up_to, length-flushed_up_to}
 use Rattle.cards.proofs.Dirtied.{dirtied_full, dirtied_short, IsCounted-dirtied, IsShort-dirtied, length-dirtied}
 
+-- a card is the number that entered its log
+pub is_pushed : (old now : List ℕ) {c n : ℕ} → n ≡ c → now ≡ old ++ n ∷ [] → now ≡ old ++ c ∷ []
+is_pushed old now is e = e ∙ ap (λ k. old ++ k ∷ []) is
+
 -- where a card is clean the queue has room for one more than are listed
 pub clean_room : (s : Inside) (v : Cards) (c : ℕ) → cards_of s ≡ v → IsSound s → c < length v.dirty → is_dirty v c ≡ false
     → listed_count (cards_of s) < deque_capacity s.queue

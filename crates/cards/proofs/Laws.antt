@@ -46,7 +46,7 @@ dirty_after t m c x h =
     dirtied_cases P t m c (dirty_already t c x) (λ clean.
     sent_cases P (entered t m c) m (λ full. flag_set_after t.dirty c x h) (λ short. flag_set_after t.dirty c x h))
 
--- ---- where a dirty card stands
+-- ---- where a dirty card is
 counted_in : (xs : List ℕ) (c : ℕ) → 0 < times_in c xs → Contains xs c
 counted_in [] c h = absurd (omega (arith, h))
 counted_in (x ∷ xs) c h = ⊎_elim

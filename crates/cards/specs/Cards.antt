@@ -1,4 +1,4 @@
--- Dirty cards, and where they stand.
+-- Dirty cards, and where they are.
 use Rattle.std.specs.Prelude.{◌≡◌, ◌+◌, ◌==◌, ◌∷◌, ◌++◌, if◌then◌else◌}
 use Rattle.std.specs.Prelude.{ℕ, Bool, true, false, List, [], length, count_by, replicate, sum_by, slice_index_or, slice_set}
 use Rattle.std.specs.List.{concat}
@@ -21,15 +21,15 @@ is_dirty t card = slice_index_or t.dirty card false
 abbrev pub log_of : Cards → ℕ → List ℕ
 log_of t mutator = slice_index_or t.logs mutator []
 
--- how often a card stands in a list
+-- how often a card is in a list
 abbrev pub times_in : ℕ → List ℕ → ℕ
 times_in card cards = count_by (λ c. c == card) cards
 
--- how often a card stands in the logs and the queue together
+-- how often a card is in the logs and the queue together
 abbrev pub times_listed : Cards → ℕ → ℕ
 times_listed t card = times_in card t.queue + sum_by (times_in card) t.logs
 
--- a dirty card stands in the logs and the queue together exactly once, and a clean one not at all
+-- a dirty card is in the logs and the queue together exactly once, and a clean one not at all
 pub record ListsDirtyOnce (t : Cards) : Type 0 where
   pub each : (card : ℕ) → times_listed t card ≡ (if is_dirty t card then 1 else 0)
 

@@ -9,7 +9,7 @@
 //!                     | 6       |
 //!   then         logs |         |      queue 5 2 3 9 1 7
 //!                     | 6       |
-//!   take         logs |         |      queue 2 3 9 1 7       5 is clean
+//!   dequeue      logs |         |      queue 2 3 9 1 7       5 is clean
 //!                     | 6       |
 //!   append(5)    logs |         |      queue 2 3 9 1 7 5     5 is dirty again, after all others
 //!                     | 6       |
@@ -17,7 +17,7 @@
 //!                     |         |
 //! ```
 //!
-//! A card that is dirty stands in the logs and the queue together exactly once, and a clean one not at all. So the
+//! A card that is dirty is in the logs and the queue together exactly once, and a clean one not at all. So the
 //! queue never holds more cards than there are: its room is made once, and no call but the making takes memory or
 //! fails.
 #![tactic(auto)]

@@ -1,4 +1,4 @@
-//! Which cards are dirty, and where they stand.
+//! Which cards are dirty, and where they are listed.
 //!
 //! ```text
 //!   card     0 1 2 3 4 5 6 7 8 9          log 0   3 9 1         queue   5 2
@@ -12,7 +12,7 @@ ghost use Rattle.std.specs.Prelude.{slice_set, Some};
 ghost use Rattle.cards.specs.Cards.{appended, clean_cards, dirtied, flushed, is_dirty, Cards, ListsDirtyOnce};
 
 use crate::flags::Flags;
-use crate::log::{CardLog, LOG_LEN};
+use crate::log::{CardLog, LOG_LEN, move_to};
 use heap_words::addr::Card;
 use std::alloc::{AllocError, Global};
 use std::collections::VecDeque;
@@ -37,7 +37,7 @@ impl Model for CardTable {
     ghost invariant = { IsSound };
 }
 
-/// Where it is let go there is one call, and not a drop for each of its parts.
+/// Where it is dropped there is one call, and not a drop for each of its parts.
 impl Drop for CardTable {
     fn drop(self) {
         let CardTable {
@@ -56,7 +56,7 @@ impl CardTable {
         let dirty = Flags::new(alloc, cards)?;
         let mut logs = Vec::with_capacity(alloc, mutators as usize)?;
         for _ in 0..mutators {
-            logs.push(CardLog::new(alloc))?;
+            logs.push(CardLog::new())?;
         }
         let queue = VecDeque::with_capacity(alloc, cards as usize)?;
         Ok(CardTable { dirty, logs, queue })
@@ -110,7 +110,7 @@ impl CardTable {
         ensures { slice_get (slice_index_or self.now.logs mutator []) place ≡ Some result }
     {
         let log = &self.logs[mutator as usize];
-        log.get(place)
+        Card::new(log.get(place))
     }
 
     /// A clean card becomes dirty at the end of the mutator's log, which goes to the queue if that makes four. Where the
@@ -127,14 +127,14 @@ impl CardTable {
         }
         self.dirty.set(card.number());
         let log = &mut self.logs[mutator as usize];
-        log.push(card);
+        log.push(card.number());
         if log.len() == LOG_LEN {
-            log.move_to(&mut self.queue);
+            move_to(log, &mut self.queue);
         }
     }
 
     /// The front of the queue leaves it, and becomes clean.
-    pub fn take(&mut self) -> Option<Card>
+    pub fn dequeue(&mut self) -> Option<Card>
         ensures empty { IfNone result ((self.old.queue ≡ []) × (self.new ≡ self.old)) }
         ensures front { IfSome result (λ card. self.old.queue ≡ card ∷ self.new.queue) }
         ensures cleaned { IfSome result (λ card. self.new.dirty ≡ slice_set self.old.dirty card false) }
@@ -163,7 +163,7 @@ impl CardTable {
     {
         for mutator in 0..self.logs.len() {
             let log = &mut self.logs[mutator];
-            log.move_to(&mut self.queue);
+            move_to(log, &mut self.queue);
         }
     }
 }
@@ -178,7 +178,7 @@ pub fn dirty_law()
         → is_dirty u other ≡ (not (other == card) && is_dirty t other) }
 {}
 
-/// A dirty card stands in the queue or in one of the logs, and what stands there is dirty.
+/// A dirty card is in the queue or in one of the logs, and what is there is dirty.
 pub fn listed_law()
     ensures dirty { (t : Cards) (card : ℕ) → ListsDirtyOnce t → is_dirty t card ≡ true
         → Contains t.queue card ⊎ Contains (concat t.logs) card }

@@ -1,4 +1,4 @@
--- A compaction of a region of words: what it takes lowers the highest ordinary region, and where it takes nothing none lies above a free
+-- A compaction of a region of words: what it takes lowers the highest ordinary region, and where it takes nothing none is above a free
 -- one.
 use Rattle.std.proofs.Common.{◌≡◌, ◌≢◌, ◌+◌, ◌-◌, ◌*◌, ◌<◌, ◌≤◌, ◌⊎◌, ◌∷◌, ◌++◌, ◌∙◌}
 use Rattle.std.proofs.Common.{ℕ, suc, zero, Bool, true, false, List, [], Option, Some, None, length, get_or, All, sum_by, cond, inl, inr}
@@ -49,7 +49,7 @@ else_number : (b : Bool) (m n : ℕ) → b ≡ false → (if b then m else n) �
 else_number true m n e = absurd cc
 else_number false m n e = refl
 
--- it lies below the end, and no ordinary region lies at the end or above it
+-- it is below the end, and no ordinary region is at the end or above it
 pub end_above : (t : Table) (n k : ℕ) → k < n → kind_of t k ≡ kinds.Ordinary → k < ordinary_end_of t n
 end_above t zero k lt o = absurd (omega (arith, lt))
 end_above t (suc n) k lt o = elim (cases_Bool (is_ordinary (kind_of t n))) [
@@ -331,7 +331,7 @@ module _ (budget n w : ℕ) (c c' : CoreState) (core : IsCore c) (shape : IsShap
           ])
         ]
 
-  -- where nothing was taken no ordinary region lies above a free one
+  -- where nothing was taken no ordinary region is above a free one
   pub nothing_above : n ≡ 0 → IsExact c → 2 ≤ free_count t → t.words_per_region ≤ budget → LieBelowFree t'
   nothing_above none exact two enough j k less free' ordinary' = elim (kind_cases (kind_of t k)) [
     | inl was ↦ (let low = regions.lowest j k free free' was ordinary' in omega (arith, low, less))

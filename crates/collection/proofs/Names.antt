@@ -28,7 +28,7 @@ abbrev put : Option Stored → ℕ → List ℕ → List ℕ
 put None a rest = rest
 put (Some x) a rest = a ∷ rest
 
--- the addresses of n from one on at which something stands
+-- the addresses of n from one on at which something is
 abbrev listed : (ℕ → Option Stored) → ℕ → ℕ → List ℕ
 listed f a zero = []
 listed f a (suc n) = put (f a) a (listed f (suc a) n)

@@ -22,7 +22,7 @@ use Rattle.object_graph.specs.Run.{Happens}
 use Rattle.step_core.specs.Stands.{CoreState, IsCore, IsWhole, Stands}
 use Rattle.step_core.specs.Answers.{Follows, IsFullStep}
 use Rattle.step_core.specs.Cycle.{Does}
-use Rattle.step_core.specs.Histories.{IsHistory, Passes, Runs}
+use Rattle.step_core.specs.Passages.{IsPassage, Passes, Runs}
 use Rattle.collection.specs.Space.{HasReached, IsCollected}
 use Rattle.collection.specs.Steps.{Collects, HoldsBack, IsCollectors, Makes, Sees, TakesOwn}
 use Rattle.collection.proofs.Reached.{by_reached, none_cleared, then_cleared}
@@ -41,11 +41,11 @@ passes s e c c' follows does full core listed whole = record {
 }
 
 -- ---- histories
-pub history_then : (s mid last : State) (c d c' : CoreState) (es fs : List Event) → IsHistory s c es mid d → IsHistory mid d fs last c'
-    → IsHistory s c (es ++ fs) last c'
-history_then s mid last c d c' [] fs h k =
-    subst (λ (x : State). IsHistory x c fs last c') h.0 (subst (λ (x : CoreState). IsHistory mid x fs last c') h.1 k)
-history_then s mid last c d c' (e ∷ es) fs h k = (h.0, h.1, history_then h.1.follows.after mid last h.0 d c' es fs h.2 k)
+pub passage_then : (s mid last : State) (c d c' : CoreState) (es fs : List Event) → IsPassage s c es mid d → IsPassage mid d fs last c'
+    → IsPassage s c (es ++ fs) last c'
+passage_then s mid last c d c' [] fs h k =
+    subst (λ (x : State). IsPassage x c fs last c') h.0 (subst (λ (x : CoreState). IsPassage mid x fs last c') h.1 k)
+passage_then s mid last c d c' (e ∷ es) fs h k = (h.0, h.1, passage_then h.1.follows.after mid last h.0 d c' es fs h.2 k)
 
 -- what a step of the collector leaves reachable was reachable before it
 step_reached : (s after : State) (k : CollectorStep) (r : Reply) → Happens s (steps.Collector k) r after → HasReached s.graph after.graph
@@ -79,18 +79,18 @@ step_reached s after k r h = go k r h.1
     go (collector.Pause n) r h = same h
     go (collector.Compact n) r h = same h
 
-pub history_reached : (s last : State) (c c' : CoreState) (es : List Event) → All IsCollectors es → IsHistory s c es last c'
+pub passage_reached : (s last : State) (c c' : CoreState) (es : List Event) → All IsCollectors es → IsPassage s c es last c'
     → HasReached s.graph last.graph
-history_reached s last c c' [] all h = subst (λ (x : State). HasReached s.graph x.graph) (sym h.0) (none_cleared s.graph)
-history_reached s last c c' (e ∷ es) all h =
+passage_reached s last c c' [] all h = subst (λ (x : State). HasReached s.graph x.graph) (sym h.0) (none_cleared s.graph)
+passage_reached s last c c' (e ∷ es) all h =
     let first = All-head IsCollectors e es all in
     let after = h.1.follows.after in
     then_cleared s.graph after.graph last.graph
     (step_reached s after first.step e.reply (subst (λ (x : Step). Happens s x e.reply after) first.is h.1.follows.happens))
-    (history_reached after last h.0 c' es (All-tail IsCollectors e es all) h.2)
+    (passage_reached after last h.0 c' es (All-tail IsCollectors e es all) h.2)
 
-pub one_history : (s : State) (e : Event) (c c' : CoreState) → Passes s c e c' → Runs s c (e ∷ []) c'
-one_history s e c c' p = record { last = p.follows.after; stands = p.follows.stands; history = (c', p, (refl, refl)) }
+pub one_passage : (s : State) (e : Event) (c c' : CoreState) → Passes s c e c' → Runs s c (e ∷ []) c'
+one_passage s e c c' p = record { last = p.follows.after; stands = p.follows.stands; passage = (c', p, (refl, refl)) }
 
 -- ---- what a watch sees
 module _ {W : Type 0} (sees : W → Event → W → Type 0) where
@@ -104,7 +104,7 @@ module _ {W : Type 0} (sees : W → Event → W → Type 0) where
     few = omega arith;
     collectors = All-nil IsCollectors;
     seen = refl;
-    history = λ s stands. record { last = s; stands = stands; history = (refl, refl) };
+    runs = λ s stands. record { last = s; stands = stands; passage = (refl, refl) };
     two = λ h. h;
     config = refl;
     next = refl;
@@ -118,7 +118,7 @@ module _ {W : Type 0} (sees : W → Event → W → Type 0) where
     few = omega arith;
     collectors = All-cons IsCollectors e [] (record { step = k; is = is; actor = actor }) (All-nil IsCollectors);
     seen = (x', seen, refl);
-    history = λ s stands. one_history s e c c' (passes s stands);
+    runs = λ s stands. one_passage s e c c' (passes s stands);
     two = two;
     config = config;
     next = next;
@@ -130,7 +130,7 @@ module _ {W : Type 0} (sees : W → Event → W → Type 0) where
     few = let few = a.few in omega (arith, few, h);
     collectors = a.collectors;
     seen = a.seen;
-    history = a.history;
+    runs = a.runs;
     two = a.two;
     config = a.config;
     next = a.next;
@@ -143,7 +143,7 @@ module _ {W : Type 0} (sees : W → Event → W → Type 0) where
     few = let p = a.few in let q = b.few in let e = length-append a.events b.events in omega (arith, p, q, e, h);
     collectors = All-append IsCollectors a.events b.events a.collectors b.collectors;
     seen = sees_then x y x' a.events b.events a.seen b.seen;
-    history = λ s stands. joined s (a.history s stands);
+    runs = λ s stands. joined s (a.runs s stands);
     two = λ h. b.two (a.two h);
     config = b.config ∙ a.config;
     next = b.next ∙ a.next;
@@ -151,15 +151,15 @@ module _ {W : Type 0} (sees : W → Event → W → Type 0) where
     where
       joined : (s : State) → Runs s c a.events d → Runs s c (a.events ++ b.events) c'
       joined s r =
-          let t = b.history r.last r.stands in
-          record { last = t.last; stands = t.stands; history = history_then s r.last t.last c d c' a.events b.events r.history t.history }
+          let t = b.runs r.last r.stands in
+          record { last = t.last; stands = t.stands; passage = passage_then s r.last t.last c d c' a.events b.events r.passage t.passage }
 
   -- the state after the steps, and what was reachable before them
   pub reached : (m : ℕ) (c c' : CoreState) (x x' : W) (s : State) → Collects sees m c x c' x' → Stands s c
       → (after : State) × Stands after c' × HasReached s.graph after.graph
   reached m c c' x x' s a stands =
-      let r = a.history s stands in
-      (r.last, r.stands, history_reached s r.last c c' a.events a.collectors r.history)
+      let r = a.runs s stands in
+      (r.last, r.stands, passage_reached s r.last c c' a.events a.collectors r.passage)
 
   -- a whole collection after other steps
   pub collected_after : (m : ℕ) (c c' d : CoreState) (x x' : W) (s : State) → Collects sees m c x c' x' → Stands s c
@@ -184,7 +184,7 @@ unseen sees most c c' x x' a = record {
   few = a.few;
   collectors = a.collectors;
   seen = sees_none a.events;
-  history = a.history;
+  runs = a.runs;
   two = a.two;
   config = a.config;
   next = a.next;

@@ -17,7 +17,7 @@ use Rattle.heap_steps.specs.declared.step.Step.TheVariants as steps
 use Rattle.object_graph.specs.State.{State}
 use Rattle.object_graph.specs.Run.{Creates}
 use Rattle.step_core.specs.Stands.{CoreState, Stands}
-use Rattle.step_core.specs.Histories.{Passes, Runs}
+use Rattle.step_core.specs.Passages.{Passes, Runs}
 
 -- ---- steps, and who watches them
 -- a watch saw the events one after another, by what seeing one does to it
@@ -31,14 +31,14 @@ pub record IsCollectors (e : Event) : Type 0 where
   pub is : e.step ≡ steps.Collector step
   pub actor : e.actor ≡ actors.Collector
 
--- The collector took steps, so many at most, and the watch saw them. From each state that the core stood for they are a history, which
--- ends in a state for which it stands. Where two regions were free, two are; the sizes stay, and no name is given
+-- The collector took steps, so many at most, and the watch saw them. From each state that the core stood for they lead on to one
+-- that it stands for, through states and cores between. Where two regions were free, two are; the sizes stay, and no name is given
 pub record Collects {W : Type 0} (sees : W → Event → W → Type 0) (most : ℕ) (c : CoreState) (x : W) (c' : CoreState) (x' : W) : Type 0 where
   pub events : List Event
   pub few : length events ≤ most
   pub collectors : All IsCollectors events
   pub seen : Sees sees x events x'
-  pub history : (s : State) → Stands s c → Runs s c events c'
+  pub runs : (s : State) → Stands s c → Runs s c events c'
   pub two : 2 ≤ free_count c.table → 2 ≤ free_count c'.table
   pub config : c'.config ≡ c.config
   pub next : c'.next ≡ c.next

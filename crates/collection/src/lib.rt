@@ -12,7 +12,7 @@
 //!             refused as Full
 //! ```
 //!
-//! `steps` takes the steps, and shows each to who watches, `whole` is the whole collection, `compaction` what makes free regions lie
+//! `steps` takes the steps, and shows each to who watches, `whole` is the whole collection, `compaction` what brings free regions
 //! side by side, `cycle` what is due at a look, by the `numbers` of the policy, `room` whether there is room for an object, `making` all
 //! together. `laws` has what a pause that frees no region says.
 //!

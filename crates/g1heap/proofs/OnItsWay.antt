@@ -22,9 +22,9 @@ use Rattle.step_core.specs.Fresh.{fresh_core}
 use Rattle.script_text.specs.Written.{Lines, AreLinesOf, no_events, with_events}
 use Rattle.script_text.specs.declared.fault.WriteFault.{WriteFault}
 use Rattle.script_text.specs.declared.fault.WriteFault.TheVariants as writes
-use Rattle.step_core.specs.Histories.{RunsTo, IsRunInOrder, actor_in, actor_of}
+use Rattle.step_core.specs.Passages.{RunsTo, IsRunInOrder, actor_in, actor_of}
 use Rattle.step_core.specs.Stands.{CoreState, Stands, IsCore}
-use Rattle.step_core.proofs.Cores.Following.{history_is_run}
+use Rattle.step_core.proofs.Cores.Following.{passage_is_run}
 use Rattle.step_core.proofs.Cores.Running.{runs_none}
 use Rattle.g1heap.specs.InOrder.{AnswersInOrder, HasDone, IsOnItsWay}
 
@@ -120,8 +120,8 @@ all_done plan c first now lines outcome h = record {
   steps = sym (append-nil (map step_in h.events)) ∙ h.steps;
   actors = sym (append-nil (map actor_in h.events)) ∙ h.actors;
   last = h.runs.runs.last;
-  run = history_is_run (first_state plan.config) (fresh_core plan.config) h.events h.runs.runs.last c h.runs.runs.history;
-  history = (c, h.runs);
+  run = passage_is_run (first_state plan.config) (fresh_core plan.config) h.events h.runs.runs.last c h.runs.runs.passage;
+  cores = (c, h.runs);
 }
 
 -- a fault of the run, and nothing was written

@@ -12,7 +12,7 @@ use Rattle.script_text.specs.Watched.{Writer, TakesPart}
 use Rattle.script_text.specs.Written.{Lines, AreLinesOf, no_events, with_events}
 use Rattle.script_text.specs.declared.fault.WriteFault.{WriteFault}
 use Rattle.script_text.specs.declared.fault.WriteFault.TheVariants as writes
-use Rattle.step_core.specs.Histories.{RunsTo, IsRunInOrder, actor_in, actor_of}
+use Rattle.step_core.specs.Passages.{RunsTo, IsRunInOrder, actor_in, actor_of}
 use Rattle.step_core.specs.Stands.{CoreState}
 
 -- the writer took a beginning of the events' record, and the lines hold the rest; or it refused, whatever events come after

@@ -12,7 +12,7 @@ use Rattle.mutators.specs.Rounds.{AreDrawn}
 use Rattle.command_line.specs.declared.Order.{Order}
 use Rattle.command_line.specs.declared.Order.TheVariants.{File, Drawn, Concurrent}
 use Rattle.jobs.specs.declared.faults.JobFault.{JobFault}
-use Rattle.step_core.specs.Histories.{IsRunInOrder}
+use Rattle.step_core.specs.Passages.{IsRunInOrder}
 use Rattle.jobs.specs.Runs.{Ends, Tells}
 
 -- the numbers of background actors are in range

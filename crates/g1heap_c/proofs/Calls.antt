@@ -13,11 +13,11 @@ use Rattle.object_graph.specs.Run.{IsRun}
 use Rattle.object_graph.specs.State.{State, first_state}
 use Rattle.step_core.specs.Answers.{Follows}
 use Rattle.step_core.specs.Fresh.{fresh_core}
-use Rattle.step_core.specs.Histories.{step_in}
+use Rattle.step_core.specs.Passages.{step_in}
 use Rattle.step_core.specs.Stands.{CoreState, Stands}
 use Rattle.step_core.specs.Words.{AreWritten, reading, writing}
 use Rattle.step_core.specs.Words as words
-use Rattle.step_core.proofs.Cores.Following.{history_is_run}
+use Rattle.step_core.proofs.Cores.Following.{passage_is_run}
 use Rattle.collection.specs.Steps.{HoldsBack, IsCollectors, TakesOwn, own_event}
 use Rattle.g1heap_c.specs.Calls.{AreCalls, AreRun, HasEvents, IsCall, event_of, reads_of, writes_of}
 use Rattle.g1heap_c.specs.Calls.{StepCall, MakeCall, DueCall, WholeCall, ReadCall, WriteCall, FilledCall, MadeFilledCall, OtherCall}
@@ -71,8 +71,8 @@ step_done tell step s c c' answer st h =
 
 collected_from : (most : ℕ) (s : State) (c d : CoreState) → Stands s c → (h : CollectsIn most c d) → From s h.events d
 collected_from most s c d st h =
-    let r = h.history s st in
-    record { last = r.last; run = history_is_run s c h.events r.last d r.history; stands = r.stands }
+    let r = h.runs s st in
+    record { last = r.last; run = passage_is_run s c h.events r.last d r.passage; stands = r.stands }
 
 own_from : (op : Op) (reply : Reply) (s : State) (c c' : CoreState) (W : Type 0) (sees : W → Event → W → Type 0) (x x' : W) → Stands s c
     → TakesOwn sees op reply c x c' x' ⊎ HoldsBack op reply c x c' x' → From s (own_event op reply ∷ []) c'

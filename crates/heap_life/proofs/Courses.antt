@@ -8,7 +8,7 @@ use Rattle.heap_words.specs.declared.config.Config.{Config}
 use Rattle.heap_steps.specs.declared.step.Event.{Event}
 use Rattle.object_graph.specs.State.{State}
 use Rattle.step_core.specs.Stands.{CoreState, Stands}
-use Rattle.step_core.specs.Histories.{Runs, step_in, actor_in}
+use Rattle.step_core.specs.Passages.{Runs, step_in, actor_in}
 use Rattle.heap_life.specs.Paces.{counts, counted, one_if, IsShown, IsDue}
 use Rattle.heap_life.specs.Lives.{moved_by, moved_in, IsMomentFrom, HasMoment, NotesIf, NotesTold, ToldBy, IsToldOf, AreRising, IsLived}
 use Rattle.heap_life.specs.Tolds.{Told}
@@ -25,7 +25,7 @@ use Rattle.heap_life.proofs.Moments.{shown_ahead, stops}
 -- n events of the list are done from a first core on
 pub record IsCourseOf (most : ℕ) (t : Told) (first : CoreState) (p : Pace) (xs : List Event) (n : ℕ) (c : CoreState) (x : Course) : Type 0
   where
-    pub history : (s : State) → Stands s first → Runs s first x.done.events c
+    pub runs : (s : State) → Stands s first → Runs s first x.done.events c
     pub steps : map step_in x.done.events ≡ take n (map step_in xs)
     pub actors : map actor_in x.done.events ≡ take n (map actor_in xs)
     pub config : c.config ≡ first.config
@@ -125,7 +125,7 @@ passed most t first p xs n e c c' x y inv lt at h =
     let why = why_due p xs n x.behind (shows p e.step x.counted) (n % p.every == 0) inv.why
     (is_shown p xs n x.counted e at inv.counting) (is_equal (n % p.every) 0) in
     record {
-      history = λ s st. subst (λ (es : List Event). Runs s first es c') (sym events) (h.passed.runs first x.done.events s (inv.history s
+      runs = λ s st. subst (λ (es : List Event). Runs s first es c') (sym events) (h.passed.runs first x.done.events s (inv.runs s
           st));
       steps = ap (λ (es : List Event). map step_in es) events ∙ grown_at step_in x.done.events made xs n e inv.steps lt at h.passed.step;
       actors = ap (λ (es : List Event). map actor_in es) events ∙ grown_at actor_in x.done.events made xs n e inv.actors lt at
@@ -139,7 +139,7 @@ passed most t first p xs n e c c' x y inv lt at h =
           ∙ ap (λ (es : List Event). min (moved_in es) 18446744073709551615) (sym events);
       each = subst (λ (es : List Event). All (IsMomentFrom first es) y.moments.items) (sym events)
           (all_later first x.done.events made y.moments.items
-          (all_noted due first c x.done.events n x.copied x.moments.items y.moments.items h.notes (sym inv.many) inv.history inv.copying
+          (all_noted due first c x.done.events n x.copied x.moments.items y.moments.items h.notes (sym inv.many) inv.runs inv.copying
           inv.each));
       due = due_more p xs n due x.behind (shows p e.step x.counted) (n % p.every == 0) c x.copied x.moments.items y.moments.items lt h.notes
           refl inv.due inv.start inv.behind ahead (stops n p.every);
@@ -151,7 +151,7 @@ passed most t first p xs n e c c' x y inv lt at h =
       told = subst (λ (es : List Event). IsToldOf most t first es y.moments.items y.teller) (sym events)
           (told_grown most t first x.done.events made y.moments.items y.teller
           (told_noted most t due first c x.done.events n x.copied x.moments.items y.moments.items x.teller y.teller h.notes h.told
-          (sym inv.many) inv.history inv.told));
+          (sym inv.many) inv.runs inv.told));
       teller = teller_size due c n x.copied x.moments.items y.moments.items x.teller y.teller h.notes h.told ∙ inv.teller
           ∙ sym (ap (λ (k : Config). k.regions) h.passed.config);
       start = λ none. absurd (omega (arith, none));
@@ -170,7 +170,7 @@ pub begun : (most : ℕ) (t : Told) (first : CoreState) (p : Pace) (xs : List Ev
 begun most t first p xs x sizes events counted copied behind moments runs told limit teller = record {
   told = told_start most t first x.done.events x.moments.items x.teller moments told limit;
   teller = teller;
-  history = λ s st. subst (λ (es : List Event). Runs s first es first) (sym events) (runs s st);
+  runs = λ s st. subst (λ (es : List Event). Runs s first es first) (sym events) (runs s st);
   steps = ap (λ (es : List Event). map step_in es) events;
   actors = ap (λ (es : List Event). map actor_in es) events;
   config = refl;
@@ -197,8 +197,8 @@ lived most t first p xs c x ms y n is inv noted = let notes = noted.0 in record 
   config = inv.sizes;
   steps = inv.steps ∙ take_all n (map step_in xs) (let l = length-map xs step_in in omega arith);
   actors = inv.actors ∙ take_all n (map actor_in xs) (let l = length-map xs actor_in in omega arith);
-  runs = inv.history;
-  each = all_noted true first c x.done.events (length xs) x.copied x.moments.items ms notes (sym is ∙ sym inv.many) inv.history inv.copying
+  runs = inv.runs;
+  each = all_noted true first c x.done.events (length xs) x.copied x.moments.items ms notes (sym is ∙ sym inv.many) inv.runs inv.copying
       inv.each;
   due = due_whole p xs c (length xs) x.copied x.moments.items ms notes refl (λ k lt due. inv.due k (omega arith) due);
   only = noted_all (λ (m : Moment). IsDue p xs m.event) true c (length xs) x.copied x.moments.items ms notes inv.only
@@ -206,5 +206,5 @@ lived most t first p xs c x ms y n is inv noted = let notes = noted.0 in record 
   rising = rising_noted true c (length xs) x.copied x.moments.items ms notes inv.rising
       (subst (λ (k : ℕ). All (λ (m : Moment). m.event < k) x.moments.items) is inv.below);
   told = told_noted most t true first c x.done.events (length xs) x.copied x.moments.items ms x.teller y notes noted.1
-      (sym is ∙ sym inv.many) inv.history inv.told;
+      (sym is ∙ sym inv.many) inv.runs inv.told;
 }

@@ -4,7 +4,7 @@ use Rattle.heap_words.specs.declared.config.Config.{Config}
 use Rattle.heap_steps.specs.Actors.{StepList, EventList}
 use Rattle.object_graph.specs.State.{first_state}
 use Rattle.object_graph.specs.Run.{IsRun}
-use Rattle.step_core.specs.Histories.{RunsFromNew, step_in, actor_in, actor_of}
+use Rattle.step_core.specs.Passages.{RunsFromNew, step_in, actor_in, actor_of}
 use Rattle.heap_life.specs.declared.life.Life.{Life}
 use Rattle.heap_life.specs.Lives.{IsLifeOf}
 use Rattle.heap_life.specs.Pages.{IsPageOf}
@@ -22,7 +22,7 @@ of_plan name names every plan events page life sizes steps actors l drawn = reco
     actors = l.actors ∙ actors;
     last = l.last;
     run = subst (λ (c : Config). IsRun (first_state c) life.history.events l.last) sizes l.run;
-    history = subst (λ (c : Config). RunsFromNew c life.history.events) sizes (l.end, l.ends);
+    cores = subst (λ (c : Config). RunsFromNew c life.history.events) sizes (l.end, l.ends);
   };
   events = events;
   lives = l;

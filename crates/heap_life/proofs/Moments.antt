@@ -20,7 +20,7 @@ use Rattle.step_core.proofs.Cores.Following.{grown}
 use Rattle.heap_steps.specs.declared.step.Event.{Event}
 use Rattle.object_graph.specs.State.{State}
 use Rattle.step_core.specs.Stands.{CoreState, Stands, IsCore}
-use Rattle.step_core.specs.Histories.{Runs, RunsTo}
+use Rattle.step_core.specs.Passages.{Runs, RunsTo}
 use Rattle.heap_life.specs.Numbers.{IsNumbersOf}
 use Rattle.heap_life.specs.declared.life.Moment.{Moment}
 use Rattle.heap_life.specs.declared.pace.Pace.{Pace}

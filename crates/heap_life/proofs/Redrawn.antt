@@ -7,7 +7,7 @@ use Rattle.heap_steps.specs.declared.step.Event.{Event}
 use Rattle.heap_steps.specs.declared.step.Reply.{Reply}
 use Rattle.heap_steps.specs.declared.step.Step.{Step}
 use Rattle.jobs.specs.Replays.{reply_in}
-use Rattle.step_core.specs.Histories.{step_in, actor_in}
+use Rattle.step_core.specs.Passages.{step_in, actor_in}
 use Rattle.heap_life.specs.declared.life.Life.{Life}
 use Rattle.heap_life.specs.Lives.{IsLifeOf}
 use Rattle.heap_life.specs.Pages.{IsPageOf}

@@ -5,7 +5,7 @@ use Rattle.std.proofs.lemmas.List.Elements.{All-append, All-cons, All-nil}
 use Rattle.heap_steps.specs.declared.step.Event.{Event}
 use Rattle.object_graph.specs.State.{State}
 use Rattle.step_core.specs.Stands.{CoreState, Stands}
-use Rattle.step_core.specs.Histories.{Runs}
+use Rattle.step_core.specs.Passages.{Runs}
 use Rattle.heap_life.specs.Numbers.{IsNumbersOf}
 use Rattle.heap_life.specs.Tolds.{Told, told_of, with_moment}
 use Rattle.heap_life.specs.Tellers.{HasTold, TellsMoment}

@@ -4,7 +4,7 @@ use Rattle.heap_steps.specs.declared.step.Event.{Event}
 use Rattle.heap_steps.specs.declared.step.Step.{Step}
 use Rattle.object_graph.specs.State.{State}
 use Rattle.step_core.specs.Stands.{CoreState}
-use Rattle.step_core.specs.Histories.{Runs}
+use Rattle.step_core.specs.Passages.{Runs}
 use Rattle.heap_life.specs.Paces.{counts, one_if}
 use Rattle.heap_life.specs.Lives.{moved_by, NotesIf, ToldBy}
 use Rattle.heap_life.specs.declared.pace.Pace.{Pace}

@@ -5,7 +5,7 @@ use Rattle.heap_steps.specs.Faults.{IsRunFault}
 use Rattle.script_text.specs.Lines.{script_of, FailsBy}
 use Rattle.script_text.specs.Watched.{Reader, Writer, FailsToGive, Takes, TakesPart, Stays}
 use Rattle.script_text.specs.declared.fault.WriteFault.TheVariants as writes
-use Rattle.step_core.specs.Histories.{IsRunInOrder}
+use Rattle.step_core.specs.Passages.{IsRunInOrder}
 use Rattle.jobs.specs.Runs.{GivesAll, Tells}
 use Rattle.jobs.specs.declared.faults.JobFault.{JobFault}
 use Rattle.jobs.specs.declared.faults.JobFault.TheVariants as faults

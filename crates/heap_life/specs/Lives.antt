@@ -8,7 +8,7 @@ use Rattle.heap_steps.specs.Actors.{EventList}
 use Rattle.object_graph.specs.State.{State, first_state}
 use Rattle.object_graph.specs.Run.{IsRun}
 use Rattle.step_core.specs.Stands.{CoreState, Stands}
-use Rattle.step_core.specs.Histories.{Runs, RunsTo, step_in, actor_in}
+use Rattle.step_core.specs.Passages.{Runs, RunsTo, step_in, actor_in}
 use Rattle.heap_life.specs.Numbers.{IsNumbersOf}
 use Rattle.heap_life.specs.Paces.{IsDue, IsPaceFor, most_moments}
 use Rattle.heap_life.specs.Tolds.{Told, nothing_told, tells_tiles, told_of}

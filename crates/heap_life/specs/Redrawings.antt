@@ -6,7 +6,7 @@ use Rattle.script_text.specs.Lines.{FailsBy}
 use Rattle.script_text.specs.Events.{record_of}
 use Rattle.script_text.specs.Watched.{Reader, Writer, FailsToGive, Takes, TakesPart, Stays}
 use Rattle.script_text.specs.declared.fault.WriteFault.TheVariants as writes
-use Rattle.step_core.specs.Histories.{RunsFromNew}
+use Rattle.step_core.specs.Passages.{RunsFromNew}
 use Rattle.jobs.specs.Runs.{GivesAll, Tells}
 use Rattle.jobs.specs.declared.faults.JobFault.{JobFault}
 use Rattle.jobs.specs.declared.faults.JobFault.TheVariants as faults

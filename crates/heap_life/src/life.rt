@@ -11,7 +11,7 @@ ghost use Rattle.heap_words.specs.Configs.{Suits};
 ghost use Rattle.heap_words.specs.declared.config.Config.{Config};
 ghost use Rattle.heap_steps.specs.Actors.{AreEvents, IsStep, IsStepOf};
 ghost use Rattle.heap_steps.specs.Faults.{IsRunFault};
-ghost use Rattle.step_core.specs.Histories.{step_in, actor_in, actor_of};
+ghost use Rattle.step_core.specs.Passages.{step_in, actor_in, actor_of};
 ghost use Rattle.heap_life.specs.Paces.{most_moments};
 ghost use Rattle.heap_life.specs.Lives.{IsLifeFrom, IsLifeOf};
 ghost use Rattle.heap_life.specs.Tolds.{tells_tiles};

@@ -152,7 +152,7 @@ module _ (s g g' : Graph) (h : Heap) (m : Marking) (i : KeepsSnapshot s h m) (do
         subst (λ (u : Stored). IsObjectShown g' after u) (sym n) (object_after a x k);
   }
 
--- a name stands in a list, or not
+-- a name is in a list, or not
 member : (xs : List ℕ) (n : ℕ) → ((i : ℕ) × (slice_get xs i ≡ Some n)) ⊎ ((i : ℕ) → slice_get xs i ≡ Some n → ⊥)
 member [] n = inr (λ i e. cc)
 member (x ∷ xs) n = elim (cases_eq x n) [

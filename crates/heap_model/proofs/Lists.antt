@@ -115,7 +115,7 @@ module _ {A B : Type 0} (R : A → B → Type 0) where
   AllZip-split (u ∷ xs) (v ∷ ys) us vs e z = let (p, q) = AllZip-split xs ys us vs (omega arith) z.1 in ((z.0, p), q)
 
 module _ {A : Type 0} where
-  -- what stands in two lists one after the other stands in one of them
+  -- what is in two lists one after the other is in one of them
   pub get-append_cases : (xs ys : List A) (i : ℕ) (x : A) → slice_get (xs ++ ys) i ≡ Some x
       → (slice_get xs i ≡ Some x) ⊎ ((j : ℕ) × (slice_get ys j ≡ Some x))
   get-append_cases [] ys i x e = inr (i, e)

@@ -27,7 +27,7 @@ module _ (place : ℕ → Option ℕ) (g : Graph) (h h' : Heap) (shows : Shows g
   shown_moved (Some a) (Some n) None s t = absurd t
   shown_moved (Some a) (Some n) (Some b) s t = let c = r.kept a b s.0 s.1 t in (c.copy, c.at, c.name ∙ s.2)
 
-  -- the copy that stands at b, and the object that it came from
+  -- the copy that is at b, and the object that it came from
   pub record Origin (b : ℕ) (y : Stored) : Type 0 where
     pub from : ℕ
     pub object : Stored

@@ -6,7 +6,7 @@ use Rattle.std.specs.List.{AllZip}
 use Rattle.heap_model.specs.Heap.{Heap, Stored, Points, IsRoot, IsShown, IsObjectShown, Shows, StandsOnce, IsClosed, fields}
 use Rattle.heap_model.proofs.Lists.{AllZip-get, AllZip-get_right, AllZip-append}
 
--- the object of this name stands at the end of this pointer
+-- the object of this name is at the end of this pointer
 pub record PointsTo (h : Heap) (a n : ℕ) : Type 0 where
   pub address : ℕ
   pub points : Points h a address

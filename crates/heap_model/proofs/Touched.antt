@@ -110,7 +110,7 @@ module _ (s g : Graph) (h : Heap) (m : Marking) (shows : Shows g h) (i : KeepsSn
     old_at : (a : ℕ) (x : Stored) → h.kept a ≡ Some x → x.name < next_name s → m.old a ≡ true
     old_at a x at k = elim (bool_cases (m.old a)) [ inl o ↦ o | inr o ↦ absurd (apart x.name (next_name s) k (i.new_names a x at o)) ]
 
-    -- a name that was touched, or is reachable in the snapshot, is borne by a kept object that is marked or will be
+    -- a name that was touched, or is reachable in the snapshot, is that of a kept object that is marked or will be
     all_on : (n : ℕ) → IsReachable (touched s v) n → WillBeMarked h' m' n
     all_on n (FromRoot j k e) = elim (touched_root_cases s v j k e) [
       | inl q ↦

@@ -1,5 +1,5 @@
 -- Copying a set of objects out of their regions, so that the regions can be released. `set` tells the addresses in
--- those regions, `forward` where the objects that were copied stand now.
+-- those regions, `forward` where the objects that were copied are now.
 use Rattle.std.specs.Prelude.{◌≡◌, ◌⊎◌, ℕ, Bool, true, false, List, Option, Some, None, slice_get, length, if◌then◌else◌}
 use Rattle.std.specs.List.{AllZip}
 use Rattle.heap_model.specs.Heap.{Heap, Stored, IsRoot, HasField, fields}
@@ -12,7 +12,7 @@ pub data IsReached (set : ℕ → Bool) (h : Heap) : ℕ → Type 0 where
   ByOutside : (b a : ℕ) → set b ≡ false → HasField h b a → set a ≡ true → IsReached set h a
   ByInside : (b a : ℕ) → IsReached set h b → HasField h b a → set a ≡ true → IsReached set h a
 
--- where each object stands: in the set where it was forwarded to, else where it was
+-- where each object is: in the set where it was forwarded to, else where it was
 abbrev pub place_after : (ℕ → Bool) → (ℕ → Option ℕ) → ℕ → Option ℕ
 place_after set forward a = if set a then forward a else Some a
 
@@ -20,7 +20,7 @@ place_after set forward a = if set a then forward a else Some a
 abbrev pub IsWord : (ℕ → Option ℕ) → Option ℕ → Option ℕ → Type 0
 IsWord place w w' = (w' ≡ w) ⊎ IsMoved place w w'
 
--- at b stands what x became: the same, with as many pointers, but that some of its fields name new places
+-- at b is what x became: the same, with as many pointers, but that some of its fields name new places
 pub record IsPart (place : ℕ → Option ℕ) (now : Heap) (x : Stored) (b : ℕ) : Type 0 where
   pub part : Stored
   pub at : now.kept b ≡ Some part
@@ -29,8 +29,8 @@ pub record IsPart (place : ℕ → Option ℕ) (now : Heap) (x : Stored) (b : �
   pub shape : length part.pointers ≡ length x.pointers
   pub words : AllZip (IsWord place) (fields x) (fields part)
 
--- between two turns of the copying, h being the heap at its start: each placed object stands at its place; outside
--- the set nothing else is kept; what is not forwarded is untouched; what is forwarded is reached, and lies outside
+-- between two turns of the copying, h being the heap at its start: each placed object is at its place; outside
+-- the set nothing else is kept; what is not forwarded is untouched; what is forwarded is reached, and is outside
 -- the set
 pub record IsEvacuating (set : ℕ → Bool) (h : Heap) (forward : ℕ → Option ℕ) (now : Heap) : Type 0 where
   pub roots : AllZip (IsWord (place_after set forward)) h.roots now.roots

@@ -1,5 +1,5 @@
 -- The object graph: objects by unchanging names, and root places that lead to them. No object is ever
--- removed, so objects stand in a list, by name: the first one bears the first name, each later one the next.
+-- removed, so objects are in a list, by name: the first one has the first name, each later one the next.
 use Rattle.std.specs.Prelude.{◌≡◌, ◌+◌, ◌-◌, ◌*◌, ◌<◌, ◌∷◌, ◌++◌, if◌then◌else◌}
 use Rattle.std.specs.Prelude.{ℕ, zero, suc, List, [], length, Option, Some, None, slice_set, slice_get, nat_le}
 
@@ -19,7 +19,7 @@ pub record Places : Type 0 where
   pub mutators : ℕ
   pub registers : ℕ
 
--- Where roots stand: the globals first, and after them the registers of one mutator after another.
+-- Where roots are: the globals first, and after them the registers of one mutator after another.
 -- The place of a mutator's register
 abbrev pub register_place : Places → ℕ → ℕ → ℕ
 register_place p mutator register = p.globals + p.registers * mutator + register
@@ -65,7 +65,7 @@ with_root g j v = record g { roots = slice_set g.roots j v }
 abbrev pub with_nil_roots : Graph → ℕ → ℕ → Graph
 with_nil_roots g first count = record g { roots = with_nils g.roots first count }
 
--- the graph with one more object, which bears the next name, and that name in a root place
+-- the graph with one more object, which has the next name, and that name in a root place
 abbrev pub with_object : Graph → Object → ℕ → Graph
 with_object g o j = record g { objects = g.objects ++ o ∷ []; roots = slice_set g.roots j (Some (next_name g)) }
 

@@ -26,7 +26,7 @@ pub record Heap : Type 0 where
   pub kept : ℕ → Option Stored
   pub roots : List (Option ℕ)
 
--- the word is nil where the value is nil, else it is where a kept object of that name stands
+-- the word is nil where the value is nil, else it is where a kept object of that name is
 abbrev pub IsShown : Heap → Option ℕ → Option ℕ → Type 0
 IsShown h None None = ⊤
 IsShown h None (Some n) = ⊥
@@ -53,7 +53,7 @@ pub record IsClosed (h : Heap) : Type 0 where
   pub root : (j a : ℕ) → slice_get h.roots j ≡ Some (Some a) → (x : Stored) × (h.kept a ≡ Some x)
   pub field : (b i a : ℕ) (y : Stored) → h.kept b ≡ Some y → slice_get (fields y) i ≡ Some (Some a) → (x : Stored) × (h.kept a ≡ Some x)
 
--- exactly one kept object bears the name, and it has the graph's contents
+-- exactly one kept object has the name, and it has the graph's contents
 pub record StandsOnce (g : Graph) (h : Heap) (n : ℕ) : Type 0 where
   pub address : ℕ
   pub object : Stored

@@ -6,7 +6,7 @@ use Rattle.heap_model.specs.Heap.{Heap, Stored, Points, IsRoot}
 
 -- What marking knows of each address. An object is grey when it is marked and not scanned yet
 pub record Marking : Type 0 where
-  -- below its region's top at mark start: what stands there was made before marking began
+  -- below its region's top at mark start: what is there was made before marking began
   pub old : ℕ → Bool
   pub marked : ℕ → Bool
   pub scanned : ℕ → Bool
@@ -28,7 +28,7 @@ pub record WillBeMarked (h : Heap) (m : Marking) (n : ℕ) : Type 0 where
   pub named : object.name ≡ n
   pub why : (m.marked address ≡ true) ⊎ Pending h m address
 
--- an old object whose name is to be marked stands here
+-- an old object whose name is to be marked is here
 pub record IsOldLive (live : ℕ → Type 0) (h : Heap) (m : Marking) (a : ℕ) : Type 0 where
   pub object : Stored
   pub at : h.kept a ≡ Some object

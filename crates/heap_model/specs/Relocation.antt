@@ -1,4 +1,4 @@
--- Objects that move, or are gone: `place` tells for each kept object where it stands afterwards, None for gone.
+-- Objects that move, or are gone: `place` tells for each kept object where it is afterwards, None for gone.
 use Rattle.std.specs.Prelude.{◌≡◌, ℕ, true, Option, Some, None, ⊤}
 use Rattle.std.specs.List.{AllZip}
 use Rattle.heap_model.specs.Heap.{Heap, Stored}
@@ -11,7 +11,7 @@ IsMoved place None (Some b) = ⊥
 IsMoved place (Some a) None = ⊥
 IsMoved place (Some a) (Some b) = place a ≡ Some b
 
--- at b stands what x became: the same, but that its fields name the new places
+-- at b is what x became: the same, but that its fields name the new places
 pub record IsCopy (place : ℕ → Option ℕ) (h' : Heap) (x : Stored) (b : ℕ) : Type 0 where
   pub copy : Stored
   pub at : h'.kept b ≡ Some copy
@@ -27,7 +27,7 @@ pub record Came (place : ℕ → Option ℕ) (h : Heap) (b : ℕ) : Type 0 where
   pub at : h.kept from ≡ Some object
   pub placed : place from ≡ Some b
 
--- each kept object stands at its place, or is gone, and nothing else is kept. No root and no object that stays
+-- each kept object is at its place, or is gone, and nothing else is kept. No root and no object that stays
 -- names one that is gone
 pub record Relocates (place : ℕ → Option ℕ) (h h' : Heap) : Type 0 where
   pub roots : AllZip (IsMoved place) h.roots h'.roots

@@ -5,7 +5,7 @@
 //! The theorem, in words. Take the graph of all objects ever made, by names that never change, from which nothing is
 //! removed. As long as the heap shows that graph,
 //!
-//! - every read gives what the graph gives, and each object that a root reaches stands in the heap, whole and once
+//! - every read gives what the graph gives, and each object that a root reaches is in the heap, whole and once
 //!   (`showing::read_law`, `stands_law`);
 //! - a mutator's stores and allocations lead to a heap that shows the graph after them (`root_set_law`,
 //!   `object_set_law`, `object_added_law`);

@@ -68,7 +68,7 @@ pub fn count_law()
         → (marks : List ℕ) → ListsMarked m.marked marks → IsReachableCount s (length marks) }
 {}
 
-/// When the new marks and tops at mark start take the place of the previous ones, above which they lie, they keep
+/// When the new marks and tops at mark start take the place of the previous ones, and are above them, they keep
 /// what marking keeps, its weak slots cleared, where those of the objects that are marked or new were cleared before.
 pub fn kept_law()
     ensures { (s : Graph) (tiles cleared_tiles : ℕ → Option Stored) (below marked : ℕ → Bool) (roots : List (Option ℕ)) (m : Marking)

@@ -4,7 +4,7 @@ ghost use Rattle.std.specs.Prelude.{ℕ, ◌↔◌};
 ghost use Rattle.heap_model.specs.Graph.{Graph, IsReachable};
 ghost use Rattle.heap_model.specs.Paths.{IsReachableByPath};
 
-/// A name is reachable exactly if a finite path of pointers leads to it from a root place.
+/// A name is reachable if and only if a finite path of pointers leads to it from a root place.
 pub fn path_law()
     ensures { (g : Graph) (n : ℕ) → IsReachable g n ↔ IsReachableByPath g n }
 {}

@@ -6,7 +6,7 @@ ghost use Rattle.heap_model.specs.Graph.{Graph, Object, IsReachable, next_name, 
 ghost use Rattle.heap_model.specs.Heap.{Heap, Stored, Shows, IsShown, StandsOnce, IsClosed, RootSet, ObjectSet, ObjectAdded, SameHeap};
 ghost use Rattle.heap_model.specs.Heap.{fields, with_field};
 
-/// Each object that a root reaches stands in the heap once, with the graph's contents.
+/// Each object that a root reaches is in the heap once, with the graph's contents.
 pub fn stands_law()
     ensures { (g : Graph) (h : Heap) → Shows g h → (n : ℕ) → IsReachable g n → StandsOnce g h n }
 {}

@@ -65,7 +65,7 @@ names_roots p (actions.PutWeak object i value) = has_register p object && has_va
 names_roots p (actions.Weaks object) = has_register p object
 names_roots p (actions.Scope from) = has_register p from
 
--- a mutator's step where roots stand in these places: the mutator is one of theirs, and so is each root that it names
+-- a mutator's step where roots are in these places: the mutator is one of theirs, and so is each root that it names
 pub record IsOpAt (p : Places) (o : Op) : Type 0 where
   pub mutator : o.mutator < p.mutators
   pub roots : NamesRoots p o.action

@@ -8,7 +8,7 @@
 //! ```
 //!
 //! An `Event` is an actor, its step and the reply. A `Plan` holds a heap's sizes and the steps to be done, a `Record` the sizes and the
-//! events that were; both keep that each step is one that the sizes allow (`is_in`). The graph, the heap and the texts stand on these
+//! events that were; both keep that each step is one that the sizes allow (`is_in`). The graph, the heap and the texts rest on these
 //! types, and none of them on another for them.
 //!
 //! Examples of calls go on from this one, in which `rt` is a test's `HostRuntime` and `alloc` its allocator:

@@ -24,7 +24,7 @@ impl Model for Plan {
     ghost invariant = { λ p. AreSteps p.config p.steps.items };
 }
 
-/// Where it is let go there is one call, and not a drop for each of its parts.
+/// Where it is dropped there is one call, and not a drop for each of its parts.
 impl Drop for Plan {
     fn drop(self) {
         let Plan {
@@ -95,7 +95,7 @@ impl Plan {
 }
 
 /// A heap line and the events of its heap, in order. Each mutator's number is below the heap line's
-/// count, and each step is one of its actor's.
+/// count, and each step is one of its actor's. A parameter that clauses name is called `history`, since `record` is a word of theirs.
 #[derive(Debug)]
 pub struct Record {
     config: Config,
@@ -112,7 +112,7 @@ impl Model for Record {
     ghost invariant = { λ r. AreEvents r.config r.events.items };
 }
 
-/// Where it is let go there is one call, and not a drop for each of its parts.
+/// Where it is dropped there is one call, and not a drop for each of its parts.
 impl Drop for Record {
     fn drop(self) {
         let Record {

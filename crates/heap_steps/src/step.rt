@@ -147,7 +147,7 @@ pub enum CollectorStep {
     /// Live objects are copied out of some regions, at most so many words, and these regions are reclaimed.
     Pause(u32),
     /// Live objects of the highest ordinary regions are copied down into the lowest free ones, at most so many words, and these regions
-    /// are reclaimed, so that free regions lie side by side.
+    /// are reclaimed, so that free regions are side by side.
     Compact(u32),
 }
 

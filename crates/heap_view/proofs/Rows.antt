@@ -34,7 +34,7 @@ roots_more t roots letter first place order =
     ∙ ap (λ (l : List (List ℕ)). flat_map f (range_with_len first (place - first)) ++ l) (append-nil (f (first + (place - first))))
     ∙ ap (λ (n : ℕ). flat_map f (range_with_len first (place - first)) ++ f n) last
 
--- after others stands a comma
+-- after others is a comma
 join_one : (xs : List (List ℕ)) (x : List ℕ)
     → join_with_byte 44 (xs ++ x ∷ []) ≡ join_with_byte 44 xs ++ (comma_text (has_some xs) ++ x)
 unfolding comma_text

@@ -6,7 +6,7 @@ use Rattle.script_text.specs.Watched.{Reader, Writer, FailsToGive, Takes, TakesP
 use Rattle.script_text.specs.declared.fault.WriteFault.TheVariants as writes
 use Rattle.heap_steps.specs.Faults.{IsRunFault}
 use Rattle.step_core.specs.Stands.{CoreState}
-use Rattle.step_core.specs.Histories.{IsRunInOrder, RunsTo}
+use Rattle.step_core.specs.Passages.{IsRunInOrder, RunsTo}
 use Rattle.jobs.specs.Runs.{GivesAll, Tells}
 use Rattle.jobs.specs.declared.faults.JobFault.{JobFault}
 use Rattle.jobs.specs.declared.faults.JobFault.TheVariants as faults

@@ -4,7 +4,7 @@ ghost use Rattle.std.specs.Prelude.{◌≡◌, IfOk, IfErr, OnOk, All, map};
 ghost use Rattle.heap_words.specs.Configs.{Suits};
 ghost use Rattle.heap_words.specs.declared.config.Config.{Config};
 ghost use Rattle.heap_steps.specs.Actors.{AreEvents, IsStep};
-ghost use Rattle.step_core.specs.Histories.{step_in};
+ghost use Rattle.step_core.specs.Passages.{step_in};
 ghost use Rattle.heap_view.specs.Reviews.{GoesTo, IsRedoFault, IsReviewOf, Reviews, beginning_of};
 
 use crate::glance::Glance;
@@ -69,7 +69,7 @@ fn review_of(alloc: Global, history: &Record, glance: &Glance) -> Result<Vec<u8>
 }
 
 /// Reads a record to the end of input, does its steps again in their order in a new heap, and writes what is viewed of the heap as it
-/// stands then. A record to whose event the heap gives another reply is refused, and the fault names the first such event. Nothing is
+/// is then. A record to whose event the heap gives another reply is refused, and the fault names the first such event. Nothing is
 /// written before the steps are done.
 pub fn view_record<R: Read, W: Write>(
     alloc: Global,

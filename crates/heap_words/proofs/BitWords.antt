@@ -123,7 +123,7 @@ min_zero x y e = omega arith
 min_of_zero : (x y : ℕ) → x ≡ 0 → min x y ≡ 0
 min_of_zero x y e = omega arith
 
--- what stands above the low bits of a word
+-- what is above the low bits of a word
 abbrev pub high_mask : ℕ → ℕ
 high_mask low = (2 ^ 64 - 1) * 2 ^ low % 2 ^ 64
 

@@ -172,7 +172,7 @@ pub same_len : (flags others : List Bool) (ws vs : List ℕ) (n k : ℕ) → fla
 same_len flags others ws vs n k view other e = omega (arith, length-flags_of ws n, length-flags_of vs k, ap length view, ap length other)
 
 -- ---- one word, which is all of a group
--- nothing lies between a number and itself
+-- nothing is between a number and itself
 pub none_yet : (has : ℕ → Bool) (from : ℕ) → HasNoneBelow has from from
 none_yet has from a h k = absurd (omega arith)
 

@@ -1,4 +1,4 @@
-//! Sets of numbers that know between which bounds their members lie.
+//! Sets of numbers that know between which bounds their members are.
 //!
 //! ```text
 //!   number     0 ..                 low                  high                 len
@@ -162,7 +162,7 @@ impl BoundedBits {
         self.bits.clear_range(from, to);
     }
 
-    /// The lowest number of the set at or above `from`. Where members stand in a row it looks at one bit for the next one.
+    /// The lowest number of the set at or above `from`. Where members are in a row it looks at one bit for the next one.
     pub fn next(&self, from: u32) -> Option<u32>
         ensures lowest { MatchOption result (HasNone (has self.now) from) (IsLowest (has self.now) from) }
         ensures within { IfSome result (λ found. found < length self.now) }

@@ -212,7 +212,7 @@ impl Words {
         object_counts(self.items[object.word() as usize])
     }
 
-    /// The name of the object at an address, which stands behind its header.
+    /// The name of the object at an address, which is after its header.
     pub fn name(&self, object: Addr) -> u64
         requires { object + 1 < self.now.written }
         ensures { result ≡ slice_index self.now.all (object + 1) }

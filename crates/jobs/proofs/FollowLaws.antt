@@ -38,7 +38,7 @@ followed_yes law text left n = (
   λ run. (run.0, yes_explained (whole_lines text) n ((law (whole_lines text) n).1 run.1)),
 )
 
--- what stands in events stands in them with more after them
+-- what is in events is in them with more after them
 stands : (es more : List Event) (k : ℕ) (e : Event) → k < length es → slice_get (es ++ more) k ≡ Some e → slice_get es k ≡ Some e
 stands [] more k e lt is = absurd (omega arith)
 stands (x ∷ es) more zero e lt is = is

@@ -9,7 +9,7 @@ use Rattle.heap_words.specs.Configs.{Suits}
 use Rattle.heap_steps.specs.Actors.{EventList}
 use Rattle.object_graph.specs.State.{first_state}
 use Rattle.object_graph.specs.Run.{IsRun}
-use Rattle.object_graph.specs.Reasons.{Judging, HasTaken, TakesNext, Refuses}
+use Rattle.object_graph.specs.Reasons.{Judging, HasJudged, JudgesNext, Refuses}
 use Rattle.object_graph.specs.declared.given.Given.{Given}
 use Rattle.object_graph.specs.declared.judge.Finding.TheVariants.{Allowed, Refused}
 use Rattle.heap_steps.specs.declared.step.Event.{Event}
@@ -51,11 +51,11 @@ pub record IsFollowing (c : Config) (j : Judging) (start : Reader) (first : List
   pub es : List Event
   pub count : n ≡ length es + 1
   pub config : j.config ≡ c
-  pub judged : HasTaken j es
+  pub judged : HasJudged j es
   pub read : (given : Reader) (head : List ℕ) → Gives given start (head ++ first) → record_of head ≡ Ok (made c [])
       → HasRead c es given now waits
 
-pub starts : (c : Config) (j : Judging) (start : Reader) (first : List ℕ) → j.config ≡ c → HasTaken j []
+pub starts : (c : Config) (j : Judging) (start : Reader) (first : List ℕ) → j.config ≡ c → HasJudged j []
     → IsFollowing c j start first start first 1
 starts c j start first same taken = record {
   es = [];
@@ -76,7 +76,7 @@ read_next c es given now next waits left n e count read taken =
 
 pub goes_on : (c : Config) (j k : Judging) (start : Reader) (first : List ℕ) (now next : Reader) (waits left : List ℕ) (n : ℕ) (e : Event)
     → IsFollowing c j start first now waits n → IsNext (event_line_of n c) waits left now next (Ok (Some e)) →
-    k.config ≡ j.config → ((es : List Event) → HasTaken j es → TakesNext j k es e None) → IsFollowing c k start first next left (n + 1)
+    k.config ≡ j.config → ((es : List Event) → HasJudged j es → JudgesNext j k es e None) → IsFollowing c k start first next left (n + 1)
 goes_on c j k start first now next waits left n e f taken same told = record {
   es = f.es ++ e ∷ [];
   count = (let count = f.count in let more = length_push f.es e in omega arith);
@@ -118,7 +118,7 @@ last_there (x ∷ es) e = last_there es e
 -- the event may not follow those before it
 pub found_no : (c : Config) (j k : Judging) (start : Reader) (first : List ℕ) (now next : Reader) (waits left : List ℕ) (n : ℕ) (e : Event)
     (told : Given) → Suits c → IsFollowing c j start first now waits n → IsNext (event_line_of n c) waits left now next (Ok (Some e)) →
-    ((es : List Event) → HasTaken j es → TakesNext j k es e (Some told)) →
+    ((es : List Event) → HasJudged j es → JudgesNext j k es e (Some told)) →
     (given : Reader) (head : List ℕ) → Gives given start (head ++ first) → record_of head ≡ Ok (made c [])
     → FindsBy given next (Ok (Refused n e told))
 found_no c j k start first now next waits left n e told suits f taken refused given head gives read =

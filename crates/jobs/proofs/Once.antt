@@ -23,7 +23,7 @@ take_fewer es (suc k) zero le = absurd (omega arith)
 take_fewer [] (suc k) (suc j) le = refl
 take_fewer (e ∷ es) (suc k) (suc j) le = ap (λ (l : List Event). e ∷ l) (take_fewer es k j (omega arith))
 
--- what stands in a beginning of events stands in them
+-- what is in a beginning of events is in them
 back : (es : List Event) (k j : ℕ) (e : Event) → slice_get (take j es) k ≡ Some e → slice_get es k ≡ Some e
 back es k zero e is = absurd (cc)
 back [] k (suc j) e is = is

@@ -44,7 +44,7 @@ given_text (givens.Reply r) = spaced (reply_words r)
 given_text (givens.Object n) = codes "#" ++ decimal n ++ codes " or refused 3 Full"
 given_text (givens.Form k) = form_text k
 
--- the line that tells why the n-th event may not happen, which stands in the record's line n + 1
+-- the line that tells why the n-th event may not happen, which is in the record's line n + 1
 abbrev pub reason_line : ℕ → Event → Given → List ℕ
 reason_line n e given =
     codes "event " ++ decimal n ++ codes ", line " ++ decimal (n + 1) ++ codes ": " ++ event_text e

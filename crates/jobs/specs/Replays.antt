@@ -14,7 +14,7 @@ pub record DifferFrom (given ran : List Event) (i : ℕ) : Type 0 where
   pub same : take i (map reply_in ran) ≡ take i (map reply_in given)
   pub other : slice_get (map reply_in ran) i ≢ slice_get (map reply_in given) i
 
--- To event n of these, counted from 1, a heap whose runs are given gives another reply than stands there, and to none before it. It does
+-- To event n of these, counted from 1, a heap whose runs are given gives another reply than is there, and to none before it. It does
 -- their steps.
 pub record DiffersAt (IsRunFrom : Config → List Event → Type 0) (events : EventList) (n : ℕ) : Type 0 where
   pub ran : List Event

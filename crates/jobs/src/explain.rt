@@ -130,8 +130,8 @@ fn write_hint<W: Write>(text: &[u8], fault: LineFault, writer: &mut WatchedWrite
 }
 
 /// Reads a record to the end of input, judges it by the graph alone, and writes the verdict as `judge_record` does. After a no one more
-/// line says what the graph gives in place of the event that isn't allowed, and what else may stand there. Of a line with a fault one line
-/// shows it and says what may stand where reading it stopped. Nothing else is written before the judge has ended.
+/// line says what the graph gives in place of the event that isn't allowed, and what else may be there. Of a line with a fault one line
+/// shows it and says what may be where reading it stopped. Nothing else is written before the judge has ended.
 ///
 /// ```text
 ///   no 13

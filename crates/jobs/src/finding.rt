@@ -3,7 +3,7 @@
 ghost use Rattle.std.specs.Prelude.{◌≡◌, ◌<◌, ◌^◌, [], length, IfOk, IfErr};
 ghost use Rattle.heap_words.specs.Configs.{Suits};
 ghost use Rattle.object_graph.specs.State.{first_state};
-ghost use Rattle.object_graph.specs.Reasons.{Finds, HasTaken};
+ghost use Rattle.object_graph.specs.Reasons.{Finds, HasJudged};
 ghost use Rattle.jobs.specs.Verdicts.{IsJudgeFault};
 ghost use Rattle.jobs.specs.Explanations.{FindsIn};
 
@@ -15,7 +15,7 @@ use std::alloc::{AllocError, Global};
 /// Judges the events that are left, to the last, to the first that isn't allowed, or to a line with a fault.
 fn judge_events(judge: &mut Judge, events: &mut RecordEvents<'_>) -> Result<Finding, AllocError>
     requires config { judge.old.config ≡ events.old.config }
-    requires taken { HasTaken judge.old [] }
+    requires judged { HasJudged judge.old [] }
     requires few { length events.old.events < 2 ^ 64 }
     ensures finds { IfOk result (Finds (first_state events.old.config) events.old.events) }
     ensures fault { events.new.fault ≡ events.old.fault }
@@ -25,7 +25,7 @@ fn judge_events(judge: &mut Judge, events: &mut RecordEvents<'_>) -> Result<Find
         // A usual event is judged where it is read, and not copied to where another one would be.
         if let Some(event) = events.next_usual() {
             count += 1;
-            if let Some(given) = judge.take(&event)? {
+            if let Some(given) = judge.judge_event(&event)? {
                 return Ok(Finding::Refused {
                     number: count,
                     event,
@@ -38,7 +38,7 @@ fn judge_events(judge: &mut Judge, events: &mut RecordEvents<'_>) -> Result<Find
             return Ok(Finding::Allowed(count));
         };
         count += 1;
-        if let Some(given) = judge.take(&event)? {
+        if let Some(given) = judge.judge_event(&event)? {
             return Ok(Finding::Refused {
                 number: count,
                 event,
@@ -74,7 +74,7 @@ fn find_events(alloc: Global, events: &mut RecordEvents<'_>) -> Result<Finding, 
 }
 
 /// What the judge finds of a record's text, or why it isn't judged: a line has a fault, its sizes don't suit, or memory was refused. Each
-/// line is read once. A line's fault comes first, wherever it stands: so the lines that weren't judged are read for one.
+/// line is read once. A line's fault comes first, wherever it is: so the lines that weren't judged are read for one.
 pub(crate) fn find_in(alloc: Global, text: &[u8]) -> Result<Finding, JobFault>
     ensures { FindsIn text.now result }
 {

@@ -2,7 +2,7 @@
 
 ghost use Rattle.std.specs.Prelude.{◌≡◌, ◌≢◌, ◌↔◌, ◌++◌, [], ℕ, Bool, List, OnOk, OnErr};
 ghost use Rattle.std.specs.Io.KnownBytes.{IsAtEnd};
-ghost use Rattle.object_graph.specs.Reasons.{HasTaken};
+ghost use Rattle.object_graph.specs.Reasons.{HasJudged};
 ghost use Rattle.object_graph.specs.declared.given.Given.{Given};
 ghost use Rattle.object_graph.specs.declared.judge.Verdict.{Verdict};
 ghost use Rattle.heap_steps.specs.declared.step.Event as events;
@@ -34,7 +34,7 @@ fn follow_events<R: Read>(
 ) -> Result<Finding, JobFault>
     requires suits { Suits config.now }
     requires config { judge.old.config ≡ config.now }
-    requires taken { HasTaken judge.old [] }
+    requires judged { HasJudged judge.old [] }
     ensures { (given : Reader) (head : List ℕ) → Gives given reader.old (head ++ lines.old)
         → record_of head ≡ Ok (record { config = config.now; events = [] }) → FindsBy given reader.new result }
 {
@@ -50,7 +50,7 @@ fn follow_events<R: Read>(
             }
             Err(NextFault::Read(fault)) => return Err(JobFault::Read(fault)),
         };
-        match judge.take(&event) {
+        match judge.judge_event(&event) {
             Ok(None) => {}
             Ok(Some(given)) => {
                 return Ok(Finding::Refused {
@@ -167,7 +167,7 @@ pub fn follow_and_conclude<R: Read, W: Write, E: Write>(
     conclude_verdict(judged_by(outcome), err)
 }
 
-/// What is found is the verdict of `check` on the text without its cut last line: yes at the end of input, exactly where that is the text
+/// What is found is the verdict of `check` on the text without its cut last line: yes at the end of input, if and only if that is the text
 /// of a run of so many events; no n where, whatever comes after, `check` has no other verdict.
 pub fn follow_law()
     ensures yes { (text : List ℕ) (left : Reader) (n : ℕ) → IsFound text left (Ok (Finding.Allowed n))

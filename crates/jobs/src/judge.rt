@@ -121,8 +121,8 @@ pub fn judge_and_conclude<R: Read, W: Write, E: Write>(
     conclude_verdict(outcome, err)
 }
 
-/// Which verdict a text gets: yes exactly where it is a record's text whose sizes suit and whose events are a run of the graph, with their
-/// number; no exactly where the graph allows the events before the n-th and none goes on with that one. No text gets two verdicts.
+/// Which verdict a text gets: yes if and only if it is a record's text whose sizes suit and whose events are a run of the graph, with their
+/// number; no if and only if the graph allows the events before the n-th and none goes on with that one. No text gets two verdicts.
 pub fn verdict_law()
     ensures yes { (input : List ℕ) (n : ℕ) → IsJudged input (Verdict.Yes n) ↔ IsTextOfRun input n }
     ensures no { (input : List ℕ) (n : ℕ) → IsJudged input (Verdict.No n) ↔ IsTextBrokenAt input n }

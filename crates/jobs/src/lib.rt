@@ -3,8 +3,8 @@
 //!
 //! ```text
 //!   FILE -- read_plan --> Plan -- a run, in some order --> Record -- answer --> output
-//!   FILE -- RecordEvents, one by one --> Event -- Judge::take --> Finding -- write_verdict, write_finding --> output
-//!   FILE -- LineBuffer, line by line --> Event -- Judge::take --> Finding -- write_told --> output
+//!   FILE -- RecordEvents, one by one --> Event -- Judge::judge_event --> Finding -- write_verdict, write_finding --> output
+//!   FILE -- LineBuffer, line by line --> Event -- Judge::judge_event --> Finding -- write_told --> output
 //!   FILE -- read_record --> Record -- its steps done again, by the crates above, and compared: first_other
 //!   a fault of any of these -- tell --> its line on standard error -- conclude_explained --> what explains it
 //! ```
@@ -19,14 +19,14 @@ mod explain;
 mod faults;
 mod finding;
 mod follow;
-mod history;
 mod judge;
+mod replay;
 mod script;
 
 pub use causes::{Counts, conclude_explained, conclude_unread};
 pub use explain::{explain_and_conclude, explain_record, explained_law};
 pub use faults::{JobFault, JudgeFault, conclude, tell};
 pub use follow::{follow_and_conclude, follow_law, follow_record, follow_status_law};
-pub use history::{first_other, read_record};
 pub use judge::{conclude_verdict, judge_and_conclude, judge_record, status_law, verdict_law};
+pub use replay::{first_other, read_record};
 pub use script::{answer, read_plan};

@@ -4,7 +4,7 @@ use Rattle.std.specs.Int.{div_ceil}
 use Rattle.heap_words.specs.Bits.{has}
 use Rattle.mark_bitmap.specs.Marks.{is_only}
 
--- the finger of an address
+-- the finger of an address: a bit of a summary, one for each 64 addresses
 unfoldable pub finger_of : ℕ → ℕ
 finger_of address = address / 64
 

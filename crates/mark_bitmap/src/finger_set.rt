@@ -1,4 +1,5 @@
-//! The fingers that are set. They are counted, so where none is nobody looks for one.
+//! The fingers that are set. They are counted, so where none is nobody looks for one. A finger is a bit of a summary, one for each 64
+//! addresses: not, as in some papers, the one address that marking has come to.
 
 ghost use Rattle.std.specs.Prelude.{◌≡◌, ◌==◌, ◌<◌, false, true, IfOk, IfSome, length, MatchOption, replicate, slice_set};
 ghost use Rattle.heap_words.specs.Bits.{has, HasNone, IsLowest};

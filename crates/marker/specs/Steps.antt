@@ -52,7 +52,7 @@ saved t m mutator None = m
 saved t m mutator (Some a) =
     if below_next t m.tams a then record m { logs = slice_set m.logs mutator (log_of m.logs mutator ++ a ∷ []) } else m
 
--- a mutator's log is empty, and what stood in it is marked. Nothing else changed but the fingers and the held object
+-- a mutator's log is empty, and what was in it is marked. Nothing else changed but the fingers and the held object
 pub record HasTakenLog (t : Table) (mutator : ℕ) (m m' : Marker) : Type 0 where
   pub emptied : m'.logs ≡ slice_set m.logs mutator []
   pub marks : MarksWanted t (Contains (log_of m.logs mutator)) m m'

@@ -23,7 +23,7 @@ use mark_bitmap::marks::Marks;
 use mark_bitmap::tams::Tams;
 use regions::RegionTable;
 use root_table::Roots;
-use satb_log::log::DeletionLog;
+use satb_log::logs::DeletionLog;
 
 /// The next top of each region becomes its present top.
 fn set_tops(tams: &mut Tams, table: &RegionTable)
@@ -146,7 +146,7 @@ impl Marker {
     {
         table.law();
         for place in 0..log.len() {
-            let at = log.get(place);
+            let at = Addr::new(log.get(place));
             if self.bitmaps.next.get(at) {
                 continue;
             }

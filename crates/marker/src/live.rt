@@ -37,7 +37,7 @@ impl Model for LiveWords {
     ghost view = { λ l. record { previous = l.previous.items; next = l.next.items } };
 }
 
-/// Where it is let go there is one call, and not a drop for each of its parts.
+/// Where it is dropped there is one call, and not a drop for each of its parts.
 impl Drop for LiveWords {
     fn drop(self) {
         let LiveWords {

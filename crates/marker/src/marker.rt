@@ -34,7 +34,7 @@ pub struct Marker {
     pub live: LiveWords,
 }
 
-/// Where it is let go there is one call, and not a drop for each of its parts.
+/// Where it is dropped there is one call, and not a drop for each of its parts.
 impl Drop for Marker {
     fn drop(self) {
         let Marker {

@@ -43,7 +43,7 @@ impl Marker {
     }
 
     /// Marks an old object that isn't marked. It is grey then, and its words are counted.
-    #[inline(never)]
+    #[inline(always)]
     fn reach_unmarked(&mut self, table: &RegionTable, at: Addr)
         requires stands { MarkerStands table.now self.old }
         requires running { self.old.running ≡ true }

@@ -64,7 +64,7 @@ fn link(table: &mut RegionTable, from: Addr, field: u32, to: Addr)
 }
 
 /// Takes the lowest free region.
-fn take(table: &mut RegionTable) -> Option<RegionNo>
+fn take_free(table: &mut RegionTable) -> Option<RegionNo>
     ensures keeps { Keeps table.old table.new }
 {
     table.take_free()
@@ -126,7 +126,7 @@ fn build(alloc: Global, shapes: &[(u8, u8)], links: &[(usize, u32, usize)]) -> R
         return Err(Fail::from("a table is made"));
     };
     for _ in 0..3 {
-        take(&mut table);
+        take_free(&mut table);
     }
     let mut objects = Vec::new(alloc);
     for i in 0..shapes.len() {

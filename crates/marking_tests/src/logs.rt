@@ -1,8 +1,7 @@
 //! Deletion logs that fill and are drained.
 
 use heap_words::addr::Addr;
-use satb_log::log::LOG_LEN;
-use satb_log::logs::DeletionLogs;
+use satb_log::logs::{DeletionLogs, LOG_LEN};
 use std::test::Fail;
 
 /// Eight addresses fill a log, which `log` answers with the eighth; they come out in order, and once.
@@ -22,7 +21,7 @@ fn fills_and_drains(rt: HostRuntime) -> Result<(), Fail> {
         let drained = logs.drain(1);
         assert!(rt; drained.len() == LOG_LEN && drained.is_full() && logs.len(1) == 0);
         for place in 0..drained.len() {
-            assert_eq!(rt; drained.get(place).word() as usize + place, 100);
+            assert_eq!(rt; drained.get(place) as usize + place, 100);
         }
     }
     Ok(())

@@ -6,7 +6,7 @@ use Rattle.std.specs.Prelude.{slice_set}
 use Rattle.std.proofs.lemmas.Bool.{cases_eq}
 use Rattle.std.proofs.lemmas.List.{length-map, get_or-map, map-set}
 use Rattle.heap_steps.specs.declared.step.Step.{Step}
-use Rattle.step_core.specs.Histories.{actor_of}
+use Rattle.step_core.specs.Passages.{actor_of}
 use Rattle.mutators.specs.Scripts.{same_actor, scripted, lines_of}
 use Rattle.mutators.proofs.Lines.{lines_same, lines_other}
 use Rattle.mutators.proofs.Rows.{same_scripted, other_scripted}

@@ -4,7 +4,7 @@ use Rattle.std.proofs.lemmas.List.{take_more}
 use Rattle.heap_steps.specs.declared.step.Actor.{Actor}
 use Rattle.heap_steps.specs.declared.step.Step.{Step}
 use Rattle.heap_steps.specs.declared.step.Event.{Event}
-use Rattle.step_core.specs.Histories.{actor_of}
+use Rattle.step_core.specs.Passages.{actor_of}
 use Rattle.mutators.specs.Scripts.{same_actor, steps_of, lines_of}
 
 pub steps_push_same : (a : Actor) (es : List Event) (e : Event) → same_actor a e.actor ≡ true

@@ -15,7 +15,7 @@ use Rattle.heap_steps.specs.declared.step.Step.{Step}
 use Rattle.heap_steps.specs.declared.step.Event.{Event}
 use Rattle.step_core.specs.Stands.{CoreState, Stands, IsCore}
 use Rattle.step_core.specs.Fresh.{fresh_core}
-use Rattle.step_core.specs.Histories.{actor_of, RunsTo}
+use Rattle.step_core.specs.Passages.{actor_of, RunsTo}
 use Rattle.mutators.specs.Scripts.{same_actor, scripted, lines_of}
 use Rattle.mutators.specs.Journals.{Keeps, IsLine}
 use Rattle.step_core.proofs.Cores.Running.{runs_none}

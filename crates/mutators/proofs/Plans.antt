@@ -5,8 +5,8 @@ use Rattle.heap_words.specs.declared.config.Config.{Config}
 use Rattle.heap_steps.specs.Actors.{StepList, EventList}
 use Rattle.heap_steps.specs.declared.step.Step.{Step}
 use Rattle.heap_steps.specs.declared.step.Event.{Event}
-use Rattle.step_core.specs.Histories.{RunsTo}
-use Rattle.step_core.proofs.Cores.Following.{history_is_run}
+use Rattle.step_core.specs.Passages.{RunsTo}
+use Rattle.step_core.proofs.Cores.Following.{passage_is_run}
 use Rattle.mutators.specs.Scripts.{scripted, steps_of, lines_of, AreOwn}
 use Rattle.mutators.specs.Journals.{JournalState, Keeps, mutators_of, script_at}
 use Rattle.mutators.specs.Turns.{SamePlan}
@@ -50,9 +50,9 @@ whole_run plan markers refiners d r is keeps end config events =
         own = subst (λ (n : Config). AreOwn n d.events) is.config keeps.own;
         asked = is.asked;
       });
-      history = (d.core, runs);
+      cores = (d.core, runs);
       last = runs.runs.last;
-      run = history_is_run _ _ _ _ _ runs.runs.history;
+      run = passage_is_run _ _ _ _ _ runs.runs.passage;
     }
 
 -- with no line left, each script is at its end

@@ -19,7 +19,7 @@ use Rattle.heap_steps.specs.declared.step.Reply.{Reply}
 use Rattle.heap_steps.specs.declared.step.Event.{Event}
 use Rattle.step_core.specs.Stands.{CoreState}
 use Rattle.step_core.specs.Cycle.{Does}
-use Rattle.step_core.specs.Histories.{actor_of, RunsTo}
+use Rattle.step_core.specs.Passages.{actor_of, RunsTo}
 use Rattle.mutators.specs.Scripts.{same_actor, scripted, steps_of, is_scripted, IsOwn, mark_4, refine_2}
 use Rattle.mutators.specs.Journals.{JournalState, mutators_of, script_at, Begins, Keeps, event_of, IsLine}
 use Rattle.mutators.specs.Turns.{Takes, IsCast, next_at, next_step, moved}

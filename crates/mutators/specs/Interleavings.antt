@@ -9,7 +9,7 @@ use Rattle.heap_steps.specs.declared.step.Actor.{Actor}
 use Rattle.heap_steps.specs.declared.step.Actor.TheVariants.{Mutator, Collector, Marker, Refiner}
 use Rattle.heap_steps.specs.declared.step.Step.{Step}
 use Rattle.heap_steps.specs.declared.step.Event.{Event}
-use Rattle.step_core.specs.Histories.{RunsFromNew}
+use Rattle.step_core.specs.Passages.{RunsFromNew}
 use Rattle.heap_steps.specs.declared.fault.RunFault.{RunFault}
 use Rattle.heap_steps.specs.declared.fault.RunFault.TheVariants as faults
 use Rattle.mutators.specs.Scripts.{scripted, steps_of, lines_of, AreOwn}
@@ -39,7 +39,7 @@ pub record IsInterleaving (config : Config) (markers refiners : ℕ) (steps : Li
 pub record IsRunOf (plan : StepList) (markers refiners : ℕ) (r : EventList) : Type 0 where
   pub config : r.config ≡ plan.config
   pub whole : IsInterleaving plan.config markers refiners plan.steps r.events
-  pub history : RunsFromNew plan.config r.events
+  pub cores : RunsFromNew plan.config r.events
   pub last : State
   pub run : IsRun (first_state plan.config) r.events last
 

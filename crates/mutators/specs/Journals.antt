@@ -7,7 +7,7 @@ use Rattle.heap_steps.specs.declared.step.Step.{Step}
 use Rattle.heap_steps.specs.declared.step.Reply.{Reply}
 use Rattle.heap_steps.specs.declared.step.Event.{Event}
 use Rattle.step_core.specs.Stands.{CoreState}
-use Rattle.step_core.specs.Histories.{RunsTo, actor_of}
+use Rattle.step_core.specs.Passages.{RunsTo, actor_of}
 use Rattle.mutators.specs.Scripts.{scripted, steps_of, AreOwn}
 
 -- the heap, each scripted actor's lines, how many of them are done, and the events

@@ -5,7 +5,7 @@ use Rattle.heap_steps.specs.declared.step.Actor.{Actor}
 use Rattle.heap_steps.specs.declared.step.Actor.TheVariants.{Marker, Refiner}
 use Rattle.heap_steps.specs.declared.step.Event.{Event}
 use Rattle.heap_steps.specs.Actors.{StepList}
-use Rattle.step_core.specs.Histories.{RunsTo}
+use Rattle.step_core.specs.Passages.{RunsTo}
 use Rattle.rand_pcg.specs.Lcg.{Lcg, started, increment_of}
 use Rattle.rand_pcg.specs.Pcg.{multiplier_64, pcg32}
 use Rattle.mutators.specs.Scripts.{scripted, lines_of}

@@ -8,7 +8,7 @@ use Rattle.heap_steps.specs.declared.step.CollectorStep.TheVariants as collector
 use Rattle.heap_steps.specs.declared.step.Step.{Step}
 use Rattle.heap_steps.specs.declared.step.Step.TheVariants as steps
 use Rattle.heap_steps.specs.declared.step.Event.{Event}
-use Rattle.step_core.specs.Histories.{actor_of}
+use Rattle.step_core.specs.Passages.{actor_of}
 
 abbrev pub same_actor : Actor → Actor → Bool
 same_actor (Mutator i) (Mutator j) = i == j

@@ -7,7 +7,7 @@ ghost use Rattle.heap_words.specs.Configs.{Suits, IsNewFault};
 ghost use Rattle.heap_words.specs.declared.config.Config.{Config};
 ghost use Rattle.step_core.specs.Cycle.{Does};
 ghost use Rattle.heap_steps.specs.Actors.{IsStep, AreSteps};
-ghost use Rattle.step_core.specs.Histories.{actor_of, RunsTo};
+ghost use Rattle.step_core.specs.Passages.{actor_of, RunsTo};
 ghost use Rattle.mutators.specs.Scripts.{scripted, lines_of, is_scripted};
 ghost use Rattle.mutators.specs.Journals.{event_of};
 

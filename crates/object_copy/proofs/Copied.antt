@@ -144,7 +144,7 @@ module _ (t o : Table) (k from : ℕ) (x : Stored) (w : Opened t o k) (z : 0 < t
         free_less = λ e. (let a = frees in let b = w.free_less e in omega arith);
       }
 
--- what the copy of an object asks, before and after the object stands at the top of its destination
+-- what the copy of an object asks, before and after the object is at the top of its destination
 pub record CanCopy (o : Table) (k from : ℕ) : Type 0 where
   pub object : IsSome (object_at o from)
   pub room : used_of o k + object_words o from ≤ o.words_per_region

@@ -60,7 +60,7 @@ pub record Copies (t t' : Table) (d d' : Places) (from to : ℕ) (object : Store
     words = places.words + tile_size (Object object);
   }
 
--- what that changes: at `to`, where no tile was, stands the object; at `from` a tile of as many words that says so; and region k,
+-- what that changes: at `to`, where no tile was, is the object; at `from` a tile of as many words that says so; and region k,
 -- the destination, has so many more words handed out
 pub record CopiesObject (t t' : Table) (k from to : ℕ) (object : Stored) : Type 0 where
   pub size : t'.words_per_region ≡ t.words_per_region

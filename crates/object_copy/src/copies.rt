@@ -24,11 +24,11 @@ fn destination_for(table: &mut RegionTable, destinations: &mut Destinations, siz
             return region;
         }
     }
-    take(table, destinations)
+    open_next(table, destinations)
 }
 
 /// The lowest free region becomes the open destination.
-fn take(table: &mut RegionTable, destinations: &mut Destinations) -> RegionNo
+fn open_next(table: &mut RegionTable, destinations: &mut Destinations) -> RegionNo
     requires some { 0 < free_count table.old }
     requires list { free_count table.old ≤ destinations.old.room }
     ensures { Takes table.old table.new destinations.old destinations.new result }
@@ -42,7 +42,7 @@ fn take(table: &mut RegionTable, destinations: &mut Destinations) -> RegionNo
     }
 }
 
-/// Copies an object of an ordinary region to a destination, forwards it there, and says where its copy stands.
+/// Copies an object of an ordinary region to a destination, forwards it there, and says where its copy is.
 pub fn copy(table: &mut RegionTable, destinations: &mut Destinations, from: Addr) -> Addr
     requires object { IsSome (object_at table.old from) }
     requires ordinary { kind_of table.old (from / table.old.words_per_region) ≡ kinds.Ordinary }

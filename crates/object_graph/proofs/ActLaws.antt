@@ -1,4 +1,4 @@
--- A step on the object that a register names, by the place in which that stands.
+-- A step on the object that a register names, by the place in which that is.
 use Rattle.std.proofs.Common.{◌≡◌, ◌-◌, ◌<◌, ◌≤◌, ◌∷◌, ◌∙◌}
 use Rattle.std.proofs.Common.{ℕ, zero, suc, List, [], Option, Some, None, length, slice_get, slice_set, refl, sym, ap, subst, arith}
 use Rattle.std.proofs.lemmas.Bool.Decides.{nat_tests}

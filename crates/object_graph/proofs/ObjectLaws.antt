@@ -1,4 +1,4 @@
--- How a word that is set, and words at the end, change the objects that stand in a list of words.
+-- How a word that is set, and words at the end, change the objects that are in a list of words.
 use Rattle.std.proofs.Common.{◌≡◌, ◌+◌, ◌-◌, ◌<◌, ◌≤◌, ◌∷◌, ◌++◌, ◌∙◌}
 use Rattle.std.proofs.Common.{ℕ, zero, suc, List, [], Bool, true, false, cond, Option, Some, None, option_map, slice_get, length, get_or}
 use Rattle.std.proofs.Common.{set, map, take, drop, replicate, refl, sym, ap, subst, arith, length-take, length-drop}

@@ -16,7 +16,7 @@ use Rattle.object_graph.specs.Reached.{started, all_found, searched, flag_of}
 use Rattle.object_graph.specs.Machine.{Outcome, refused, made, act, outcome_of, reply_of}
 use Rattle.object_graph.specs.Run.{ForMutator, IsNew, Creates, ClearsBy, Collects, Happens, EventHappens, IsRun, snapshot_after}
 use Rattle.object_graph.specs.Judged.{Judged}
-use Rattle.object_graph.specs.Reasons.{IsGiven, MayStand, Refuses, Finds, verdict_of, Judging, HasTaken, TakesNext, SparingTakes}
+use Rattle.object_graph.specs.Reasons.{IsGiven, MayStand, Refuses, Finds, verdict_of, Judging, HasJudged, JudgesNext, SparingJudges}
 use Rattle.heap_steps.specs.declared.step.Actor.{Actor}
 use Rattle.heap_steps.specs.declared.step.Actor.TheVariants as actors
 use Rattle.heap_steps.specs.declared.step.Action.{Action}
@@ -92,9 +92,9 @@ pub given_same : (g h : Graph) (k : Step) (given : Given) → g ≡ h → IsGive
 given_same g h k given e is = subst (λ (x : Graph). IsGiven x k given) e is
 
 -- the judge's state took the event, or tells why not: so of the machine that it stands for
-pub takes_next : (old new : Judging) (es : List Event) (e : Event) (told : Option Given) → new.config ≡ old.config → HasTaken old es
-    → SparingTakes old.state e.step e.reply new.state told → TakesNext old new es e told
-takes_next old new es e None same taken h =
+pub judges_next : (old new : Judging) (es : List Event) (e : Event) (told : Option Given) → new.config ≡ old.config → HasJudged old es
+    → SparingJudges old.state e.step e.reply new.state told → JudgesNext old new es e told
+judges_next old new es e None same taken h =
     let st = taken.0 in
     let first = first_state old.config in
     let sound = run_sound es first st (first_sound old.config) taken.1 in
@@ -102,7 +102,7 @@ takes_next old new es e None same taken h =
     let next = follows old.state st new.state e.step e.reply sound since taken.2 h in
     let run : IsRun first (es ++ e ∷ []) next.new = IsRun-more first es st e next.new taken.1 next.happens in
     (next.new, subst (λ c. IsRun (first_state c) (es ++ e ∷ []) next.new) (sym same) run, next.stands)
-takes_next old new es e (Some given) same taken h =
+judges_next old new es e (Some given) same taken h =
     let st = taken.0 in
     record {
       before = st;
@@ -112,8 +112,8 @@ takes_next old new es e (Some given) same taken h =
     }
 
 -- the state of a judge that took some events is sound
-pub taken_sound : (j : Judging) (es : List Event) → HasTaken j es → IsSoundState j.state
-taken_sound j es taken = stands_sound j.state taken.0 (run_sound es (first_state j.config) taken.0 (first_sound j.config) taken.1) taken.2
+pub judged_sound : (j : Judging) (es : List Event) → HasJudged j es → IsSoundState j.state
+judged_sound j es taken = stands_sound j.state taken.0 (run_sound es (first_state j.config) taken.0 (first_sound j.config) taken.1) taken.2
 
 -- a finding holds its verdict
 pub found_judged : (first : State) (es : List Event) (found : Finding) → Finds first es found → Judged first es (verdict_of found)
@@ -164,7 +164,7 @@ served old o r is = (
   inl (ap (λ (x : Reply). (x, (outcome_of old.graph o).1)) is, refl),
 )
 
--- the replies that may stand are those with which some state may follow
+-- the replies that may be given are those with which some state may follow
 pub may_stand : (old : State) (k : Step) (given : Given) (r : Reply) → IsSoundState old → IsGiven old.graph k given
     → ((new : State) × Happens old k r new) ↔ MayStand given r
 may_stand old (steps.Mutator o) (givens.Reply g) r sound is = (λ n. here n.0 n.1, λ e. served old o r (e ∙ is.0))
@@ -198,21 +198,21 @@ op_of c (actors.Refiner i) (steps.Mutator o) h = absurd h
 op_of c a (steps.Collector k) h = tt
 
 -- so in a judge's state
-pub op_taken : (j : Judging) (es : List Event) (e : Event) → HasTaken j es → IsEvent j.config e
+pub op_judged : (j : Judging) (es : List Event) (e : Event) → HasJudged j es → IsEvent j.config e
     → ForMutator e.step (IsOpAt j.state.graph.places)
-op_taken j es e taken known =
+op_judged j es e taken known =
     let same : j.state.graph.places ≡ places_of j.config =
     ap (λ (g : Graph). g.places) taken.2.graph ∙ run_places es (first_state j.config) taken.0 taken.1 in
     subst (λ (p : Places). ForMutator e.step (IsOpAt p)) (sym same) (op_of j.config e.actor e.step known)
 
 -- a judge that took the first i events and one more took the first i + 1
-pub taken_more : (j : Judging) (es seen : List Event) (i : ℕ) (e : Event) → seen ≡ es → i < length seen → e ≡ get_or seen i e
-    → HasTaken j (take i es ++ e ∷ []) → HasTaken j (take (i + 1) es)
-taken_more j es seen i e same lt is taken =
+pub judged_more : (j : Judging) (es seen : List Event) (i : ℕ) (e : Event) → seen ≡ es → i < length seen → e ≡ get_or seen i e
+    → HasJudged j (take i es ++ e ∷ []) → HasJudged j (take (i + 1) es)
+judged_more j es seen i e same lt is taken =
     let inside : i < length es = rw (← same) lt in
     let there : e ≡ get_or es i e = rw (← same) is in
     let more : take (i + 1) es ≡ take i es ++ e ∷ [] = take_more es i e inside ∙ ap (λ (x : Event). take i es ++ x ∷ []) (sym there) in
-    subst (λ (xs : List Event). HasTaken j xs) (sym more) taken
+    subst (λ (xs : List Event). HasJudged j xs) (sym more) taken
 
 -- what is found where the judge tells of the event after the first i
 pub found_there : (first : State) (es seen : List Event) (i : ℕ) (e : Event) (given : Given) → seen ≡ es → i < length seen
@@ -224,10 +224,10 @@ found_there first es seen i e given same lt is refuses =
     (omega arith, ap (slice_get es) back ∙ there, subst (λ (k : ℕ). Refuses first (take k es) e given) (sym back) refuses)
 
 -- so of what a call answered
-pub takes_told : {E : Type 0} (r : Result (Option Given) E) (old new : Judging) (e : Event) (before : State) → new.config ≡ old.config
+pub judges_told : {E : Type 0} (r : Result (Option Given) E) (old new : Judging) (e : Event) (before : State) → new.config ≡ old.config
     → before ≡ old.state
-    → IfOk r (SparingTakes before e.step e.reply new.state)
-    → IfOk r (λ told. (es : List Event) → HasTaken old es → TakesNext old new es e told)
-takes_told (Ok told) old new e before same is h =
-    λ es taken. takes_next old new es e told same taken (subst (λ (st : State). SparingTakes st e.step e.reply new.state told) is h)
-takes_told (Err f) old new e before same is h = tt
+    → IfOk r (SparingJudges before e.step e.reply new.state)
+    → IfOk r (λ told. (es : List Event) → HasJudged old es → JudgesNext old new es e told)
+judges_told (Ok told) old new e before same is h =
+    λ es taken. judges_next old new es e told same taken (subst (λ (st : State). SparingJudges st e.step e.reply new.state told) is h)
+judges_told (Err f) old new e before same is h = tt

@@ -1,4 +1,4 @@
--- How objects stand in words.
+-- How objects are kept in words.
 use Rattle.std.specs.Prelude.{◌≡◌, ℕ, ◌+◌, ◌/◌, ◌%◌, ◌^◌, Bool, true, false, List, [], ◌∷◌, map, take, drop, nat_lt, if◌then◌else◌}
 use Rattle.heap_model.specs.Graph.{Object}
 use Rattle.object_graph.specs.Fields.{pointer_of}
@@ -22,7 +22,7 @@ object_at words e = record {
 abbrev pub objects_in : List ℕ → List Entry → List Object
 objects_in words entries = map (object_at words) entries
 
--- the objects' words lie one after the other, from a word to the last
+-- the objects' words are one after the other, from a word to the last
 abbrev pub AreInTurn : List Entry → ℕ → ℕ → Type 0
 AreInTurn [] from end = from ≡ end
 AreInTurn (e ∷ es) from end = (start_of e ≡ from) × AreInTurn es (from + e.pointers + weaks_of e + e.values) end

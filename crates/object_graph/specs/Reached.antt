@@ -42,7 +42,7 @@ abbrev pub looked_at : Search → List Object → Option ℕ → Search
 looked_at s objects None = s
 looked_at s objects (Some place) = looked_in s (slice_get objects place)
 
--- a look at the object that stands in a place of the queue
+-- a look at the object that is in a place of the queue
 abbrev pub looked : Search → List Object → ℕ → Search
 looked s objects i = looked_at s objects (slice_get s.queue i)
 

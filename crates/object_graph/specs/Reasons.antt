@@ -1,4 +1,4 @@
--- Why an event may not stand where it stands, and what a judge knows of the events that it took.
+-- Why an event may not follow those before it, and what a judge knows of the events that it judged.
 use Rattle.std.specs.Prelude.{◌≡◌, ◌-◌, ◌<◌, ◌⊎◌, List, [], ◌∷◌, ◌++◌, Option, Some, None, length, take, slice_get}
 use Rattle.heap_words.specs.declared.config.Config.{Config}
 use Rattle.heap_model.specs.Graph.{Graph, next_name}
@@ -27,13 +27,13 @@ IsGiven g (steps.Mutator o) (givens.Object n) = (n ≡ next_name g) × Creates g
 IsGiven g (steps.Collector k) (givens.Form j) = j ≡ k
 IsGiven g _ _ = ⊥
 
--- the replies that may stand where the graph gives this
+-- the replies that may be where the graph gives this
 abbrev pub MayStand : Given → Reply → Type 0
 MayStand (givens.Reply r) s = s ≡ r
 MayStand (givens.Object n) s = (s ≡ replies.Named (Some n)) ⊎ (s ≡ replies.Refused refusals.Full)
 MayStand (givens.Form k) s = IsCollectorReply k s
 
--- The events are a run from first, and the event may not follow them: where it stands, the graph gives this.
+-- The events are a run from first, and the event may not follow them: where it is, the graph gives this.
 pub record Refuses (first : State) (es : List Event) (e : Event) (given : Given) : Type 0 where
   pub before : State
   pub run : IsRun first es before
@@ -55,16 +55,16 @@ pub record Judging : Type 0 where
   pub config : Config
   pub state : State
 
--- the judge has taken these events: they are a run from the state of a new heap, and its state stands for the one after them
-abbrev pub HasTaken : Judging → List Event → Type 0
-HasTaken j es = (st : State) × IsRun (first_state j.config) es st × StandsFor j.state st
+-- the judge has judged these events: they are a run from the state of a new heap, and its state stands for the one after them
+abbrev pub HasJudged : Judging → List Event → Type 0
+HasJudged j es = (st : State) × IsRun (first_state j.config) es st × StandsFor j.state st
 
--- the judge, which took these events before, was given one more: it took that too, or tells why it may not follow them
-abbrev pub TakesNext : Judging → Judging → List Event → Event → Option Given → Type 0
-TakesNext old new es e None = HasTaken new (es ++ e ∷ [])
-TakesNext old new es e (Some given) = Refuses (first_state old.config) es e given
+-- the judge, which has judged these events, is given one more: that may follow them, or it tells why not
+abbrev pub JudgesNext : Judging → Judging → List Event → Event → Option Given → Type 0
+JudgesNext old new es e None = HasJudged new (es ++ e ∷ [])
+JudgesNext old new es e (Some given) = Refuses (first_state old.config) es e given
 
 -- the same of the judge's state alone
-abbrev pub SparingTakes : State → Step → Reply → State → Option Given → Type 0
-SparingTakes old k r new None = SparingHappens old k r new
-SparingTakes old k r new (Some given) = ((after : State) → SparingHappens old k r after → ⊥) × IsGiven old.graph k given
+abbrev pub SparingJudges : State → Step → Reply → State → Option Given → Type 0
+SparingJudges old k r new None = SparingHappens old k r new
+SparingJudges old k r new (Some given) = ((after : State) → SparingHappens old k r after → ⊥) × IsGiven old.graph k given

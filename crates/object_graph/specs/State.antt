@@ -26,7 +26,7 @@ pub record IsGraph (g : Graph) (used : List ℕ) : Type 0 where
 abbrev pub within : List Object → ℕ → Option ℕ
 within objects place = if nat_lt place (length objects) then Some place else None
 
--- the place in the list of objects of the object that a name is borne by
+-- the place in the list of objects of the object that has a name
 abbrev pub index_of : Graph → Option ℕ → Option ℕ
 index_of g None = None
 index_of g (Some name) = within g.objects (name - g.first_name)
@@ -51,16 +51,16 @@ first_graph c = record {
 abbrev pub first_state : Config → State
 first_state c = record { graph = first_graph c; snapshot = None }
 
--- a name of the graph: one that an object bears
+-- a name of the graph: one that an object has
 abbrev pub IsNameOf : Graph → ℕ → Type 0
 IsNameOf g n = (g.first_name ≤ n) × (n < next_name g)
 
--- the name stands in a root place, or in a field of an object
+-- the name is in a root place, or in a field of an object
 pub data Occurs (g : Graph) (n : ℕ) : Type 0 where
   AtRoot : (j : ℕ) → slice_get g.roots j ≡ Some (Some n) → Occurs g n
   AtField : (k i : ℕ) (x : Object) → slice_get g.objects k ≡ Some x → slice_get (object_fields x) i ≡ Some (Some n) → Occurs g n
 
--- each name that stands anywhere in the graph is borne by an object
+-- each name that is anywhere in the graph is an object's
 abbrev pub HoldsNames : Graph → Type 0
 HoldsNames g = (n : ℕ) → Occurs g n → IsNameOf g n
 
@@ -75,7 +75,7 @@ abbrev pub ForSnapshot : Option Graph → (Graph → Type 0) → Type 0
 ForSnapshot None P = Unit {0}
 ForSnapshot (Some s) P = P s
 
--- no name stands anywhere but those that objects bear
+-- no name is anywhere but those that objects have
 pub record IsSoundState (st : State) : Type 0 where
   pub graph : HoldsNames st.graph
   pub snapshot : ForSnapshot st.snapshot (λ s. IsEarlier s st.graph)

@@ -9,7 +9,7 @@ ghost use Rattle.heap_steps.specs.declared.step.Step.{Step};
 
 use heap_steps::{Action, CollectorStep, Reply};
 
-/// What may be after a step, where it stands.
+/// What may be after a step, at its place.
 #[derive(Clone, Copy, Debug, PartialEq, Eq)]
 pub enum Given {
     /// The graph's reply to a mutator's step, and nothing else.

@@ -44,7 +44,7 @@ impl Model for Graph {
         g.used.items };
 }
 
-/// Where it is let go there is one call, and not a drop for each of its parts.
+/// Where it is dropped there is one call, and not a drop for each of its parts.
 impl Drop for Graph {
     fn drop(self) {
         let Graph {
@@ -100,7 +100,7 @@ impl Graph {
         }
     }
 
-    /// Where the object stands that a register names, if it names one.
+    /// Where the object is that a register names, if it names one.
     fn place(&self, mutator: u32, register: Register) -> Option<usize>
         requires mutator { mutator < self.now.places.mutators }
         requires register { IsRegister self.now.places register }

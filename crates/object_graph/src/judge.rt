@@ -14,7 +14,7 @@ use heap_words::config::Config;
 use std::alloc::{AllocError, Global};
 use std::marker::Model;
 
-/// What the judge says of a history.
+/// What the judge says of a record.
 #[derive(Clone, Copy, Debug, PartialEq, Eq)]
 pub enum Verdict {
     /// So many events, which may happen one after another.
@@ -23,7 +23,7 @@ pub enum Verdict {
     No(u64),
 }
 
-/// What the judge finds in a history.
+/// What the judge finds in a record.
 #[derive(Clone, Copy, Debug, PartialEq, Eq)]
 pub enum Finding {
     /// So many events, which may happen one after another.
@@ -54,12 +54,12 @@ impl Finding {
     }
 }
 
-/// A judge that takes one event after another, as a record is written. What it holds grows with the graph, and not with the events.
+/// A judge of one event after another, as a record is written. What it holds grows with the graph, and not with the events.
 ///
 /// ```text
-///   Judge::new(config)   took nothing
-///   take(event)          None: the event may follow those before it, and the judge took it
-///                        Some(given): it may not; where it stands, the graph gives this. Then the judge is of no more use
+///   Judge::new(config)   no event is judged yet
+///   judge_event(event)   None: the event may follow those before it
+///                        Some(given): it may not; in its place the graph gives this. Then the judge is of no more use
 /// ```
 pub struct Judge {
     config: Config,
@@ -74,7 +74,7 @@ impl Model for Judge {
     ghost view = { λ j. record { config = j.config; state = j.machine } };
 }
 
-/// Where it is let go there is one call, and not a drop for each of its parts.
+/// Where it is dropped there is one call, and not a drop for each of its parts.
 impl Drop for Judge {
     fn drop(self) {
         let Judge {
@@ -85,17 +85,17 @@ impl Drop for Judge {
 }
 
 impl Judge {
-    ghost use Rattle.object_graph.specs.Reasons.{HasTaken, TakesNext};
+    ghost use Rattle.object_graph.specs.Reasons.{HasJudged, JudgesNext};
 
-    /// A judge of a new heap of these sizes, which took nothing.
+    /// A judge of a new heap of these sizes, which has judged no event yet.
     ///
     /// ```rust
     /// let mut judge = Judge::new(alloc, &config)?;
-    /// assert!(rt; judge.take(&event)?.is_none());
+    /// assert!(rt; judge.judge_event(&event)?.is_none());
     /// ```
     pub fn new(alloc: Global, config: &Config) -> Result<Judge, AllocError>
         ensures config { IfOk result (λ j. j.config ≡ config.now) }
-        ensures taken { IfOk result (λ j. HasTaken j []) }
+        ensures judged { IfOk result (λ j. HasJudged j []) }
     {
         Ok(Judge {
             config: *config,
@@ -103,27 +103,27 @@ impl Judge {
         })
     }
 
-    /// Takes an event, or answers what the graph gives in its place. After that, or where memory is refused, the judge's state is no
-    /// longer that of the events, and it can take no more.
+    /// Judges the next event: it answers none if the event may follow, else what the graph gives in its place. After that, or where
+    /// memory is refused, the judge's state is no longer that of the events, and it can judge no more.
     ///
     /// ```rust
     /// let mut judge = Judge::new(alloc, &config)?;
-    /// assert_eq!(rt; judge.take(&event)?, None);
-    /// assert_eq!(rt; judge.take(&event)?, Some(Given::Object(1))); // the second object's name is 1
+    /// assert_eq!(rt; judge.judge_event(&event)?, None);
+    /// assert_eq!(rt; judge.judge_event(&event)?, Some(Given::Object(1))); // the second object's name is 1
     /// ```
-    pub fn take(&mut self, event: &Event) -> Result<Option<Given>, AllocError>
+    pub fn judge_event(&mut self, event: &Event) -> Result<Option<Given>, AllocError>
         requires known { IsEvent self.old.config event.now }
-        requires taken { (es : List events.Event) × HasTaken self.old es }
+        requires judged { (es : List events.Event) × HasJudged self.old es }
         ensures config { self.new.config ≡ self.old.config }
-        ensures told { IfOk result (λ told. (es : List events.Event) → HasTaken self.old es
-            → TakesNext self.old self.new es event.now told) }
+        ensures told { IfOk result (λ told. (es : List events.Event) → HasJudged self.old es
+            → JudgesNext self.old self.new es event.now told) }
     {
-        self.machine.take(event)
+        self.machine.judge_event(event)
     }
 }
 
-/// What the judge finds in a record, from the graph of a new heap: where memory suffices, all its events exactly if they are a run, else
-/// the first one with which those before it cannot go on, and what the graph gives there.
+/// What the judge finds in a record, from the graph of a new heap: where memory suffices, all its events if and only if they are a run,
+/// else the first one with which those before it cannot go on, and what the graph gives there.
 ///
 /// ```rust
 /// let mut record = Record::new(alloc, config);
@@ -137,7 +137,7 @@ pub fn explain(alloc: Global, history: &Record) -> Result<Finding, AllocError>
     let mut judge = Judge::new(alloc, &config)?;
     let events = history.events();
     for (index, event) in events.iter().enumerate() {
-        if let Some(given) = judge.take(event)? {
+        if let Some(given) = judge.judge_event(event)? {
             return Ok(Finding::Refused {
                 number: index as u64 + 1,
                 event: *event,
@@ -148,8 +148,8 @@ pub fn explain(alloc: Global, history: &Record) -> Result<Finding, AllocError>
     Ok(Finding::Allowed(events.len() as u64))
 }
 
-/// Whether the events of a record may happen one after another, from the graph of a new heap: where memory suffices, yes exactly if they
-/// are a run, else the first event with which the ones before it cannot go on.
+/// Whether the events of a record may happen one after another, from the graph of a new heap: where memory suffices, yes if and only if
+/// they are a run, else the first event with which the ones before it cannot go on.
 ///
 /// ```rust
 /// let mut record = Record::new(alloc, config);

@@ -30,7 +30,7 @@ pub fn run_once()
     ensures { (es : List Event) (first a b : State) → IsRun first es a → IsRun first es b → a ≡ b }
 {}
 
-/// In the state of a new heap, and after each step, every name that stands in the graph or in the snapshot is borne by an object,
+/// In the state of a new heap, and after each step, every name that is in the graph or in the snapshot is an object's,
 /// and the snapshot's names are the graph's up to some name.
 pub fn sound_law()
     ensures begins { (c : Config) → IsSoundState (first_state c) }

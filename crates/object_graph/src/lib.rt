@@ -29,7 +29,7 @@
 //!
 //! `Graph` takes the steps of mutators (`apply`); `check` says whether a record is a run, from the graph of a new heap, and if not, at
 //! which event it breaks; `explain` says too what the graph gives there. A `Judge` takes events one by one, as they come. The laws of
-//! states and runs stand in `laws`. Steps, replies and records are those of `heap_steps`, which the heap has too.
+//! states and runs are in `laws`. Steps, replies and records are those of `heap_steps`, which the heap has too.
 //!
 //! Examples of calls go on from this one, in which `rt` is a test's `HostRuntime` and `alloc` its allocator:
 //!

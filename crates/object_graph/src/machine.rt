@@ -1,4 +1,4 @@
-//! The graph with its snapshot, which takes events.
+//! The graph with its snapshot, which judges events.
 
 ghost use Rattle.std.specs.Prelude.{◌≡◌, ◌++◌, None, reverse, IsTrue, IfOk, OnOk, ◌↔◌};
 ghost use Rattle.heap_model.specs.Graph as model;
@@ -8,7 +8,7 @@ ghost use Rattle.object_graph.specs.Reached.{flag_of};
 ghost use Rattle.heap_steps.specs.Roots.{IsOpAt};
 ghost use Rattle.object_graph.specs.Run.{IsCollectorReply, ClearsBy, ForMutator, snapshot_after};
 ghost use Rattle.object_graph.specs.Sparing.{SparingCollects, kept_snapshot};
-ghost use Rattle.object_graph.specs.Reasons.{SparingTakes};
+ghost use Rattle.object_graph.specs.Reasons.{SparingJudges};
 
 use crate::given::{Given, given_by};
 use crate::graph::Graph;
@@ -30,7 +30,7 @@ impl Model for Snapshot {
     ghost view = { λ s. record s.graph { roots = reverse s.touched.items ++ s.graph.roots } };
 }
 
-/// Where it is let go there is one call, and not a drop for each of its parts.
+/// Where it is dropped there is one call, and not a drop for each of its parts.
 impl Drop for Snapshot {
     fn drop(self) {
         let Snapshot {
@@ -86,7 +86,7 @@ impl Model for Machine {
     ghost view = { λ m. record { graph = m.graph; snapshot = m.snapshot } };
 }
 
-/// Where it is let go there is one call, and not a drop for each of its parts.
+/// Where it is dropped there is one call, and not a drop for each of its parts.
 impl Drop for Machine {
     fn drop(self) {
         let Machine {
@@ -175,12 +175,12 @@ impl Machine {
         }
     }
 
-    /// Takes an event, if it may happen: then the state is the judge's after it. Else it answers what the graph gives in its place. Once an
+    /// Judges an event: if it may happen, the state is the judge's after it, else it answers what the graph gives in its place. Once an
     /// event may not happen or memory was refused, the state is no longer that of the events.
-    pub(crate) fn take(&mut self, event: &Event) -> Result<Option<Given>, AllocError>
+    pub(crate) fn judge_event(&mut self, event: &Event) -> Result<Option<Given>, AllocError>
         requires op { ForMutator event.now.step (IsOpAt self.old.graph.places) }
         requires sound { IsSoundState self.old }
-        ensures { IfOk result (SparingTakes self.old event.now.step event.now.reply self.new) }
+        ensures { IfOk result (SparingJudges self.old event.now.step event.now.reply self.new) }
     {
         match event.step {
             Step::Collector(step) => {
@@ -197,7 +197,7 @@ impl Machine {
     /// The same of a mutator's step.
     fn serve(&mut self, op: Op, reply: Reply) -> Result<Option<Given>, AllocError>
         requires { IsOpAt self.old.graph.places op }
-        ensures { IfOk result (SparingTakes self.old (Step.Mutator op) reply self.new) }
+        ensures { IfOk result (SparingJudges self.old (Step.Mutator op) reply self.new) }
     {
         if reply == Reply::Refused(Refusal::Full) && self.graph.creates(op) {
             return Ok(None);

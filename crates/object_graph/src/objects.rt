@@ -79,7 +79,7 @@ impl Model for Objects {
     ghost invariant = { λ o. AreInTurn o.entries.items 0 (length o.words.items) × (o.has_weaks ≡ some_weaks o.entries.items) };
 }
 
-/// Where it is let go there is one call, and not a drop for each of its parts.
+/// Where it is dropped there is one call, and not a drop for each of its parts.
 impl Drop for Objects {
     fn drop(self) {
         let Objects {

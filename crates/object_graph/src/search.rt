@@ -21,7 +21,7 @@ impl Model for Search {
     ghost view = { λ s. record { first_name = s.first_name; flags = s.flags.items; queue = s.queue.items } };
 }
 
-/// Where it is let go there is one call, and not a drop for each of its parts.
+/// Where it is dropped there is one call, and not a drop for each of its parts.
 impl Drop for Search {
     fn drop(self) {
         let Search {
@@ -92,7 +92,7 @@ impl Search {
         Ok(())
     }
 
-    /// What the pointers of the object name that stands in a place of the queue, if it has that place.
+    /// What the pointers of the object name that is in a place of the queue, if it has that place.
     fn look(&mut self, objects: &Objects, next: usize) -> Result<(), AllocError>
         ensures { OnOk result (self.new ≡ looked self.old objects.now next) }
     {

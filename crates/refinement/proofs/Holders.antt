@@ -20,7 +20,7 @@ use Rattle.refinement.specs.Remembering.{field_word, IsCrossing, LeadsInside}
 use Rattle.refinement.specs.Refining.{FieldsInside}
 
 -- ---- objects
--- what is kept stands in the table
+-- what is kept is in the table
 abbrev pub Stands : Table → (ℕ → Option Stored) → Type 0
 Stands t kept = (a : ℕ) (s : Stored) → kept a ≡ Some s → object_at t a ≡ Some s
 
@@ -90,7 +90,7 @@ shape_forwarded t a to m h = go h.tile h.tile_is h.shape_is
     go (Filler m) e f = cc
     go (Forwarded to m) e f = rw e refl
 
--- ---- where fields lie
+-- ---- where fields are
 pub object_within : (t : Table) (a : ℕ) (s : Stored) → IsShaped t → object_at t a ≡ Some s
     → a + tile_size (Object s) ≤ length t.regions * t.words_per_region
 unfolding object_at

@@ -135,7 +135,7 @@ module _ (t : Table) (g : IsShaped t) (kept : ℕ → Option Stored) (stands : S
   pub turn_last : (covered : ℕ → ℕ → Bool) (left : List (Addr × Shape)) → Turn covered left → left ≡ [] → AreDone covered
   turn_last covered left h e a l d = ⊎_elim (λ p. p) (λ p. absurd (subst (λ (l : List (Addr × Shape)). IsAmong a l) e p)) (h.done a l d)
 
-  -- where a field of the card lies
+  -- where a field of the card is
   module _ (q : ℕ) (whole : t.words_per_region ≡ q * len) where
     in_region : (a i : ℕ) → field_card len a i ≡ card
         → (card * len ≤ field_word a i) × (field_word a i / t.words_per_region ≡ card * len / t.words_per_region)

@@ -51,7 +51,7 @@ Refines true words kept card_words cards cards' sets sets' = IsRefined words kep
 Refines false words kept card_words cards cards' sets sets' = (cards.queue ≡ []) × (cards' ≡ cards) × (sets' ≡ sets)
 
 -- ---- within a scan
--- the crossing fields of one object that lie in the card are covered
+-- the crossing fields of one object that are in the card are covered
 pub record IsObjectCovered (words : ℕ) (kept : ℕ → Option Stored) (card_words card : ℕ) (covered : ℕ → ℕ → Bool) (at : ℕ) : Type 0 where
   pub each : (index target : ℕ) → IsCrossing words kept at index target
       → field_card card_words at index ≡ card → covered (target / words) card ≡ true
@@ -72,7 +72,7 @@ abbrev pub with_field : ℕ → ℕ → ℕ → Option ℕ → Sets → Sets
 with_field words card word None sets = sets
 with_field words card word (Some target) sets = if target / words == word / words then sets else added sets (target / words) card
 
--- once the fields of an object that lie in the card were looked at
+-- once the fields of an object that are in the card were looked at
 pub record IsScanned (words : ℕ) (kept : ℕ → Option Stored) (card_words card at : ℕ) (old new : Sets) : Type 0 where
   pub adds : AddsCard words kept card_words card old new
   pub covered : IsObjectCovered words kept card_words card (may_lead new) at

@@ -1,5 +1,5 @@
-//! What keeps crossing fields remembered as the heap changes, whatever is kept, dirty and covered. No table stands in
-//! these laws: a region has so many words, and a card so many card words.
+//! What keeps crossing fields remembered as the heap changes, whatever is kept, dirty and covered. They speak of
+//! no table: a region has so many words, and a card so many card words.
 //!
 //! ```text
 //!   a new heap, which keeps nothing; a new object                   kept_law

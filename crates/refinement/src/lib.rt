@@ -2,7 +2,7 @@
 //! into.
 //!
 //! A card is a row of words, and a region is a whole number of cards. A field is crossing if it is one of a kept object
-//! and leads into another region than the field's word lies in. Crossing fields are remembered: the card of each is
+//! and leads into another region than the field's word is in. Crossing fields are remembered: the card of each is
 //! dirty, or the set of the region that it leads into covers the card, the card has entered a set, and the set's filter
 //! lets it through.
 //!

@@ -21,7 +21,7 @@ pub fn next_link(table: &RegionTable, object: Addr, start: u32, end: u32) -> Opt
         return None;
     }
     let mut field = start;
-    // The end is looked for behind each field: so what the table keeps is read once for all of them.
+    // The end is looked for after each field: so what the table keeps is read once for all of them.
     'fields: loop {
         if let Some(target) = table.get_field(object, field) {
             return Some((field, target));

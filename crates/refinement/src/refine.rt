@@ -34,7 +34,7 @@ pub fn refine_one(
     ensures stands { CanScan table.now tams.now marks.now card_words sets.new }
     ensures cards { length cards.new.dirty ≡ card_count sets.new }
 {
-    let Some(card) = cards.take() else {
+    let Some(card) = cards.dequeue() else {
         return false;
     };
     scan_card(table, tams, marks, sets, card_words, card);

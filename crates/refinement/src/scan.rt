@@ -8,7 +8,7 @@
 //!              ^ the walk starts                 ^ the last tile that it looks at
 //! ```
 //!
-//! Of the fields, those marked `*` lie in the card; those of a dead object aren't looked at. In a run of regions A is the
+//! Of the fields, those marked `*` are in the card; those of a dead object aren't looked at. In a run of regions A is the
 //! run's one object, however far below the card it starts.
 
 ghost use Rattle.std.specs.Prelude.{◌≡◌, ◌≢◌, ◌↔◌, true, ℕ, ◌*◌, ◌/◌, ◌<◌, ◌≤◌, Option, Some, IsSome, IsTrue, length, slice_get};
@@ -82,7 +82,7 @@ fn scan_field(
     region.number()
 }
 
-/// Adds the card for the fields of an object that lie in it. `home` is the card's region.
+/// Adds the card for the fields of an object that are in it. `home` is the card's region.
 fn scan_object(
     table: &RegionTable,
     sets: &mut RememberedSets,
@@ -118,7 +118,7 @@ fn scan_object(
     last
 }
 
-/// Adds the card for the fields of one tile that lie in it, if the tile is a kept object. `home` is the card's region. It is part of its
+/// Adds the card for the fields of one tile that are in it, if the tile is a kept object. `home` is the card's region. It is part of its
 /// callers, so that a card that one tile has whole costs no call.
 #[inline(always)]
 fn scan_tile(
@@ -149,7 +149,7 @@ fn scan_tile(
     before
 }
 
-/// Adds the card for the fields of kept objects that lie in it, over the tiles of a region from the one on that holds the
+/// Adds the card for the fields of kept objects that are in it, over the tiles of a region from the one on that holds the
 /// card's first word. Answers how many tiles it looked at.
 #[inline(never)]
 fn scan_walk(
@@ -189,7 +189,7 @@ fn scan_walk(
     looked
 }
 
-/// The same, whose first tile is looked at before there is a walk: so a card that lies within one object costs none.
+/// The same, whose first tile is looked at before there is a walk: so a card that is within one object costs none.
 fn scan_tiles(
     table: &RegionTable,
     tams: &Tams,

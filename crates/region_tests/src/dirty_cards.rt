@@ -18,9 +18,9 @@ fn sends_a_full_log(rt: HostRuntime) -> Result<(), Fail> {
     table.dirty(0, Card::new(2));
     assert_eq!(rt; table.queued(), 4);
     for card in [3, 9, 1, 7] {
-        assert_eq!(rt; table.take(), Some(Card::new(card)));
+        assert_eq!(rt; table.dequeue(), Some(Card::new(card)));
     }
-    assert_eq!(rt; table.take(), None);
+    assert_eq!(rt; table.dequeue(), None);
     Ok(())
 }
 
@@ -38,8 +38,8 @@ fn lists_a_dirty_card_once(rt: HostRuntime) -> Result<(), Fail> {
     assert_eq!(rt; table.queued(), 1);
     table.dirty(1, Card::new(2));
     table.flush_all();
-    assert_eq!(rt; table.take(), Some(Card::new(2)));
-    assert_eq!(rt; table.take(), None);
+    assert_eq!(rt; table.dequeue(), Some(Card::new(2)));
+    assert_eq!(rt; table.dequeue(), None);
     Ok(())
 }
 
@@ -50,7 +50,7 @@ fn appends(rt: HostRuntime) -> Result<(), Fail> {
     table.dirty(0, Card::new(4));
     table.dirty(0, Card::new(6));
     table.flush_all();
-    assert_eq!(rt; table.take(), Some(Card::new(4)));
+    assert_eq!(rt; table.dequeue(), Some(Card::new(4)));
     let first = Card::new(4);
     assert!(rt; !table.is_dirty(first));
     if !table.is_dirty(first) {
@@ -58,7 +58,7 @@ fn appends(rt: HostRuntime) -> Result<(), Fail> {
     }
     assert!(rt; table.is_dirty(first));
     for card in [6, 4] {
-        assert_eq!(rt; table.take(), Some(Card::new(card)));
+        assert_eq!(rt; table.dequeue(), Some(Card::new(card)));
     }
     assert_eq!(rt; table.queued(), 0);
     Ok(())
@@ -75,8 +75,8 @@ fn flushes_by_mutator(rt: HostRuntime) -> Result<(), Fail> {
     assert_eq!(rt; table.queued(), 3);
     table.flush_all();
     for card in [4, 5, 6] {
-        assert_eq!(rt; table.take(), Some(Card::new(card)));
+        assert_eq!(rt; table.dequeue(), Some(Card::new(card)));
     }
-    assert_eq!(rt; table.take(), None);
+    assert_eq!(rt; table.dequeue(), None);
     Ok(())
 }

@@ -56,7 +56,7 @@ pub(crate) fn add(table: &mut RegionTable, region: u32, pointers: u32, weaks: u8
 }
 
 /// Takes the lowest free region.
-pub(crate) fn take(table: &mut RegionTable)
+pub(crate) fn take_free(table: &mut RegionTable)
     requires { IsSample table.old }
     ensures { IsSample table.new }
 {
@@ -144,9 +144,9 @@ fn five_objects(alloc: Global) -> Result<RegionTable, Fail>
     ensures { IfOk result IsSample }
 {
     let mut table = free_regions(alloc)?;
-    take(&mut table);
-    take(&mut table);
-    take(&mut table);
+    take_free(&mut table);
+    take_free(&mut table);
+    take_free(&mut table);
     add(&mut table, 0, 2, 0);
     add(&mut table, 0, 3, 0);
     add(&mut table, 0, 2, 0);
@@ -166,9 +166,9 @@ fn weak_objects(alloc: Global) -> Result<RegionTable, Fail>
     ensures { IfOk result IsSample }
 {
     let mut table = free_regions(alloc)?;
-    take(&mut table);
-    take(&mut table);
-    take(&mut table);
+    take_free(&mut table);
+    take_free(&mut table);
+    take_free(&mut table);
     add(&mut table, 0, 1, 2);
     add(&mut table, 0, 0, 3);
     add(&mut table, 1, 0, 0);
@@ -187,7 +187,7 @@ fn one_run(alloc: Global) -> Result<RegionTable, Fail>
 {
     let mut table = free_regions(alloc)?;
     take_run(&mut table, 30);
-    take(&mut table);
+    take_free(&mut table);
     add(&mut table, 2, 0, 0);
     link(&mut table, 0, 0, 0);
     link(&mut table, 0, 1, 32);
@@ -202,7 +202,7 @@ fn small_objects(alloc: Global) -> Result<RegionTable, Fail>
     ensures { IfOk result IsSample }
 {
     let mut table = free_regions(alloc)?;
-    take(&mut table);
+    take_free(&mut table);
     add(&mut table, 0, 0, 0);
     add(&mut table, 0, 0, 0);
     add(&mut table, 0, 0, 0);

@@ -4,7 +4,7 @@ ghost use Rattle.std.specs.Prelude.{◌≡◌, ◌*◌, ◌<◌, ◌^◌, length
 ghost use Rattle.regions.specs.Table.{free_table, object_at, pointers_at, weaks_at, fields_at, values_at};
 ghost use Rattle.region_tests.specs.Filled.{IsFilled};
 
-use crate::refining::{add, free_regions, take};
+use crate::refining::{add, free_regions, take_free};
 use heap_words::addr::{Addr, Ptr, RegionNo};
 use heap_words::config::{Config, Format, NewFault};
 use heap_words::header::{Count, FillerSize, HeaderCounts};
@@ -312,9 +312,9 @@ fn holds_weak_slots(rt: HostRuntime) -> Result<(), Fail> {
 #[test]
 fn finds_weak_slots_in_turn(rt: HostRuntime) -> Result<(), Fail> {
     let mut table = free_regions(rt.alloc())?;
-    take(&mut table);
-    take(&mut table);
-    take(&mut table);
+    take_free(&mut table);
+    take_free(&mut table);
+    take_free(&mut table);
     add(&mut table, 0, 1, 0);
     add(&mut table, 0, 0, 0);
     add(&mut table, 1, 0, 1);

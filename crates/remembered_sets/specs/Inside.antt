@@ -1,5 +1,5 @@
 -- How remembered sets are kept.
-use Rattle.std.specs.Prelude.{◌≡◌, ◌≤◌, false, length, replicate}
+use Rattle.std.specs.Prelude.{◌≡◌, false, length, replicate}
 use Rattle.remembered_sets.specs.Sets.{CardFilter, CardSet, Sets, AreSets}
 use Rattle.remembered_sets.specs.declared.filter.Filter.TheInside.{Inside as FilterInside}
 use Rattle.remembered_sets.specs.declared.set.RememberedSet.TheInside.{Inside as SetInside}
@@ -7,7 +7,7 @@ use Rattle.remembered_sets.specs.declared.sets.RememberedSets.TheInside.{Inside}
 
 -- what contracts see of the fields
 abbrev pub set_of : SetInside → CardSet
-set_of s = record { inline = s.inline.items; sources = s.sources; filter = s.filter }
+set_of s = record { inline = s.inline; sources = s.sources; filter = s.filter }
 
 abbrev pub filter_of : FilterInside → CardFilter
 filter_of f = record { rows = f.rows; flags = f.flags }
@@ -18,11 +18,6 @@ IsSoundFilter f = f.used ≡ false → f.flags ≡ replicate (length f.flags) fa
 
 abbrev pub sets_of : Inside → Sets
 sets_of s = record { sets = s.sets.items; cards_per_region = s.cards_per_region; entered = s.entered }
-
--- no more than sixteen cards, and room for them
-pub record IsSoundSet (s : SetInside) : Type 0 where
-  pub room : s.inline.capacity ≡ 16
-  pub few : length s.inline.items ≤ 16
 
 abbrev pub IsSound : Inside → Type 0
 IsSound s = AreSets (sets_of s)

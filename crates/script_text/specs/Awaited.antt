@@ -9,7 +9,7 @@ use Rattle.script_text.specs.declared.read.awaited.NextFault.TheVariants as next
 use Rattle.script_text.specs.declared.fault.Kind.{Kind}
 use Rattle.script_text.specs.declared.fault.Kind.TheVariants as kinds
 
--- whether a line feed stands in a text
+-- whether a line feed is in a text
 abbrev pub has_feed : List ℕ → Bool
 has_feed [] = false
 has_feed (b ∷ text) = if b == 10 then true else has_feed text
@@ -23,7 +23,7 @@ whole_lines (b ∷ text) = if has_feed (b ∷ text) then b ∷ whole_lines text 
 abbrev pub Begins : List ℕ → List ℕ → List ℕ → Type 0
 Begins text line rest = pieces_of text ≡ line ∷ pieces_of rest
 
--- no line feed stands in the text: its line isn't whole
+-- no line feed is in the text: its line isn't whole
 abbrev pub IsUnended : List ℕ → Type 0
 IsUnended text = pieces_of text ≡ text ∷ []
 

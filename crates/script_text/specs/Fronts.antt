@@ -22,7 +22,7 @@ words_from text at = words_of (drop at (line_of text))
 abbrev pub part : List ℕ → ℕ → ℕ → List ℕ
 part text at past = take (past - at) (drop at text)
 
--- a part of the line, in which no space stands
+-- a part of the line, in which no space is
 pub record IsClear (text : List ℕ) (at past : ℕ) : Type 0 where
   pub order : at ≤ past
   pub within : past ≤ end_of text

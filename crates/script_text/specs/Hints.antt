@@ -56,11 +56,11 @@ limit_text c places.Value = decimal (registers_of c)
 limit_text c places.Global = decimal (globals_of c)
 limit_text c _ = []
 
--- what may stand at a place
+-- what may be at a place
 abbrev pub place_text : Config → Place → List ℕ
 place_text c place = place_words place (is_third c.format) ++ limit_text c place
 
--- a word that doesn't fit, and what may stand in its place
+-- a word that doesn't fit, and what may be in its place
 abbrev pub stop_text : Config → Stop → List ℕ
 stop_text c stop = codes "word " ++ decimal stop.word ++ codes ": " ++ place_text c stop.place
 

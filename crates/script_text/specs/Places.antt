@@ -1,4 +1,4 @@
--- What may stand at each word's place in a line, and the first word that doesn't fit its place.
+-- What may be at each word's place in a line, and the first word that doesn't fit its place.
 use Rattle.std.specs.Prelude.{ℕ, ◌+◌, Bool, true, false, List, [], ◌∷◌, ◌++◌, Option, Some, None, Result, Ok, Err, is_some, take, drop}
 use Rattle.std.specs.Prelude.{codes, nat_lt, ◌==◌, if◌then◌else◌, option_map}
 use Rattle.std.specs.Option.{option_map_or}
@@ -63,7 +63,7 @@ collection_form third verb =
     else if bytes_eq verb (codes "compact") then (if third then Some (places.Small ∷ []) else None)
     else None
 
--- where a verb of the actor stands
+-- where a verb of the actor is
 abbrev pub verb_place : Actor → Place
 verb_place (actors.Mutator m) = places.Action
 verb_place actors.Collector = places.Collection
@@ -87,7 +87,7 @@ heap_form verb =
     else if bytes_eq verb (codes "heap3") then Some (sizes ++ places.Card ∷ places.Globals ∷ places.Registers ∷ [])
     else None
 
--- Whether a word may stand at a place.
+-- Whether a word may be at a place.
 abbrev pub fits_word : Config → Place → List ℕ → Bool
 fits_word c (places.Count n) word = option_map_or (λ count. count == n) (number_of large word) false
 fits_word c places.ScriptActor word = is_some (actor_in Script c word)
@@ -110,7 +110,7 @@ fits_word c places.Reply word = false
 fits_word c places.End word = false
 fits_word c _ word = is_some (number_of small word)
 
--- Whether the words that are left may stand from a place on: the first of them, all of a reply, none at the line's end.
+-- Whether the words that are left may come from a place on: the first of them, all of a reply, none at the line's end.
 abbrev pub fits : Config → Place → List (List ℕ) → Bool
 fits c places.End [] = true
 fits c _ [] = false
@@ -122,7 +122,7 @@ abbrev pub behind_verb : Option (List Place) → List Place → List Place
 behind_verb None end = []
 behind_verb (Some form) end = form ++ end
 
--- the places from a verb's on, if an actor stands before it
+-- the places from a verb's on, if an actor is before it
 abbrev pub verb_places : Config → Option Actor → List (List ℕ) → List Place → List Place
 verb_places c None words end = []
 verb_places c (Some actor) [] end = verb_place actor ∷ []

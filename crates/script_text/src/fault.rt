@@ -7,19 +7,16 @@ use crate::write::bytes::{put_number, put_text};
 use std::error::Error;
 use std::fmt;
 
-/// How often a reader or a writer is asked: one that is interrupted each time counts as refusing then.
-pub(crate) const MOST_TRIES: u64 = u64::MAX;
-
 /// What is wrong with a line. Lines are tested in this order, and the first kind that holds is named.
 #[derive(Clone, Copy, Debug, PartialEq, Eq)]
 pub enum Kind {
     /// The last line has no line feed.
     Cut,
-    /// More than 120 bytes stand before the line feed.
+    /// More than 120 bytes are before the line feed.
     LongLine,
     /// The first line is no heap line.
     BadHeap,
-    /// The actor's word is no actor that may stand here.
+    /// The actor's word is no actor that may be here.
     BadActor,
     /// The step is none of its actor's, or a register, a global or a number in it is misspelt or out of range.
     BadStep,

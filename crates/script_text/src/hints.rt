@@ -1,4 +1,4 @@
-//! What a line with a fault lacks, for a person's eyes: the line, the first word that doesn't fit, and what may stand there; and, of the
+//! What a line with a fault lacks, for a person's eyes: the line, the first word that doesn't fit, and what may be there; and, of the
 //! commonest mistakes, what they are.
 //!
 //! ```text
@@ -27,7 +27,7 @@ use heap_words::config::Config;
 /// The room that the reason of a line's fault needs.
 pub const REASON_ROOM: usize = 480;
 
-/// The words that say what may stand at a place, before the limit that a heap's sizes set, if they do.
+/// The words that say what may be at a place, before the limit that a heap's sizes set, if they do.
 fn place_words(place: Place, third: bool) -> &'static [u8]
     ensures words { result.now ≡ place_words place third }
     ensures short { length result.now ≤ 110 }
@@ -71,7 +71,7 @@ fn place_words(place: Place, third: bool) -> &'static [u8]
     }
 }
 
-/// What may stand at a place, in sizes.
+/// What may be at a place, in sizes.
 fn put_place(buffer: &mut [u8], at: usize, config: &Config, place: Place) -> usize
     requires { at + 130 ≤ length buffer.old }
     ensures put { take result buffer.new ≡ take at buffer.old ++ place_text config.now place }
@@ -89,7 +89,7 @@ fn put_place(buffer: &mut [u8], at: usize, config: &Config, place: Place) -> usi
     }
 }
 
-/// The word at which reading a line stopped, and what may stand there.
+/// The word at which reading a line stopped, and what may be there.
 fn put_stop(buffer: &mut [u8], at: usize, config: &Config, stop: Stop) -> usize
     requires { at + 157 ≤ length buffer.old }
     ensures put { take result buffer.new ≡ take at buffer.old ++ stop_text config.now stop }

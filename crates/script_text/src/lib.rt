@@ -27,7 +27,8 @@
 //! - `put_text`, `put_number`, `put_event_text`, `put_reply`, `put_fault` and `write_bytes` are for other lines of a program: they put
 //!   texts into a buffer, and write bytes in their order.
 //!
-//! The modules of `read` make values of texts, those of `write` texts of values. Faults, what a line lacks and the laws are shared.
+//! The modules of `read` make values of texts, those of `write` texts of values. Faults, what a line lacks, watched readers and writers,
+//! and the laws are shared.
 //!
 //! Examples of calls go on from this one, in which `rt` is a test's `HostRuntime` and `alloc` its allocator:
 //!
@@ -46,6 +47,7 @@ mod laws;
 mod mistakes;
 mod places;
 mod read;
+mod watched;
 mod write;
 
 pub use fault::{Kind, LineFault, ReadFault, WriteFault, put_fault};
@@ -61,11 +63,10 @@ pub use read::record_events::RecordEvents;
 pub use read::records::parse_record;
 pub use read::script::parse;
 pub use read::script_steps::{ScriptLine, ScriptSteps};
-pub use read::watched::WatchedReader;
+pub use watched::{WatchedReader, WatchedWriter};
 pub use write::bytes::{put_number, put_text};
 pub use write::lines::{put_event_text, put_reply};
 pub use write::record_lines::{RecordLines, write_record};
 pub use write::text::Text;
-pub use write::watched::WatchedWriter;
 pub use write::writing::write_bytes;
 pub use write::written::written_record_is_read;

@@ -60,7 +60,7 @@ fn told(mistake: Mistake) -> &'static [u8]
     }
 }
 
-/// Whether a byte stands in a text.
+/// Whether a byte is in a text.
 fn has(text: &[u8], byte: u8) -> bool {
     for other in text {
         if *other == byte {
@@ -77,7 +77,7 @@ fn begins(text: &[u8], front: &[u8]) -> bool
     text.len() >= front.len() && is_word(&text[..front.len()], front)
 }
 
-/// Whether an empty word stands among some.
+/// Whether an empty word is among some.
 fn has_empty(words: &[&[u8]]) -> bool {
     for word in words {
         if word.is_empty() {

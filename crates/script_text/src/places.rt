@@ -1,4 +1,4 @@
-//! What may stand at each word's place in a line, and the first word that doesn't fit its place.
+//! What may be at each word's place in a line, and the first word that doesn't fit its place.
 
 ghost use Rattle.std.specs.Prelude.{◌≡◌, ◌+◌, ◌^◌, ◌<◌, ◌≤◌, ◌++◌, ℕ, List, Some, IfErr, IfOk, IfSome, length, map, option_map, take, drop};
 ghost use Rattle.heap_words.specs.declared.config.Config.{Config};
@@ -21,7 +21,7 @@ pub enum TextKind {
     Record,
 }
 
-/// What may stand at a word's place in a line.
+/// What may be at a word's place in a line.
 #[derive(Clone, Copy)]
 pub(crate) enum Place {
     /// The count of an event.
@@ -69,7 +69,7 @@ pub(crate) enum Place {
     Registers,
 }
 
-/// A word of a line, counted from 1, and what may stand in its place.
+/// A word of a line, counted from 1, and what may be in its place.
 #[derive(Clone, Copy)]
 pub(crate) struct Stop {
     pub(crate) word: u64,
@@ -164,7 +164,7 @@ fn collection_form(third: bool, verb: &[u8]) -> Option<&'static [Place]>
     }
 }
 
-/// Where a verb of the actor stands.
+/// Where a verb of the actor is.
 fn verb_place(actor: Actor) -> Place
     ensures { result ≡ verb_place actor }
 {
@@ -271,7 +271,7 @@ fn is_count(count: u64, word: &[u8]) -> bool
     }
 }
 
-/// Whether a word may stand at a place.
+/// Whether a word may be at a place.
 fn fits_word(config: &Config, place: Place, word: &[u8]) -> bool
     ensures { result ≡ fits_word config.now place word.now }
 {
@@ -300,7 +300,7 @@ fn fits_word(config: &Config, place: Place, word: &[u8]) -> bool
     }
 }
 
-/// Whether the words that are left may stand from a place on.
+/// Whether the words that are left may come from a place on.
 fn fits(config: &Config, place: Place, words: &[&[u8]]) -> bool
     ensures { result ≡ fits config.now place (map (λ w. w.now) words.now) }
 {

@@ -14,5 +14,4 @@ pub(crate) mod steps;
 pub(crate) mod usual;
 pub(crate) mod usual_collections;
 pub(crate) mod usual_events;
-pub(crate) mod watched;
 pub(crate) mod words;

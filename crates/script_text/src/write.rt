@@ -5,6 +5,5 @@ pub(crate) mod counts;
 pub(crate) mod lines;
 pub(crate) mod record_lines;
 pub(crate) mod text;
-pub(crate) mod watched;
 pub(crate) mod writing;
 pub(crate) mod written;

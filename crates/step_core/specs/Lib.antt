@@ -10,5 +10,5 @@ pub mod Refining
 pub mod Pause
 pub mod Cycle
 pub mod Cleaning
-pub mod Histories
+pub mod Passages
 pub mod Words

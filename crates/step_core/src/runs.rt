@@ -8,7 +8,7 @@ ghost use Rattle.heap_steps.specs.Actors.{IsStep, IsStepOf};
 ghost use Rattle.heap_words.specs.declared.config.Config.{Config};
 ghost use Rattle.heap_steps.specs.declared.step.Event as events;
 ghost use Rattle.heap_steps.specs.Faults.{IsRunFault};
-ghost use Rattle.step_core.specs.Histories.{RunsTo, RunsFromNew, step_in, actor_in, actor_of};
+ghost use Rattle.step_core.specs.Passages.{RunsTo, RunsFromNew, step_in, actor_in, actor_of};
 
 use crate::heap::Core;
 use heap_steps::{Actor, Event, Record, RunFault, Step, run_fault};
@@ -89,7 +89,7 @@ pub fn run_to_core(
     ensures config { IfOk result (λ r. r.0.config ≡ config.now) }
     ensures steps { IfOk result (λ r. map step_in r.0.events ≡ steps.now) }
     ensures actors { IfOk result (λ r. map actor_in r.0.events ≡ map actor_of steps.now) }
-    ensures history { IfOk result (λ r. RunsTo config.now r.0.events r.1) }
+    ensures cores { IfOk result (λ r. RunsTo config.now r.0.events r.1) }
     // The replies are those of the graph.
     ensures run { IfOk result (λ r. (last : State) × IsRun (first_state config.now) r.0.events last) }
     ensures suits { OnOk result (Suits config.now) }
@@ -117,7 +117,7 @@ pub fn run(alloc: Global, config: &Config, steps: &[Step]) -> Result<Record, Run
     ensures config { IfOk result (λ r. r.config ≡ config.now) }
     ensures steps { IfOk result (λ r. map step_in r.events ≡ steps.now) }
     ensures actors { IfOk result (λ r. map actor_in r.events ≡ map actor_of steps.now) }
-    ensures history { IfOk result (λ r. RunsFromNew config.now r.events) }
+    ensures cores { IfOk result (λ r. RunsFromNew config.now r.events) }
     // The replies are those of the graph.
     ensures run { IfOk result (λ r. (last : State) × IsRun (first_state config.now) r.events last) }
     ensures suits { OnOk result (Suits config.now) }

@@ -374,7 +374,7 @@ event_line_again n c e good =
     ap words_of (event_text_is n e) ∙ words_again (decimal n) (rest_words e) (event_is_words n c e good) in
     rw (le-ltb 120 (length (event_text n e)) (event_short n c e good)) (ap (event_of n c) words ∙ event_again n c e good)
 
--- no line feed stands in the line of an event
+-- no line feed is in the line of an event
 pub event_no_feed : (n : ℕ) (c : Config) (e : Event) → IsGood n c e → All (λ b. eqb b 10 ≡ false) (event_text n e)
 event_no_feed n c e good = subst (λ (t : List ℕ). All (λ b. eqb b 10 ≡ false) t) (sym (event_text_is n e))
     (no_feed (decimal n) (rest_words e) (event_is_words n c e good))

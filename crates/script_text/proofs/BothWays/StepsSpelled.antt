@@ -177,7 +177,7 @@ step_line_again c s few known fits =
     rw (le-ltb 120 (length (spaced (step_words s))) (step_short c s few known fits))
     (ap (step_of c) (step_words_again c s few known fits) ∙ step_again c s few known fits)
 
--- no line feed stands in the line of a step
+-- no line feed is in the line of a step
 pub step_no_feed : (c : Config) (s : Step) → c.mutators ≤ small → IsStep c s → StepFits s
     → All (λ b. eqb b 10 ≡ false) (spaced (step_words s))
 step_no_feed c (steps.Mutator o) few known fits =

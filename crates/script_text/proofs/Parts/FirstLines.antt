@@ -22,7 +22,7 @@ clear_more b false text line ps x xs other some clear e =
     let is : line ≡ b ∷ x = cc in
     rw is (All-cons (λ d. eqb d 10 ≡ false) b x other clear)
 
--- no line feed stands in a text's first line
+-- no line feed is in a text's first line
 pub first_clear : (text line : List ℕ) (ps : List (List ℕ)) → pieces_of text ≡ line ∷ ps → IsClear line
 first_clear [] line ps e =
     let none : line ≡ [] = cc in

@@ -1,4 +1,4 @@
--- A word that stands in a line from a place on.
+-- A word that is in a line from a place on.
 use Rattle.std.proofs.Common.{◌≡◌, ◌+◌, ◌-◌, ◌*◌, ◌<◌, ◌≤◌, ◌∷◌, ◌++◌, ◌∙◌, ℕ, suc, Bool, true, false, cond}
 use Rattle.std.proofs.Common.{List, [], length, take, drop, get_or, refl, ap, sym, arith, inl, inr}
 use Rattle.std.specs.List.{All}
@@ -51,7 +51,7 @@ clear_more text at past ended clear letter =
       ];
     }
 
--- no byte is a part in which no space stands
+-- no byte is a part in which no space is
 pub clear_none : (text : List ℕ) (at : ℕ) → at ≤ end_of text → IsClear text at at
 clear_none text at within = record { order = omega arith; within = within; clear = λ k from before space. absurd (omega arith) }
 
@@ -84,7 +84,7 @@ part_one text at lt =
     part_front text at (at + 1) (omega arith) lt
     ∙ ap (λ (n : ℕ). get_or text at 0 ∷ take n (drop (at + 1) text)) none
 
--- as a part of the text, a word stands at a place
+-- as a part of the text, a word is at a place
 abbrev pub StandsAt : List ℕ → ℕ → List ℕ → ℕ → Type 0
 StandsAt text at word count = (k : ℕ) → k < count → get_or text (at + k) 0 ≡ get_or word k 0
 

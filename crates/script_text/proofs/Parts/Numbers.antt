@@ -106,7 +106,7 @@ none_by : (o : Option ℕ) → ((n : ℕ) → o ≡ Some n → ⊥) → o ≡ No
 none_by None never = refl
 none_by (Some n) never = absurd (never n refl)
 
--- what is a number exactly where a word spells one
+-- what is a number if and only if a word spells one
 pub number_of_exact : (limit : ℕ) (word : List ℕ) (r : Option ℕ) → limit < 2 ^ 64 → IfSome r (λ n. (word ≡ decimal n) × (n ≤ limit))
     → IfNone r ((n : ℕ) → n ≤ limit → word ≡ decimal n → ⊥) → r ≡ number_of limit word
 number_of_exact limit word (Some n) small some none = sym (number_of_some limit word n (omega (arith, some.1)) some.0 some.1)

@@ -1,4 +1,4 @@
--- The words of a line: no space or line feed stands in them, and they are short.
+-- The words of a line: no space or line feed is in them, and they are short.
 use Rattle.std.proofs.Common.{◌≡◌, ◌+◌, ◌*◌, ◌^◌, ◌<◌, ◌≤◌, ◌∷◌, ◌∙◌}
 use Rattle.std.proofs.Common.{ℕ, Bool, true, false, eqb, List, [], length, Option, Some, None, refl, ap, arith}
 use Rattle.std.specs.Prelude.{◌&&◌, nat_lt, nat_le, codes}
@@ -110,7 +110,7 @@ line_above w (x ∷ ws) words =
     All-append (λ b. 31 < b) w (32 ∷ spaced (x ∷ ws)) (above_space w (All-head IsWord w (x ∷ ws) words).clear)
     (All-cons (λ b. 31 < b) 32 (spaced (x ∷ ws)) (omega arith) (line_above x ws (All-tail IsWord w (x ∷ ws) words)))
 
--- no line feed stands among the words of a line
+-- no line feed is among the words of a line
 pub no_feed : (w : List ℕ) (ws : List (List ℕ)) → AreWords (w ∷ ws) → All (λ b. eqb b 10 ≡ false) (spaced (w ∷ ws))
 no_feed w ws words = no_byte 31 10 (spaced (w ∷ ws)) (omega arith) (line_above w ws words)
 

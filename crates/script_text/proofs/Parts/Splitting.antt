@@ -62,7 +62,7 @@ cut_at line start at begun lt =
     ∙ ap (λ (k : ℕ). get_or line at 0 ∷ drop k line) next in
     sym (take-append-drop (at - start) (drop start line)) ∙ ap (λ (t : List ℕ). take (at - start) (drop start line) ++ t) rest
 
--- no space stands in a part of the text
+-- no space is in a part of the text
 clear_part : (text : List ℕ) (start n : ℕ) → ((k : ℕ) → start ≤ k → k < start + n → get_or text k 0 ≡ 32 → ⊥)
     → All (λ b. eqb b 32 ≡ false) (take n (drop start text))
 clear_part text start n clear = λ k d lt.
@@ -170,7 +170,7 @@ first_piece text at within lt feed =
 pub one_piece : (text : List ℕ) (at : ℕ) → at ≤ end_of text → length text ≤ at → pieces_of text ≡ text ∷ []
 one_piece text at within past = slice_split_none (λ b. eqb b 10) text (λ k d lt. fails_before_first (λ b. eqb b 10) text k d (omega arith))
 
--- the first line feed is no later than one that stands there
+-- the first line feed is no later than one that is there
 pub first_is_first : (text : List ℕ) (at : ℕ) → get_or text at 0 ≡ 10 → end_of text ≤ at
 first_is_first text at feed =
     elim (cases_lt at (end_of text)) [

@@ -18,7 +18,7 @@ use Rattle.script_text.specs.EventWords.{equals_at, step_part, reply_part, reply
 abbrev pub is_equals : List ℕ → Bool
 is_equals w = bytes_eq w (codes "=")
 
--- no `=` stands before a place
+-- no `=` is before a place
 abbrev pub NoneBefore : List (List ℕ) → ℕ → Type 0
 NoneBefore ws at = (k : ℕ) → k < at → is_equals (get_or ws k []) ≡ false
 

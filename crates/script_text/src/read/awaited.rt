@@ -6,7 +6,7 @@
 //!   next_heap, next_event take the first one
 //! ```
 //!
-//! What waits stands in one buffer of fixed room, so a text of any length takes no more memory.
+//! What waits is in one buffer of fixed room, so a text of any length takes no more memory.
 
 ghost use Rattle.std.specs.Prelude.{◌≡◌, ◌≤◌, ◌<◌, ◌+◌, ◌-◌, ◌++◌, [], ℕ, List, length, take, drop};
 ghost use Rattle.std.specs.Prelude.{Ok, Err, IfOk, IfErr, IfSome, IfNone, true, false};
@@ -23,8 +23,8 @@ use crate::fault::{Kind, ReadFault};
 use crate::read::callers::AWAITED_EVENT;
 use crate::read::records::front_event;
 use crate::read::script::{LONGEST_LINE, heap_line};
-use crate::read::watched::WatchedReader;
 use crate::read::words::split_front;
+use crate::watched::WatchedReader;
 use heap_steps::Event;
 use heap_words::config::Config;
 use memchr::memrchr;

@@ -5,7 +5,7 @@ ghost use Rattle.std.specs.Io.KnownBytes.{IsAtEnd};
 ghost use Rattle.script_text.specs.Watched.{Gives, FailsToGive};
 
 use crate::fault::ReadFault;
-use crate::read::watched::WatchedReader;
+use crate::watched::WatchedReader;
 use std::alloc::Global;
 use std::io::Read;
 

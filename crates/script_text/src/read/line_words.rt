@@ -26,8 +26,8 @@ pub(crate) struct Found<T> {
     pub(crate) past: usize,
 }
 
-/// A number of digits that are in a line from a place on, and where they end; no digit, where it has ten digits or more. It stands
-/// alone, and answers no option, which would be written to memory.
+/// A number of digits that are in a line from a place on, and where they end; no digit, where it has ten digits or more. It is a
+/// function of its own, and answers no option, which would be written to memory.
 #[inline(never)]
 fn long_number(text: &[u8], at: usize) -> Found<u32>
     requires ended { end_of text.now < length text.now }

@@ -37,7 +37,7 @@ fn event_line(count: u64, config: &Config, line: &[u8], words: &[&[u8]]) -> Resu
 }
 
 /// What the line at a text's front gives as that of an event of this count, by its words, and how many bytes it has before its line
-/// feed. It stands alone: so the room for the words is made ready where they are parted, and not before each line.
+/// feed. It is a function of its own: so the room for the words is made ready where they are parted, and not before each line.
 #[inline(never)]
 fn parted_event(count: u64, config: &Config, text: &[u8]) -> FrontEvent
     requires ended { end_of text.now < length text.now }

@@ -62,7 +62,7 @@ pub struct ScriptLine<'a> {
 pub struct ScriptSteps<'a> {
     config: Config,
     lines: &'a [u8],
-    /// Room for the words of a line. What stands there from the line before tells nothing.
+    /// Room for the words of a line. What is there from the line before tells nothing.
     words: [&'a [u8]; 12],
 }
 

@@ -32,7 +32,7 @@ pub fn put_text(buffer: &mut [u8], at: usize, text: &[u8]) -> usize
     end
 }
 
-/// Puts a short text that stands in the code, as `put_text`: byte by byte, which becomes a store or two.
+/// Puts a short text that is in the code, as `put_text`: byte by byte, which becomes a store or two.
 #[inline(always)]
 pub(crate) fn put_literal(buffer: &mut [u8], at: usize, text: &[u8]) -> usize
     requires { at + length text.now ≤ length buffer.old }
@@ -45,7 +45,7 @@ pub(crate) fn put_literal(buffer: &mut [u8], at: usize, text: &[u8]) -> usize
     at + text.len()
 }
 
-/// Puts a short text that stands in no code, as `put_text`. One of 8 to 16 bytes, as most lines of a script are, is put by its first eight
+/// Puts a short text that is in no code, as `put_text`. One of 8 to 16 bytes, as most lines of a script are, is put by its first eight
 /// and its last eight, which may overlap: two moves, and no call.
 #[inline(always)]
 pub(crate) fn put_short(buffer: &mut [u8], at: usize, text: &[u8]) -> usize

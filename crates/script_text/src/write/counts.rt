@@ -1,4 +1,4 @@
-//! The counts of events, one after another: the digits before the last stand ready, so most counts take the change of one digit.
+//! The counts of events, one after another: the digits before the last are ready, so most counts take the change of one digit.
 
 ghost use Rattle.std.specs.Prelude.{◌≡◌, ◌≤◌, ◌<◌, ◌+◌, ◌^◌, ◌++◌, ℕ, length, take};
 ghost use Rattle.std.specs.Fmt.{decimal};

@@ -6,7 +6,7 @@
 //!   held                                r0 1 1 = #0 | 2 0 read r0 0 = 0 |
 //! ```
 //!
-//! What is held stands in one buffer of fixed room, which is written out when a line has no room in it.
+//! What is held is in one buffer of fixed room, which is written out when a line has no room in it.
 
 ghost use Rattle.std.specs.Prelude.{◌≡◌, ◌≢◌, ◌≤◌, ◌<◌, ◌+◌, ◌^◌, ◌++◌, ◌∷◌, [], ℕ, List, IfOk, IfErr, OnOk, OnErr, take, length};
 ghost use Rattle.heap_steps.specs.Actors.{EventList};
@@ -16,9 +16,9 @@ ghost use Rattle.script_text.specs.Watched.{Writer, Takes, TakesPart, FailsToTak
 ghost use Rattle.script_text.specs.Written.{AreLinesOf, no_events, with_events};
 
 use crate::fault::WriteFault;
+use crate::watched::WatchedWriter;
 use crate::write::counts::Count;
 use crate::write::lines::{LINE_ROOM, put_event, put_heap, put_told};
-use crate::write::watched::WatchedWriter;
 use crate::write::writing::write_bytes;
 use heap_steps::{Event, Record, Reply};
 use heap_words::config::Config;

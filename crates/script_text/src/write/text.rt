@@ -64,7 +64,7 @@ impl Text {
         }
     }
 
-    /// Adds a text as it stands.
+    /// Adds a text as it is.
     ///
     /// ```rust
     /// let mut text = Text::new(alloc);

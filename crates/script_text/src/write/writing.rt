@@ -4,7 +4,7 @@ ghost use Rattle.std.specs.Prelude.{◌≢◌, OnOk, OnErr};
 ghost use Rattle.script_text.specs.Watched.{Takes, TakesPart};
 
 use crate::fault::WriteFault;
-use crate::write::watched::WatchedWriter;
+use crate::watched::WatchedWriter;
 use std::io::Write;
 
 /// Writes bytes in their order. Where it fails, the writer refused, and a beginning of them is written.

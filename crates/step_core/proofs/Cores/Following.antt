@@ -27,7 +27,7 @@ use Rattle.cards.specs.Cards.{ListsDirtyOnce}
 use Rattle.step_core.specs.Cycle.{Does}
 use Rattle.step_core.specs.Mutators.{ActsOn, weaks_made}
 use Rattle.step_core.specs.Answers.{Acts, Follows, IsFullStep, RepliesFull}
-use Rattle.step_core.specs.Histories.{IsHistory, Passes, Runs}
+use Rattle.step_core.specs.Passages.{IsPassage, Passes, Runs}
 
 -- a step that happens, and what the core shows and keeps after it
 pub follows_by : (s after : State) (step : Step) (reply : Reply) (c c' : CoreState) → Stands s c → Happens s step reply after
@@ -140,18 +140,18 @@ unreached_of s x c st is = go s.snapshot st.sound.snapshot st.since is
         let same : y ≡ x = cc in
         subst (λ (t : Graph). KeepsUnreached t s.graph) same (since_unreached y s.graph earlier since)
 
--- a history goes on by one event
+-- a passage goes on by one event
 pub goes_on : (s : State) (c : CoreState) (es : List Event) (e : Event) (mid c' : CoreState) → Runs s c es mid
     → ((r : State) → Stands r mid → Follows r e.step e.reply c')
     → Does e.step e.reply mid c' → ((r : State) → Stands r mid → (e.reply ≡ replies.Refused refusals.Full) ↔ IsFullStep r.graph e.step mid)
     → IsCore c' → ListsDirtyOnce c'.cards → ((r : State) → Stands r c' → IsWhole r.graph c') → Runs s c (es ++ e ∷ []) c'
 goes_on s c es e mid c' r f does full core listed whole =
     let n = f r.last r.stands in
-    record { last = n.after; stands = n.stands; history = more s c es r.last r.history (full r.last r.stands) n }
+    record { last = n.after; stands = n.stands; passage = more s c es r.last r.passage (full r.last r.stands) n }
   where
-    more : (s : State) (c : CoreState) (es : List Event) (last : State) → IsHistory s c es last mid
+    more : (s : State) (c : CoreState) (es : List Event) (last : State) → IsPassage s c es last mid
         → (e.reply ≡ replies.Refused refusals.Full) ↔ IsFullStep last.graph e.step mid
-        → (n : Follows last e.step e.reply c') → IsHistory s c (es ++ e ∷ []) n.after c'
+        → (n : Follows last e.step e.reply c') → IsPassage s c (es ++ e ∷ []) n.after c'
     more s c [] last h there n = (c', passes, (refl, refl))
       where
         passes : Passes s c e c'
@@ -171,7 +171,7 @@ goes_on s c es e mid c' r f does full core listed whole =
     more s c (x ∷ es) last h there n = (h.0, h.1, more h.1.follows.after h.0 es last h.2 there n)
 
 pub none_yet : (s : State) (c : CoreState) → Stands s c → Runs s c [] c
-none_yet s c st = record { last = s; stands = st; history = (refl, refl) }
+none_yet s c st = record { last = s; stands = st; passage = (refl, refl) }
 
 one_more : {A : Type 0} (f : Event → A) (es : List Event) (e : Event) → map f (es ++ e ∷ []) ≡ map f es ++ f e ∷ []
 one_more f [] e = refl
@@ -189,8 +189,8 @@ pub grown_by : {A : Type 0} (f : Event → A) (h : Step → A) (es : List Event)
 grown_by {A} f h es e ss i s same lt is = grown f es e (map h ss) i (h s) same
     (let same_length : length (map h ss) ≡ length ss = length-map ss h in omega arith) (is ∙ sym (get_or-map h ss i s (h s) lt))
 
--- the events of a history are a run of the graph
-pub history_is_run : (s : State) (c : CoreState) (es : List Event) (last : State) (c' : CoreState)
-    → IsHistory s c es last c' → IsRun s es last
-history_is_run s c [] last c' h = h.0
-history_is_run s c (e ∷ es) last c' h = (h.1.follows.after, h.1.follows.happens, history_is_run h.1.follows.after h.0 es last c' h.2)
+-- the events of a passage are a run of the graph
+pub passage_is_run : (s : State) (c : CoreState) (es : List Event) (last : State) (c' : CoreState)
+    → IsPassage s c es last c' → IsRun s es last
+passage_is_run s c [] last c' h = h.0
+passage_is_run s c (e ∷ es) last c' h = (h.1.follows.after, h.1.follows.happens, passage_is_run h.1.follows.after h.0 es last c' h.2)

@@ -11,7 +11,7 @@ use Rattle.step_core.specs.Stands.{CoreState, Stands, IsCore, IsWhole}
 use Rattle.step_core.specs.Fresh.{fresh_core}
 use Rattle.step_core.specs.Answers.{Follows, IsFullStep}
 use Rattle.step_core.specs.Cycle.{Does}
-use Rattle.step_core.specs.Histories.{RunsTo, Runs}
+use Rattle.step_core.specs.Passages.{RunsTo, Runs}
 use Rattle.step_core.proofs.Cores.Following.{goes_on, none_yet}
 
 -- a new heap has come to no events

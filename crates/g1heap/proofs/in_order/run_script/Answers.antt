@@ -4,7 +4,7 @@ use Rattle.heap_steps.specs.Actors.{StepList}
 use Rattle.heap_steps.specs.Faults.{IsRunFault}
 use Rattle.script_text.specs.Lines.{script_of}
 use Rattle.script_text.specs.declared.fault.LineFault.{LineFault}
-use Rattle.step_core.specs.Histories.{IsRunInOrder}
+use Rattle.step_core.specs.Passages.{IsRunInOrder}
 use Rattle.jobs.proofs.Endings.{ends, comes}
 use Rattle.g1heap.proofs.in_order.run_script.Goals as goal
 

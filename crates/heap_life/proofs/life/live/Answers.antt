@@ -8,8 +8,8 @@ use Rattle.heap_steps.specs.declared.step.Event.{Event}
 use Rattle.object_graph.specs.Run.{IsRun}
 use Rattle.object_graph.specs.State.{first_state}
 use Rattle.heap_steps.specs.Faults.{IsRunFault}
-use Rattle.step_core.specs.Histories.{RunsTo, step_in, actor_in}
-use Rattle.step_core.proofs.Cores.Following.{history_is_run}
+use Rattle.step_core.specs.Passages.{RunsTo, step_in, actor_in}
+use Rattle.step_core.proofs.Cores.Following.{passage_is_run}
 use Rattle.heap_life.specs.Paces.{IsDue}
 use Rattle.heap_life.specs.declared.pace.Pace.{Pace}
 use Rattle.heap_life.specs.declared.life.Moment.{Moment}
@@ -47,7 +47,7 @@ returns-in-Ok-life_of-clause-life c =
       steps = lived.steps ∙ ap (λ (events : List Event). map step_in events) events;
       actors = lived.actors ∙ ap (λ (events : List Event). map actor_in events) events;
       last = runs.last;
-      run = subst (λ (k : Config). IsRun (first_state k) es runs.last) is (history_is_run _ _ _ _ _ runs.history);
+      run = subst (λ (k : Config). IsRun (first_state k) es runs.last) is (passage_is_run _ _ _ _ _ runs.passage);
       end = c.life_of.new.core;
       ends = subst (λ (k : Config). RunsTo k es c.life_of.new.core) is
           (runs_to config c.in-Ok.core c.life_of.new.core es made.fresh made.core made.stands runs);

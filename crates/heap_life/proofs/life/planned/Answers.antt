@@ -1,7 +1,7 @@
 use Rattle.std.proofs.Common.{◌∙◌, List, map, ap, refl}
 use Rattle.heap_steps.specs.Actors.{EventList}
 use Rattle.heap_steps.specs.declared.step.Event.{Event}
-use Rattle.step_core.specs.Histories.{step_in, actor_in, actor_of}
+use Rattle.step_core.specs.Passages.{step_in, actor_in, actor_of}
 use Rattle.step_core.proofs.Cores.Following.{grown, grown_by}
 use Rattle.heap_life.proofs.life.planned.Goals as goal
 

@@ -1,5 +1,5 @@
 use Rattle.std.proofs.Common.{◌≡◌, take, map}
-use Rattle.step_core.specs.Histories.{step_in, actor_in, actor_of}
+use Rattle.step_core.specs.Passages.{step_in, actor_in, actor_of}
 use Rattle.heap_life.proofs.life.planned.Given as goal
 
 abbrev pub invariant-loop-step : goal.invariant-loop-step

@@ -3,7 +3,7 @@ use Rattle.std.proofs.lemmas.List.{length-map}
 use Rattle.heap_steps.specs.declared.step.Event.{Event}
 use Rattle.heap_steps.specs.declared.step.Step.{Step}
 use Rattle.jobs.specs.Replays.{reply_in}
-use Rattle.step_core.specs.Histories.{step_in}
+use Rattle.step_core.specs.Passages.{step_in}
 use Rattle.heap_life.proofs.Redrawn.{of_history}
 use Rattle.heap_life.proofs.redraw.page_over_history.Goals as goal
 

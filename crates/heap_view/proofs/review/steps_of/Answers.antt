@@ -9,7 +9,7 @@ use Rattle.heap_steps.specs.declared.step.CollectorStep.TheVariants as collector
 use Rattle.heap_steps.specs.declared.step.Event.{Event}
 use Rattle.heap_steps.specs.declared.step.Step.{Step}
 use Rattle.heap_steps.specs.declared.step.Step.TheVariants as steps
-use Rattle.step_core.specs.Histories.{step_in}
+use Rattle.step_core.specs.Passages.{step_in}
 use Rattle.heap_view.proofs.review.steps_of.Goals as goal
 
 is_step : (config : Config) (actor : Actor) (step : Step) → IsStepOf config actor step → IsStep config step

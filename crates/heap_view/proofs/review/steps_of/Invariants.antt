@@ -1,5 +1,5 @@
 use Rattle.std.proofs.Common.{◌≡◌, map, take}
-use Rattle.step_core.specs.Histories.{step_in}
+use Rattle.step_core.specs.Passages.{step_in}
 use Rattle.heap_view.proofs.review.steps_of.Given as goal
 
 abbrev pub invariant-loop-event : goal.invariant-loop-event

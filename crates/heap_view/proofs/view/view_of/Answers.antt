@@ -3,7 +3,7 @@ use Rattle.heap_words.specs.Configs.{Suits}
 use Rattle.heap_words.specs.declared.config.Config.{Config}
 use Rattle.heap_steps.specs.Actors.{StepList, IsStep}
 use Rattle.heap_steps.specs.declared.step.Step.{Step}
-use Rattle.step_core.specs.Histories.{IsRunInOrder, RunsTo}
+use Rattle.step_core.specs.Passages.{IsRunInOrder, RunsTo}
 use Rattle.jobs.proofs.Endings.{same_plan, memory_alone}
 use Rattle.heap_view.specs.Views.{front, front_of}
 use Rattle.heap_view.proofs.Fronts.{all_front, ok_then}
@@ -25,10 +25,10 @@ returns-in-Ok-clause-text c =
             actors = run.actors;
             last = last;
             run = is;
-            history = (c.in-Ok.core, run.history);
+            cores = (c.in-Ok.core, run.cores);
           });
       core = c.in-Ok.core;
-      ends = subst (λ (k : Config). RunsTo k c.in-Ok._record.events c.in-Ok.core) c.config.ensures run.history;
+      ends = subst (λ (k : Config). RunsTo k c.in-Ok._record.events c.in-Ok.core) c.config.ensures run.cores;
       is = told;
     })
 

@@ -1,6 +1,6 @@
 use Rattle.std.proofs.Common.{◌≡◌, ◌∙◌, ℕ, List, Ok, Err, Some, None, Option, Result, ap, subst}
 use Rattle.std.specs.Prelude.{IfOk}
-use Rattle.object_graph.specs.Reasons.{Judging, HasTaken, TakesNext}
+use Rattle.object_graph.specs.Reasons.{Judging, HasJudged, JudgesNext}
 use Rattle.object_graph.specs.declared.given.Given.{Given}
 use Rattle.heap_steps.specs.declared.step.Event.{Event}
 use Rattle.script_text.specs.Awaited.{IsNext}
@@ -18,9 +18,10 @@ next_at : (read : List ℕ → Result Event Kind) (waits left : List ℕ) (now n
 next_at read waits left now next r s e is = subst (λ (x : Result (Option Event) NextFault). IsNext read waits left now next x) e is
 
 took_at : {E : Type 0} (j k : Judging) (e : Event) (r : Result (Option Given) E) (told : Option Given) → r ≡ Ok told
-    → IfOk r (λ t. (es : List Event) → HasTaken j es → TakesNext j k es e t) → (es : List Event) → HasTaken j es → TakesNext j k es e told
+    → IfOk r (λ t. (es : List Event) → HasJudged j es → JudgesNext j k es e t)
+    → (es : List Event) → HasJudged j es → JudgesNext j k es e told
 took_at {E} j k e r told is h = subst (λ (x : Result (Option Given) E). IfOk x
-    (λ t. (es : List Event) → HasTaken j es → TakesNext j k es e t)) is h
+    (λ t. (es : List Event) → HasJudged j es → JudgesNext j k es e t)) is h
 
 pub returns-in-Ok-None : goal.returns-in-Ok-None
 returns-in-Ok-None g c =
@@ -45,16 +46,16 @@ returns-in-Err-Read g c =
     found_unread c.args.config.now c.loop-count.judge c.args.reader.now c.args.lines.now c.loop-count.reader c.next_event.new.reader
     c.loop-count.lines c.loop-count.count c.in-Err-Read.fault c.loop-count.invariant next
 
-pub returns-in-Ok-Some-take : goal.returns-in-Ok-Some-take
-returns-in-Ok-Some-take g c =
+pub returns-in-Ok-Some-judge_event : goal.returns-in-Ok-Some-judge_event
+returns-in-Ok-Some-judge_event g c =
     let next = next_at (event_line_of c.loop-count.count c.args.config.now) c.loop-count.lines c.next_event.new.self c.loop-count.reader
     c.next_event.new.reader c.next_event.result (Ok (Some c.in-Ok-Some.event))
     (c.in-Ok-Some.is ∙ ap Ok c.in-Ok-Some.field-0-is) c.next_event.ensures.next in
-    found_no c.args.config.now c.loop-count.judge c.take.new.self c.args.reader.now c.args.lines.now c.loop-count.reader
-    c.next_event.new.reader c.loop-count.lines c.next_event.new.self c.loop-count.count c.in-Ok-Some.event c.in-Ok-Some-take.given
+    found_no c.args.config.now c.loop-count.judge c.judge_event.new.self c.args.reader.now c.args.lines.now c.loop-count.reader
+    c.next_event.new.reader c.loop-count.lines c.next_event.new.self c.loop-count.count c.in-Ok-Some.event c.in-Ok-Some-judge_event.given
     c.requires.suits c.loop-count.invariant next
-    (took_at c.loop-count.judge c.take.new.self c.in-Ok-Some.event c.take.result (Some c.in-Ok-Some-take.given)
-    (c.in-Ok-Some-take.is ∙ ap Ok c.in-Ok-Some-take.field-0-is) c.take.ensures.told)
+    (took_at c.loop-count.judge c.judge_event.new.self c.in-Ok-Some.event c.judge_event.result (Some c.in-Ok-Some-judge_event.given)
+    (c.in-Ok-Some-judge_event.is ∙ ap Ok c.in-Ok-Some-judge_event.field-0-is) c.judge_event.ensures.told)
 
 pub returns-in-Err : goal.returns-in-Err
 returns-in-Err g c =
@@ -69,7 +70,7 @@ loop-count-preserved g c =
     let next = next_at (event_line_of c.loop-count.count c.args.config.now) c.loop-count.lines c.next_event.new.self c.loop-count.reader
     c.next_event.new.reader c.next_event.result (Ok (Some c.in-Ok-Some.event))
     (c.in-Ok-Some.is ∙ ap Ok c.in-Ok-Some.field-0-is) c.next_event.ensures.next in
-    goes_on c.args.config.now c.loop-count.judge c.take.new.self c.args.reader.now c.args.lines.now c.loop-count.reader
+    goes_on c.args.config.now c.loop-count.judge c.judge_event.new.self c.args.reader.now c.args.lines.now c.loop-count.reader
     c.next_event.new.reader c.loop-count.lines c.next_event.new.self c.loop-count.count c.in-Ok-Some.event c.loop-count.invariant next
-    c.take.ensures.config (took_at c.loop-count.judge c.take.new.self c.in-Ok-Some.event c.take.result None
-    (c.in-Ok-None-take.is ∙ ap Ok c.in-Ok-None-take.field-0-is) c.take.ensures.told)
+    c.judge_event.ensures.config (took_at c.loop-count.judge c.judge_event.new.self c.in-Ok-Some.event c.judge_event.result None
+    (c.in-Ok-None-judge_event.is ∙ ap Ok c.in-Ok-None-judge_event.field-0-is) c.judge_event.ensures.told)

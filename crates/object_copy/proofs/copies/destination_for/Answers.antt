@@ -13,8 +13,8 @@ over used f size words g e = elim (leb_tells (used + size) words) [
 ]
 
 pub returns : goal.returns
-returns c = taken_opens c.args.table.now c.take.new.table c.args.destinations.now c.take.new.destinations c.args.size
-    c.take.result c.take.ensures c.requires.small (λ f e.
+returns c = taken_opens c.args.table.now c.open_next.new.table c.args.destinations.now c.open_next.new.destinations c.args.size
+    c.open_next.result c.open_next.ensures c.requires.small (λ f e.
     elim c.match-last.branch [
       | in-Some+else-has_room w ↦
           let q = ap (fill_of c.args.table.now) (sym c.last.ensures ∙ w.in-Some.is) in

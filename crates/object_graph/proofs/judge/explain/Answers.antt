@@ -1,10 +1,10 @@
 use Rattle.std.proofs.Common.{◌∙◌, subst, take, Option}
 use Rattle.heap_words.specs.declared.config.Config.{Config}
 use Rattle.object_graph.specs.State.{first_state}
-use Rattle.object_graph.specs.Reasons.{Refuses, TakesNext}
+use Rattle.object_graph.specs.Reasons.{Refuses, JudgesNext}
 use Rattle.object_graph.specs.declared.given.Given.{Given}
 use Rattle.object_graph.proofs.RunLaws.{event_in, event_there}
-use Rattle.object_graph.proofs.ReasonLaws.{taken_more, found_there}
+use Rattle.object_graph.proofs.ReasonLaws.{judged_more, found_there}
 use Rattle.object_graph.proofs.judge.explain.Goals as goal
 
 pub returns-in-Some : goal.returns-in-Some
@@ -12,8 +12,8 @@ returns-in-Some c =
     let i = c.loop-index.index in
     let e = event_in c.events-events.result.now i in
     let before = take i c.args.history.now.events in
-    let told = subst (λ (o : Option Given). TakesNext c.loop-index.judge c.take.new.self before e o) c.in-Some.is
-    (c.in_ok-given.ensures.told before c.loop-index.invariant.taken) in
+    let told = subst (λ (o : Option Given). JudgesNext c.loop-index.judge c.judge_event.new.self before e o) c.in-Some.is
+    (c.in_ok-given.ensures.told before c.loop-index.invariant.judged) in
     found_there (first_state c.args.history.now.config) c.args.history.now.events c.events-events.result.now i e c.in-Some.given
     c.events-events.ensures.events c.loop-index-test.true
     (event_there c.events-events.result.now i c.loop-index-test.true)
@@ -24,10 +24,10 @@ loop-index-preserved c =
     let i = c.loop-index.index in
     let e = event_in c.events-events.result.now i in
     let before = take i c.args.history.now.events in
-    let told = subst (λ (o : Option Given). TakesNext c.loop-index.judge c.take.new.self before e o) c.in_default.is
-    (c.in_ok-given.ensures.told before c.loop-index.invariant.taken) in
+    let told = subst (λ (o : Option Given). JudgesNext c.loop-index.judge c.judge_event.new.self before e o) c.in_default.is
+    (c.in_ok-given.ensures.told before c.loop-index.invariant.judged) in
     record {
-      taken = taken_more c.take.new.self c.args.history.now.events c.events-events.result.now i e c.events-events.ensures.events
+      judged = judged_more c.judge_event.new.self c.args.history.now.events c.events-events.result.now i e c.events-events.ensures.events
           c.loop-index-test.true
           (event_there c.events-events.result.now i c.loop-index-test.true) told;
       config = c.in_ok-given.ensures.config ∙ c.loop-index.invariant.config;

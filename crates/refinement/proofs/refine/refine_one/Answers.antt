@@ -6,5 +6,5 @@ use Rattle.refinement.proofs.refine.refine_one.Goals as goal
 pub returns-clause-remembers : goal.returns-clause-remembers
 returns-clause-remembers c = λ before.
     taken_remembers c.args.table.now.words_per_region c.args.card_words c.in-Some.card
-    (kept_in c.args.table.now c.args.tams.now c.args.marks.now) c.args.cards.now.dirty c.take.new.self.dirty (may_lead c.args.sets.now)
+    (kept_in c.args.table.now c.args.tams.now c.args.marks.now) c.args.cards.now.dirty c.dequeue.new.self.dirty (may_lead c.args.sets.now)
     (may_lead c.scan_card.new.sets) c.in-Some.ensures.cleaned c.scan_card.ensures.covered c.scan_card.ensures.leads before

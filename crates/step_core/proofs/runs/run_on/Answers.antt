@@ -1,7 +1,7 @@
 use Rattle.std.proofs.Common.{◌∙◌, List, map, ap, sym, subst}
 use Rattle.heap_steps.specs.Actors.{EventList}
 use Rattle.heap_steps.specs.declared.step.Event.{Event}
-use Rattle.step_core.specs.Histories.{RunsTo, step_in, actor_in, actor_of}
+use Rattle.step_core.specs.Passages.{RunsTo, step_in, actor_in, actor_of}
 use Rattle.step_core.proofs.Cores.Following.{grown, grown_by}
 use Rattle.step_core.proofs.runs.run_on.Goals as goal
 
@@ -11,8 +11,8 @@ loop-step-preserved c =
     let events = ap (λ (r : EventList). r.events) pushed in
     let e = c.perform-event.result in
     record {
-      history = λ config before. subst (λ (es : List Event). RunsTo config es c.perform-event.new.self) (sym events)
-          (c.perform-event.ensures.runs config c.loop-step.done.events (c.loop-step.invariant.history config before));
+      cores = λ config before. subst (λ (es : List Event). RunsTo config es c.perform-event.new.self) (sym events)
+          (c.perform-event.ensures.runs config c.loop-step.done.events (c.loop-step.invariant.cores config before));
       steps = ap (λ (es : List Event). map step_in es) events
           ∙ grown step_in c.loop-step.done.events e c.args.steps.now c.loop-step.step-index _
           c.loop-step.invariant.steps c.loop-step-test.true c.perform-event.ensures.step;

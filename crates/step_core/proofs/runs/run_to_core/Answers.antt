@@ -2,15 +2,15 @@ use Rattle.std.proofs.Common.{◌∙◌, subst, sym}
 use Rattle.std.specs.Prelude.{All}
 use Rattle.heap_words.specs.declared.config.Config.{Config}
 use Rattle.heap_steps.specs.Actors.{IsStep}
-use Rattle.step_core.proofs.Cores.Following.{history_is_run}
+use Rattle.step_core.proofs.Cores.Following.{passage_is_run}
 use Rattle.step_core.proofs.Cores.Running.{runs_none}
 use Rattle.step_core.proofs.runs.run_to_core.Goals as goal
 
 pub returns-in-Err-clause-fault : goal.returns-in-Err-clause-fault
 returns-in-Err-clause-fault c = c.run_fault.ensures c.args.config.now c.in-Err.ensures.fault
 
-pub returns-clause-history : goal.returns-clause-history
-returns-clause-history c =
+pub returns-clause-cores : goal.returns-clause-cores
+returns-clause-cores c =
     c.in-Ok-run_on.ensures.runs c.args.config.now
     (runs_none c.args.config.now c.in-Ok.core c.in-Ok.ensures.fresh c.in-Ok.ensures.core c.in-Ok.ensures.stands)
 
@@ -18,7 +18,7 @@ pub returns-clause-run : goal.returns-clause-run
 returns-clause-run c =
     let r = (c.in-Ok-run_on.ensures.runs c.args.config.now
     (runs_none c.args.config.now c.in-Ok.core c.in-Ok.ensures.fresh c.in-Ok.ensures.core c.in-Ok.ensures.stands)).runs in
-    (r.last, history_is_run _ _ _ _ _ r.history)
+    (r.last, passage_is_run _ _ _ _ _ r.passage)
 
 pub run_on-requires : goal.run_on-requires
 run_on-requires c = subst (λ (config : Config). All (IsStep config) c.args.steps.now) (sym c.in-Ok.ensures.config) c.requires

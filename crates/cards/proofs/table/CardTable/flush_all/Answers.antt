@@ -38,7 +38,7 @@ loop-mutator-preserved c =
       first,
       logs_stay c.self.inside t i c.loop-mutator.invariant.sent (omega (arith, first)),
     ) in
-    let after : Inside = record { dirty = t.dirty; logs = with_item t.logs i c.move_to.new.self; queue = c.move_to.new.queue } in
+    let after : Inside = record { dirty = t.dirty; logs = with_item t.logs i c.move_to.new.log; queue = c.move_to.new.queue } in
     let view : cards_of after ≡ sent (cards_of t) i =
     sent_fields t after i c.index_mut-log.result.now known c.index_mut-log.ensures.value refl
     (ap (λ l. set t.logs.items i l) c.move_to.ensures.emptied) c.move_to.ensures.queue in

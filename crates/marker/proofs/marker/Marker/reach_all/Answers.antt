@@ -1,33 +1,34 @@
-use Rattle.std.proofs.Common.{◌∙◌, sym, arith}
+use Rattle.std.proofs.Common.{◌∙◌, Some, sym, ap, arith}
 use Rattle.marker.proofs.Views.{same_kept, kept_within}
 use Rattle.marker.proofs.Logs.{contained, early_more, early_marked, all_marks}
 use Rattle.marker.proofs.marker.Marker.reach_all.Goals as goal
 
-pub get-requires : goal.get-requires
-get-requires c =
-    let kept = same_kept c.args.table.now c.args.self.now c.loop-place.self c.get-at.result c.loop-place.invariant.same
-    (c.requires.kept c.get-at.result (contained c.args.log.now c.loop-place.place c.get-at.result c.get-at.ensures)) in
+pub get-requires-2 : goal.get-requires-2
+get-requires-2 c =
+    let kept = same_kept c.args.table.now c.args.self.now c.loop-place.self c.new-at.result c.loop-place.invariant.same
+    (c.requires.kept c.new-at.result (contained c.args.log.now c.loop-place.place c.new-at.result
+    (c.get.ensures ∙ ap Some (sym c.new-at.ensures)))) in
     omega (
       arith,
-      kept_within c.args.table.now c.loop-place.self c.get-at.result c.law.ensures kept,
+      kept_within c.args.table.now c.loop-place.self c.new-at.result c.law.ensures kept,
       c.loop-place.invariant.stands.next.each_word,
     )
 
 pub reach-requires-clause-kept : goal.reach-requires-clause-kept
 reach-requires-clause-kept c = λ a e _.
     same_kept c.args.table.now c.args.self.now c.loop-place.self a c.loop-place.invariant.same
-    (c.requires.kept a (contained c.args.log.now c.loop-place.place a (c.get-at.ensures ∙ e)))
+    (c.requires.kept a (contained c.args.log.now c.loop-place.place a (c.get.ensures ∙ ap Some (sym c.new-at.ensures) ∙ e)))
 
 pub loop-place-preserved-then-get : goal.loop-place-preserved-then-get
 loop-place-preserved-then-get c =
-    early_marked c.args.table.now c.args.log.now c.loop-place.place c.get-at.result c.args.self.now c.loop-place.self
-    c.get-at.ensures (sym c.get.ensures ∙ c.if-get.true) c.loop-place.invariant
+    early_marked c.args.table.now c.args.log.now c.loop-place.place c.new-at.result c.args.self.now c.loop-place.self
+    (c.get.ensures ∙ ap Some (sym c.new-at.ensures)) (sym c.get-2.ensures ∙ c.if-get.true) c.loop-place.invariant
 
 pub loop-place-preserved : goal.loop-place-preserved
 loop-place-preserved c =
     let q = c.reach.ensures in
-    early_more c.args.table.now c.args.log.now c.loop-place.place c.get-at.result c.args.self.now c.loop-place.self c.reach.new.self
-    c.get-at.ensures c.loop-place.invariant
+    early_more c.args.table.now c.args.log.now c.loop-place.place c.new-at.result c.args.self.now c.loop-place.self c.reach.new.self
+    (c.get.ensures ∙ ap Some (sym c.new-at.ensures)) c.loop-place.invariant
     (record { stands = q.stands; marks = q.marks; same = q.same; scanned = q.scanned; scans = q.scans; logs = q.logs })
 
 pub returns-clause-marks : goal.returns-clause-marks

@@ -4,7 +4,7 @@ use Rattle.std.proofs.lemmas.Option.{get_or_from_slice_get}
 use Rattle.heap_steps.specs.declared.step.Event.{Event}
 use Rattle.heap_steps.specs.declared.step.Reply.{Reply}
 use Rattle.jobs.specs.Replays.{reply_in}
-use Rattle.jobs.proofs.history.first_other.Goals as goal
+use Rattle.jobs.proofs.replay.first_other.Goals as goal
 
 -- two lists of events whose replies are the same up to a place, and there
 same_more : (given ran : List Event) (i : ℕ) (a b : Reply) → length ran ≡ length given → i < length given

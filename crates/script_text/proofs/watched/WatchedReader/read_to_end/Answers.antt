@@ -1,6 +1,6 @@
 use Rattle.std.proofs.Common.{refl}
 use Rattle.std.specs.Io.{appended_bytes}
-use Rattle.script_text.proofs.read.watched.WatchedReader.read_to_end.Goals as goal
+use Rattle.script_text.proofs.watched.WatchedReader.read_to_end.Goals as goal
 
 pub returns-then-eq-clause-fails : goal.returns-then-eq-clause-fails
 returns-then-eq-clause-fails g c =

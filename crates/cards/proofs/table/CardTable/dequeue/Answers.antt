@@ -1,7 +1,7 @@
 use Rattle.std.proofs.Common.{◌≡◌, ◌∙◌, List, Bool, length, false, arith, refl, ap, length-set}
 use Rattle.cards.proofs.Listed.{IsCounted-taken, front_is_card, front_is_dirty}
 use Rattle.cards.specs.Inside.{cards_of}
-use Rattle.cards.proofs.table.CardTable.take.Goals as goal
+use Rattle.cards.proofs.table.CardTable.dequeue.Goals as goal
 
 pub remove-requires : goal.remove-requires
 remove-requires c =

@@ -29,17 +29,17 @@ pub record Passes (s : State) (c : CoreState) (e : Event) (c' : CoreState) : Typ
   pub whole : IsWhole follows.after.graph c'
 
 -- states and cores between the events: each core stands for its state
-abbrev pub IsHistory : State → CoreState → List Event → State → CoreState → Type 0
-IsHistory s c [] s' c' = (s' ≡ s) × (c' ≡ c)
-IsHistory s c (e ∷ es) s' c' = (mid : CoreState) × (p : Passes s c e mid) × IsHistory p.follows.after mid es s' c'
+abbrev pub IsPassage : State → CoreState → List Event → State → CoreState → Type 0
+IsPassage s c [] s' c' = (s' ≡ s) × (c' ≡ c)
+IsPassage s c (e ∷ es) s' c' = (mid : CoreState) × (p : Passes s c e mid) × IsPassage p.follows.after mid es s' c'
 
--- a history from a state and a core on, to some state for which the last core stands
+-- events from a state and a core on, to some state for which the last core stands
 pub record Runs (s : State) (c : CoreState) (es : List Event) (c' : CoreState) : Type 0 where
   pub last : State
   pub stands : Stands last c'
-  pub history : IsHistory s c es last c'
+  pub passage : IsPassage s c es last c'
 
--- the events of a new heap, up to a core: a history from the new core on, which stands for the first state
+-- the events of a new heap, up to a core: from the new core on, which stands for the first state
 pub record RunsTo (config : Config) (es : List Event) (c : CoreState) : Type 0 where
   pub core : IsCore (fresh_core config)
   pub stands : Stands (first_state config) (fresh_core config)
@@ -65,4 +65,4 @@ pub record IsRunInOrder (plan : StepList) (r : EventList) : Type 0 where
   pub actors : map actor_in r.events ≡ map actor_of plan.steps
   pub last : State
   pub run : IsRun (first_state plan.config) r.events last
-  pub history : RunsFromNew plan.config r.events
+  pub cores : RunsFromNew plan.config r.events

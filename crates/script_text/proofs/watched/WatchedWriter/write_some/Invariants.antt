@@ -1,6 +1,6 @@
 use Rattle.std.proofs.Common.{◌≡◌}
 use Rattle.std.specs.Io.KnownBytes.{Keeps}
-use Rattle.script_text.proofs.write.watched.WatchedWriter.write_some.Given as goal
+use Rattle.script_text.proofs.watched.WatchedWriter.write_some.Given as goal
 
 abbrev pub invariant-loop : goal.invariant-loop
 invariant-loop g l = record {
