@@ -3,8 +3,8 @@ use Rattle.marker.proofs.Views.{same_kept, kept_within}
 use Rattle.marker.proofs.Logs.{contained, early_more, early_marked, all_marks}
 use Rattle.marker.proofs.marker.Marker.reach_all.Goals as goal
 
-pub get-requires-2 : goal.get-requires-2
-get-requires-2 c =
+pub get-requires-in-loop-place : goal.get-requires-in-loop-place
+get-requires-in-loop-place c =
     let kept = same_kept c.args.table.now c.args.self.now c.loop-place.self c.new-at.result c.loop-place.invariant.same
     (c.requires.kept c.new-at.result (contained c.args.log.now c.loop-place.place c.new-at.result
     (c.get.ensures ∙ ap Some (sym c.new-at.ensures)))) in
@@ -22,7 +22,7 @@ reach-requires-clause-kept c = λ a e _.
 pub loop-place-preserved-then-get : goal.loop-place-preserved-then-get
 loop-place-preserved-then-get c =
     early_marked c.args.table.now c.args.log.now c.loop-place.place c.new-at.result c.args.self.now c.loop-place.self
-    (c.get.ensures ∙ ap Some (sym c.new-at.ensures)) (sym c.get-2.ensures ∙ c.if-get.true) c.loop-place.invariant
+    (c.get.ensures ∙ ap Some (sym c.new-at.ensures)) (sym c.get-in-loop-place.ensures ∙ c.if-get.true) c.loop-place.invariant
 
 pub loop-place-preserved : goal.loop-place-preserved
 loop-place-preserved c =
