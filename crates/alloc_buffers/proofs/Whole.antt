@@ -1,6 +1,7 @@
 -- A new buffer is pushed as one filler, whose front is an object's.
 use Rattle.std.proofs.Common.{◌≡◌, ◌+◌, ◌-◌, ◌*◌, ◌/◌, ◌%◌, ◌<◌, ◌≤◌, ◌∷◌, ◌++◌, ◌∙◌}
-use Rattle.std.proofs.Common.{ℕ, zero, suc, Option, Some, List, [], length, get_or, set, refl, sym, ap, subst, arith, inl, inr, get_or-set_same}
+use Rattle.std.proofs.Common.{ℕ, zero, suc, Option, Some, List, [], length, get_or, set, refl, sym, ap, subst, arith, inl, inr}
+use Rattle.std.proofs.Common.{get_or-set_same}
 use Rattle.std.proofs.Common.{get_or-set_other}
 use Rattle.std.proofs.lemmas.Bool.{cases_eq}
 use Rattle.std.proofs.lemmas.List.{append-nil, append_assoc, set-set}
@@ -89,7 +90,8 @@ whole_split t k s r a fitting known ordinary some room at =
     let column : a % size ≡ total_size q.tiles = omega (arith, used, whole', at) in
     let rs : List Region = set t.regions k (region_with_tile (get_or t.regions k Free) (Filler (s + r))) in
     ap (λ (j : ℕ). with_regions_of t (set rs j (region_replaced (get_or rs j Free) (a % size) (Filler s ∷ remainder r)))) row
-    ∙ ap (with_regions_of t) (then_replaced t.regions k (a % size) q.tiles (Filler s ∷ remainder r) (Filler (s + r)) known is positive column)
+    ∙ ap (with_regions_of t) (then_replaced t.regions k (a % size) q.tiles (Filler s ∷ remainder r)
+    (Filler (s + r)) known is positive column)
     ∙ sym (filler_is t k s r q.tiles known is)
 
 -- a region that takes a tile holds its tiles still
@@ -105,7 +107,8 @@ pushed_fitting t k x fitting known ordinary some room j =
     elim (cases_eq j k) [
       | inl same ↦
           let here : get_or (set t.regions k r) j Free ≡ Ordinary (q.tiles ++ x ∷ []) =
-          ap (λ (i : ℕ). get_or (set t.regions k r) i Free) same ∙ get_or-set_same t.regions k r Free known ∙ taken_is t.regions k q.tiles x is in
+          ap (λ (i : ℕ). get_or (set t.regions k r) i Free) same ∙ get_or-set_same t.regions k r Free known ∙ taken_is t.regions k q.tiles
+          x is in
           let total = ap (λ (g : Region). total_size (region_tiles g)) here ∙ total_end q.tiles x in
           record {
             positive = subst (λ (g : Region). AllPositive (region_tiles g)) (sym here) (positive_end q.tiles x positive some);

@@ -1,5 +1,6 @@
 -- Flags of which the first are written: the others are clear.
-use Rattle.std.proofs.Common.{◌≡◌, ◌+◌, ◌-◌, ◌<◌, ◌≤◌, ◌++◌, ◌∙◌, ℕ, Bool, false, List, length, get_or, set, replicate, refl, sym, ap, arith}
+use Rattle.std.proofs.Common.{◌≡◌, ◌+◌, ◌-◌, ◌<◌, ◌≤◌, ◌++◌, ◌∙◌, ℕ, Bool, false, List, length, get_or, set, replicate, refl, sym, ap}
+use Rattle.std.proofs.Common.{arith}
 use Rattle.std.proofs.Common.{⊎_elim, length-set}
 use Rattle.std.proofs.lemmas.Bool.{cases_lt}
 use Rattle.std.proofs.lemmas.List.{length-append, length-replicate, get_or-append_right, get_or_append_left, get_or_past, get_or-replicate}
@@ -8,7 +9,8 @@ use Rattle.cards.specs.Flags.{flags_of}
 
 all_clear : (k i : ℕ) → get_or (replicate k false) i false ≡ false
 all_clear k i =
-    ⊎_elim (λ b. get_or-replicate k i false false b) (λ b. get_or_past (replicate k false) i false (omega (arith, length-replicate {A = Bool} k false)))
+    ⊎_elim (λ b. get_or-replicate k i false false b) (λ b. get_or_past (replicate k false) i false
+    (omega (arith, length-replicate {A = Bool} k false)))
     (cases_lt i k)
 
 -- a card's flag, written or not

@@ -1,7 +1,8 @@
 //! The table of roots.
 
 ghost use Rattle.std.specs.Prelude.{◌≡◌, ◌<◌, ◌≤◌, ◌+◌, ◌-◌, ◌^◌, ℕ};
-ghost use Rattle.std.specs.Prelude.{None, IfOk, IfSome, IsSome, length, map, MatchOption, replicate, slice_index, slice_index_or, slice_set};
+ghost use Rattle.std.specs.Prelude.{None, IfOk, IfSome, IsSome, length, map, MatchOption, replicate, slice_index, slice_index_or};
+ghost use Rattle.std.specs.Prelude.{slice_set};
 ghost use Rattle.heap_model.specs.Graph.{register_place, root_places, with_nils};
 ghost use Rattle.root_table.specs.Roots.{row_start, AreNil, IsNextNamed};
 ghost use Rattle.root_table.specs.Bounds.{AreStarts, AreFew};

@@ -12,8 +12,8 @@ use Rattle.step_core.specs.Cycle.{LeavesRegions}
 use Rattle.step_core.specs.Mutators.{ActsOn}
 use Rattle.step_core.specs.Stands.{CoreState, ShowsGraph, KeepsFrom}
 
--- Mutator m asks for an object with so many weak slots: the reply is the graph's, or Full, a snapshot is kept, and the core is what the step
--- makes of it. There is a name only where there is a place, and only for what is no larger than an object may be
+-- Mutator m asks for an object with so many weak slots: the reply is the graph's, or Full, a snapshot is kept, and the core is what the
+-- step makes of it. There is a name only where there is a place, and only for what is no larger than an object may be
 pub record MakesObject (m : ℕ) (to : Register) (counts : Counts) (weaks : ℕ) (reply : Reply) (c c' : CoreState) : Type 0 where
   pub acts : (g : Graph) → ShowsGraph g c → Acts g m (actions.NewWeak to counts weaks) reply c'
       ⊎ RepliesFull g m (actions.NewWeak to counts weaks) c reply c'

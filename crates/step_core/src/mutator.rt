@@ -479,8 +479,8 @@ impl Core {
         new_reply(self.made(mutator, to, counts, weaks))
     }
 
-    /// Makes an object by a call, which writes its answer into memory. That memory is cleared here, so that who makes a small object doesn't
-    /// clear any.
+    /// Makes an object by a call, which writes its answer into memory. That memory is cleared here, so that who makes a small object
+    /// doesn't clear any.
     #[inline(always)]
     fn made_apart(
         &mut self,

@@ -52,7 +52,8 @@ pub returns : goal.returns
 returns c = record {
   lowest = none_at_all c.args.self.now c.args.from c.self.inside.len None
       (omega (arith, length-flags_of c.self.inside.words.items c.self.inside.len, ap length c.self.view_is))
-      (none_left _ _ c.self.inside.len _ c.self.inside.len (64 * c.loop-index.index) (bits_agree _ _ _ c.self.view_is) c.loop-index.invariant
+      (none_left _ _ c.self.inside.len _ c.self.inside.len (64 * c.loop-index.index) (bits_agree _ _ _ c.self.view_is)
+      c.loop-index.invariant
       (omega (arith, div_ceil_reaches c.self.inside.len, c.div_ceil-index-end.ensures)));
   within = tt;
 }

@@ -24,7 +24,11 @@ pub returns-clause-entries : goal.returns-clause-entries
 returns-clause-entries c k =
     let entries = c.reach.new.entries in
     rw (← c.self.view_is, c.self.invariant.0.is)
-    (entry_lent c.write_front.new.entries _ entries.len c.self.inside.cards k (omega (arith, c.write_front.ensures.len, c.deref_mut.ensures.len))
+    (entry_lent c.write_front.new.entries _ entries.len c.self.inside.cards k (omega (
+      arith,
+      c.write_front.ensures.len,
+      c.deref_mut.ensures.len,
+    ))
     ∙ c.write_front.ensures.entries k
     ∙ ap (λ (d : ℕ). if is_between (c.args.at + c.args.size) (c.args.at + c.args.filler) (k * 2 ^ c.self.inside.shift)
     && (k * 2 ^ c.self.inside.shift == last_card (2 ^ c.self.inside.shift) (c.args.at + c.args.filler)) then c.args.at + c.args.size

@@ -25,7 +25,11 @@ pub returns-clause-entries : goal.returns-clause-entries
 returns-clause-entries c k =
     let entries = c.reach.new.entries in
     rw (← c.self.view_is, c.self.invariant.0.is)
-    (entry_lent c.write_filler.new.entries _ entries.len c.self.inside.cards k (omega (arith, c.write_filler.ensures.len, c.deref_mut.ensures.len))
+    (entry_lent c.write_filler.new.entries _ entries.len c.self.inside.cards k (omega (
+      arith,
+      c.write_filler.ensures.len,
+      c.deref_mut.ensures.len,
+    ))
     ∙ c.write_filler.ensures.entries k
     ∙ ap (λ (d : ℕ). if is_between c.args.at (c.args.at + c.args.size) (k * 2 ^ c.self.inside.shift)
     then entry_of (2 ^ c.self.inside.shift) c.args.at (Filler c.args.size) (k * 2 ^ c.self.inside.shift) else d)

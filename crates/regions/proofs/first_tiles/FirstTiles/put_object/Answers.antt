@@ -23,7 +23,11 @@ pub returns-clause-entries : goal.returns-clause-entries
 returns-clause-entries c k =
     let entries = c.reach.new.entries in
     rw (← c.self.view_is, c.self.invariant.0.is)
-    (entry_lent c.write_entries.new.entries _ entries.len c.self.inside.cards k (omega (arith, c.write_entries.ensures.len, c.deref_mut.ensures.len))
+    (entry_lent c.write_entries.new.entries _ entries.len c.self.inside.cards k (omega (
+      arith,
+      c.write_entries.ensures.len,
+      c.deref_mut.ensures.len,
+    ))
     ∙ c.write_entries.ensures.entries k
     ∙ ap (λ (d : ℕ). if is_between c.args.at (c.args.at + c.args.size) (k * 2 ^ c.self.inside.shift) then c.args.at else d)
     (ap (λ (l : List ℕ). get_or l k 0) c.deref_mut.ensures.value ∙ sym (entry_is entries.items c.self.inside.cards k)

@@ -12,7 +12,8 @@ invariant_of-self c =
       bound_set c.self.inside.places _ c.self.inside.rows.items 0 (c.args.global + 1) c.index_mut-then-index-global.result.now
           (stored_in c.self.inside.places c.self.inside.words.items _ 0 c.args.global c.args.global c.index.result.now.used
           c.args.value c.self.invariant.0 (omega arith) (omega (arith, c.requires, globals)) (omega arith) used c.if-index-global.true),
-      starts_stay c.self.inside.places c.self.inside.rows.items 0 (c.args.global + 1) c.index_mut-then-index-global.result.now c.index_mut-then-index-global.ensures.value
+      starts_stay c.self.inside.places c.self.inside.rows.items 0 (c.args.global + 1) c.index_mut-then-index-global.result.now
+          c.index_mut-then-index-global.ensures.value
           c.self.invariant.1,
       c.self.invariant.2,
     )

@@ -35,7 +35,8 @@ invariant_of-self c =
         c.self.invariant.2,
       )
       | else-row-register w ↦ subst IsRight (sym w.self-inside-is) (subst (λ (rows : List Row).
-          AreBounded c.self.inside.places (set c.self.inside.words.items c.place_of-place.result c.args.value) (map used_of rows) × AreStarts c.self.inside.places (map start_of rows)
+          AreBounded c.self.inside.places (set c.self.inside.words.items c.place_of-place.result c.args.value)
+          (map used_of rows) × AreStarts c.self.inside.places (map start_of rows)
           × AreFew c.self.inside.places) (row_back c.self.inside.rows.items (c.args.mutator + 1) row c.index_mut-row.ensures.value) (
             register_kept c.self.inside.places c.self.inside.words.items _ c.args.mutator c.args.register
                 c.place_of-place.result row.used c.args.value c.self.invariant.0
