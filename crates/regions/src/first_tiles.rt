@@ -108,13 +108,32 @@ fn card_from(shift: u32, word: u32) -> u32
 }
 
 /// The cards from one on up to another, which is not one of them, have this entry.
-fn fill_cards(entries: &mut [u32], from: u32, to: u32, entry: u32)
+#[cold]
+#[inline(never)]
+fn fill_more(entries: &mut [u32], from: u32, to: u32, entry: u32)
     requires { to ≤ length entries.old }
     ensures len { length entries.new ≡ length entries.old }
     ensures entries { (c : ℕ) → slice_index entries.new c ≡ (if is_between from to c then entry else slice_index entries.old c) }
 {
     for card in from..to {
         entries[card as usize] = entry;
+    }
+}
+
+/// The same. Mostly there is one card or none, which takes no loop.
+#[inline(always)]
+fn fill_cards(entries: &mut [u32], from: u32, to: u32, entry: u32)
+    requires { to ≤ length entries.old }
+    ensures len { length entries.new ≡ length entries.old }
+    ensures entries { (c : ℕ) → slice_index entries.new c ≡ (if is_between from to c then entry else slice_index entries.old c) }
+{
+    if from >= to {
+        return;
+    }
+    entries[from as usize] = entry;
+    let next = from + 1;
+    if next < to {
+        fill_more(entries, next, to, entry);
     }
 }
 

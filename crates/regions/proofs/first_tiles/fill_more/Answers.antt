@@ -1,6 +1,6 @@
 use Rattle.std.proofs.Common.{arith}
 use Rattle.regions.proofs.Cards.FirstTiles.{written_none, written_more, filled}
-use Rattle.regions.proofs.first_tiles.fill_cards.Goals as goal
+use Rattle.regions.proofs.first_tiles.fill_more.Goals as goal
 
 pub loop-card-init : goal.loop-card-init
 loop-card-init c = (omega arith, written_none _ _ _ _)
