@@ -1,59 +1,89 @@
 -- What is known between two steps that fill a new object.
-use Rattle.std.proofs.Common.{◌≡◌, ◌≢◌, ◌+◌, ◌<◌, ◌∙◌, ◌⊎◌, ℕ, zero, suc, List, length, sym, subst, refl, ap, inl, inr, arith}
-use Rattle.std.specs.Prelude.{slice_index}
+use Rattle.std.proofs.Common.{◌≡◌, ◌+◌, ◌<◌, ◌∙◌, ℕ, zero, suc, Option, Some, None, List, length, sym, subst, refl, ap}
+use Rattle.std.proofs.Common.{arith}
+use Rattle.std.specs.Prelude.{slice_index, slice_index_or}
 use Rattle.heap_words.specs.declared.config.Config.{Config}
 use Rattle.heap_steps.specs.Actors.{IsStep}
+use Rattle.object_graph.specs.State.{register_place, places_of}
+use Rattle.heap_steps.specs.declared.step.Refusal.TheVariants as refusals
+use Rattle.heap_steps.specs.declared.step.Register.{Register}
 use Rattle.heap_steps.specs.declared.step.Reply.{Reply}
+use Rattle.heap_steps.specs.declared.step.Reply.TheVariants as replies
 use Rattle.heap_steps.specs.declared.step.Step.{Step}
 use Rattle.step_core.specs.Stands.{CoreState}
-use Rattle.step_core.specs.Words.{Takes}
-use Rattle.g1heap_c.specs.Filled.{RunsTo, pointing}
+use Rattle.step_core.specs.Mutators.{register_of}
+use Rattle.heap_steps.specs.Roots.{IsRegister, IsValue}
+use Rattle.step_core.specs.Words.{AreRefused, Takes, putting, writing}
+use Rattle.g1heap_c.specs.Numbers.{register, value}
+use Rattle.g1heap_c.specs.Filled.{IsFilled, RunsTo, pointing, wording}
 
 -- so many steps are taken, in a heap of the same sizes
 pub record HasRun (c : CoreState) (step : ℕ → Step) (count : ℕ) (d : CoreState) : Type 0 where
   pub run : RunsTo c step count d
   pub config : d.config ≡ c.config
+  pub roots : d.roots ≡ c.roots
 
 pub none_run : (c : CoreState) (step : ℕ → Step) → HasRun c step 0 c
-none_run c step = record { run = refl; config = refl }
+none_run c step = record { run = refl; config = refl; roots = refl }
 
 pub run_more : (c b d : CoreState) (step : ℕ → Step) (i : ℕ) (taken : Step) (reply : Reply) → HasRun c step i b → taken ≡ step i
-    → Takes b taken reply d → d.config ≡ b.config → HasRun c step (i + 1) d
-run_more c b d step i taken reply h e t same =
+    → Takes b taken reply d → d.config ≡ b.config → d.roots ≡ b.roots → HasRun c step (i + 1) d
+run_more c b d step i taken reply h e t same roots =
     let one : i + 1 ≡ suc i = omega arith in
     record {
       run = subst (λ (n : ℕ). RunsTo c step n d) (sym one)
           (b, reply, (h.run, subst (λ (s : Step). Takes b s reply d) e t));
       config = same ∙ h.config;
+      roots = roots ∙ h.roots;
     }
+
+-- a register holds what it held where all roots do
+pub still_held : (c d : CoreState) (m : ℕ) (r to : Register) (a : ℕ) → d.config ≡ c.config → d.roots ≡ c.roots → r ≡ to
+    → register_of c m to ≡ Some a → register_of d m r ≡ Some a
+still_held c d m r to a e f q h =
+    ap (λ (x : Register). register_of d m x) q
+    ∙ ap (λ (k : Config). slice_index_or d.roots (register_place (places_of k) m to.number) None) e
+    ∙ ap (λ (rs : List (Option ℕ)). slice_index_or rs (register_place (places_of c.config) m to.number) None) f ∙ h
+
+-- what a store of a pointer asks for
+pub record CanPut (k : Config) (m : ℕ) (r : Register) (v : Option Register) : Type 0 where
+  pub mutator : m < k.mutators
+  pub object : IsRegister (places_of k) r
+  pub value : IsValue (places_of k) v
+
+pub can_put : (k l : Config) (m to : ℕ) (from : List ℕ) (i : ℕ) (r : Register) (v : Option Register) → k ≡ l → r ≡ register to
+    → v ≡ value (slice_index from i) → IsStep l (pointing m to from i) → CanPut k m r v
+can_put k l m to from i r v e f g is =
+    let at = is.at in
+    subst (λ (x : Config). CanPut x m r v) (sym e)
+    (subst (λ (x : Register). CanPut l m x v) (sym f)
+    (subst (λ (x : Option Register). CanPut l m (register to) x) (sym g)
+    (record { mutator = at.mutator; object = at.roots.0; value = at.roots.1 })))
+
+-- the steps by the names that the code has
+pub as_pointing : (m to : ℕ) (from : List ℕ) (i : ℕ) (r : Register) (v : Option Register) → r ≡ register to
+    → v ≡ value (slice_index from i) → putting m r i v ≡ pointing m to from i
+as_pointing m to from i r v f g = ap (λ (x : Register). putting m x i v) f ∙ ap (λ (x : Option Register). putting m (register to) i x) g
+
+pub as_wording : (m to : ℕ) (words : List ℕ) (i w : ℕ) (r : Register) → r ≡ register to → w ≡ slice_index words i
+    → writing m r i w ≡ wording m to words i
+as_wording m to words i w r f g = ap (λ (x : Register). writing m x i w) f ∙ ap (λ (x : ℕ). writing m (register to) i x) g
+
+-- where the register holds nil, each step is refused
+none_pointed : (c : CoreState) (m to : ℕ) (from : List ℕ) → AreRefused c m (register to) → (n : ℕ) → RunsTo c (pointing m to from) n c
+none_pointed c m to from h zero = refl
+none_pointed c m to from h (suc n) = (c, replies.Refused refusals.Nil, (none_pointed c m to from h n, h.put n (value (slice_index from n))))
+
+none_worded : (c : CoreState) (m to : ℕ) (words : List ℕ) → AreRefused c m (register to) → (n : ℕ) → RunsTo c (wording m to words) n c
+none_worded c m to words h zero = refl
+none_worded c m to words h (suc n) = (c, replies.Refused refusals.Nil, (none_worded c m to words h n, h.written n (slice_index words n)))
 
 -- a step of a heap of the same sizes, by another name
 pub still : (k l : Config) (s t : Step) → k ≡ l → s ≡ t → IsStep l t → IsStep k s
 still k l s t e f is = subst (λ (x : Config). IsStep x s) (sym e) (subst (λ (x : Step). IsStep l x) (sym f) is)
 
--- the first sources are registers, or nil, and none is the one that takes the object
-pub record HasSources (config : Config) (m to : ℕ) (from : List ℕ) (count : ℕ) : Type 0 where
-  pub points : (i : ℕ) → i < count → IsStep config (pointing m to from i)
-  pub apart : (i : ℕ) → i < count → slice_index from i ≢ to
-
-equal_or : (i j : ℕ) → i < j + 1 → (i ≡ j) ⊎ (i < j)
-equal_or zero zero k = inl refl
-equal_or zero (suc j) k = inr (omega arith)
-equal_or (suc i) zero k = absurd (omega arith)
-equal_or (suc i) (suc j) k = elim (equal_or i j (omega arith)) [ inl e ↦ inl (ap suc e) | inr l ↦ inr (omega arith) ]
-
-pub no_sources : (config : Config) (m to : ℕ) (from : List ℕ) → HasSources config m to from 0
-no_sources config m to from = record { points = λ i l. absurd (omega arith); apart = λ i l. absurd (omega arith) }
-
-pub more_sources : (config : Config) (m to : ℕ) (from : List ℕ) (i : ℕ) → HasSources config m to from i
-    → IsStep config (pointing m to from i) → slice_index from i ≢ to → HasSources config m to from (i + 1)
-more_sources config m to from i h is ne = record {
-  points = λ j l. elim (equal_or j i l) [
-    | inl q ↦ subst (λ (n : ℕ). IsStep config (pointing m to from n)) (sym q) is
-    | inr q ↦ h.points j q
-  ];
-  apart = λ j l. elim (equal_or j i l) [
-    | inl q ↦ subst (λ (n : ℕ). slice_index from n ≢ to) (sym q) ne
-    | inr q ↦ h.apart j q
-  ];
-}
+pub none_filled : (c : CoreState) (m to : ℕ) (from words : List ℕ) (r : Register) → r ≡ register to → AreRefused c m r
+    → IsFilled c m to from words c
+none_filled c m to from words r e h =
+    let all = subst (λ (x : Register). AreRefused c m x) e h in
+    (c, (none_pointed c m to from all (length from), none_worded c m to words all (length words)))

@@ -1,7 +1,9 @@
 -- A new object with its fields in one call: the step that makes it, and those that fill it.
 use Rattle.std.specs.Prelude.{◌≡◌, ◌≢◌, ◌<◌, ◌^◌, ℕ, zero, suc, List, length, slice_index, Option, Some, None}
 use Rattle.heap_words.specs.declared.config.Config.{Config}
+use Rattle.object_graph.specs.State.{places_of}
 use Rattle.heap_steps.specs.Actors.{IsStep}
+use Rattle.heap_steps.specs.Roots.{IsValue}
 use Rattle.heap_steps.specs.declared.step.Action.TheVariants as actions
 use Rattle.heap_steps.specs.declared.step.Reply.{Reply}
 use Rattle.heap_steps.specs.declared.step.Reply.TheVariants as replies
@@ -28,6 +30,11 @@ pointing m to from i = by m (actions.Put (register to) i (value (slice_index fro
 abbrev pub wording : ℕ → ℕ → List ℕ → ℕ → Step
 wording m to words i = by m (actions.Write (register to) i (slice_index words i))
 
+-- a number of a field's source: nil's or a register's, and another one than that of the register which takes the object
+pub record IsSource (config : Config) (to number : ℕ) : Type 0 where
+  pub apart : number ≢ to
+  pub there : IsValue (places_of config) (value number)
+
 -- the steps are some of the heap, and the register that takes the object is none of its sources
 pub record AreFields (config : Config) (m to : ℕ) (from words : List ℕ) : Type 0 where
   pub few : length from < 2 ^ 32
@@ -36,10 +43,14 @@ pub record AreFields (config : Config) (m to : ℕ) (from words : List ℕ) : Ty
   pub points : (i : ℕ) → i < length from → IsStep config (pointing m to from i)
   pub apart : (i : ℕ) → i < length from → slice_index from i ≢ to
 
+-- the steps that fill the object lead from one core to the other: those of its pointers, and those of its data words
+abbrev pub IsFilled : CoreState → ℕ → ℕ → List ℕ → List ℕ → CoreState → Type 0
+IsFilled c m to from words d =
+    (b : CoreState) × (RunsTo c (pointing m to from) (length from) b × RunsTo b (wording m to words) (length words) d)
+
 -- where the object was made, the steps that fill it lead further
 abbrev pub FillsIt : Reply → CoreState → ℕ → ℕ → List ℕ → List ℕ → CoreState → Type 0
-FillsIt (replies.Named (Some name)) c m to from words d =
-    (b : CoreState) × (RunsTo c (pointing m to from) (length from) b × RunsTo b (wording m to words) (length words) d)
+FillsIt (replies.Named (Some name)) c m to from words d = IsFilled c m to from words d
 FillsIt _ c m to from words d = d ≡ c
 
 -- the object is made by a step of its own, whose reply is the answer, and is filled

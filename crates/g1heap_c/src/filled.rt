@@ -2,12 +2,17 @@
 
 ghost use Rattle.std.specs.Prelude.{◌≡◌, ◌≢◌, ℕ, ◌<◌, ◌^◌, List, length, slice_index, Some, true, false};
 ghost use Rattle.heap_steps.specs.Actors.{IsStep};
-ghost use Rattle.g1heap_c.specs.Filled.{AreFields, Fills, FillsIt, FillsOrNot, MakesFilled, RunsTo, making, pointing, wording};
+ghost use Rattle.step_core.specs.Mutators.{register_of};
+ghost use Rattle.g1heap_c.specs.Numbers as spec;
+ghost use Rattle.g1heap_c.specs.Steps.{HasRegister};
+ghost use Rattle.g1heap_c.specs.Filled.{AreFields, Fills, FillsIt, FillsOrNot, IsFilled, IsSource, MakesFilled, RunsTo};
+ghost use Rattle.g1heap_c.specs.Filled.{making, pointing, wording};
 
 use crate::answer::{Answer, answer_of, no_heap, no_step};
 use crate::heap::{Heap, has};
 use crate::mutator::{by, counts, register, value};
 use heap_steps::{Action, Reply, Step};
+use heap_words::addr::Addr;
 use step_core::Core;
 
 #[inline(always)]
@@ -25,46 +30,29 @@ fn making(mutator: u32, to: u32, from: &[u32], words: &[u64]) -> Step
     )
 }
 
+/// Whether a number is that of nil or of a register, and of another one than the one that takes the object.
 #[inline(always)]
-fn pointing(mutator: u32, to: u32, field: u32, from: &[u32]) -> Step
-    requires { field < length from.now }
-    ensures { result ≡ pointing mutator to from.now field }
+fn is_source(core: &Core, to: u32, number: u32) -> bool
+    ensures is { result ≡ true → IsSource core.now.config to number }
+    ensures not { result ≡ false → IsSource core.now.config to number → ⊥ }
 {
-    by(
-        mutator,
-        Action::Put {
-            object: register(to),
-            field,
-            value: value(from[field as usize]),
-        },
-    )
-}
-
-#[inline(always)]
-fn wording(mutator: u32, to: u32, field: u32, words: &[u64]) -> Step
-    requires { field < length words.now }
-    ensures { result ≡ wording mutator to words.now field }
-{
-    by(
-        mutator,
-        Action::Write {
-            object: register(to),
-            field,
-            value: words[field as usize],
-        },
-    )
+    if number == to {
+        return false;
+    }
+    match value(number) {
+        None => true,
+        Some(register) => register.number < core.roots().places().registers(),
+    }
 }
 
 /// Whether each source is nil or a register, and another one than the one that takes the object.
 #[inline(always)]
-fn has_sources(core: &Core, mutator: u32, to: u32, from: &[u32]) -> bool
-    requires few { length from.now < 2 ^ 32 }
-    ensures points { result ≡ true → (i : ℕ) → i < length from.now → IsStep core.now.config (pointing mutator to from.now i) }
-    ensures apart { result ≡ true → (i : ℕ) → i < length from.now → slice_index from.now i ≢ to }
-    ensures not { (words : List ℕ) → result ≡ false → AreFields core.now.config mutator to from.now words → ⊥ }
+fn has_sources(core: &Core, to: u32, from: &[u32]) -> bool
+    ensures all { result ≡ true → (i : ℕ) → i < length from.now → IsSource core.now.config to (slice_index from.now i) }
+    ensures not { result ≡ false → ((i : ℕ) → i < length from.now → IsSource core.now.config to (slice_index from.now i)) → ⊥ }
 {
-    for i in 0..from.len() {
-        if from[i] == to || !has(core, pointing(mutator, to, i as u32, from)) {
+    for number in from.iter() {
+        if !is_source(core, to, *number) {
             return false;
         }
     }
@@ -83,32 +71,48 @@ pub(crate) fn has_fields(core: &Core, mutator: u32, to: u32, from: &[u32], words
     if !has(core, making(mutator, to, from, words)) {
         return false;
     }
-    has_sources(core, mutator, to, from)
+    has_sources(core, to, from)
 }
 
-/// Fills an object's pointers.
+/// Fills the pointers of the object that starts at an address, which the register holds.
 #[inline(always)]
-fn point(core: &mut Core, mutator: u32, to: u32, from: &[u32])
+fn point(core: &mut Core, mutator: u32, to: u32, at: Addr, from: &[u32])
     requires few { length from.now < 2 ^ 32 }
     requires points { (i : ℕ) → i < length from.now → IsStep core.old.config (pointing mutator to from.now i) }
+    requires held { register_of core.old mutator (spec.register to) ≡ Some at }
     ensures run { RunsTo core.old (pointing mutator to from.now) (length from.now) core.new }
     ensures config { core.new.config ≡ core.old.config }
+    ensures held { register_of core.new mutator (spec.register to) ≡ Some at }
 {
     for i in 0..from.len() {
-        let _ = core.step(pointing(mutator, to, i as u32, from));
+        let _ = core.put_at(mutator, register(to), at, i as u32, value(from[i]));
     }
 }
 
-/// Fills an object's data words.
+/// Fills the data words of the object that starts at an address, which the register holds.
 #[inline(always)]
-fn word(core: &mut Core, mutator: u32, to: u32, words: &[u64])
+fn word(core: &mut Core, mutator: u32, to: u32, at: Addr, words: &[u64])
     requires few { length words.now < 2 ^ 32 }
-    requires writes { (i : ℕ) → i < length words.now → IsStep core.old.config (wording mutator to words.now i) }
+    requires known { HasRegister core.old mutator to }
+    requires held { register_of core.old mutator (spec.register to) ≡ Some at }
     ensures { RunsTo core.old (wording mutator to words.now) (length words.now) core.new }
 {
     for i in 0..words.len() {
-        let _ = core.step(wording(mutator, to, i as u32, words));
+        let _ = core.write_at(mutator, register(to), at, i as u32, words[i]);
     }
+}
+
+/// Fills the object that a register holds. If it holds none, each step is refused, and none is done.
+#[inline(always)]
+fn fill_object(core: &mut Core, mutator: u32, to: u32, from: &[u32], words: &[u64])
+    requires { AreFields core.old.config mutator to from.now words.now }
+    ensures { IsFilled core.old mutator to from.now words.now core.new }
+{
+    let Some(at) = core.address_of(mutator, register(to)) else {
+        return;
+    };
+    point(core, mutator, to, at, from);
+    word(core, mutator, to, at, words);
 }
 
 /// Fills an object, if the reply says that it was made.
@@ -127,8 +131,7 @@ pub(crate) fn fill_made(
     match reply {
         Reply::Named(None) => {}
         Reply::Named(Some(_)) => {
-            point(core, mutator, to, from);
-            word(core, mutator, to, words);
+            fill_object(core, mutator, to, from, words);
         }
         Reply::Done => {}
         Reply::Word(_) => {}

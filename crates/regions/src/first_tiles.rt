@@ -97,14 +97,14 @@ fn entry_at(entries: &[u32], card: u32) -> u32
     }
 }
 
-/// The first card that begins at a word or behind it, where a card has 2 to the `shift`th words.
+/// The first card that begins at a word or after it, where a card has 2 to the `shift`th words.
 #[inline(always)]
 fn card_from(shift: u32, word: u32) -> u32
     requires narrow { shift < 12 }
     requires small { word ≤ max_words }
     ensures { result ≡ div_ceil word (2 ^ shift) }
 {
-    (word + (1 << shift) - 1) >> shift
+    (word + ((1 << shift) - 1)) >> shift
 }
 
 /// The cards from one on up to another, which is not one of them, have this entry.

@@ -13,3 +13,4 @@ pub mod Collecting
 pub mod Collected
 pub mod Beginning
 pub mod Words
+pub mod Filling

@@ -1,5 +1,5 @@
--- Several data words of an object at once: each as a step of its own.
-use Rattle.std.specs.Prelude.{◌≡◌, ◌↔◌, ◌+◌, ◌-◌, ◌<◌, ◌≤◌, ℕ, suc, List, [], ◌∷◌, length, slice_index, Some}
+-- Several fields of an object at once: each as a step of its own.
+use Rattle.std.specs.Prelude.{◌≡◌, ◌↔◌, ◌+◌, ◌-◌, ◌<◌, ◌≤◌, ℕ, suc, List, [], ◌∷◌, length, slice_index, Option, Some}
 use Rattle.regions.specs.Table.{values_at}
 use Rattle.object_graph.specs.State.{State}
 use Rattle.heap_steps.specs.declared.step.Register.{Register}
@@ -30,6 +30,10 @@ reading m object field = steps.Mutator (record { mutator = m; action = actions.R
 abbrev pub writing : ℕ → Register → ℕ → ℕ → Step
 writing m object field word = steps.Mutator (record { mutator = m; action = actions.Write object field word })
 
+-- a mutator stores a pointer: nil, or what a register holds
+abbrev pub putting : ℕ → Register → ℕ → Option Register → Step
+putting m object field value = steps.Mutator (record { mutator = m; action = actions.Put object field value })
+
 -- the register names an object that has so many data words from one on
 pub record HasWords (c : CoreState) (m : ℕ) (object : Register) (from count : ℕ) : Type 0 where
   pub at : ℕ
@@ -55,3 +59,8 @@ AreWritten c m object from (w ∷ ws) d =
 abbrev pub IsUnwritten : CoreState → ℕ → Register → ℕ → List ℕ → Refusal → Type 0
 IsUnwritten c m object from words why =
     Takes c (writing m object (from + (length words - 1)) (slice_index words (length words - 1))) (replies.Refused why) c
+
+-- each step that stores into a field of what the register holds is refused, since it holds nil
+pub record AreRefused (c : CoreState) (m : ℕ) (object : Register) : Type 0 where
+  pub put : (field : ℕ) (value : Option Register) → Takes c (putting m object field value) (replies.Refused refusals.Nil) c
+  pub written : (field word : ℕ) → Takes c (writing m object field word) (replies.Refused refusals.Nil) c

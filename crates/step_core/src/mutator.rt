@@ -5,9 +5,9 @@ ghost use Rattle.std.specs.Prelude.{true, false};
 ghost use Rattle.heap_words.specs.Configs.{max_object_words, object_limit};
 ghost use Rattle.heap_words.specs.Sizes.{size_of};
 ghost use Rattle.heap_model.specs.Graph.{Graph};
-ghost use Rattle.heap_model.specs.Heap.{IsShown};
+ghost use Rattle.heap_model.specs.Heap.{IsRoot, IsShown};
 ghost use Rattle.heap_model.specs.Weak.{KeepsUnreached};
-ghost use Rattle.object_graph.specs.State.{State, ForSnapshot, places_of};
+ghost use Rattle.object_graph.specs.State.{State, ForSnapshot, places_of, register_place};
 ghost use Rattle.heap_steps.specs.Roots.{IsRegister, IsGlobal, IsValue, IsOpAt};
 ghost use Rattle.object_graph.specs.Run.{snapshot_after};
 ghost use Rattle.object_graph.specs.Machine.{stored};
@@ -15,10 +15,10 @@ ghost use Rattle.heap_steps.specs.declared.step.Reply.TheVariants as replies;
 ghost use Rattle.heap_steps.specs.declared.step.Refusal.TheVariants as refusals;
 ghost use Rattle.regions.specs.Table.{new_object};
 ghost use Rattle.alloc_buffers.specs.Placement.{address_of, place_of, CanHold, CanPlace, IsMadeAt, Placement, made_at};
-ghost use Rattle.step_core.specs.Stands.{ShowsGraph, KeepsFrom, Stands, heap_of, IsWordOf, IsRootWord};
+ghost use Rattle.step_core.specs.Stands.{ShowsGraph, KeepsFrom, Leads, Stands, heap_of, IsWordOf, IsRootWord};
 ghost use Rattle.step_core.specs.Answers.{Acts, IsFull, IsWithin, Follows, new_reply};
 ghost use Rattle.step_core.specs.Making.{MakesObject};
-ghost use Rattle.step_core.specs.Mutators.{ActsOn, value_of, weaks_made};
+ghost use Rattle.step_core.specs.Mutators.{ActsOn, register_of, value_of, weaks_made};
 ghost use Rattle.step_core.specs.Cycle.{LeavesRegions};
 
 use crate::heap::Core;
@@ -248,6 +248,29 @@ impl Core {
         let Some(at) = self.register(mutator, object) else {
             return Reply::Refused(Refusal::Nil);
         };
+        self.put_in(mutator, object, at, field, value)
+    }
+
+    /// The same, in the object that starts at an address, which the register holds.
+    #[inline(always)]
+    pub(crate) fn put_in(
+        &mut self,
+        mutator: u32,
+        object: Register,
+        at: Addr,
+        field: u32,
+        value: Option<Register>,
+    ) -> Reply
+        requires mutator { mutator < self.old.config.mutators }
+        requires value { IsValue (places_of self.old.config) value }
+        requires held { register_of self.old mutator object ≡ Some at }
+        requires rooted { IsRoot (heap_of self.old) at }
+        requires leads { Leads self.old (register_place (places_of self.old.config) mutator object.number) (Some at) }
+        ensures acts { (g : Graph) → ShowsGraph g self.old → Acts g mutator (actions.Put object field value) result self.new }
+        ensures keeps { (s : Graph) → KeepsFrom s self.old → KeepsFrom s self.new }
+        ensures after { ActsOn mutator (actions.Put object field value) result self.old self.new }
+        ensures leaves { LeavesRegions self.old self.new }
+    {
         let target = self.stored(mutator, value);
         if field >= self.table.pointer_count(at) {
             return Reply::Refused(Refusal::NoField);
@@ -267,6 +290,26 @@ impl Core {
         let Some(at) = self.register(mutator, object) else {
             return Reply::Refused(Refusal::Nil);
         };
+        self.write_in(mutator, object, at, field, value)
+    }
+
+    /// The same, in the object that starts at an address, which the register holds.
+    #[inline(always)]
+    pub(crate) fn write_in(
+        &mut self,
+        mutator: u32,
+        object: Register,
+        at: Addr,
+        field: u32,
+        value: u64,
+    ) -> Reply
+        requires held { register_of self.old mutator object ≡ Some at }
+        requires leads { Leads self.old (register_place (places_of self.old.config) mutator object.number) (Some at) }
+        ensures acts { (g : Graph) → ShowsGraph g self.old → Acts g mutator (actions.Write object field value) result self.new }
+        ensures keeps { (s : Graph) → KeepsFrom s self.old → KeepsFrom s self.new }
+        ensures after { ActsOn mutator (actions.Write object field value) result self.old self.new }
+        ensures leaves { LeavesRegions self.old self.new }
+    {
         if field >= self.table.value_count(at) {
             return Reply::Refused(Refusal::NoField);
         }

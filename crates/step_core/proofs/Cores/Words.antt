@@ -20,15 +20,15 @@ use Rattle.heap_steps.specs.declared.step.Step.TheVariants as steps
 use Rattle.step_core.specs.Stands.{CoreState, IsCore, Leads, ShowsGraph}
 use Rattle.step_core.specs.Answers.{Acts}
 use Rattle.step_core.specs.Cycle.{LeavesRegions}
-use Rattle.step_core.specs.Mutators.{ActsOn, register_of, object_of}
-use Rattle.step_core.specs.Words.{Takes, reading, writing, AreRead, AreWritten, IsUnread, IsUnwritten}
+use Rattle.step_core.specs.Mutators.{ActsOn, HasActed, register_of, object_of}
+use Rattle.step_core.specs.Words.{Takes, putting, reading, writing, AreRead, AreRefused, AreWritten, IsUnread, IsUnwritten}
 use Rattle.step_core.proofs.Cores.Acted.{Acted, acted_plain}
 use Rattle.step_core.proofs.Cores.Sizes.{some_words}
 use Rattle.step_core.proofs.Cores.Keeping.{core_of, register_inside, write_after, write_kept, write_kept_from, write_leaves}
 use Rattle.step_core.proofs.Mutating.Reading.{leads}
 use Rattle.step_core.proofs.Mutating.Acting.{read_done, read_nil, read_past, write_nil, write_past}
 
-takes : (o : Op) (r : Reply) (c c' : CoreState) → Acted o r c c' → LeavesRegions c c' → Takes c (steps.Mutator o) r c'
+pub takes : (o : Op) (r : Reply) (c c' : CoreState) → Acted o r c c' → LeavesRegions c c' → Takes c (steps.Mutator o) r c'
 takes o r c c' a l = record {
   follows = a.follows;
   does = a.after;
@@ -36,13 +36,13 @@ takes o r c c' a l = record {
   full = a.full;
 }
 
-still : (c : CoreState) → LeavesRegions c c
+pub still : (c : CoreState) → LeavesRegions c c
 still c = record { config = refl; in_use = λ k h. h }
 
 abbrev read_op : ℕ → Register → ℕ → Op
 read_op m object i = record { mutator = m; action = actions.Read object i }
 
-abbrev write_op : ℕ → Register → ℕ → ℕ → Op
+abbrev pub write_op : ℕ → Register → ℕ → ℕ → Op
 write_op m object i v = record { mutator = m; action = actions.Write object i v }
 
 -- ---- reads

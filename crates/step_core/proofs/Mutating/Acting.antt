@@ -54,6 +54,13 @@ pub write_nil : (g : Graph) (c : CoreState) → ShowsGraph g c → (m : ℕ) (ob
 write_nil g c s m object i v l =
     acts_by g m (actions.Write object i v) (replies.Refused refusals.Nil) c (refused g refusals.Nil) (nil_object g c s m object _ l) refl s
 
+pub put_nil : (g : Graph) (c : CoreState) → ShowsGraph g c → (m : ℕ) (object : Register) (i : ℕ) (value : Option Register)
+    → Leads c (register_place (places_of c.config) m object.number) None
+    → Acts g m (actions.Put object i value) (replies.Refused refusals.Nil) c
+put_nil g c s m object i value l =
+    acts_by g m (actions.Put object i value) (replies.Refused refusals.Nil) c (refused g refusals.Nil) (nil_object g c s m object _ l)
+    refl s
+
 -- the core with another word in a root place
 abbrev pub with_root_word : CoreState → ℕ → Option ℕ → CoreState
 with_root_word c place w = record c { roots = slice_set c.roots place w }

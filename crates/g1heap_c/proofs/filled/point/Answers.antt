@@ -1,11 +1,25 @@
 use Rattle.std.proofs.Common.{arith}
-use Rattle.g1heap_c.proofs.Filling.{run_more, still}
+use Rattle.g1heap_c.proofs.Filling.{CanPut, as_pointing, can_put, run_more, still_held}
 use Rattle.g1heap_c.proofs.filled.point.Goals as goal
 
-pub step-requires : goal.step-requires
-step-requires c = still _ _ _ _ c.loop-i.invariant.config c.pointing.ensures (c.requires.points c.loop-i.i (omega (arith, c.loop-i.auto)))
+can : (c : goal.After-value) → CanPut c.loop-i.core.config c.args.mutator c.register.result c.value.result
+can c = can_put _ _ _ _ _ c.loop-i.i _ _ c.loop-i.invariant.config c.register.ensures c.value.ensures
+    (c.requires.points c.loop-i.i (omega (arith, c.loop-i.auto)))
+
+pub put_at-requires-clause-mutator : goal.put_at-requires-clause-mutator
+put_at-requires-clause-mutator c = (can c).mutator
+
+pub put_at-requires-clause-object : goal.put_at-requires-clause-object
+put_at-requires-clause-object c = (can c).object
+
+pub put_at-requires-clause-value : goal.put_at-requires-clause-value
+put_at-requires-clause-value c = (can c).value
+
+pub put_at-requires-clause-held : goal.put_at-requires-clause-held
+put_at-requires-clause-held c =
+    still_held c.args.core.now c.loop-i.core _ _ _ _ c.loop-i.invariant.config c.loop-i.invariant.roots c.register.ensures c.requires.held
 
 pub loop-i-preserved : goal.loop-i-preserved
-loop-i-preserved c = let w = c.step.ensures in
-    run_more _ _ _ _ c.loop-i.i _ c.step.result c.loop-i.invariant c.pointing.ensures
-    (record { follows = w.follows; does = w.does; reclaims = w.reclaims; full = w.full }) w.config
+loop-i-preserved c = let p = c.put_at.ensures in
+    run_more _ _ _ _ c.loop-i.i _ c.put_at.result c.loop-i.invariant (as_pointing _ _ _ _ _ _ c.register.ensures c.value.ensures)
+    p.takes p.config p.roots

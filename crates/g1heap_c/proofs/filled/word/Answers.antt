@@ -1,11 +1,12 @@
-use Rattle.std.proofs.Common.{arith}
-use Rattle.g1heap_c.proofs.Filling.{run_more, still}
+use Rattle.std.proofs.Common.{refl}
+use Rattle.g1heap_c.proofs.Filling.{as_wording, run_more, still_held}
 use Rattle.g1heap_c.proofs.filled.word.Goals as goal
 
-pub step-requires : goal.step-requires
-step-requires c = still _ _ _ _ c.loop-i.invariant.config c.wording.ensures (c.requires.writes c.loop-i.i (omega (arith, c.loop-i.auto)))
+pub write_at-requires-clause-held : goal.write_at-requires-clause-held
+write_at-requires-clause-held c =
+    still_held c.args.core.now c.loop-i.core _ _ _ _ c.loop-i.invariant.config c.loop-i.invariant.roots c.register.ensures c.requires.held
 
 pub loop-i-preserved : goal.loop-i-preserved
-loop-i-preserved c = let w = c.step.ensures in
-    run_more _ _ _ _ c.loop-i.i _ c.step.result c.loop-i.invariant c.wording.ensures
-    (record { follows = w.follows; does = w.does; reclaims = w.reclaims; full = w.full }) w.config
+loop-i-preserved c = let p = c.write_at.ensures in
+    run_more _ _ _ _ c.loop-i.i _ c.write_at.result c.loop-i.invariant (as_wording _ _ _ _ _ _ c.register.ensures refl)
+    p.takes p.config p.roots
