@@ -129,6 +129,7 @@ impl Grey {
     }
 
     /// An object is marked that wasn't scanned, which makes it grey: it is held, if no other one is, and else its finger is set.
+    #[inline(always)]
     #[tactic(auto, unfolding(crate::specs::Grey::finger_of))]
     pub fn add(&mut self, object: Addr)
         requires known { object < length self.old.scanned }
