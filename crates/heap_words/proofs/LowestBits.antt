@@ -205,3 +205,45 @@ group_left ws vs i w v read other fits less = record {
       (sym (and_not_bits (bit_at w j) (bit_at v j) (bit_at (bit_and w (2 ^ 64 - 1 - v)) j) (bit_at-lt w j) (bit_at-lt v j) part));
   below = λ j h. absurd (omega arith);
 }
+
+-- where the group has one of the set, the word isn't 0, and its lowest bit is of the set
+pub some_word : (is_in has : ℕ → Bool) (n i m : ℕ) → Agree is_in has n → IsWord has (64 * i) i m
+    → (HasNoneBelow is_in (64 * i) (64 * i + 64) → ⊥) → 0 < m
+some_word is_in has n i m g w some =
+    ⊎_elim (λ (h : 0 < m). h)
+    (λ (h : m ≤ 0). absurd (some (none_left is_in has n (64 * i) (64 * i + 64) (64 * (i + 1)) g
+    (none_in_word has (64 * i) i m w (none_yet has (64 * i)) (omega arith)) (omega arith))))
+    (cases_lt 0 m)
+
+pub some_inside : (is_in has : ℕ → Bool) (n i m : ℕ) → Agree is_in has n → IsWord has (64 * i) i m
+    → (HasNoneBelow is_in (64 * i) (64 * i + 64) → ⊥) → 64 * i + trailing_zeros w64 m < n
+some_inside is_in has n i m g w some =
+    ⊎_elim (λ (h : 64 * i + trailing_zeros w64 m < n). h)
+    (λ (h : n ≤ 64 * i + trailing_zeros w64 m). absurd (some (found_past is_in has n (64 * i) (64 * i + 64) i m g w
+    (none_yet has (64 * i)) (some_word is_in has n i m g w some) (omega arith))))
+    (cases_lt (64 * i + trailing_zeros w64 m) n)
+
+pub lowest_of_some : (is_in has : ℕ → Bool) (n i m : ℕ) → Agree is_in has n → IsWord has (64 * i) i m
+    → (HasNoneBelow is_in (64 * i) (64 * i + 64) → ⊥) → IsLowest is_in (64 * i) (64 * i + trailing_zeros w64 m)
+lowest_of_some is_in has n i m g w some =
+    found_inside is_in has n (64 * i) i m g w (none_yet has (64 * i)) (some_word is_in has n i m g w some)
+    (some_inside is_in has n i m g w some)
+
+-- a group that has one of the set is written
+pub group_written : (is_in : ℕ → Bool) (ws : List ℕ) (n i : ℕ) → Agree is_in (bit_of ws) n
+    → (HasNoneBelow is_in (64 * i) (64 * i + 64) → ⊥) → i < length ws
+group_written is_in ws n i g some =
+    ⊎_elim (λ (h : i < length ws). h)
+    (λ (h : length ws ≤ i). absurd (some (λ a k l.
+    ⊎_elim (λ b. g.inside a b ∙ bit_past ws a (omega arith)) (λ b. g.past a b) (cases_lt a n))))
+    (cases_lt i (length ws))
+
+pub number_written : (flags : List Bool) (ws : List ℕ) (n a : ℕ) → flags_of ws n ≡ flags → a < length flags → has flags a ≡ true
+    → a / 64 < length ws
+number_written flags ws n a view h e =
+    ⊎_elim (λ (b : a / 64 < length ws). b)
+    (λ (b : length ws ≤ a / 64).
+    let same = ap (λ (l : List Bool). has l a) (sym view) ∙ has-flags_of ws n a (omega (arith, h, length-flags_of ws n, ap length view)) in
+    let none = bit_past ws a b in
+    absurd cc)
+    (cases_lt (a / 64) (length ws))

@@ -1,6 +1,6 @@
 -- The words of which the first are written: any other one is 0, so its bits say that no number of its group is in the set.
 use Rattle.std.proofs.Common.{◌≡◌, ◌/◌, ◌%◌, ◌<◌, ◌≤◌, ◌∙◌}
-use Rattle.std.proofs.Common.{ℕ, false, List, length, get_or, set, eqb}
+use Rattle.std.proofs.Common.{ℕ, Bool, false, true, List, length, get_or, set, eqb}
 use Rattle.std.proofs.Common.{sym, ap, subst, arith, get_or-set_other, get_or-set_same, length-set, ⊎_elim}
 use Rattle.std.proofs.lemmas.Bool.{cases_lt, cases_eq}
 use Rattle.std.specs.Int.{bit_at}
@@ -40,3 +40,17 @@ none_removed ws n a h past =
     (λ same. subst (λ (x : ℕ). has (set (flags_of ws n) a false) x ≡ bit_of ws x) same
     (get_or-set_same (flags_of ws n) a false false long ∙ sym (bit_past ws a past)))
     (λ differs. get_or-set_other (flags_of ws n) a b false false (λ q. differs (sym q)) ∙ has-flags_of ws n b below) (cases_eq a b))
+
+pub has_written : (flags : List Bool) (ws vs : List ℕ) (n a : ℕ) → AreSame ws vs → flags_of vs n ≡ flags → a < n → has flags a ≡ bit_of ws a
+has_written flags ws vs n a same view h =
+    ap (λ (l : List Bool). has l a) (sym view) ∙ has-flags_of vs n a h ∙ sym (bit_same ws vs a same)
+
+-- a number that is in the set comes into it
+pub same_set : (ws : List ℕ) (n a : ℕ) → a < n → bit_of ws a ≡ true → flags_of ws n ≡ set (flags_of ws n) a true
+same_set ws n a h e =
+    let long : a < length (flags_of ws n) = omega (arith, length-flags_of ws n) in
+    flags_of_is ws n (set (flags_of ws n) a true) (length-set (flags_of ws n) a true ∙ length-flags_of ws n)
+    (λ b below. ⊎_elim
+    (λ same. subst (λ (x : ℕ). has (set (flags_of ws n) a true) x ≡ bit_of ws x) same
+    (get_or-set_same (flags_of ws n) a true false long ∙ sym e))
+    (λ differs. get_or-set_other (flags_of ws n) a b true false (λ q. differs (sym q)) ∙ has-flags_of ws n b below) (cases_eq a b))

@@ -13,8 +13,8 @@
 //! range's words and not each number, to clear it whole none, and to go over its members costs the members and the words between them.
 //! A set of few numbers, which isn't to pay for tests of what is written, is a `SmallBits`.
 
-ghost use Rattle.std.specs.Prelude.{◌≡◌, ◌+◌, ◌*◌, ◌^◌, ◌<◌, ◌≤◌, ◌||◌, ◌&&◌, if◌then◌else◌};
-ghost use Rattle.std.specs.Prelude.{ℕ, false, true, IfOk, IfSome, length, MatchOption, replicate, slice_set};
+ghost use Rattle.std.specs.Prelude.{◌≡◌, ◌+◌, ◌*◌, ◌/◌, ◌^◌, ◌<◌, ◌≤◌, ◌||◌, ◌&&◌, if◌then◌else◌};
+ghost use Rattle.std.specs.Prelude.{ℕ, false, true, IfOk, IfSome, length, MatchOption, not, replicate, slice_set};
 ghost use Rattle.heap_words.specs.Bits.{has, has_alone, is_between, is_passing, HasNone, HasNoneBelow, IsLowest};
 
 use crate::groups::{
@@ -84,6 +84,23 @@ impl Bits {
     {
         reach_group(&mut self.words, number / 64);
         self.words[number as usize / 64] |= 1 << (number % 64);
+    }
+
+    /// A number comes into the set. Whether it wasn't there.
+    #[inline(always)]
+    pub fn insert(&mut self, number: u32) -> bool
+        requires { number < length self.old }
+        ensures came { result ≡ not (has self.old number) }
+        ensures same { result ≡ false → self.new ≡ self.old }
+        ensures set { self.new ≡ slice_set self.old number true }
+    {
+        reach_group(&mut self.words, number / 64);
+        let word = self.words[number as usize / 64];
+        if word >> (number % 64) & 1 == 1 {
+            return false;
+        }
+        self.words[number as usize / 64] = word | 1 << (number % 64);
+        true
     }
 
     /// A number is not in the set.
@@ -251,6 +268,60 @@ impl Bits {
             }
         }
         None
+    }
+
+    /// The lowest number of the set in a group: group g has the 64 numbers from 64 g on. It looks at one word.
+    pub fn lowest_in(&self, group: u32) -> Option<u32>
+        requires { 64 * group < length self.now }
+        ensures lowest { MatchOption result (HasNoneBelow (has self.now) (64 * group) (64 * group + 64))
+            (IsLowest (has self.now) (64 * group)) }
+        ensures below { IfSome result (λ found. found < 64 * group + 64) }
+        ensures within { IfSome result (λ found. found < length self.now) }
+    {
+        self.law();
+        let word = word_at(&self.words, group);
+        if word == 0 {
+            return None;
+        }
+        let found = 64 * group + word.trailing_zeros();
+        if found < self.len { Some(found) } else { None }
+    }
+
+    /// The lowest number of the set in a group that has one. It looks at one word, and tests nothing: that word is written.
+    #[inline(always)]
+    pub fn first_in(&self, group: u32) -> u32
+        requires known { 64 * group < length self.now }
+        requires some { HasNoneBelow (has self.now) (64 * group) (64 * group + 64) → ⊥ }
+        ensures lowest { IsLowest (has self.now) (64 * group) result }
+        ensures below { result < 64 * group + 64 }
+        ensures within { result < length self.now }
+    {
+        self.law();
+        let word = self.words[group as usize];
+        64 * group + word.trailing_zeros()
+    }
+
+    /// The lowest number of the group of `number` that is in this set and not in `other`, which has `number`: so that one's word is
+    /// written.
+    #[inline(always)]
+    pub fn lowest_left(&self, other: &Bits, number: u32) -> Option<u32>
+        requires known { number < length self.now }
+        requires even { length other.now ≡ length self.now }
+        requires there { has other.now number ≡ true }
+        ensures lowest { MatchOption result
+            (HasNoneBelow (has_alone self.now other.now) (64 * (number / 64)) (64 * (number / 64) + 64))
+            (IsLowest (has_alone self.now other.now) (64 * (number / 64))) }
+        ensures below { IfSome result (λ found. found < 64 * (number / 64) + 64) }
+        ensures within { IfSome result (λ found. found < length self.now) }
+    {
+        self.law();
+        let group = number / 64;
+        let word = word_at(&self.words, group) & !other.words[group as usize];
+        if word == 0 {
+            return None;
+        }
+        let found = 64 * group + word.trailing_zeros();
+        if found < self.len { Some(found) } else { None }
     }
 
     /// The lowest number of a group that is in this set and not in `other`. It looks at one word of each.

@@ -121,4 +121,18 @@ impl SmallBits {
         let found = 64 * group + word.trailing_zeros();
         if found < self.len { Some(found) } else { None }
     }
+
+    /// The lowest number of the set in a group that has one. It looks at one word, and tests nothing.
+    #[inline(always)]
+    pub fn first_in(&self, group: u32) -> u32
+        requires known { 64 * group < length self.now }
+        requires some { HasNoneBelow (has self.now) (64 * group) (64 * group + 64) → ⊥ }
+        ensures lowest { IsLowest (has self.now) (64 * group) result }
+        ensures below { result < 64 * group + 64 }
+        ensures within { result < length self.now }
+    {
+        self.law();
+        let word = self.words[group as usize];
+        64 * group + word.trailing_zeros()
+    }
 }

@@ -1,11 +1,11 @@
 -- Sets with a summary above them.
-use Rattle.std.proofs.Common.{◌≡◌, ◌≢◌, ◌*◌, ◌/◌, ◌<◌, ◌∙◌}
+use Rattle.std.proofs.Common.{◌≡◌, ◌≢◌, ◌+◌, ◌*◌, ◌/◌, ◌<◌, ◌∙◌}
 use Rattle.std.proofs.Common.{ℕ, Bool, true, false, List, length, set, replicate, refl, sym, ap, arith, ⊎_elim, Option, Some}
 use Rattle.std.proofs.Common.{None, get_or-set_same, get_or-set_other, length-set}
 use Rattle.std.specs.Prelude.{MatchOption, IfSome, IsSome}
 use Rattle.std.proofs.lemmas.Bool.{cases_eq, cases_lt}
 use Rattle.std.proofs.lemmas.List.{get_or-replicate, length-replicate}
-use Rattle.heap_words.specs.Bits.{has, HasNone, IsLowest}
+use Rattle.heap_words.specs.Bits.{has, HasNone, HasNoneBelow, IsLowest}
 use Rattle.heap_words.proofs.BitWords.{has_past}
 use Rattle.std.specs.Int.{div_ceil}
 use Rattle.mark_bitmap.specs.Summary.{HasMember, HasNoMember, IsMember, IsSummary, AreLevels}
@@ -130,3 +130,11 @@ levels_set members groups blocks n inside l =
       group_summary = set_summary members groups n inside group l.group_summary;
       block_summary = set_summary groups blocks (n / 64) group block l.block_summary;
     }
+
+-- a group that has a member has a lowest one
+pub has_some : (test : ℕ → Bool) (group : ℕ) → HasMember test group → HasNoneBelow test (64 * group) (64 * group + 64) → ⊥
+has_some test group m none =
+    let inside = m.inside in
+    let f = none m.number (omega arith) (omega arith) in
+    let e = m.is_in in
+    cc

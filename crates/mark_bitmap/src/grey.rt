@@ -82,6 +82,7 @@ fn let_go(held: &mut Option<u32>, object: u32)
 }
 
 /// The lowest grey object at or after the addresses of the lowest finger that is set.
+#[inline(always)]
 #[tactic(auto, unfolding(crate::specs::Grey::finger_of))]
 fn lowest_beside(marks: &Marks, scanned: &Marks, fingers: &Fingers) -> Option<Addr>
     requires even { length marks.now ≡ length scanned.now }
@@ -128,6 +129,7 @@ impl Grey {
     }
 
     /// An object is marked that wasn't scanned, which makes it grey: it is held, if no other one is, and else its finger is set.
+    #[inline(always)]
     #[tactic(auto, unfolding(crate::specs::Grey::finger_of))]
     pub fn add(&mut self, object: Addr)
         requires known { object < length self.old.scanned }
@@ -145,6 +147,7 @@ impl Grey {
     }
 
     /// The lowest grey object.
+    #[inline(always)]
     pub fn any(&self, marks: &Marks) -> Option<Addr>
         requires even { length marks.now ≡ length self.now.scanned }
         requires fingers { HasFingers marks.now self.now }
@@ -178,9 +181,8 @@ impl Grey {
         if self.fingers.is_empty() {
             return;
         }
-        let finger = object.word() / 64;
-        if marks.lowest_without(&self.scanned, finger).is_none() {
-            self.fingers.remove(finger);
+        if marks.lowest_left(&self.scanned, object).is_none() {
+            self.fingers.remove(object.word() / 64);
         }
     }
 

@@ -11,8 +11,8 @@
 //! is released loses its part of it. It is kept as bits, one an address, of which those up to the highest marked one are written:
 //! so a heap of which little is in use pays for that little.
 
-ghost use Rattle.std.specs.Prelude.{◌≡◌, ◌+◌, ◌*◌, ◌^◌, ◌<◌, ◌≤◌, if◌then◌else◌};
-ghost use Rattle.std.specs.Prelude.{ℕ, List, Bool, false, true, IfOk, IfSome, length, MatchOption, replicate, slice_set};
+ghost use Rattle.std.specs.Prelude.{◌≡◌, ◌+◌, ◌*◌, ◌/◌, ◌^◌, ◌<◌, ◌≤◌, if◌then◌else◌};
+ghost use Rattle.std.specs.Prelude.{ℕ, List, Bool, false, true, IfOk, IfSome, length, MatchOption, not, replicate, slice_set};
 ghost use Rattle.heap_model.specs.Count.{ListsMarked};
 ghost use Rattle.mark_bitmap.specs.Marks.{is_between, is_marked, is_only, marked_count, HasNone, HasNoneBelow, IsLowest};
 
@@ -76,6 +76,17 @@ impl Marks {
         self.bits.set(at.word());
     }
 
+    /// Marks an address. Whether it wasn't marked.
+    #[inline(always)]
+    pub fn insert(&mut self, at: Addr) -> bool
+        requires { at < length self.old }
+        ensures came { result ≡ not (is_marked self.old at) }
+        ensures same { result ≡ false → self.new ≡ self.old }
+        ensures set { self.new ≡ slice_set self.old at true }
+    {
+        self.bits.insert(at.word())
+    }
+
     /// Clears each address. It touches none of them: what is marked afterwards is written anew.
     pub fn clear(&mut self)
         ensures { self.new ≡ replicate (length self.old) false }
@@ -120,6 +131,21 @@ impl Marks {
         ensures within { IfSome result (λ found. found < length self.now) }
     {
         self.bits.lowest_without(&other.bits, group).map(Addr::new)
+    }
+
+    /// The lowest address of the group of `at` that is marked here and not in `other`, where `at` is marked.
+    #[inline(always)]
+    pub fn lowest_left(&self, other: &Marks, at: Addr) -> Option<Addr>
+        requires known { at < length self.now }
+        requires even { length other.now ≡ length self.now }
+        requires there { is_marked other.now at ≡ true }
+        ensures lowest { MatchOption result
+            (HasNoneBelow (is_only self.now other.now) (64 * (at / 64)) (64 * (at / 64) + 64))
+            (IsLowest (is_only self.now other.now) (64 * (at / 64))) }
+        ensures below { IfSome result (λ found. found < 64 * (at / 64) + 64) }
+        ensures within { IfSome result (λ found. found < length self.now) }
+    {
+        self.bits.lowest_left(&other.bits, at.word()).map(Addr::new)
     }
 
     /// The lowest address at or above `from` and below `to` that is marked here and not in `other`. It looks at the bits

@@ -20,13 +20,15 @@ ghost use Rattle.std.specs.Int.{div_ceil};
 ghost use Rattle.heap_words.specs.Bits.{has, HasNone, IsLowest};
 ghost use Rattle.mark_bitmap.specs.Summary.{AreLevels, HasMember, HasNoMember, IsMember, IsSummary};
 
+use heap_words::bits::Bits;
 use heap_words::small_bits::SmallBits;
 use std::alloc::{AllocError, Global};
 use std::marker::Model;
 
 /// A set of numbers below a length that is given when it is made. Clauses see a flag for each number.
 pub struct Summary {
-    members: SmallBits,
+    /// Written as they come, since a large heap has many. The levels above are small, and written when the set is made.
+    members: Bits,
     groups: SmallBits,
     blocks: SmallBits,
 }
@@ -54,11 +56,37 @@ impl Drop for Summary {
 }
 
 /// The lowest member of a group.
+fn lowest_member(set: &Bits, group: u32) -> Option<u32>
+    requires { 64 * group < length set.now }
+    ensures { MatchOption result (HasNoMember (has set.now) group) (IsMember (has set.now) group) }
+{
+    set.lowest_in(group)
+}
+
+/// The lowest group of a block.
 fn lowest_of(set: &SmallBits, group: u32) -> Option<u32>
     requires { 64 * group < length set.now }
     ensures { MatchOption result (HasNoMember (has set.now) group) (IsMember (has set.now) group) }
 {
     set.lowest_in(group)
+}
+
+/// The lowest member of a group that has one.
+fn first_member(set: &Bits, group: u32) -> u32
+    requires known { 64 * group < length set.now }
+    requires some { HasMember (has set.now) group }
+    ensures { IsMember (has set.now) group result }
+{
+    set.first_in(group)
+}
+
+/// The lowest group of a block that has one.
+fn first_of(set: &SmallBits, group: u32) -> u32
+    requires known { 64 * group < length set.now }
+    requires some { HasMember (has set.now) group }
+    ensures { IsMember (has set.now) group result }
+{
+    set.first_in(group)
 }
 
 /// The lowest block. Mostly it stands in the first word.
@@ -74,8 +102,27 @@ fn lowest_block(blocks: &SmallBits) -> Option<u32>
     }
 }
 
-/// A group leaves the groups if it has no member. Whether it left.
-fn leave(set: &SmallBits, groups: &mut SmallBits, group: u32) -> bool
+/// A group leaves the groups, if it has no member. Whether it left.
+fn leave_groups(set: &Bits, groups: &mut SmallBits, group: u32) -> bool
+    requires known { group < length groups.old }
+    requires count { length groups.old ≡ div_ceil (length set.now) 64 }
+    requires each { (a : ℕ) → has set.now a ≡ true → has groups.old (a / 64) ≡ true }
+    requires others { (i : ℕ) → i ≢ group → has groups.old i ≡ true → HasMember (has set.now) i }
+    ensures count { length groups.new ≡ length groups.old }
+    ensures fewer { (i : ℕ) → has groups.new i ≡ true → has groups.old i ≡ true }
+    ensures others { (i : ℕ) → i ≢ group → has groups.new i ≡ has groups.old i }
+    ensures summary { IsSummary (has set.now) groups.new }
+    ensures stayed { result ≡ false → groups.new ≡ groups.old }
+{
+    if lowest_member(set, group).is_some() {
+        return false;
+    }
+    groups.remove(group);
+    true
+}
+
+/// A block leaves the blocks, if it has no group. Whether it left.
+fn leave_blocks(set: &SmallBits, groups: &mut SmallBits, group: u32) -> bool
     requires known { group < length groups.old }
     requires count { length groups.old ≡ div_ceil (length set.now) 64 }
     requires each { (a : ℕ) → has set.now a ≡ true → has groups.old (a / 64) ≡ true }
@@ -94,7 +141,7 @@ fn leave(set: &SmallBits, groups: &mut SmallBits, group: u32) -> bool
 }
 
 /// A number that isn't in the set any more leaves the groups, and its group the blocks, where it was the last one.
-fn leave_levels(members: &SmallBits, groups: &mut SmallBits, blocks: &mut SmallBits, number: u32)
+fn leave_levels(members: &Bits, groups: &mut SmallBits, blocks: &mut SmallBits, number: u32)
     requires known { number < length members.now }
     requires group_count { length groups.old ≡ div_ceil (length members.now) 64 }
     requires block_count { length blocks.old ≡ div_ceil (length groups.old) 64 }
@@ -104,10 +151,10 @@ fn leave_levels(members: &SmallBits, groups: &mut SmallBits, blocks: &mut SmallB
     ensures { AreLevels members.now groups.new blocks.new }
 {
     let group = number / 64;
-    if !leave(members, groups, group) {
+    if !leave_groups(members, groups, group) {
         return;
     }
-    leave(groups, blocks, group / 64);
+    leave_blocks(groups, blocks, group / 64);
 }
 
 impl Summary {
@@ -117,7 +164,7 @@ impl Summary {
     {
         let groups = count.div_ceil(64);
         Ok(Summary {
-            members: SmallBits::new(alloc, count)?,
+            members: Bits::new(alloc, count)?,
             groups: SmallBits::new(alloc, groups)?,
             blocks: SmallBits::new(alloc, groups.div_ceil(64))?,
         })
@@ -143,7 +190,7 @@ impl Summary {
         requires { number < length self.old }
         ensures { self.new ≡ slice_set self.old number true }
     {
-        let lowest = lowest_of(&self.members, number / 64);
+        let lowest = lowest_member(&self.members, number / 64);
         self.members.set(number);
         if lowest.is_some() {
             return;
@@ -176,7 +223,7 @@ impl Summary {
         ensures within { IfSome result (λ found. found < length self.now) }
     {
         let block = lowest_block(&self.blocks)?;
-        let group = lowest_of(&self.groups, block)?;
-        lowest_of(&self.members, group)
+        let group = first_of(&self.groups, block);
+        Some(first_member(&self.members, group))
     }
 }

@@ -1,7 +1,7 @@
 -- Marks come, and marks still stand at kept objects.
 use Rattle.std.proofs.Common.{◌≡◌, ◌⊎◌, ◌+◌, ◌/◌, ◌^◌, ◌<◌, ◌≤◌, ◌∙◌}
 use Rattle.std.proofs.Common.{inl, inr, ℕ, Bool, true, false, List, [], Option, None, Some, length, get_or, set, refl, sym, ap}
-use Rattle.std.proofs.Common.{subst, arith, get_or-set_same, get_or-set_other}
+use Rattle.std.proofs.Common.{not, subst, arith, get_or-set_same, get_or-set_other}
 use Rattle.std.specs.Prelude.{Contains, slice_get}
 use Rattle.std.proofs.lemmas.Bool.{cases_eq, cases_lt}
 use Rattle.std.proofs.lemmas.List.{get_or_past}
@@ -264,3 +264,33 @@ pub among_next : (t : Table) (words : List (Option ℕ)) (from place : ℕ) (w :
     → Reached t (IsAmong words from) m m' → Reached t (λ a. w ≡ Some a) m' m'' → Reached t (IsAmong words (place + 1)) m m''
 among_next t words from place w m m' m'' n e p q =
     among_more t words place w m m' m'' (named_word words from place w n e) (among_past t words from place m m' n.from_on n.nil_before p) q
+
+-- what is marked is reached already: the marks are the same
+pub same_stands : (t : Table) (m : Marker) (n : List Bool) → n ≡ m.bitmaps.next → MarkerStands t m
+    → MarkerStands t (with_next m n m.grey m.live)
+same_stands t m n e st = subst (λ (l : List Bool). MarkerStands t (with_next m l m.grey m.live)) (sym e) st
+
+pub same_marks : (t : Table) (m : Marker) (a : ℕ) (n : List Bool) → n ≡ m.bitmaps.next → is_marked m.bitmaps.next a ≡ true
+    → MarksWanted t (λ b. a ≡ b) m (with_next m n m.grey m.live)
+same_marks t m a n e marked =
+    let now : (b : ℕ) → is_marked n b ≡ is_marked m.bitmaps.next b = λ b. ap (λ (l : List Bool). is_marked l b) e in
+    record {
+      stays = λ b k. now b ∙ k;
+      only = λ b k. inl (sym (now b) ∙ k);
+      each = λ b w _. now b ∙ ap (is_marked m.bitmaps.next) (sym w) ∙ marked;
+    }
+
+-- what came wasn't there, and what didn't was
+pub was_marked : (marks : List Bool) (a : ℕ) (came : Bool) → came ≡ not (is_marked marks a) → came ≡ false → is_marked marks a ≡ true
+was_marked marks a came e f = not_false (is_marked marks a) (sym e ∙ f)
+  where
+    not_false : (b : Bool) → not b ≡ false → b ≡ true
+    not_false true g = refl
+    not_false false g = cc
+
+pub was_unmarked : (marks : List Bool) (a : ℕ) (came : Bool) → came ≡ not (is_marked marks a) → came ≡ true → is_marked marks a ≡ false
+was_unmarked marks a came e f = not_true (is_marked marks a) (sym e ∙ f)
+  where
+    not_true : (b : Bool) → not b ≡ true → b ≡ false
+    not_true true g = cc
+    not_true false g = refl

@@ -36,19 +36,17 @@ impl Marker {
             return;
         };
         table.law();
-        if !self.tams.lies_below_next(table, at) || self.bitmaps.next.get(at) {
-            return;
+        if self.tams.lies_below_next(table, at) {
+            self.reach_old(table, at);
         }
-        self.reach_unmarked(table, at);
     }
 
-    /// Marks an old object that isn't marked. It is grey then, and its words are counted.
+    /// Marks an old object, unless it is marked, by one look at its bit. It is grey then, and its words are counted.
     #[inline(always)]
-    fn reach_unmarked(&mut self, table: &RegionTable, at: Addr)
+    fn reach_old(&mut self, table: &RegionTable, at: Addr)
         requires stands { MarkerStands table.now self.old }
         requires running { self.old.running ≡ true }
         requires below { below_next table.now self.old.tams at ≡ true }
-        requires unmarked { is_marked self.old.bitmaps.next at ≡ false }
         requires kept { IsKept table.now self.old at }
         ensures stands { MarkerStands table.now self.new }
         ensures marks { MarksWanted table.now (λ a. at ≡ a) self.old self.new }
@@ -58,8 +56,10 @@ impl Marker {
         ensures logs { self.new.logs ≡ self.old.logs }
     {
         table.law();
+        if !self.bitmaps.next.insert(at) {
+            return;
+        }
         let size = table.object_size(at);
-        self.bitmaps.next.set(at);
         self.grey.add(at);
         self.live.add(table.region_of(at), size);
     }
