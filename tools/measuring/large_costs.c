@@ -4,7 +4,8 @@
      ./large_costs [WORDS [CARD [OBJECTS]]]      2^24 words, cards of 64, and as many objects of 16 words as a quarter of the heap holds,
                                                  at most 2^23
 
-   Each line is a row: what is done, the processor time of all, what a part of it takes, and the bytes that are resident then. */
+   Each line is a row: what is done, the processor time of all, what a part of it takes, and the bytes that are resident then. No two have
+   the same name. */
 #include <g1heap.h>
 #include <stdio.h>
 #include <stdlib.h>
@@ -51,20 +52,16 @@ static uint32_t draw(uint32_t below)
     return (uint32_t)((seed >> 16) % below);
 }
 
-static double made(void)
+static void make(void)
 {
-    double before = resident();
-    start();
     uint32_t code = g1_new(&heap, &sizes);
     if (code != G1_DONE) fprintf(stderr, "large_costs: g1_new: %u\n", code), exit(1);
-    row("make", "heap", 1);
-    return resident() - before;
 }
-static void freed(void)
+static void free_row(const char *what)
 {
-    start();
-    g1_free(&heap);
-    row("free", "heap", 1);
+    char name[80];
+    snprintf(name, sizeof name, "free, %s", what);
+    start(), g1_free(&heap), row(name, "heap", 1);
 }
 
 /* Tables of globals hold the objects by their number. */
@@ -95,32 +92,46 @@ static void cycle(const char *what, double count)
     snprintf(name, sizeof name, "begin, %s", what);
     start(), good(g1_begin(&heap)), row(name, "step", 1);
     snprintf(name, sizeof name, "marking, %s", what);
-    start(), good(g1_mark(&heap, UINT32_MAX)), good(g1_remark(&heap)), row(name, "object", count);
-    start(), good(g1_begin(&heap)), row("begin after it", "step", 1);
+    start(), good(g1_mark(&heap, UINT32_MAX)), row(name, "object", count);
+    snprintf(name, sizeof name, "remark, %s", what);
+    start(), good(g1_remark(&heap)), row(name, "step", 1);
+    snprintf(name, sizeof name, "begin after marking %s", what);
+    start(), good(g1_begin(&heap)), row(name, "step", 1);
     good(g1_mark(&heap, UINT32_MAX)), good(g1_remark(&heap));
+    snprintf(name, sizeof name, "cleanup, %s", what);
+    start(), good(g1_cleanup(&heap)), row(name, "region", sizes.regions);
+    free_row(what);
+}
+
+/* A heap of which nothing is written. */
+static void made(void)
+{
+    double before = resident();
+    start(), make(), row("make", "heap", 1);
+    printf("resident beside the words: %.4f %% of them\n", (resident() - before) / 8 / ((double)sizes.regions * sizes.words) * 100);
+    free_row("empty");
 }
 
 /* Steps of an empty heap, which look at each region or at none. */
 static void empty_steps(void)
 {
-    made();
+    make();
     start(), good(g1_begin(&heap)), row("begin, empty", "step", 1);
     good(g1_remark(&heap));
     start(), good(g1_cleanup(&heap)), row("cleanup, empty", "region", sizes.regions);
     start(), good(g1_pause(&heap, 0)), row("pause 0, empty", "step", 1);
-    freed();
+    g1_free(&heap);
 }
 
 static void list(uint32_t count)
 {
-    made();
+    make();
     for (uint32_t i = 0; i < count; i++) {
         good(g1_new_object(&heap, 0, ONE, FIELDS, OBJECT - 2 - FIELDS)), good(g1_put(&heap, 0, ONE, 0, OTHER));
         good(g1_move(&heap, 0, OTHER, ONE));
     }
     good(g1_save(&heap, 0, ROOT, OTHER));
     cycle("a list", count);
-    freed();
 }
 
 static void tree(uint32_t count, int drawn)
@@ -132,7 +143,7 @@ static void tree(uint32_t count, int drawn)
         uint32_t other = draw(i + 1), kept = order[i];
         order[i] = order[other], order[other] = kept;
     }
-    made();
+    make();
     for (uint32_t i = 0; i < count; i++) good(g1_new_object(&heap, 0, ONE, FIELDS, OBJECT - 2 - FIELDS)), keep(i);
     for (uint32_t i = 1; i < count; i++) {
         fetch(ONE, order[i]), fetch(OTHER, order[(i - 1) / 2]);
@@ -141,30 +152,26 @@ static void tree(uint32_t count, int drawn)
     fetch(ONE, order[0]), good(g1_save(&heap, 0, ROOT, ONE));
     forget(count);
     free(order);
-    cycle(drawn ? "a tree, drawn order" : "a tree in order", count);
-    start();
-    g1_answer reclaimed = good(g1_cleanup(&heap));
-    row("cleanup after it", "region", reclaimed.first > 0 ? (double)reclaimed.first : 1);
-    freed();
+    cycle(drawn ? "a tree in drawn order" : "a tree in order", count);
 }
 
 /* Regions full of garbage, half of them never marked. */
 static void garbage(uint32_t regions)
 {
-    made();
+    make();
     for (uint32_t i = 0; i < regions; i++) good(g1_new_object(&heap, 0, ONE, 0, sizes.words - 2));
     drop_all(), good(g1_begin(&heap)), good(g1_remark(&heap));
     start();
     g1_answer reclaimed = good(g1_cleanup(&heap));
     row("cleanup, regions that were never marked", "region", (double)reclaimed.first);
-    freed();
+    g1_free(&heap);
 }
 
 /* One region of few live objects, each of which fields of so many regions' objects name; or fields of few. */
 static void pause_of_one(uint32_t count, int apart)
 {
     uint32_t targets = sizes.words / OBJECT, step = 64, live = targets / step;
-    made();
+    make();
     for (uint32_t i = 0, kept = 0; i < targets; i++) {
         good(g1_new_object(&heap, 0, ONE, FIELDS, OBJECT - 2 - FIELDS));
         if (i % step == 0 && kept < live) {
@@ -193,10 +200,10 @@ static void pause_of_one(uint32_t count, int apart)
     drop_all(), good(g1_begin(&heap)), good(g1_mark(&heap, UINT32_MAX)), good(g1_remark(&heap));
     start();
     g1_answer moved = good(g1_pause(&heap, live * (OBJECT + 1) + OBJECT));
-    row(apart ? "pause of one region, fields all over" : "pause of one region, few fields", "word", moved.first > 0 ? (double)moved.first : 1);
+    row(apart ? "pause of one region, fields all over" : "pause of one region, few fields", "step", 1);
     if (moved.first < live * OBJECT || moved.second != 1)
         printf("  (it moved %llu words out of %u regions)\n", (unsigned long long)moved.first, moved.second);
-    freed();
+    g1_free(&heap);
 }
 
 /* Regions of few live objects, of which a pause copies one, while each object that stays has a field that leads to a drawn one: so each
@@ -204,7 +211,7 @@ static void pause_of_one(uint32_t count, int apart)
 static void pause_in_net(uint32_t count)
 {
     uint32_t region = sizes.words / OBJECT, step = 64, full = count - 2 * region;
-    made();
+    make();
     for (uint32_t table = 0; table * places < count; table++) {
         good(g1_new_object(&heap, 0, TABLE, places, 0)), good(g1_save(&heap, 0, table, TABLE));
     }
@@ -224,16 +231,16 @@ static void pause_in_net(uint32_t count)
     drop_all(), good(g1_begin(&heap)), good(g1_mark(&heap, UINT32_MAX)), good(g1_remark(&heap));
     start();
     g1_answer moved = good(g1_pause(&heap, region / step * (OBJECT + 1) + OBJECT));
-    row("pause of one region, fields at random", "word", moved.first > 0 ? (double)moved.first : 1);
+    row("pause of one region, fields at random", "step", 1);
     if (moved.second != 1) printf("  (it moved %llu words out of %u regions)\n", (unsigned long long)moved.first, moved.second);
-    freed();
+    g1_free(&heap);
 }
 
 /* A pause that copies 100 MB, of a list whose every other object lives. */
 static void pause_of_many(void)
 {
     uint32_t count = 13107200 / OBJECT * 2;
-    made();
+    make();
     for (uint32_t i = 0; i < count; i++) {
         good(g1_new_object(&heap, 0, ONE, FIELDS, OBJECT - 2 - FIELDS));
         if (i % 2 == 0) continue;
@@ -244,7 +251,7 @@ static void pause_of_many(void)
     start();
     g1_answer moved = good(g1_pause(&heap, UINT32_MAX));
     row("pause of 100 MB", "word", moved.first > 0 ? (double)moved.first : 1);
-    freed();
+    g1_free(&heap);
 }
 
 int main(int count, char **words)
@@ -256,9 +263,7 @@ int main(int count, char **words)
     places = sizes.words / 2 - 2;
     if (places > 65536) places = 65536;
     printf("2^%u words in %u regions, cards of %u, %u objects\n", log, regions, card, objects);
-    double size = made();
-    printf("resident beside the words: %.4f %% of them\n", size / 8 / (double)((uint64_t)1 << log) * 100);
-    freed();
+    made();
     empty_steps();
     list(objects);
     tree(objects, 0);

@@ -1,7 +1,7 @@
 """A built program on the largest heap of each format, 1,024 regions of 1,024 and of 16,384 words; the C library in heaps to 16 GiB.
 
     tools/measure large [PROGRAM] [--runs 3] [--plain] [--instructions] [--only NAME ..]
-    tools/measure large --library [--words 24 27 30] [--card 64] [--objects N] [--plain]
+    tools/measure large --library [--words 24 27 30] [--card 64] [--objects N] [--runs 3] [--plain] [--java]
     tools/measure large --grey [--words 24 27 30]
 
 Each line has what a script does, the processor seconds of it in the smaller and in the larger heap (the best of some runs,
@@ -10,9 +10,10 @@ less those of the script that only makes ready), and what one of its parts takes
 instructions of a part in the place of seconds, which other work on the machine doesn't change. The last lines are the largest
 resident sets over what the heap's words and 100 bytes a step take.
 
-With --library it measures lib/libg1heap.a, by tools/measuring/large_costs.c, in heaps of 2 to these powers of words: each line has what is
-done, the processor time of all of it and of a part, and what is resident then. A size that wants more memory than the system has to give is
-left out, and a line says so. With --plain the plain heap behind the same header is measured too.
+With --library it measures lib/libg1heap.a, by tools/measuring/large_costs.c, in heaps of 2 to these powers of words: each row has what is
+done, the processor time of all of it and of a part, and what is resident then, the best of some runs. A size that wants more memory than
+the system has to give is left out, and a line says so. With --plain the plain heap behind the same header is beside it, and with --java
+OpenJDK's G1, if a JDK is there, on objects of the same shapes: the last lines say what is compared to what.
 
 With --grey it measures, by tools/measuring/grey_costs.c, what marking costs an object where many are grey, at the top of such heaps.
 """
@@ -24,8 +25,11 @@ import subprocess
 import sys
 import tempfile
 
+from measuring import large_java, large_table
 from measuring.counting import HERE, PROGRAM, TOOLS, TOP, instructions
+from measuring.large_table import Row
 
+OURS, PLAIN = "g1heap", "plain"
 SMALL, LARGE = ("heap 1024 1024 512 1 0", 1024), ("heap2 1024 16384 512 1 0 64", 16384)
 
 
@@ -164,28 +168,61 @@ def available():
         return 1024 * int(re.search(r"^MemAvailable: +(\d+) kB$", file.read(), re.M)[1])
 
 
-def measure_library(folder, words):
-    """Prints the rows of each size, those of the plain heap after them where they are asked for."""
+def compile_large(folder, with_plain):
+    """The programs of large_costs.c: over the C library, and over the plain heap where it is asked for."""
     compiled = ["cc", "-O2", "-std=c11", "-D_DEFAULT_SOURCE", "-I", os.path.join(TOP, "include"), os.path.join(HERE, "large_costs.c")]
-    programs = [("the library", os.path.join(folder, "large_costs"))]
-    subprocess.run([*compiled, os.path.join(TOP, "lib", "libg1heap.a"), "-o", programs[0][1]], check=True)
-    if words.plain:
-        plain = os.path.join(folder, "plain.o")
+    programs = {OURS: os.path.join(folder, "large_costs")}
+    subprocess.run([*compiled, os.path.join(TOP, "lib", "libg1heap.a"), "-o", programs[OURS]], check=True)
+    if with_plain:
+        plain, programs[PLAIN] = os.path.join(folder, "plain.o"), os.path.join(folder, "plain_costs")
         source = os.path.join(TOOLS, "plain", "plain_library.cpp")
         subprocess.run(["c++", "-O2", "-std=c++17", "-c", source, "-o", plain], check=True)
-        programs.append(("the plain heap", os.path.join(folder, "plain_costs")))
-        subprocess.run([*compiled, plain, "-lstdc++", "-o", programs[1][1]], check=True)
+        subprocess.run([*compiled, plain, "-lstdc++", "-o", programs[PLAIN]], check=True)
+    return programs
+
+
+def rows_of(program, size, words, objects):
+    """The rows of one run, and the lines that are none."""
+    done = subprocess.run([program, str(size), str(words.card), str(objects)], stdout=subprocess.PIPE, text=True, check=False)
+    if done.returncode != 0:
+        sys.exit(f"{done.stdout}2^{size} words: the rows end here; if a call was refused with 18, ask for fewer --objects")
+    found = re.findall(r"^(.+?) +([\d.]+) us +([\d.]+) ns/(\S+) +([\d.]+) MB$", done.stdout, re.M)
+    rows = {name: Row(float(all_of) / 1e6, float(each) / 1e9, part, float(resident) * 1e6) for name, all_of, each, part, resident in found}
+    return rows, [line for line in done.stdout.splitlines() if not line.endswith(" MB")]
+
+
+def measure_size(folder, size, objects, programs, words):
+    """Prints the table of a size, and the lines of the programs that are no rows."""
+    runs, said, of_region = {name: [] for name in programs}, {}, (8 << size) // (1024 if size < 28 else 2048)
+    for _ in range(words.runs):
+        for name, program in programs.items():
+            rows, said[name] = rows_of(program, size, words, objects)
+            runs[name].append(rows)
+        if words.java:
+            rows = large_java.rows_of(folder, 8 << size, large_java.region_of(of_region), objects)
+            runs.setdefault(large_java.NAME, []).append(rows)
+    columns = {name: large_table.best_of(rows) for name, rows in runs.items()}
+    large_table.show(said[OURS][0], columns, large_java.rows_apart(of_region))
+    print("\n".join(f"{name}: {line}" for name in said for line in said[name][1:]))
+    print(f"load of the machine: {os.getloadavg()[0]:.1f} on {os.cpu_count()} processors", flush=True)
+
+
+def measure_library(folder, words):
+    """Prints a table of each size: the C library, and beside it the plain heap and OpenJDK's G1 where they are asked for."""
+    programs = compile_large(folder, words.plain)
+    if words.java and not large_java.compile_java(folder):
+        words.java = False
+        print(f"{large_java.NAME} is left out: there is no JDK")
     for size in words.words:
         # The words that are written, and tables of a fifth of all: a quarter of the heap, or 2^23 objects of 16 words, and twice 100 MB.
         objects = words.objects or 1 << min(size - 6, 23)
         needs = min(8 << size, 8 * 16 * objects * 2 + 400_000_000) + (8 << size) // 5
         if available() < needs:
             print(f"2^{size} words: left out, {needs >> 20} MiB are asked for and {available() >> 20} are there", flush=True)
-            continue
-        for name, program in programs:
-            print(f"{name}: ", end="", flush=True)
-            if subprocess.run([program, str(size), str(words.card), str(objects)], check=False).returncode != 0:
-                sys.exit(f"2^{size} words: the rows end here; if a call was refused with 18, ask for fewer --objects")
+        else:
+            measure_size(folder, size, objects, programs, words)
+    if words.java:
+        print(large_java.ABOUT)
 
 
 def measure_grey(folder, words):
@@ -211,14 +248,40 @@ def best(program, script, runs):
     return min(seconds(program, script)[0] for _ in range(runs))
 
 
+def measure_scripts(folder, words):
+    """Prints a row of each script by the built program, and by the plain heap where it is asked for."""
+    programs = [words.program]
+    if words.plain:
+        programs.append(os.path.join(folder, "plain_heap"))
+        subprocess.run(["g++", "-O2", "-std=c++17", "-o", programs[1], os.path.join(TOOLS, "plain", "plain_heap.cpp")], check=True)
+    sizes = []
+    for name, part, make, counts in (script for script in SCRIPTS if script[0] in (words.only or [it[0] for it in SCRIPTS])):
+        cells = []
+        for (line, region), count in zip((SMALL, LARGE), counts):
+            steps, ready, parts = make(region, count)
+            if make is pause:
+                line = line.replace(" 512 ", " 8 ")
+            whole, base = write_script(folder, "whole", line, steps), write_script(folder, "base", line, steps[:ready])
+            if words.plain:
+                records = [subprocess.run([program, "run", whole], stdout=subprocess.PIPE, check=True).stdout for program in programs]
+                if records[0] != records[1]:
+                    sys.exit(f"measure large: the records of {name} differ")
+            cells += [cell_of(program, (whole, base), part, parts, words) for program in programs]
+            sizes.append((name, region, seconds(words.program, whole)[1], 1024 * region * 8, len(steps)))
+        print(f"| {name} | " + " | ".join(cells) + " |", flush=True)
+    for name, region, size, heap, steps in sizes:
+        print(f"{name}, regions of {region} words: {size} bytes, {(size - 100 * steps) / heap:.2f} times the words less 100 bytes a step")
+
+
 def main():
     parser = argparse.ArgumentParser(description="Measures a heap program on the largest heaps.")
     parser.add_argument("program", nargs="?", default=PROGRAM)
-    parser.add_argument("--runs", type=int, default=3)
+    parser.add_argument("--runs", type=int, default=3, help="of which the best counts (3)")
     parser.add_argument("--plain", action="store_true", help="measure the plain heap too")
     parser.add_argument("--instructions", action="store_true", help="count instructions in the place of seconds")
     parser.add_argument("--only", nargs="+", choices=[script[0] for script in SCRIPTS], metavar="NAME", help="these alone")
     parser.add_argument("--library", action="store_true", help="measure the library for C")
+    parser.add_argument("--java", action="store_true", help="measure OpenJDK's G1 beside the library")
     parser.add_argument("--grey", action="store_true", help="measure marking where many objects are grey")
     parser.add_argument("--words", nargs="+", type=int, default=[24, 27, 30], help="the heaps, by powers of two of words")
     parser.add_argument("--card", type=int, default=64, help="words of a card")
@@ -229,26 +292,5 @@ def main():
             measure_library(folder, words)
         if words.grey:
             measure_grey(folder, words)
-        if words.library or words.grey:
-            return
-        programs = [words.program]
-        if words.plain:
-            programs.append(os.path.join(folder, "plain_heap"))
-            subprocess.run(["g++", "-O2", "-std=c++17", "-o", programs[1], os.path.join(TOOLS, "plain", "plain_heap.cpp")], check=True)
-        sizes = []
-        for name, part, make, counts in (script for script in SCRIPTS if script[0] in (words.only or [it[0] for it in SCRIPTS])):
-            cells = []
-            for (line, region), count in zip((SMALL, LARGE), counts):
-                steps, ready, parts = make(region, count)
-                if make is pause:
-                    line = line.replace(" 512 ", " 8 ")
-                whole, base = write_script(folder, "whole", line, steps), write_script(folder, "base", line, steps[:ready])
-                if words.plain:
-                    records = [subprocess.run([program, "run", whole], stdout=subprocess.PIPE, check=True).stdout for program in programs]
-                    if records[0] != records[1]:
-                        sys.exit(f"measure large: the records of {name} differ")
-                cells += [cell_of(program, (whole, base), part, parts, words) for program in programs]
-                sizes.append((name, region, seconds(words.program, whole)[1], 1024 * region * 8, len(steps)))
-            print(f"| {name} | " + " | ".join(cells) + " |", flush=True)
-        for name, region, size, heap, steps in sizes:
-            print(f"{name}, regions of {region} words: {size} bytes, {(size - 100 * steps) / heap:.2f} times the words less 100 bytes a step")
+        if not words.library and not words.grey:
+            measure_scripts(folder, words)

@@ -99,6 +99,60 @@ private:
     std::vector<Word> words_;
 };
 
+// The grey objects. The lowest one is found soon, however far away: a bit of each level above the first tells that a word of the level
+// below it has a bit, or had one.
+class GreySet {
+public:
+    // A word more than its members need, so that a search may begin at the bound.
+    explicit GreySet(std::size_t bound) {
+        for (std::vector<Word>& level : levels_) level.resize(bound = bound / 64 + 1);
+    }
+    bool has(Number member) const { return levels_[0][member >> 6] >> (member & 63) & 1; }
+    void add(Number member) {
+        Number index = member >> 6;
+        Word& word = levels_[0][index];
+        if (word == 0 && (levels_[1][index >> 6] >> (index & 63) & 1) == 0) add_above(index);
+        word |= Word(1) << (member & 63);
+    }
+    // Whether there is a member; none may be below `from`.
+    bool has_any(Number from) { return used_word(0, from >> 6) != nowhere; }
+    // Takes out the lowest member, where none is below `from`; nowhere if there is none.
+    Number take(Number from) {
+        Number index = from >> 6;
+        if (levels_[0][index] == 0 && (index = used_word(0, index)) == nowhere) return nowhere;
+        Word& word = levels_[0][index];
+        Number member = Number(index << 6) + Number(__builtin_ctzll(word));
+        word &= word - 1;
+        return member;
+    }
+
+private:
+    static constexpr int top = 3;
+
+    [[gnu::noinline]] void add_above(Number index) {
+        for (int level = 1; level <= top; ++level, index >>= 6) levels_[level][index >> 6] |= Word(1) << (index & 63);
+    }
+
+    // The lowest word of a level, from one on, that has a bit. Bits above that lead to none go.
+    [[gnu::noinline]] Number used_word(int level, Number index) {
+        const std::vector<Word>& words = levels_[level];
+        while (index < words.size() && words[index] == 0) {
+            if (level == top) {
+                ++index;
+                continue;
+            }
+            std::vector<Word>& above = levels_[level + 1];
+            above[index >> 6] &= ~Word(1) << (index & 63);
+            Number found = used_word(level + 1, index >> 6);
+            if (found == nowhere) return nowhere;
+            index = Number(found << 6) + Number(__builtin_ctzll(above[found]));
+        }
+        return index < words.size() ? index : nowhere;
+    }
+
+    std::vector<Word> levels_[top + 1];
+};
+
 // Cards gathered during a pause, to be given out by rising number.
 class CardSet {
 public:
@@ -317,15 +371,13 @@ public:
 
     Reply mark(Number units) {
         if (!marking_) return refused(Refusal::NotMarking);
-        Number scanned = 0;
-        while (scanned != units && scan_lowest()) ++scanned;
-        return reply(Form::Ok, scanned);
+        return reply(Form::Ok, scan(units));
     }
 
     Reply remark() {
         if (!marking_) return refused(Refusal::NotMarking);
         for (Number mutator = 0; mutator < sizes_.mutators; ++mutator) take_deletion_log(mutator);
-        while (scan_lowest()) {}
+        scan(~Number(0));
         clear_weak_slots();
         previous_marks_.swap(next_marks_);
         for (Region& region : regions_) {
@@ -625,20 +677,21 @@ protected:
         ++marked_;
     }
 
-    // Scans the lowest grey object, of which it doesn't look at the weak slots; false if there is none. No grey object
-    // starts below the finger.
-    bool scan_lowest() {
-        Address at = grey_.next(finger_);
-        if (at == nowhere) {
-            finger_ = heap_words_;
-            return false;
+    // Scans so many grey objects, or all there are, the lowest first; of none it looks at the weak slots. No grey object starts below the
+    // finger.
+    Number scan(Number units) {
+        for (Number scanned = 0; scanned != units; ++scanned) {
+            Address at = grey_.take(finger_);
+            if (at == nowhere) {
+                finger_ = heap_words_;
+                return scanned;
+            }
+            finger_ = at + 1;
+            Address end = at + 2 + pointer_count(words_[at]);
+            for (Address field = at + 2; field < end; ++field)
+                if (words_[field] != 0) mark_object(Address(words_[field] - 1));
         }
-        grey_.remove(at);
-        finger_ = at + 1;
-        Address end = at + 2 + pointer_count(words_[at]);
-        for (Address field = at + 2; field < end; ++field)
-            if (words_[field] != 0) mark_object(Address(words_[field] - 1));
-        return true;
+        return units;
     }
 
     // Notes an object that a pointer or a weak slot named, if it was there when marking began.
@@ -818,7 +871,8 @@ protected:
     std::vector<RememberedSet> remembered_;
     std::vector<Word> sources_;
 
-    Bitmap previous_marks_, next_marks_, grey_;
+    Bitmap previous_marks_, next_marks_;
+    GreySet grey_;
     Address finger_;
     bool marking_ = false;
     Number marked_ = 0;

@@ -31,7 +31,7 @@ public:
     Number registers() const { return sizes_.registers; }
     Number free_regions() const { return free_count_; }
     bool is_marking() const { return marking_; }
-    bool has_grey() const { return marking_ && grey_.next(finger_) != plain::nowhere; }
+    bool has_grey() { return marking_ && grey_.has_any(finger_); }
     Number queued() const { return queue_count_; }
     plain::Reply name(Number mutator, Number number) const { return named(root(mutator, number)); }
     const plain::Sizes& sizes() const { return sizes_; }
@@ -322,7 +322,7 @@ g1_answer g1_marking(const g1_heap* heap) {
 }
 
 g1_answer g1_grey(const g1_heap* heap) {
-    return number(heap, [](const Heap& plain) { return plain.has_grey(); });
+    return number(heap, [](Heap& plain) { return plain.has_grey(); });
 }
 
 g1_answer g1_queued(const g1_heap* heap) {
