@@ -4,4 +4,5 @@ use Rattle.mark_bitmap.proofs.summary.leave_levels.Goals as goal
 
 pub leave_blocks-requires-clause-others : goal.leave_blocks-requires-clause-others
 leave_blocks-requires-clause-others c =
-    leave_others (has c.args.groups.now) (has c.leave_groups.new.groups) c.args.blocks.now _ c.requires.block_summary c.leave_groups.ensures.others
+    leave_others (has c.args.groups.now) (has c.leave_groups.new.groups) c.args.blocks.now _ c.requires.block_summary
+    c.leave_groups.ensures.others

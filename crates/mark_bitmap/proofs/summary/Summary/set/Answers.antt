@@ -10,7 +10,8 @@ invariant_of-self c =
     let i = c.self.inside in
     let inside : c.args.number < length i.members = omega (arith, c.requires, ap length c.self.view_is) in
     rw c.set.ensures
-    (levels_more i.members i.groups i.blocks c.args.number inside (some_member _ _ c.lowest_member-lowest.result c.lowest_member-lowest.ensures
+    (levels_more i.members i.groups i.blocks c.args.number inside
+    (some_member _ _ c.lowest_member-lowest.result c.lowest_member-lowest.ensures
     (sym c.if-is_some.ensures))
     c.self.invariant)
 

@@ -10,7 +10,8 @@ insert-requires c = old_within c.args.table.now c.args.self.now c.args.at c.law.
 
 pub returns-then-not-insert-clause-stands : goal.returns-then-not-insert-clause-stands
 returns-then-not-insert-clause-stands c =
-    same_stands c.args.table.now c.args.self.now c.insert.new.self (c.insert.ensures.same (let was = c.if-not-insert.true in cc)) c.requires.stands
+    same_stands c.args.table.now c.args.self.now c.insert.new.self (c.insert.ensures.same (let was = c.if-not-insert.true in cc))
+    c.requires.stands
 
 pub returns-then-not-insert-clause-marks : goal.returns-then-not-insert-clause-marks
 returns-then-not-insert-clause-marks c =
@@ -25,19 +26,22 @@ object_size-size-requires c =
 
 pub add-requires-2-clause-known : goal.add-requires-2-clause-known
 add-requires-2-clause-known c =
-    let unmarked = was_unmarked c.args.self.now.bitmaps.next c.args.at c.insert.result c.insert.ensures.came (let came = c.if-not-insert.false in cc) in
+    let unmarked = was_unmarked c.args.self.now.bitmaps.next c.args.at c.insert.result c.insert.ensures.came
+    (let came = c.if-not-insert.false in cc) in
     (mark_fits c.args.table.now c.args.self.now c.args.at c.region_of.result c.object_size-size.result c.law.ensures c.requires.stands
     c.requires.below unmarked c.region_of.ensures c.object_size-size.ensures).0
 
 pub add-requires-2-clause-room : goal.add-requires-2-clause-room
 add-requires-2-clause-room c =
-    let unmarked = was_unmarked c.args.self.now.bitmaps.next c.args.at c.insert.result c.insert.ensures.came (let came = c.if-not-insert.false in cc) in
+    let unmarked = was_unmarked c.args.self.now.bitmaps.next c.args.at c.insert.result c.insert.ensures.came
+    (let came = c.if-not-insert.false in cc) in
     (mark_fits c.args.table.now c.args.self.now c.args.at c.region_of.result c.object_size-size.result c.law.ensures c.requires.stands
     c.requires.below unmarked c.region_of.ensures c.object_size-size.ensures).1
 
 pub returns-clause-stands : goal.returns-clause-stands
 returns-clause-stands c =
-    let unmarked = was_unmarked c.args.self.now.bitmaps.next c.args.at c.insert.result c.insert.ensures.came (let came = c.if-not-insert.false in cc) in
+    let unmarked = was_unmarked c.args.self.now.bitmaps.next c.args.at c.insert.result c.insert.ensures.came
+    (let came = c.if-not-insert.false in cc) in
     let finger = c.add.ensures.fingers c.args.self.now.bitmaps.next (sym c.requires.stands.scanned)
     (c.requires.stands.finger c.requires.running) in
     set_stands c.args.table.now c.args.self.now c.args.at c.insert.new.self c.add.new.self c.add-2.new.self c.region_of.result
@@ -63,7 +67,8 @@ pub add-requires-clause-unscanned : goal.add-requires-clause-unscanned
 add-requires-clause-unscanned c = elim (cases_Bool (is_marked c.args.self.now.grey.scanned c.args.at)) [
   | inl scanned ↦
       let marked = c.requires.stands.scanned_marked c.requires.running c.args.at scanned in
-      let unmarked = was_unmarked c.args.self.now.bitmaps.next c.args.at c.insert.result c.insert.ensures.came (let came = c.if-not-insert.false in cc) in
+      let unmarked = was_unmarked c.args.self.now.bitmaps.next c.args.at c.insert.result c.insert.ensures.came
+    (let came = c.if-not-insert.false in cc) in
       absurd cc
   | inr unscanned ↦ unscanned
 ]
