@@ -99,27 +99,30 @@ private:
     std::vector<Word> words_;
 };
 
-// The grey objects. The lowest one is found soon, however far away: a bit of each level above the first tells that a word of the level
-// below it has a bit, or had one.
+// The grey objects. The lowest one is found soon, however far away: where a word of a level has a bit, the level above has a bit for that
+// word, and it may have one where it had.
 class GreySet {
 public:
-    // A word more than its members need, so that a search may begin at the bound.
+    // Some words more than its members need, so that a search may begin at the bound.
     explicit GreySet(std::size_t bound) {
-        for (std::vector<Word>& level : levels_) level.resize(bound = bound / 64 + 1);
+        for (std::vector<Word>& level : levels_) level.resize((bound /= 64) + near + 1);
     }
     bool has(Number member) const { return levels_[0][member >> 6] >> (member & 63) & 1; }
     void add(Number member) {
         Number index = member >> 6;
-        Word& word = levels_[0][index];
-        if (word == 0 && (levels_[1][index >> 6] >> (index & 63) & 1) == 0) add_above(index);
-        word |= Word(1) << (member & 63);
+        if (levels_[0][index] == 0) {
+            if (levels_[1][index >> 6] == 0) add_above(index >> 6);
+            levels_[1][index >> 6] |= Word(1) << (index & 63);
+        }
+        levels_[0][index] |= Word(1) << (member & 63);
     }
     // Whether there is a member; none may be below `from`.
-    bool has_any(Number from) { return used_word(0, from >> 6) != nowhere; }
-    // Takes out the lowest member, where none is below `from`; nowhere if there is none.
+    bool has_any(Number from) { return used_word(from >> 6) != nowhere; }
+    // Takes out the lowest member, where none is below `from`; nowhere if there is none. Mostly it is near.
     Number take(Number from) {
-        Number index = from >> 6;
-        if (levels_[0][index] == 0 && (index = used_word(0, index)) == nowhere) return nowhere;
+        Number index = from >> 6, last = index + near;
+        while (levels_[0][index] == 0)
+            if (index++ == last && (index = used_word(last)) == nowhere) return nowhere;
         Word& word = levels_[0][index];
         Number member = Number(index << 6) + Number(__builtin_ctzll(word));
         word &= word - 1;
@@ -128,26 +131,26 @@ public:
 
 private:
     static constexpr int top = 3;
+    static constexpr Number near = 7;
 
     [[gnu::noinline]] void add_above(Number index) {
-        for (int level = 1; level <= top; ++level, index >>= 6) levels_[level][index >> 6] |= Word(1) << (index & 63);
+        for (int level = 2; level <= top; ++level, index >>= 6) levels_[level][index >> 6] |= Word(1) << (index & 63);
     }
 
-    // The lowest word of a level, from one on, that has a bit. Bits above that lead to none go.
-    [[gnu::noinline]] Number used_word(int level, Number index) {
-        const std::vector<Word>& words = levels_[level];
-        while (index < words.size() && words[index] == 0) {
-            if (level == top) {
-                ++index;
-                continue;
+    // The lowest word of the first level, from one on, that has a bit. Bits above that lead to none go.
+    [[gnu::noinline]] Number used_word(Number index) {
+        for (int level = 0;;) {
+            Word word = levels_[level][index];
+            if (word != 0) {
+                if (level-- == 0) return index;
+                index = Number(index << 6) + Number(__builtin_ctzll(word));
+            } else if (level == top) {
+                if (++index == levels_[top].size()) return nowhere;
+            } else {
+                levels_[++level][index >> 6] &= ~(Word(1) << (index & 63));
+                index >>= 6;
             }
-            std::vector<Word>& above = levels_[level + 1];
-            above[index >> 6] &= ~Word(1) << (index & 63);
-            Number found = used_word(level + 1, index >> 6);
-            if (found == nowhere) return nowhere;
-            index = Number(found << 6) + Number(__builtin_ctzll(above[found]));
         }
-        return index < words.size() ? index : nowhere;
     }
 
     std::vector<Word> levels_[top + 1];
@@ -703,7 +706,7 @@ protected:
         if (deletion_log_counts_[mutator] == deletion_log_length) take_deletion_log(mutator);
     }
 
-    void take_deletion_log(Number mutator) {
+    [[gnu::noinline]] void take_deletion_log(Number mutator) {
         for (Number place = 0; place < deletion_log_counts_[mutator]; ++place)
             mark_object(deletion_logs_[mutator * deletion_log_length + place]);
         deletion_log_counts_[mutator] = 0;
