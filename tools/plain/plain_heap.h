@@ -117,12 +117,12 @@ public:
         levels_[0][index] |= Word(1) << (member & 63);
     }
     // Whether there is a member; none may be below `from`.
-    bool has_any(Number from) { return used_word(from >> 6) != nowhere; }
+    bool has_any(Number from) { return levels_[0][from >> 6] != 0 || used_above(from >> 6) != nowhere; }
     // Takes out the lowest member, where none is below `from`; nowhere if there is none. Mostly it is near.
     Number take(Number from) {
         Number index = from >> 6, last = index + near;
         while (levels_[0][index] == 0)
-            if (index++ == last && (index = used_word(last)) == nowhere) return nowhere;
+            if (index++ == last && (index = used_above(last)) == nowhere) return nowhere;
         Word& word = levels_[0][index];
         Number member = Number(index << 6) + Number(__builtin_ctzll(word));
         word &= word - 1;
@@ -137,18 +137,19 @@ private:
         for (int level = 2; level <= top; ++level, index >>= 6) levels_[level][index >> 6] |= Word(1) << (index & 63);
     }
 
-    // The lowest word of the first level, from one on, that has a bit. Bits above that lead to none go.
-    [[gnu::noinline]] Number used_word(Number index) {
+    // The lowest word of the first level that has a bit and is above one that has none. On the way bits go that lead to none.
+    [[gnu::noinline]] Number used_above(Number index) {
         for (int level = 0;;) {
-            Word word = levels_[level][index];
-            if (word != 0) {
-                if (level-- == 0) return index;
-                index = Number(index << 6) + Number(__builtin_ctzll(word));
-            } else if (level == top) {
+            Word& word = levels_[level + 1][index >> 6];
+            if (levels_[level][index] == 0) word &= ~(Word(1) << (index & 63));
+            Word bits = word & ~Word(1) << (index & 63);
+            index >>= 6;
+            for (++level; level == top && bits == 0; bits = levels_[top][index])
                 if (++index == levels_[top].size()) return nowhere;
-            } else {
-                levels_[++level][index >> 6] &= ~(Word(1) << (index & 63));
-                index >>= 6;
+            while (bits != 0) {
+                index = Number(index << 6) + Number(__builtin_ctzll(bits));
+                bits = levels_[--level][index];
+                if (level == 0 && bits != 0) return index;
             }
         }
     }
