@@ -7,7 +7,7 @@ use Rattle.std.proofs.lemmas.Bool.{cases_lt, cases_eq, eq-eqb, ne_eqb, eqb-true,
 use Rattle.std.proofs.lemmas.List.{get_or_past, length-replicate, set-get_or}
 use Rattle.std.proofs.lemmas.Nat.{mul-add-lt, div-mul-add}
 use Rattle.std.proofs.Math.Nat.{pos_of_ne-zero}
-use Rattle.heap_words.specs.Bits.{has, is_between, is_passing}
+use Rattle.heap_words.specs.Bits.{has, is_between}
 use Rattle.heap_words.proofs.BitRanges.{between_yes, between_no_below, between_no_above, between_same}
 use Rattle.remembered_sets.specs.Sets.{CardFilter, IsFilter, lets_through, filter_with, taking, empty_filter, emptied_filter}
 use Rattle.remembered_sets.specs.Sets.{first_row, second_row, place_in}
@@ -65,6 +65,9 @@ filter_cases P f w card none some =
       | true ↦ λ e. none (eqb-true f.rows 0 e)
       | false ↦ λ e. some (pos_of_ne-zero (eqb-false f.rows 0 e))
     ] refl
+
+pub rows_with : (f : CardFilter) (w card : ℕ) → (filter_with f w card).rows ≡ f.rows
+rows_with f w card = filter_cases (λ g. g.rows ≡ f.rows) f w card (λ none. refl) (λ some. refl)
 
 -- ---- what every filter is
 pub IsFilter-with : (w : ℕ) (f : CardFilter) (card : ℕ) → IsFilter w f → IsFilter w (filter_with f w card)
@@ -171,18 +174,6 @@ place_in_group row region w q g card some e h low high =
     let near : card % 64 ≡ card - 64 * (region * q + g) = omega (arith, low, high) in
     (omega (arith, start, begin, whole', near, low), own)
 
--- where there are rows, the filter lets a card of the group through if both its places in the groups of its rows are taken
-pub lets_in_group : (f : CardFilter) (region w q g card : ℕ) → 0 < w → 0 < f.rows → w ≡ 64 * q → g < q → 64 * (region * q + g) ≤ card
-    → card < 64 * (region * q + g) + 64
-    → is_passing f.flags (first_row f.rows region * q + g) (second_row f.rows region * q + g) card ≡ lets_through f w card
-lets_in_group f region w q g card some rows e h low high =
-    let no : eqb f.rows 0 ≡ false = ne_eqb f.rows 0 (λ z. absurd (omega (arith, rows, z))) in
-    let (first, own) = place_in_group (first_row f.rows region) region w q g card some e h low high in
-    let (second, own') = place_in_group (second_row f.rows region) region w q g card some e h low high in
-    sym (ap (λ (b : Bool). b || both_taken f w card) no
-    ∙ ap (λ (r : ℕ). has f.flags (place_in (first_row f.rows r) w card) && has f.flags (place_in (second_row f.rows r) w card)) own
-    ∙ ap₂ (λ (x y : ℕ). has f.flags x && has f.flags y) first second)
-
 or_none : (b : Bool) → (b || false) ≡ b
 or_none true = refl
 or_none false = refl
@@ -209,13 +200,3 @@ one_more start upto next card old cur new member passing lets h e before after s
         (between_no_above start upto card from ∙ sym (between_no_above start next card (omega arith)))
   ]
 ]
-
--- the rows' numbers as they were computed
-pub rows_of : (f : CardFilter) (flags : List Bool) (rows region q g card first second : ℕ) → flags ≡ f.flags → rows ≡ f.rows
-    → first ≡ first_row rows region → second ≡ second_row rows region
-    → is_passing flags (first * q + g) (second * q + g) card
-    ≡ is_passing f.flags (first_row f.rows region * q + g) (second_row f.rows region * q + g) card
-rows_of f flags rows region q g card first second e r a b =
-    ap (λ (l : List Bool). is_passing l (first * q + g) (second * q + g) card) e
-    ∙ ap₂ (λ (x y : ℕ). is_passing f.flags (x * q + g) (y * q + g) card) (a ∙ ap (λ (n : ℕ). first_row n region) r)
-    (b ∙ ap (λ (n : ℕ). second_row n region) r)

@@ -1,5 +1,5 @@
 //! Flags for the cards that a set covers, a card alone and all cards of a region, but for cards that didn't enter a set, and for those that
-//! the set's filter holds back.
+//! the set's filter holds back, one of four in a table.
 //!
 //! ```text
 //!   2 cards a region    inline: 0, 9     sources: 3     entered: 0, 4, 6     no filter
@@ -11,6 +11,7 @@ ghost use Rattle.std.specs.Prelude.{◌≡◌, ◌==◌, ◌||◌, ◌&&◌, ◌
 ghost use Rattle.std.specs.List.{list_any};
 ghost use Rattle.heap_words.specs.Bits.{has};
 ghost use Rattle.remembered_sets.specs.Sets.{IsFilter, lets_through};
+ghost use Rattle.remembered_sets.specs.Sharing.{filter_at};
 
 use crate::filter::Filter;
 use heap_words::addr::Card;
@@ -18,16 +19,17 @@ use heap_words::bits::Bits;
 use heap_words::bounded::BoundedBits;
 use heap_words::powers::quotient;
 
-/// Whether a card entered a set, and the filter lets it through.
-fn is_passing(card: &u32, entered: &Bits, filter: &Filter, cards_per_region: u32) -> bool
+/// Whether a card entered a set, and the filter lets it through, one of four.
+fn is_passing(card: &u32, entered: &Bits, filter: &Filter, part: u32, cards_per_region: u32) -> bool
+    requires part { part < 4 }
     requires some_cards { 0 < cards_per_region }
-    requires filter { IsFilter cards_per_region filter.now }
+    requires filter { IsFilter cards_per_region (filter_at filter.now part) }
     requires known { card.now < length entered.now }
-    ensures { result ≡ (has entered.now card.now && lets_through filter.now cards_per_region card.now) }
+    ensures { result ≡ (has entered.now card.now && lets_through (filter_at filter.now part) cards_per_region card.now) }
 {
     if entered.get(*card) {
         let source = quotient(*card, cards_per_region);
-        return filter.lets_through(Card::new(*card), source, cards_per_region);
+        return filter.lets_through(part, Card::new(*card), source, cards_per_region);
     }
     false
 }
@@ -38,18 +40,20 @@ pub(crate) fn flag_each(
     cards: &[u32],
     entered: &Bits,
     filter: &Filter,
+    part: u32,
     cards_per_region: u32,
 )
+    requires part { part < 4 }
     requires some_cards { 0 < cards_per_region }
-    requires filter { IsFilter cards_per_region filter.now }
+    requires filter { IsFilter cards_per_region (filter_at filter.now part) }
     requires known { All (λ c. c < length flags.old) cards.now }
     requires even { length entered.now ≡ length flags.old }
-    ensures flags { (c : ℕ) → has flags.new c
-        ≡ (has flags.old c || (list_any (λ x. x == c) cards.now && (has entered.now c && lets_through filter.now cards_per_region c))) }
+    ensures flags { (c : ℕ) → has flags.new c ≡ (has flags.old c
+        || (list_any (λ x. x == c) cards.now && (has entered.now c && lets_through (filter_at filter.now part) cards_per_region c))) }
     ensures len { length flags.new ≡ length flags.old }
 {
     for card in cards {
-        if is_passing(card, entered, filter, cards_per_region) {
+        if is_passing(card, entered, filter, part, cards_per_region) {
             flags.set(*card);
         }
     }
@@ -62,20 +66,22 @@ pub(crate) fn flag_sources(
     sources: &Bits,
     entered: &Bits,
     filter: &Filter,
+    part: u32,
     cards_per_region: u32,
 )
+    requires part { part < 4 }
     requires some_cards { 0 < cards_per_region }
-    requires filter { IsFilter cards_per_region filter.now }
+    requires filter { IsFilter cards_per_region (filter_at filter.now part) }
     requires each { length flags.old ≡ length sources.now * cards_per_region }
     requires even { length entered.now ≡ length flags.old }
-    ensures flags { (c : ℕ) → has flags.new c ≡ (has flags.old c
-        || (has sources.now (c / cards_per_region) && (has entered.now c && lets_through filter.now cards_per_region c))) }
+    ensures flags { (c : ℕ) → has flags.new c ≡ (has flags.old c || (has sources.now (c / cards_per_region)
+        && (has entered.now c && lets_through (filter_at filter.now part) cards_per_region c))) }
     ensures len { length flags.new ≡ length flags.old }
 {
     flags.law();
     let mut start = 0;
     while let Some(source) = sources.next(start) {
-        filter.mark(source, cards_per_region, entered, flags);
+        filter.mark(part, source, cards_per_region, entered, flags);
         start = source + 1;
     }
 }

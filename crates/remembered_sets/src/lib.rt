@@ -24,7 +24,8 @@
 //!
 //! These are all cards that were added to any set. So that a pause of one region passes over those of other regions' sets, each set has a
 //! filter (`filter`), rows of flags that several regions' cards share: a card that is added takes two places, and one whose two places
-//! aren't both taken was never added to this set. In a large heap whose fields lead anywhere it holds back most of these cards.
+//! aren't both taken was never added to this set. In a large heap whose fields lead anywhere it holds back most of these cards. The filters
+//! of four neighbouring regions are in one table, so that making them asks for memory once.
 #![tactic(auto)]
 
 mod filter;

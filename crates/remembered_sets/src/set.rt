@@ -1,8 +1,9 @@
-//! One remembered set, that of one region: `RememberedSet`. `sets` has all of them.
+//! One remembered set, that of one region, without its filter: `RememberedSet`. `sets` has all of them.
 
 ghost use Rattle.std.specs.Prelude.{◌≡◌, ◌||◌, ◌&&◌, ◌<◌, ◌*◌, ◌/◌, ℕ, false, All, IfOk, Some, length, slice_get, slice_index_or};
 ghost use Rattle.heap_words.specs.Bits.{has};
-ghost use Rattle.remembered_sets.specs.Sets.{IsFilter, empty_set, emptied, lets_through, set_after, set_covers, set_with};
+ghost use Rattle.remembered_sets.specs.Sets.{IsFilter, empty_set, emptied, lets_through, set_covers, set_with};
+ghost use Rattle.remembered_sets.specs.Sharing.{filter_at};
 
 use crate::filter::Filter;
 use crate::flags::{flag_each, flag_sources};
@@ -16,12 +17,11 @@ use std::marker::Model;
 /// How many cards a set holds one by one.
 pub(crate) const INLINE: usize = 16;
 
-/// Cards, sixteen at most, a mark for each region whose cards are all in the set, and a filter for these. Clauses see the two lists and the
-/// filter.
+/// Cards, sixteen at most, and a mark for each region whose cards are all in the set. Clauses see the two lists, and a filter without
+/// rows: the set's own is in a table with its neighbours'.
 pub(crate) struct RememberedSet {
     inline: ShortList<INLINE>,
     sources: Bits,
-    filter: Filter,
 }
 
 impl Model for RememberedSet {
@@ -40,27 +40,19 @@ impl Drop for RememberedSet {
         let RememberedSet {
             inline: _,
             sources: _,
-            filter: _,
         } = self;
     }
 }
 
 impl RememberedSet {
-    /// The empty set, among so many regions, with so many rows of its filter's second kind. No call takes memory afterwards.
-    pub(crate) fn new(
-        alloc: Global,
-        regions: u32,
-        cards_per_region: u32,
-        rows: u32,
-    ) -> Result<RememberedSet, AllocError>
-        ensures { IfOk result (λ set. set ≡ empty_set regions cards_per_region rows) }
+    /// The empty set, among so many regions. No call takes memory afterwards.
+    pub(crate) fn new(alloc: Global, regions: u32) -> Result<RememberedSet, AllocError>
+        ensures { IfOk result (λ set. set ≡ empty_set regions 0 0) }
     {
         let sources = Bits::new(alloc, regions)?;
-        let filter = Filter::new(alloc, cards_per_region, rows)?;
         Ok(RememberedSet {
             inline: ShortList::new(),
             sources,
-            filter,
         })
     }
 
@@ -95,17 +87,13 @@ impl RememberedSet {
         self.sources.get(source)
     }
 
-    /// Adds a card that is in the region `source`: inline while there is room, else by a mark for its region. Where it is covered only
-    /// the filter may change, which lets it through then.
+    /// Adds a card that is in the region `source`: inline while there is room, else by a mark for its region. Where it is covered nothing
+    /// changes.
     #[inline(always)]
-    pub(crate) fn add(&mut self, card: Card, source: u32, cards_per_region: u32)
-        requires some_cards { 0 < cards_per_region }
-        requires source { card / cards_per_region ≡ source }
-        requires known { source < length self.old.sources }
-        requires filter { IsFilter cards_per_region self.old.filter }
-        ensures { self.new ≡ set_after self.old cards_per_region card }
+    pub(crate) fn add(&mut self, card: Card, source: u32)
+        requires { source < length self.old.sources }
+        ensures { self.new ≡ set_with self.old card source }
     {
-        self.filter.add(card, source, cards_per_region);
         if self.sources.get(source) {
             return;
         }
@@ -129,30 +117,41 @@ impl RememberedSet {
         }
     }
 
-    /// Flags the cards that the set covers, that are in `entered` and that the filter lets through, and leaves the other flags.
-    pub(crate) fn mark(&self, cards_per_region: u32, entered: &Bits, flags: &mut BoundedBits)
+    /// Flags the cards that the set covers, that are in `entered` and that the set's filter, one of four, lets through, and leaves the
+    /// other flags.
+    pub(crate) fn mark(
+        &self,
+        filter: &Filter,
+        part: u32,
+        cards_per_region: u32,
+        entered: &Bits,
+        flags: &mut BoundedBits,
+    )
+        requires part { part < 4 }
         requires some_cards { 0 < cards_per_region }
-        requires filter { IsFilter cards_per_region self.now.filter }
+        requires filter { IsFilter cards_per_region (filter_at filter.now part) }
         requires known { All (λ c. c < length flags.old) self.now.inline }
         requires each { length flags.old ≡ length self.now.sources * cards_per_region }
         requires even { length entered.now ≡ length flags.old }
         ensures flags { (c : ℕ) → has flags.new c
             ≡ (has flags.old c || (set_covers self.now c (c / cards_per_region)
-            && (has entered.now c && lets_through self.now.filter cards_per_region c))) }
+            && (has entered.now c && lets_through (filter_at filter.now part) cards_per_region c))) }
         ensures len { length flags.new ≡ length flags.old }
     {
         flag_each(
             flags,
             self.inline.as_slice(),
             entered,
-            &self.filter,
+            filter,
+            part,
             cards_per_region,
         );
         flag_sources(
             flags,
             &self.sources,
             entered,
-            &self.filter,
+            filter,
+            part,
             cards_per_region,
         );
     }
@@ -163,6 +162,5 @@ impl RememberedSet {
     {
         self.inline.clear();
         self.sources.clear();
-        self.filter.clear();
     }
 }

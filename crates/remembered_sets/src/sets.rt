@@ -1,15 +1,20 @@
-//! The remembered sets of all regions: `RememberedSets`, a `RememberedSet` of `set` for each, and beside them one flag for each card.
+//! The remembered sets of all regions: `RememberedSets`, a `RememberedSet` of `set` for each, beside them a `Filter` of `filter` for each
+//! four, and one flag for each card.
 //!
 //! ```text
 //!   region      0     1            2     3
 //!   inline      -     6 9 .. 40    0     -
 //!   sources     -     3            -     -        card c lies in region c / cards_per_region
 //!   entered     0     -            -     6 7      region 1 covers all cards of region 3, of which 6 and 7 alone entered a set
+//!   filters     ---- one table ----------         that of regions 0 to 3; the next four have one of theirs
 //! ```
 //!
 //! A set that marks a region whole covers cards in which no field ever led into it. `entered` has the cards that were added to a set,
 //! whichever it was, since the set of their own region was last emptied: a pause visits the cards of a marked region that are in it,
 //! and no others. A region's set is emptied when the region is freed, and no object in it is kept then.
+//!
+//! Each region has a filter of its own, and clauses see it as a part of the region's set. Four neighbours have theirs in one table, so that
+//! making them asks for memory once: what asks touches a page, and a heap may have thousands of regions.
 
 ghost use Rattle.std.specs.Prelude.{◌≡◌, ◌≢◌, ◌⊎◌, ◌||◌, ◌/◌, ◌%◌, ◌<◌};
 ghost use Rattle.std.specs.Prelude.{All, ℕ, false, true, IfOk, Some, length, slice_get, slice_index_or, List};
@@ -17,6 +22,7 @@ ghost use Rattle.heap_words.specs.Bits.{has};
 ghost use Rattle.remembered_sets.specs.Sets.{added, after_all, card_count, cleared, covers, empty_sets, may_lead, set_of};
 ghost use Rattle.remembered_sets.specs.Sets.{Change, AreSets, LeavesSet, Sets};
 
+use crate::filter::{Filter, SHARERS, add_to_filter, clear_filter, new_filters};
 use crate::set::RememberedSet;
 use heap_words::addr::{Card, RegionNo};
 use heap_words::bits::Bits;
@@ -25,10 +31,13 @@ use heap_words::powers::quotient;
 use std::alloc::{AllocError, Global};
 use std::marker::Model;
 
-/// A remembered set for each region, and the cards that entered one. Clauses see the list of the sets, how many cards a region has, and
-/// a flag for each card.
+/// A remembered set for each region, and the cards that entered one. Clauses see the list of the sets, each with its filter, how many
+/// cards a region has, and a flag for each card.
 pub struct RememberedSets {
     sets: Vec<RememberedSet>,
+    filters: Vec<Filter>,
+    /// Whether the filters have rows.
+    have_rows: bool,
     cards_per_region: u32,
     entered: Bits,
 }
@@ -50,6 +59,8 @@ impl Drop for RememberedSets {
     fn drop(self) {
         let RememberedSets {
             sets: _,
+            filters: _,
+            have_rows: _,
             cards_per_region: _,
             entered: _,
         } = self;
@@ -59,7 +70,7 @@ impl Drop for RememberedSets {
 impl RememberedSets {
     /// An empty set for each region, and no card that entered one. No call takes memory afterwards. It takes 16 cards and a bit for each
     /// region a set, a bit for each card, and `3 * rows` bits a card of a region for each set's filter, none where `rows` is 0; where the
-    /// cards or a filter's bits are 2 to the 32nd or more there is no memory for them.
+    /// cards or the bits of four filters are 2 to the 32nd or more there is no memory for them.
     pub fn new(
         alloc: Global,
         regions: u32,
@@ -74,12 +85,15 @@ impl RememberedSets {
             return Err(AllocError);
         };
         let entered = Bits::new(alloc, cards)?;
+        let filters = new_filters(alloc, regions, cards_per_region, rows)?;
         let mut sets = Vec::with_capacity(alloc, regions as usize)?;
         for _ in 0..regions {
-            sets.push(RememberedSet::new(alloc, regions, cards_per_region, rows)?)?;
+            sets.push(RememberedSet::new(alloc, regions)?)?;
         }
         Ok(RememberedSets {
             sets,
+            filters,
+            have_rows: rows != 0,
             cards_per_region,
             entered,
         })
@@ -156,8 +170,17 @@ impl RememberedSets {
         ensures leads { may_lead self.new region card ≡ true }
     {
         self.entered.set(card.number());
-        let set = &mut self.sets[region.number() as usize];
-        set.add(card, source.number(), self.cards_per_region);
+        let number = region.number();
+        add_to_filter(
+            &mut self.filters,
+            self.have_rows,
+            number,
+            card,
+            source.number(),
+            self.cards_per_region,
+        );
+        let set = &mut self.sets[number as usize];
+        set.add(card, source.number());
     }
 
     /// Flags the cards in which a field may lead into the region: those that its set covers, that entered a set and that the set's filter
@@ -169,19 +192,30 @@ impl RememberedSets {
         ensures flags { (c : ℕ) → has flags.new c ≡ (has flags.old c || may_lead self.now region c) }
         ensures len { length flags.new ≡ length flags.old }
     {
-        let set = &self.sets[region.number() as usize];
-        set.mark(self.cards_per_region, &self.entered, flags);
+        let number = region.number();
+        let set = &self.sets[number as usize];
+        let filter = &self.filters[(number / SHARERS) as usize];
+        set.mark(
+            filter,
+            number % SHARERS,
+            self.cards_per_region,
+            &self.entered,
+            flags,
+        );
     }
 
-    /// The region's set is empty, and none of the region's own cards has entered a set.
+    /// The region's set is empty, its filter too, and none of the region's own cards has entered a set. The other sets stay, and so do
+    /// their filters.
     pub fn clear(&mut self, region: RegionNo)
         requires { region < length self.old.sets }
         ensures { self.new ≡ cleared self.old region }
     {
         self.entered.law();
-        let from = region.number() * self.cards_per_region;
+        let number = region.number();
+        let from = number * self.cards_per_region;
         self.entered.clear_range(from, from + self.cards_per_region);
-        let set = &mut self.sets[region.number() as usize];
+        clear_filter(&mut self.filters, number);
+        let set = &mut self.sets[number as usize];
         set.clear();
     }
 }

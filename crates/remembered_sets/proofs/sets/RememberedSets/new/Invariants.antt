@@ -3,4 +3,4 @@ use Rattle.remembered_sets.specs.Sets.{empty_set}
 use Rattle.remembered_sets.proofs.sets.RememberedSets.new.Given as goal
 
 abbrev pub invariant-loop : goal.invariant-loop
-invariant-loop l = l.sets.items ≡ replicate l.counter (empty_set l.regions l.cards_per_region l.rows)
+invariant-loop l = l.sets.items ≡ replicate l.counter (empty_set l.regions 0 0)
