@@ -4,8 +4,9 @@ use Rattle.heap_words.specs.declared.config.Config.{Config}
 use Rattle.heap_words.specs.declared.config.NewFault.{NewFault}
 use Rattle.heap_words.specs.Configs.{Suits, IsNewFault, registers_of}
 use Rattle.heap_model.specs.Graph.{Graph, register_place}
-use Rattle.heap_steps.specs.Actors.{IsStep}
+use Rattle.heap_steps.specs.Actors.{IsOp, IsStep}
 use Rattle.object_graph.specs.State.{State, root_at, first_state}
+use Rattle.heap_steps.specs.declared.step.Op.{Op}
 use Rattle.heap_steps.specs.declared.step.Step.{Step}
 use Rattle.heap_steps.specs.declared.step.Reply.{Reply}
 use Rattle.heap_steps.specs.declared.step.Reply.TheVariants as replies
@@ -54,6 +55,10 @@ pub record TakesOrNot (tell : CoreState → CoreState → Reply → Answer) (c :
 abbrev pub Takes : (CoreState → CoreState → Reply → Answer) → Option CoreState → Step → Answer → Option CoreState → Type 0
 Takes tell None step answer after = Stays None no_heap answer after
 Takes tell (Some c) step answer after = TakesOrNot tell c step answer after
+
+-- a mutator's step that a heap has if and only if it has the mutator and the register of this number, above which the step names none
+abbrev pub IsUpTo : ℕ → Op → Type 0
+IsUpTo highest o = (c : Config) → IsOp c o ↔ ((o.mutator < c.mutators) × (highest < registers_of c))
 
 -- the numbers name no step
 abbrev pub TakesNone : Option CoreState → Answer → Option CoreState → Type 0

@@ -1,13 +1,15 @@
 //! A heap as C keeps it, and what each call does with it.
 
-ghost use Rattle.std.specs.Prelude.{◌≡◌, ◌↔◌, Some, None, IsTrue, true};
+ghost use Rattle.std.specs.Prelude.{◌≡◌, ◌↔◌, ◌<◌, Some, None, IsTrue, true};
+ghost use Rattle.heap_words.specs.Configs.{registers_of};
 ghost use Rattle.heap_steps.specs.Actors.{IsStep};
 ghost use Rattle.heap_steps.specs.declared.step.Step.TheVariants as steps;
 ghost use Rattle.heap_steps.specs.declared.step.CollectorStep.TheVariants as collector;
 ghost use Rattle.g1heap_c.specs.Held.{is_held};
-ghost use Rattle.g1heap_c.specs.Steps.{Steps, Takes, TakesNone, plain, scanned};
+ghost use Rattle.g1heap_c.specs.Numbers.{no_step, told};
+ghost use Rattle.g1heap_c.specs.Steps.{IsUpTo, Steps, Takes, TakesNone, plain, scanned};
 
-use crate::answer::{Answer, answer_of, counted, no_heap, no_step};
+use crate::answer::{Answer, answer_of, counted, no_heap, no_step, told};
 use crate::handle::Handle;
 use crate::loose::Loose;
 use heap_steps::{Action, CollectorStep, Op, Step, is_third};
@@ -74,6 +76,64 @@ pub(crate) fn take(heap: &mut Heap, step: Step) -> Answer
         return no_step();
     }
     perform(core, step)
+}
+
+/// Whether a heap has the mutator, and its mutators the register. Each heap has mutator 0, so where that is the number the first test is none.
+#[inline(always)]
+fn is_known(core: &Core, mutator: u32, register: u32) -> bool
+    ensures { IsTrue result ↔ (mutator < core.now.config.mutators) × (register < registers_of core.now.config) }
+{
+    let _config = core.config();
+    let places = core.roots().places();
+    (mutator == 0 || mutator < places.mutators()) && register < places.registers()
+}
+
+/// The code where numbers name no step, by a call. It reads the heap, which has regions, so that the compiler doesn't take the call for its
+/// number.
+#[cold]
+#[inline(never)]
+fn no_step_code(core: &Core) -> u32
+    ensures { told result 0 0 ≡ no_step }
+{
+    if core.config().regions == 0 { 33 } else { 32 }
+}
+
+/// The answer where numbers name no step. A call's number isn't made before the tests that lead here, where each step would pay for it. But
+/// where the step makes a call too, one more costs more than that.
+#[inline(always)]
+fn no_step_of(core: &Core, apart: bool) -> Answer
+    ensures { result ≡ no_step }
+{
+    if apart {
+        told(no_step_code(core), 0, 0)
+    } else {
+        no_step()
+    }
+}
+
+/// Does a mutator's step, if the heap has the mutator and the register `highest`, above which the step names none.
+#[inline(always)]
+fn take_known(core: &mut Core, op: Op, highest: u32, apart: bool) -> Answer
+    requires { IsUpTo highest op }
+    ensures { Takes plain (Some core.old) (steps.Mutator op) result (Some core.new) }
+{
+    if is_known(core, op.mutator, highest) {
+        perform(core, Step::Mutator(op))
+    } else {
+        no_step_of(core, apart)
+    }
+}
+
+/// The same in a heap, for the calls that programs make most. `apart` tells whether a call answers that there is no such step.
+#[inline(always)]
+pub(crate) fn take_up_to(heap: &mut Heap, op: Op, highest: u32, apart: bool) -> Answer
+    requires { IsUpTo highest op }
+    ensures { Takes plain heap.old.handle.core (steps.Mutator op) result heap.new.handle.core }
+{
+    if !heap.live {
+        return no_heap();
+    }
+    take_known(heap.handle.core_mut(), op, highest, apart)
 }
 
 /// The numbers name no step.

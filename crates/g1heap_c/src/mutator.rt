@@ -7,7 +7,7 @@ ghost use Rattle.g1heap_c.specs.Numbers.{by};
 ghost use Rattle.g1heap_c.specs.Steps.{Takes, TakesNone, plain};
 
 use crate::answer::Answer;
-use crate::heap::{Heap, take, take_none};
+use crate::heap::{Heap, take, take_none, take_up_to};
 use heap_steps::{Action, Counts, GlobalRoot, Op, Register, Step};
 
 #[inline(always)]
@@ -62,16 +62,14 @@ pub extern "C" fn g1_new_object(
     ensures { Takes plain heap.old.handle.core
         (by mutator (actions.New (spec.register to) (spec.counts pointers values))) result heap.new.handle.core }
 {
-    take(
-        heap,
-        by(
-            mutator,
-            Action::New {
-                to: register(to),
-                counts: counts(pointers, values),
-            },
-        ),
-    )
+    let op = Op {
+        mutator,
+        action: Action::New {
+            to: register(to),
+            counts: counts(pointers, values),
+        },
+    };
+    take_up_to(heap, op, to, false)
 }
 
 /// The same with weak slots, of which an object has at most 255.
@@ -110,17 +108,15 @@ pub extern "C" fn g1_get(heap: &mut Heap, mutator: u32, to: u32, object: u32, fi
     ensures { Takes plain heap.old.handle.core
         (by mutator (actions.Get (spec.register to) (spec.register object) field)) result heap.new.handle.core }
 {
-    take(
-        heap,
-        by(
-            mutator,
-            Action::Get {
-                to: register(to),
-                object: register(object),
-                field,
-            },
-        ),
-    )
+    let op = Op {
+        mutator,
+        action: Action::Get {
+            to: register(to),
+            object: register(object),
+            field,
+        },
+    };
+    take_up_to(heap, op, to.max(object), true)
 }
 
 /// A pointer of an object takes nil, or what a register holds: each has code of its own, so neither is tested again.
@@ -135,28 +131,28 @@ fn put(
     ensures { Takes plain heap.old.handle.core (by mutator (actions.Put object field value)) result heap.new.handle.core }
 {
     match value {
-        None => take(
-            heap,
-            by(
+        None => {
+            let op = Op {
                 mutator,
-                Action::Put {
+                action: Action::Put {
                     object,
                     field,
                     value: None,
                 },
-            ),
-        ),
-        Some(from) => take(
-            heap,
-            by(
+            };
+            take_up_to(heap, op, object.number, false)
+        }
+        Some(from) => {
+            let op = Op {
                 mutator,
-                Action::Put {
+                action: Action::Put {
                     object,
                     field,
                     value: Some(from),
                 },
-            ),
-        ),
+            };
+            take_up_to(heap, op, object.number.max(from.number), false)
+        }
     }
 }
 
@@ -180,16 +176,14 @@ pub extern "C" fn g1_put(
 pub extern "C" fn g1_read(heap: &mut Heap, mutator: u32, object: u32, field: u32) -> Answer
     ensures { Takes plain heap.old.handle.core (by mutator (actions.Read (spec.register object) field)) result heap.new.handle.core }
 {
-    take(
-        heap,
-        by(
-            mutator,
-            Action::Read {
-                object: register(object),
-                field,
-            },
-        ),
-    )
+    let op = Op {
+        mutator,
+        action: Action::Read {
+            object: register(object),
+            field,
+        },
+    };
+    take_up_to(heap, op, object, true)
 }
 
 /// A data word of the object that `object` names takes a value.
@@ -203,17 +197,15 @@ pub extern "C" fn g1_write(
 ) -> Answer
     ensures { Takes plain heap.old.handle.core (by mutator (actions.Write (spec.register object) field value)) result heap.new.handle.core }
 {
-    take(
-        heap,
-        by(
-            mutator,
-            Action::Write {
-                object: register(object),
-                field,
-                value,
-            },
-        ),
-    )
+    let op = Op {
+        mutator,
+        action: Action::Write {
+            object: register(object),
+            field,
+            value,
+        },
+    };
+    take_up_to(heap, op, object, true)
 }
 
 /// `to` takes what `from` holds.
@@ -222,16 +214,14 @@ pub extern "C" fn g1_move(heap: &mut Heap, mutator: u32, to: u32, from: u32) -> 
     ensures { Takes plain heap.old.handle.core
         (by mutator (actions.Move (spec.register to) (spec.register from))) result heap.new.handle.core }
 {
-    take(
-        heap,
-        by(
-            mutator,
-            Action::Move {
-                to: register(to),
-                from: register(from),
-            },
-        ),
-    )
+    let op = Op {
+        mutator,
+        action: Action::Move {
+            to: register(to),
+            from: register(from),
+        },
+    };
+    take_up_to(heap, op, to.max(from), true)
 }
 
 /// `to` becomes nil.

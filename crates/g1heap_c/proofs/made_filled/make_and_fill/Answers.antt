@@ -1,7 +1,7 @@
-use Rattle.std.proofs.Common.{length, refl, sym, subst}
+use Rattle.std.proofs.Common.{refl, subst}
 use Rattle.heap_steps.specs.declared.step.Op.{Op}
 use Rattle.collection.proofs.Took.{unseen_made}
-use Rattle.g1heap_c.specs.Policies.{Asks, asked}
+use Rattle.g1heap_c.specs.Policies.{Asks}
 use Rattle.std.specs.Prelude.{Some}
 use Rattle.g1heap_c.proofs.made_filled.make_and_fill.Goals as goal
 

@@ -1,5 +1,5 @@
-use Rattle.std.proofs.Common.{◌≡◌, ◌+◌, ◌∙◌, sym, ap, subst, arith}
-use Rattle.g1heap_c.proofs.FreeRuns.{IsSeen, one_free, one_used}
+use Rattle.std.proofs.Common.{arith}
+use Rattle.g1heap_c.proofs.FreeRuns.{one_free, one_used}
 use Rattle.g1heap_c.proofs.readers.longest_run.Goals as goal
 use Rattle.g1heap_c.proofs.readers.longest_run.Goals.{then-is_free, else-is_free}
 

@@ -1,4 +1,3 @@
-use Rattle.std.proofs.Common.{◌≤◌}
 use Rattle.g1heap_c.proofs.FreeRuns.{IsSeen}
 use Rattle.g1heap_c.proofs.readers.longest_run.Given as goal
 
