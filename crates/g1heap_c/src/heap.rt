@@ -78,7 +78,8 @@ pub(crate) fn take(heap: &mut Heap, step: Step) -> Answer
     perform(core, step)
 }
 
-/// Whether a heap has the mutator, and its mutators the register. Each heap has mutator 0, so where that is the number the first test is none.
+/// Whether a heap has the mutator, and its mutators the register. Each heap has mutator 0: a compiler that knows that number leaves the
+/// first test out.
 #[inline(always)]
 fn is_known(core: &Core, mutator: u32, register: u32) -> bool
     ensures { IsTrue result ↔ (mutator < core.now.config.mutators) × (register < registers_of core.now.config) }
@@ -88,8 +89,8 @@ fn is_known(core: &Core, mutator: u32, register: u32) -> bool
     (mutator == 0 || mutator < places.mutators()) && register < places.registers()
 }
 
-/// The code where numbers name no step, by a call. It reads the heap, which has regions, so that the compiler doesn't take the call for its
-/// number.
+/// The code where numbers name no step, by a call. Each heap has regions, so the other code is never told: it keeps the compiler from
+/// putting a number in the place of the call.
 #[cold]
 #[inline(never)]
 fn no_step_code(core: &Core) -> u32
