@@ -2,6 +2,7 @@
 
     tools/measure large [PROGRAM] [--runs 3] [--plain] [--instructions] [--only NAME ..]
     tools/measure large --library [--words 24 27 30] [--card 64] [--objects N] [--runs 3] [--plain] [--java]
+    tools/measure large --library --instructions [--words 24 27 30] [--card 64] [--objects N]
     tools/measure large --grey [--words 24 27 30]
 
 Each line has what a script does, the processor seconds of it in the smaller and in the larger heap (the best of some runs,
@@ -14,6 +15,9 @@ With --library it measures lib/libg1heap.a, by tools/measuring/large_costs.c, in
 done, the processor time of all of it and of a part, and what is resident then, the best of some runs. A size that wants more memory than
 the system has to give is left out, and a line says so. With --plain the plain heap behind the same header is beside it, and with --java
 OpenJDK's G1, if a JDK is there, on objects of the same shapes: the last lines say what is compared to what.
+
+With --instructions beside it callgrind counts those of an object that is marked, of a list and of a tree in order and in drawn order: what
+the processor waits for memory isn't in them.
 
 With --grey it measures, by tools/measuring/grey_costs.c, what marking costs an object where many are grey, at the top of such heaps.
 """
@@ -225,6 +229,21 @@ def measure_library(folder, words):
         print(large_java.ABOUT)
 
 
+def count_marking(folder, words):
+    """Prints the instructions of a marked object in each size. Callgrind counts each call of g1_mark by itself: large_costs.c makes two in
+    each of its first three cycles, and the first of these marks all."""
+    program = compile_large(folder, False)[OURS]
+    for size in words.words:
+        objects, out = words.objects or 1 << min(size - 6, 21), os.path.join(folder, f"calls{size}")
+        counting = ["valgrind", "--tool=callgrind", "--toggle-collect=g1_mark", "--dump-after=g1_mark", f"--callgrind-out-file={out}"]
+        numbers = [str(size), str(words.card), str(objects)]
+        subprocess.run([*counting, program, *numbers], check=True, stdout=subprocess.DEVNULL, stderr=subprocess.DEVNULL)
+        for call, shape in ((1, "a list"), (3, "a tree in order"), (5, "a tree in drawn order")):
+            with open(f"{out}.{call}", encoding="utf-8") as dump:
+                count = int(re.search(r"^totals: (\d+)", dump.read(), re.M)[1]) / objects
+            print(f"2^{size} words, {objects} objects of {shape}: {count:.1f} instructions an object marked", flush=True)
+
+
 def measure_grey(folder, words):
     """Prints a row of each size, of which all words are written."""
     program = os.path.join(folder, "grey_costs")
@@ -288,7 +307,9 @@ def main():
     parser.add_argument("--objects", type=int, help="objects of 16 words that are marked")
     words = parser.parse_args()
     with tempfile.TemporaryDirectory(prefix="measure_large.") as folder:
-        if words.library:
+        if words.library and words.instructions:
+            count_marking(folder, words)
+        elif words.library:
             measure_library(folder, words)
         if words.grey:
             measure_grey(folder, words)

@@ -35,7 +35,7 @@ pub(crate) fn update_roots(
     if regions == 0 {
         return;
     }
-    let end = roots.as_slice().len();
+    let end = roots.len();
     let mut place = 0;
     while place < end {
         let Some(target) = roots.get(place) else {

@@ -40,12 +40,12 @@ fn set_tops(tams: &mut Tams, table: &RegionTable)
 
 /// Whether a place names a marked object.
 #[inline(always)]
-fn names_marked(marks: &Marks, words: &[Ptr], place: usize) -> bool
-    requires known { place < length words.now }
-    requires marks { AreNamedBelow words.now place (length marks.now) }
-    ensures { IsTrue result ↔ NamesMarked marks.now words.now place }
+fn names_marked(marks: &Marks, roots: &Roots, place: usize) -> bool
+    requires known { place < length roots.now.words }
+    requires marks { AreNamedBelow roots.now.words place (length marks.now) }
+    ensures { IsTrue result ↔ NamesMarked marks.now roots.now.words place }
 {
-    let Some(at) = words[place] else {
+    let Some(at) = roots.get(place) else {
         return false;
     };
     marks.get(at)
@@ -54,12 +54,12 @@ fn names_marked(marks: &Marks, words: &[Ptr], place: usize) -> bool
 /// The first place from `from` on that doesn't name a marked object, be it nil, unmarked or after the last one. A place costs one look
 /// at a bit: the loop only reads, and is after a first look, so that the compiler keeps both pointers in registers.
 #[inline(always)]
-fn past_marked(marks: &Marks, words: &[Ptr], from: usize) -> usize
-    requires { AreNamedBelow words.now from (length marks.now) }
-    ensures { IsFirstUnmarked marks.now words.now from result }
+fn past_marked(marks: &Marks, roots: &Roots, from: usize) -> usize
+    requires { AreNamedBelow roots.now.words from (length marks.now) }
+    ensures { IsFirstUnmarked marks.now roots.now.words from result }
 {
     let mut place = from;
-    'places: while place < words.len() && names_marked(marks, words, place) {
+    'places: while place < roots.len() && names_marked(marks, roots, place) {
         place += 1;
     }
     place
@@ -120,15 +120,14 @@ impl Marker {
     {
         table.law();
         self.start(table);
-        let words = roots.as_slice();
         let mut from = 0;
         while let Some(place) = roots.next_named(from) {
-            if !names_marked(&self.bitmaps.next, words, place) {
+            if !names_marked(&self.bitmaps.next, roots, place) {
                 self.reach(table, roots.get(place));
                 from = place + 1;
                 continue;
             }
-            from = past_marked(&self.bitmaps.next, words, place);
+            from = past_marked(&self.bitmaps.next, roots, place);
         }
     }
 

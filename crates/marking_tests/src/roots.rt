@@ -41,7 +41,7 @@ fn finds_what_is_named(rt: HostRuntime) -> Result<(), Fail> {
     roots.set_register(1, 0, at(32));
     roots.set_register(1, 2, at(40));
     assert_named(&rt, &roots, &[1, 4, 5, 7]);
-    assert_eq!(rt; roots.as_slice().len(), 8);
+    assert_eq!(rt; roots.len(), 8);
     roots.leave(1, 1);
     assert_named(&rt, &roots, &[1, 4, 5]);
     roots.leave(0, 0);

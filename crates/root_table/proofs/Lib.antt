@@ -1,3 +1,3 @@
 pub mod Rows
 pub mod Nils
-pub mod RowFields
+pub mod Apart

@@ -74,7 +74,7 @@ left_bounded p words used row k b known less =
     let at : get_or (set used row k) row 0 ≡ k = get_or-set_same used row k 0 (omega (arith, known, b.rows)) in
     record {
       places = length-nils words first count ∙ b.places;
-      rows = length-set used row k ∙ b.rows;
+      rows = omega (arith, length-set used row k, b.rows);
       within = λ other low. elim (cases_eq other row) [
         | inl e ↦ subst (λ (r : ℕ). get_or (set used row k) r 0 ≤ row_length p r) (sym e) (omega (arith, at, less, most))
         | inr ne ↦ let same = get_or-set_other used row other k 0 ne in let was = b.within other low in omega (arith, same, was)

@@ -8,7 +8,7 @@ use Rattle.std.proofs.lemmas.Grind.{get_or_default_zero}
 use Rattle.std.proofs.lemmas.List.{get_or-replicate, length-replicate}
 use Rattle.heap_model.specs.Graph.{Places, root_places, register_place}
 use Rattle.root_table.specs.Roots.{row_start, row_length, AreNil, IsNextNamed}
-use Rattle.root_table.specs.Bounds.{AreBounded, AreStarts}
+use Rattle.root_table.specs.Bounds.{AreBounded}
 
 -- a row ends where the next one starts
 pub row_end : (p : Places) (row : ℕ) → row_start p row + row_length p row ≡ row_start p (suc row)
@@ -42,7 +42,7 @@ pub stored_bounded : (p : Places) (words : List (Option ℕ)) (used used' : List
     → AreBounded p (set words (row_start p row + k) v) used'
 stored_bounded p words used used' row k v b known inside len others more above most = record {
   places = length-set words (row_start p row + k) v ∙ b.places;
-  rows = len ∙ b.rows;
+  rows = omega (arith, len, b.rows);
   within = λ other low. elim (cases_eq other row) [
     | inl e ↦ subst (λ (r : ℕ). get_or used' r 0 ≤ row_length p r) (sym e) most
     | inr ne ↦ let was = b.within other low in let same = others other ne in omega (arith, was, same)
@@ -98,7 +98,7 @@ some_address (Some a) some = (a, refl)
 some_address None some = absurd (cc)
 
 -- all roots are nil, and each bound 0
-pub new_bounded : (p : Places) (used : List ℕ) → length used ≡ p.mutators + 1 → ((row : ℕ) → row ≤ p.mutators → get_or used row 0 ≡ 0)
+pub new_bounded : (p : Places) (used : List ℕ) → p.mutators < length used → ((row : ℕ) → row ≤ p.mutators → get_or used row 0 ≡ 0)
     → AreBounded p (replicate {A = Option ℕ} (root_places p) None) used
 new_bounded p used rows none = record {
   places = length-replicate {A = Option ℕ} (root_places p) None;
@@ -142,32 +142,30 @@ pub bound_read : (used : List ℕ) (row x : ℕ) → row < length used → x ≡
 bound_read used row x inside e = e ∙ get_or_default_zero used row x inside
 
 -- a row's bound lies among the places
-pub bound_within : (p : Places) (words : List (Option ℕ)) (used : List ℕ) (row x : ℕ) → AreBounded p words used → row < length used
+pub bound_within : (p : Places) (words : List (Option ℕ)) (used : List ℕ) (row x : ℕ) → AreBounded p words used → row ≤ p.mutators
     → x ≡ get_or used row x → row_start p row + x ≤ length words
-bound_within p words used row x b inside e =
-    let known : row ≤ p.mutators = omega (arith, inside, b.rows) in
-    let bound = bound_read used row x inside e in
+bound_within p words used row x b known e =
+    let bound = bound_read used row x (omega (arith, known, b.rows)) e in
     let most = b.within row known in
     let end = row_within p row known in
     omega (arith, most, end, bound, b.places)
 
 -- the same as `past_row`, as the code finds it
-pub past_read : (p : Places) (words : List (Option ℕ)) (used : List ℕ) (from row x from' : ℕ) → AreBounded p words used → row < length used
+pub past_read : (p : Places) (words : List (Option ℕ)) (used : List ℕ) (from row x from' : ℕ) → AreBounded p words used → row ≤ p.mutators
     → x ≡ get_or used row x → (from' ≤ from) ⊎ (from' ≤ row_start p row)
     → AreNil words from (row_start p row) → AreNil words from' (row_start p row + x) → AreNil words from (row_start p (row + 1))
-past_read p words used from row x from' b inside e which before here =
-    let known : row ≤ p.mutators = omega (arith, inside, b.rows) in
-    let bound = bound_read used row x inside e in
+past_read p words used from row x from' b known e which before here =
+    let bound = bound_read used row x (omega (arith, known, b.rows)) e in
     subst (λ (k : ℕ). AreNil words from (row_start p k)) {x = suc row} {y = row + 1} (omega arith)
     (past_row p words used from row b known before
     (λ place low start high. here place (elim which [ inl l ↦ omega (arith, l, low) | inr l ↦ omega (arith, l, start) ])
     (omega (arith, high, bound))))
 
 -- a row of which nothing is in use
-pub past_unused : (p : Places) (words : List (Option ℕ)) (used : List ℕ) (from row x : ℕ) → AreBounded p words used → row < length used
+pub past_unused : (p : Places) (words : List (Option ℕ)) (used : List ℕ) (from row x : ℕ) → AreBounded p words used → row ≤ p.mutators
     → x ≡ get_or used row x → x ≡ 0 → AreNil words from (row_start p row) → AreNil words from (row_start p (row + 1))
-past_unused p words used from row x b inside e none before =
-    past_read p words used from row x (row_start p row) b inside e (inr (omega arith)) before
+past_unused p words used from row x b known e none before =
+    past_read p words used from row x (row_start p row) b known e (inr (omega arith)) before
     (λ place low high. absurd (omega (arith, low, high, none)))
 
 -- what the code stores: a place of a row, whose bound n was read
@@ -207,15 +205,3 @@ register_kept p words used m k place n v b known inside at =
 -- a register's place is among the places
 pub register_within : (p : Places) (m k : ℕ) → m < p.mutators → k < p.registers → register_place p m k < root_places p
 register_within p m k known inside = let end = row_within p (suc m) (omega (arith, known)) in omega (arith, end, inside)
-
--- ---- the starts of rows
--- a start that was read
-pub start_read : (p : Places) (starts : List ℕ) (row x : ℕ) → AreStarts p starts → row < length starts → x ≡ get_or starts row x
-    → x ≡ row_start p row
-start_read p starts row x s inside e = bound_read starts row x inside e ∙ s.each row (omega (arith, inside, s.rows))
-
--- the same of a mutator's row, which the code writes as m + 1
-pub register_start : (p : Places) (starts : List ℕ) (m x : ℕ) → AreStarts p starts → m < p.mutators → x ≡ get_or starts (m + 1) x
-    → x ≡ register_place p m 0
-register_start p starts m x s known e =
-    start_read p starts (suc m) x s (omega (arith, known, s.rows)) (subst (λ (row : ℕ). x ≡ get_or starts row x) (sym (one_more m)) e)

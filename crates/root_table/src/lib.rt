@@ -1,6 +1,6 @@
 //! The roots of a heap: what its globals and its mutators' registers hold.
 //!
-//! Roots stand in places: the globals first, and behind them the registers of one mutator after another. How many there are of each is
+//! Roots are in places: the globals first, and after them the registers of one mutator after another. How many there are of each is
 //! the configuration's.
 //!
 //! ```text

@@ -1,47 +1,36 @@
 //! The table of roots.
 
 ghost use Rattle.std.specs.Prelude.{◌≡◌, ◌<◌, ◌≤◌, ◌+◌, ◌-◌, ◌^◌, ℕ};
-ghost use Rattle.std.specs.Prelude.{None, IfOk, IfSome, IsSome, length, map, MatchOption, replicate, slice_index, slice_index_or};
-ghost use Rattle.std.specs.Prelude.{slice_set};
+ghost use Rattle.std.specs.Prelude.{None, IfOk, IfSome, IsSome, length, MatchOption, replicate, slice_index_or, slice_set};
 ghost use Rattle.heap_model.specs.Graph.{register_place, root_places, with_nils};
-ghost use Rattle.root_table.specs.Roots.{row_start, AreNil, IsNextNamed};
-ghost use Rattle.root_table.specs.Bounds.{AreStarts, AreFew};
-ghost use Rattle.root_table.specs.Rows.{start_of, used_of};
+ghost use Rattle.root_table.specs.Roots.{AreNil, IsNextNamed};
 
 use crate::places::Places;
 use heap_words::addr::Ptr;
 use std::alloc::{AllocError, Global};
 use std::marker::Model;
 
-/// A row of roots: the globals, or a mutator's registers.
-#[derive(Clone, Copy)]
-pub(crate) struct Row {
-    /// Where it starts, so that a register's place is a look and a sum, and no product. Places are below 2 to the 32nd, so the sum needs no
-    /// wider numbers.
-    pub(crate) start: u32,
-    /// A number from which on its roots are nil.
-    pub(crate) used: u32,
-}
-
-/// What each root place holds: nil, or the address of an object.
+/// What each root place holds: nil, or the address of an object. Globals and registers are apart, so that the place of mutator 0's register
+/// among the registers is its number. There is a bound for the globals and one for each of 64 mutators, in the table itself, so that no
+/// pointer is followed to one.
 pub struct Roots {
     places: Places,
-    words: Vec<Ptr>,
-    rows: Vec<Row>,
+    globals: Vec<Ptr>,
+    registers: Vec<Ptr>,
+    /// From this number on a row's roots are nil: row 0 is the globals, and the row of a mutator's registers is its number and one.
+    used: [u32; 65],
 }
 
 impl Model for Roots {
+    ghost use Rattle.std.specs.Prelude.{◌++◌};
     ghost use Rattle.root_table.specs.Roots.{RootTable};
-    ghost use Rattle.std.specs.Prelude.{map};
-    ghost use Rattle.root_table.specs.Bounds.{AreBounded, AreStarts, AreFew};
-    ghost use Rattle.root_table.specs.Rows.{start_of, used_of};
+    ghost use Rattle.root_table.specs.Bounds.{IsTable};
 
     ghost Value = { RootTable };
 
-    ghost view = { λ r. record { places = r.places; words = r.words.items } };
+    ghost view = { λ r. record { places = r.places; words = r.globals.items ++ r.registers.items } };
 
-    ghost invariant = { λ r. AreBounded r.places r.words.items (map used_of r.rows.items)
-        × AreStarts r.places (map start_of r.rows.items) × AreFew r.places };
+    ghost invariant = { λ r. IsTable r.places r.globals.items r.registers.items r.used };
 }
 
 /// Where it is let go there is one call, and not a drop for each of its parts.
@@ -49,25 +38,11 @@ impl Drop for Roots {
     fn drop(self) {
         let Roots {
             places: _,
-            words: _,
-            rows: _,
+            globals: _,
+            registers: _,
+            used: _,
         } = self;
     }
-}
-
-/// The lowest place from `from` on, below `to`, that doesn't hold nil.
-fn first_named(words: &[Ptr], from: usize, to: usize) -> Option<usize>
-    requires { to ≤ length words.now }
-    ensures lowest { MatchOption result (AreNil words.now from to) (IsNextNamed words.now from) }
-    ensures below { IfSome result (λ place. place < to) }
-{
-    for place in from..to {
-        let Some(_) = words[place] else {
-            continue;
-        };
-        return Some(place);
-    }
-    None
 }
 
 /// So many places from `first` on hold nil.
@@ -80,36 +55,28 @@ fn fill_nil(words: &mut [Ptr], first: usize, count: usize)
     }
 }
 
-/// Writes where each row starts, and that nothing of it is in use.
-fn fill_rows(rows: &mut [Row], places: Places)
-    requires rows { length rows.old ≡ places.mutators + 1 }
-    requires few { AreFew places }
-    ensures starts { AreStarts places (map start_of rows.new) }
-    ensures unused { (row : ℕ) → row ≤ places.mutators → slice_index (map used_of rows.new) row ≡ 0 }
+/// Bounds of rows of which nothing is in use.
+fn none_used() -> [u32; 65]
+    ensures { result ≡ replicate 65 0 }
 {
-    for row in 0..rows.len() {
-        rows[row] = Row {
-            start: places.start_of(row) as u32,
-            used: 0,
-        };
-    }
+    [0; 65]
 }
 
 impl Roots {
-    /// All roots nil. There is no memory for 2 to the 32nd places or more.
+    /// All roots nil. There is no memory for 2 to the 32nd places or more, nor for more than 64 mutators.
     pub fn new(alloc: Global, places: Places) -> Result<Roots, AllocError>
         ensures { IfOk result (λ r. r ≡ record { places = places; words = replicate (root_places places) None }) }
     {
         let count = places.count();
-        if count > u32::MAX as usize {
+        if count > u32::MAX as usize || places.mutators() > 64 {
             return Err(AllocError);
         }
-        let mut rows = vec![in alloc; Row { start: 0, used: 0 }; places.mutators() as usize + 1]?;
-        fill_rows(&mut rows, places);
+        let globals = places.globals() as usize;
         Ok(Roots {
             places,
-            words: vec![in alloc; None; count]?,
-            rows,
+            globals: vec![in alloc; None; globals]?,
+            registers: vec![in alloc; None; count - globals]?,
+            used: none_used(),
         })
     }
 
@@ -121,22 +88,12 @@ impl Roots {
         self.places
     }
 
-    /// What each place holds, in order.
-    pub fn as_slice(&self) -> &[Ptr]
-        ensures words { result.now ≡ self.now.words }
-        ensures count { length result.now ≡ root_places self.now.places }
-    {
-        self.words.as_slice()
-    }
-
-    /// The place of a mutator's register.
+    /// How many places there are.
     #[inline(always)]
-    pub fn place_of(&self, mutator: u32, register: u32) -> usize
-        requires mutator { mutator < self.now.places.mutators }
-        requires register { register < self.now.places.registers }
-        ensures { result ≡ register_place self.now.places mutator register }
+    pub fn len(&self) -> usize
+        ensures { result ≡ length self.now.words }
     {
-        (self.rows[mutator as usize + 1].start + register) as usize
+        self.globals.len() + self.registers.len()
     }
 
     /// What a place holds.
@@ -145,7 +102,32 @@ impl Roots {
         requires { place < length self.now.words }
         ensures { result ≡ slice_index_or self.now.words place None }
     {
-        self.words[place]
+        let globals = self.globals.len();
+        if place < globals {
+            self.globals[place]
+        } else {
+            self.registers[place - globals]
+        }
+    }
+
+    /// The place of a mutator's register among the registers. Places are below 2 to the 32nd, so it needs no wider numbers.
+    #[inline(always)]
+    fn among_registers(&self, mutator: u32, register: u32) -> usize
+        requires mutator { mutator < self.now.places.mutators }
+        requires register { register < self.now.places.registers }
+        ensures { self.now.places.globals + result ≡ register_place self.now.places mutator register }
+    {
+        (self.places.registers() * mutator + register) as usize
+    }
+
+    /// What a mutator's register holds.
+    #[inline(always)]
+    pub fn register(&self, mutator: u32, register: u32) -> Ptr
+        requires mutator { mutator < self.now.places.mutators }
+        requires register { register < self.now.places.registers }
+        ensures { result ≡ slice_index_or self.now.words (register_place self.now.places mutator register) None }
+    {
+        self.registers[self.among_registers(mutator, register)]
     }
 
     /// A mutator's register takes a value.
@@ -155,11 +137,10 @@ impl Roots {
         requires register { register < self.old.places.registers }
         ensures { self.new ≡ record self.old { words = slice_set self.old.words (register_place self.old.places mutator register) value } }
     {
-        let place = self.place_of(mutator, register);
-        let row = &mut self.rows[mutator as usize + 1];
-        self.words[place] = value;
-        if row.used <= register {
-            row.used = register + 1;
+        let at = self.among_registers(mutator, register);
+        self.registers[at] = value;
+        if self.used[mutator as usize + 1] <= register {
+            self.used[mutator as usize + 1] = register + 1;
         }
     }
 
@@ -168,9 +149,9 @@ impl Roots {
         requires { global < self.old.places.globals }
         ensures { self.new ≡ record self.old { words = slice_set self.old.words global value } }
     {
-        self.words[global as usize] = value;
-        if self.rows[0].used <= global {
-            self.rows[0].used = global + 1;
+        self.globals[global as usize] = value;
+        if self.used[0] <= global {
+            self.used[0] = global + 1;
         }
     }
 
@@ -179,7 +160,12 @@ impl Roots {
         requires { IsSome (slice_index_or self.old.words place None) }
         ensures { self.new ≡ record self.old { words = slice_set self.old.words place value } }
     {
-        self.words[place] = value;
+        let globals = self.globals.len();
+        if place < globals {
+            self.globals[place] = value;
+        } else {
+            self.registers[place - globals] = value;
+        }
     }
 
     /// A mutator's registers from `register` on are nil. It costs those below their bound.
@@ -192,13 +178,13 @@ impl Roots {
         } }
     {
         let row = mutator as usize + 1;
-        let used = self.rows[row].used;
+        let used = self.used[row];
         if used <= register {
             return;
         }
-        let first = self.place_of(mutator, register);
-        self.rows[row].used = register;
-        fill_nil(&mut self.words, first, (used - register) as usize);
+        let first = self.among_registers(mutator, register);
+        self.used[row] = register;
+        fill_nil(&mut self.registers, first, (used - register) as usize);
     }
 
     /// The lowest place from `from` on that doesn't hold nil. It looks at no place above its row's bound. Where `from` itself holds
@@ -209,10 +195,10 @@ impl Roots {
         ensures within { IfSome result (λ place. place < length self.now.words) }
         ensures small { IfSome result (λ place. place + 1 < 2 ^ 64) }
     {
-        if self.words.len() <= from {
+        if self.len() <= from {
             return None;
         }
-        match self.words[from] {
+        match self.get(from) {
             Some(_) => Some(from),
             None => self.next_in_rows(from),
         }
@@ -226,14 +212,29 @@ impl Roots {
         ensures within { IfSome result (λ place. place < length self.now.words) }
         ensures small { IfSome result (λ place. place + 1 < 2 ^ 64) }
     {
-        for row in self.places.row_of(from)..self.rows.len() {
-            let used = self.rows[row].used;
+        for row in self.places.row_of(from)..self.places.mutators() as usize + 1 {
+            let used = self.used[row];
             if used == 0 {
                 continue;
             }
-            let start = self.rows[row].start as usize;
+            let start = self.places.start_of(row);
             let end = start + used as usize;
-            let Some(place) = first_named(&self.words, from.max(start), end) else {
+            let Some(place) = self.first_named(from.max(start), end) else {
+                continue;
+            };
+            return Some(place);
+        }
+        None
+    }
+
+    /// The lowest place from `from` on, below `to`, that doesn't hold nil.
+    fn first_named(&self, from: usize, to: usize) -> Option<usize>
+        requires { to ≤ length self.now.words }
+        ensures lowest { MatchOption result (AreNil self.now.words from to) (IsNextNamed self.now.words from) }
+        ensures below { IfSome result (λ place. place < to) }
+    {
+        for place in from..to {
+            let Some(_) = self.get(place) else {
                 continue;
             };
             return Some(place);

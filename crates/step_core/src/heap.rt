@@ -260,8 +260,7 @@ impl Core {
         ensures shows { (g : Graph) → ShowsGraph g self.now
             → IsShown (heap_of self.now) result (root_at g (register_place g.places mutator register.number)) }
     {
-        let place = self.roots.place_of(mutator, register.number);
-        self.root(place)
+        self.roots.register(mutator, register.number)
     }
 
     pub(crate) fn set_register(&mut self, mutator: u32, register: Register, value: Ptr)

@@ -89,6 +89,19 @@ root_facts k c place w e core less r =
       shows = λ g s. (root_shown g c place w s within is).shown;
     }
 
+-- the same of a register, at the place that the code has
+pub register_facts : (k c : CoreState) (m r : ℕ) (w : Option ℕ) → k ≡ c → IsCore k → m < c.config.mutators → r < registers_of c.config
+    → w ≡ get_or k.roots (register_place k.places m r) None → RootFacts c (register_place (places_of c.config) m r) w
+register_facts k c m r w e core known inside is =
+    root_facts k c (register_place (places_of c.config) m r) w e core (register_inside c.config m r known inside)
+    (is ∙ ap (λ (place : ℕ). get_or k.roots place None) (register_at k c e core m r))
+
+-- and of what the graph has there
+pub register_shown : (c : CoreState) (m r : ℕ) (w : Option ℕ) → RootFacts c (register_place (places_of c.config) m r) w
+    → (g : Graph) → ShowsGraph g c → IsShown (heap_of c) w (root_at g (register_place g.places m r))
+register_shown c m r w facts g s =
+    subst (λ (p : Places). IsShown (heap_of c) w (root_at g (register_place p m r))) (sym s.places) (facts.shows g s)
+
 -- a root word is set
 module _ (k c : CoreState) (place : ℕ) (w : Option ℕ) (e : k ≡ c) where
   pub root_after : (g : Graph) (v : Option ℕ) → ShowsGraph g c → IsShown (heap_of c) w v

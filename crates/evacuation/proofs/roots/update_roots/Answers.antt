@@ -68,7 +68,6 @@ loop-place-preserved g c =
 pub returns-clause-moved : goal.returns-clause-moved
 returns-clause-moved g c =
     let (premises, (turn, (flags, (start, none)))) = c.requires in
-    let end = ap length c.as_slice-end.ensures.words in
     roots_all (place_after (in_set g.pause) (space g.pause c.loop-place.table).forward) g.pause.roots c.loop-place.roots.words
     c.loop-place.place c.loop-place.invariant.roots
-    (omega (arith, c.loop-place-test.false, c.loop-place.invariant.roots.count, ap length start, end))
+    (omega (arith, c.loop-place-test.false, c.loop-place.invariant.roots.count, ap length start, c.len-end.ensures))

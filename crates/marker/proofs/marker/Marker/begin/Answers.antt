@@ -1,10 +1,9 @@
-use Rattle.std.proofs.Common.{◌∙◌, ℕ, List, Option, Some, ap, sym, subst}
+use Rattle.std.proofs.Common.{◌∙◌, Some, ap, sym, subst}
 use Rattle.heap_model.specs.Heap.{Heap, Shows}
 use Rattle.heap_model.proofs.Begin.{begins}
 use Rattle.satb_log.specs.Logs.{logged}
 use Rattle.marker.specs.Views.{heap_of, marking_of}
 use Rattle.marker.proofs.Views.{previous_heap, same_heap, kept_before, same_kept}
-use Rattle.marker.specs.Roots.{IsFirstUnmarked}
 use Rattle.marker.proofs.Reached.{among_next, named_word}
 use Rattle.marker.proofs.Passed.{named_below, among_passed}
 use Rattle.marker.proofs.Begun.{rest_begun}
@@ -13,12 +12,10 @@ use Rattle.marker.proofs.marker.Marker.begin.Goals as goal
 pub names_marked-requires-clause-marks : goal.names_marked-requires-clause-marks
 names_marked-requires-clause-marks c =
     let s = c.start.ensures in
-    rw c.as_slice-words.ensures.words (
     named_below c.args.table.now c.args.roots.now.words c.in-Some.place c.loop-place.self c.law.ensures c.loop-place.invariant.stands
     (λ j a is. same_kept c.args.table.now c.start.new.self c.loop-place.self a c.loop-place.invariant.same
     (kept_before c.args.table.now c.args.roots.now.words c.args.self.now c.start.new.self a s.previous_tops s.previous_marks
     (c.requires.closed.root j a is)))
-    )
 
 pub reach-requires-clause-kept : goal.reach-requires-clause-kept
 reach-requires-clause-kept c = λ a e _.
@@ -39,21 +36,15 @@ loop-place-preserved-then-not-names_marked c =
 pub past_marked-from-requires : goal.past_marked-from-requires
 past_marked-from-requires c =
     let s = c.start.ensures in
-    rw c.as_slice-words.ensures.words (
     named_below c.args.table.now c.args.roots.now.words c.in-Some.place c.loop-place.self c.law.ensures c.loop-place.invariant.stands
     (λ j a is. same_kept c.args.table.now c.start.new.self c.loop-place.self a c.loop-place.invariant.same
     (kept_before c.args.table.now c.args.roots.now.words c.args.self.now c.start.new.self a s.previous_tops s.previous_marks
     (c.requires.closed.root j a is)))
-    )
 
 pub loop-place-preserved : goal.loop-place-preserved
 loop-place-preserved c =
-    let first : IsFirstUnmarked c.loop-place.self.bitmaps.next c.args.roots.now.words c.in-Some.place c.past_marked-from.result =
-    subst (λ (words : List (Option ℕ)).
-    IsFirstUnmarked c.loop-place.self.bitmaps.next words c.in-Some.place c.past_marked-from.result)
-    c.as_slice-words.ensures.words c.past_marked-from.ensures in
     among_passed c.args.table.now c.args.roots.now.words c.loop-place.from c.in-Some.place c.past_marked-from.result
-    c.start.new.self c.loop-place.self c.in-Some.ensures.lowest first c.loop-place.invariant
+    c.start.new.self c.loop-place.self c.in-Some.ensures.lowest c.past_marked-from.ensures c.loop-place.invariant
 
 pub returns-clause-begins : goal.returns-clause-begins
 returns-clause-begins c =
