@@ -16,7 +16,7 @@ use Rattle.mark_bitmap.specs.Tops.{Tops, below_next}
 use Rattle.mark_bitmap.specs.Kept.{MarksObjects, kept_in}
 use Rattle.mark_bitmap.specs.Live.{live_bound_of}
 use Rattle.cards.specs.Cards.{Cards, is_dirty}
-use Rattle.heap_words.specs.Bits.{has}
+use Rattle.bit_sets.specs.Bits.{has}
 use Rattle.remembered_sets.specs.Sets.{Sets, card_count, may_lead, emptied, set_of}
 use Rattle.refinement.specs.Remembering.{Remembers, field_card, field_word}
 use Rattle.refinement.specs.Refining.{SetsFit}

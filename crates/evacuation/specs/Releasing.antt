@@ -1,7 +1,7 @@
 -- What releasing the chosen regions changes.
 use Rattle.std.specs.Prelude.{◌≡◌, ℕ, ◌/◌, true, false, List, length, if◌then◌else◌}
 use Rattle.regions.specs.Table.{Table, Free, nth_region, EachForwardedIn}
-use Rattle.heap_words.specs.Bits.{has}
+use Rattle.bit_sets.specs.Bits.{has}
 use Rattle.remembered_sets.specs.Sets.{Sets, emptied, set_of}
 use Rattle.region_choice.specs.declared.LiveRow.{LiveRow}
 use Rattle.evacuation.specs.Evacuates.{is_chosen}

@@ -5,8 +5,8 @@ ghost use Rattle.evacuation.specs.Space.{IsObject, IsObjectSettled, IsRegionSett
 ghost use Rattle.evacuation.specs.Turns.{Pause, IsPause, IsTurn, After, EachCard, in_set, layout, space};
 
 use crate::fields::settle_field;
+use bit_sets::bounded::BoundedBits;
 use heap_words::addr::{Addr, RegionNo};
-use heap_words::bounded::BoundedBits;
 use object_copy::Destinations;
 use regions::RegionTable;
 

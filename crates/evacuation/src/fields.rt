@@ -7,8 +7,8 @@ ghost use Rattle.refinement.specs.Remembering.{field_word};
 ghost use Rattle.evacuation.specs.Space.{IsField, IsNamed, IsNewWord, IsFieldClean, IsFieldSettled, IsTaken, NotesWord};
 ghost use Rattle.evacuation.specs.Turns.{Pause, IsPause, IsTurn, After, EachCard, in_set, layout, plan, space, kept_now};
 
+use bit_sets::bounded::BoundedBits;
 use heap_words::addr::{Addr, Ptr, RegionNo};
-use heap_words::bounded::BoundedBits;
 use heap_words::powers::quotient;
 use object_copy::{Destinations, copy};
 use regions::RegionTable;

@@ -13,8 +13,8 @@ ghost use Rattle.evacuation.specs.Turns.{Pause, IsPause, IsTurn, After, EachCard
 ghost use Rattle.evacuation.specs.Cursors.{AreCardsFieldsClean, IsCardClean};
 
 use crate::fields::{is_inside, update_field};
+use bit_sets::bounded::BoundedBits;
 use heap_words::addr::{Addr, RegionNo};
-use heap_words::bounded::BoundedBits;
 use mark_bitmap::marks::Marks;
 use mark_bitmap::tams::Tams;
 use object_copy::Destinations;

@@ -16,9 +16,9 @@ ghost use Rattle.cards.specs.Cards.{is_dirty};
 ghost use Rattle.evacuation.specs.Evacuates.{is_chosen};
 ghost use Rattle.evacuation.specs.Space.{flag};
 
+use bit_sets::bounded::BoundedBits;
 use cards::CardTable;
 use heap_words::addr::Card;
-use heap_words::bounded::BoundedBits;
 use object_copy::Destinations;
 use region_choice::LiveRow;
 use std::alloc::{AllocError, Global};

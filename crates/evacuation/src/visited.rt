@@ -9,8 +9,8 @@ ghost use Rattle.regions.specs.declared.row.Kind.TheVariants as kinds;
 ghost use Rattle.refinement.specs.Refining.{SetsFit};
 ghost use Rattle.evacuation.specs.Space.{flag};
 
+use bit_sets::bounded::BoundedBits;
 use heap_words::addr::RegionNo;
-use heap_words::bounded::BoundedBits;
 use heap_words::powers::quotient;
 use region_choice::LiveRow;
 use regions::{Kind, RegionTable};

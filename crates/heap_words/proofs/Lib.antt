@@ -1,10 +1,3 @@
 pub mod Codec
 pub mod Blocks
-pub mod BitWords
-pub mod Written
-pub mod LowestBits
-pub mod BitRanges
-pub mod Bounds
 pub mod Limits
-pub mod BitUnions
-pub mod BitFilters

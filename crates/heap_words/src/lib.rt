@@ -1,5 +1,4 @@
-//! The words of a heap: addresses, headers, pointers, the sizes that a heap can have, all access to words, sets of
-//! numbers as bits, and short lists.
+//! The words of a heap: addresses, headers, pointers, the sizes that a heap can have, all access to words, and short lists.
 //!
 //! A word is a `u64`, and addresses count words from 0. What is at an address begins with a header word: an
 //! object's header says how many pointers, weak slots and data words it has, a filler's how many words it takes, and one
@@ -9,12 +8,8 @@
 #![tactic(auto)]
 
 pub mod addr;
-pub mod bits;
-pub mod bounded;
 pub mod config;
-mod groups;
 pub mod header;
 pub mod powers;
 pub mod short_list;
-pub mod small_bits;
 pub mod words;

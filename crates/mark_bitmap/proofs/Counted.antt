@@ -4,8 +4,8 @@ use Rattle.std.proofs.Common.{inl, inr, sym, ap, ◌∙◌, arith, length-set}
 use Rattle.std.proofs.lemmas.Bool.{cases_Bool, cases_lt}
 use Rattle.std.proofs.lemmas.List.{ext_get_or, get_or-replicate, length-replicate, set-get_or}
 use Rattle.std.proofs.lemmas.List.Sums.{sum_by-set, count_by-le-length}
-use Rattle.heap_words.specs.Bits.{has, HasNone}
-use Rattle.heap_words.proofs.BitWords.{has_past}
+use Rattle.bit_sets.specs.Bits.{has, HasNone}
+use Rattle.bit_sets.proofs.BitWords.{has_past}
 use Rattle.mark_bitmap.specs.Marks.{marked_count}
 use Rattle.mark_bitmap.proofs.Counts.{marked_count-set}
 

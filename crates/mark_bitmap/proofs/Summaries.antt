@@ -5,8 +5,8 @@ use Rattle.std.proofs.Common.{None, get_or-set_same, get_or-set_other, length-se
 use Rattle.std.specs.Prelude.{MatchOption, IfSome, IsSome}
 use Rattle.std.proofs.lemmas.Bool.{cases_eq, cases_lt}
 use Rattle.std.proofs.lemmas.List.{get_or-replicate, length-replicate}
-use Rattle.heap_words.specs.Bits.{has, HasNone, HasNoneBelow, IsLowest}
-use Rattle.heap_words.proofs.BitWords.{has_past}
+use Rattle.bit_sets.specs.Bits.{has, HasNone, HasNoneBelow, IsLowest}
+use Rattle.bit_sets.proofs.BitWords.{has_past}
 use Rattle.std.specs.Int.{div_ceil}
 use Rattle.mark_bitmap.specs.Summary.{HasMember, HasNoMember, IsMember, IsSummary, AreLevels}
 

@@ -1,7 +1,7 @@
 -- Grey objects: marked, and not scanned yet.
 use Rattle.std.specs.Prelude.{◌≡◌, ℕ, ◌/◌, ◌<◌, ◌⊎◌, ◌==◌, Bool, true, false, if◌then◌else◌, List, Option, Some, None, replicate, slice_set}
 use Rattle.std.specs.Int.{div_ceil}
-use Rattle.heap_words.specs.Bits.{has}
+use Rattle.bit_sets.specs.Bits.{has}
 use Rattle.mark_bitmap.specs.Marks.{is_only}
 
 -- the finger of an address: a bit of a summary, one for each 64 addresses

@@ -1,8 +1,8 @@
 -- Sets of addresses, as contracts see them: a flag for each address.
 use Rattle.std.specs.Prelude.{ℕ, Bool, List, count_by}
-use Rattle.heap_words.specs.Bits.{has, has_alone}
+use Rattle.bit_sets.specs.Bits.{has, has_alone}
 -- whether an address lies between two, no set has one at or above another (and below a third), and the lowest one of a set there
-pub use Rattle.heap_words.specs.Bits.{is_between, HasNone, HasNoneBelow, IsLowest}
+pub use Rattle.bit_sets.specs.Bits.{is_between, HasNone, HasNoneBelow, IsLowest}
 
 -- whether an address is marked: false past the end
 abbrev pub is_marked : List Bool → ℕ → Bool

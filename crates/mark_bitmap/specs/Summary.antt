@@ -1,7 +1,7 @@
 -- Sets of numbers with a set above them that has, of each group of 64 numbers, whether one is in the set.
 use Rattle.std.specs.Prelude.{◌≡◌, ℕ, ◌*◌, ◌/◌, Bool, true, false, List, length}
 use Rattle.std.specs.Int.{div_ceil}
-use Rattle.heap_words.specs.Bits.{has, IsLowest}
+use Rattle.bit_sets.specs.Bits.{has, IsLowest}
 
 -- a number of the group passes the test
 pub record HasMember (test : ℕ → Bool) (group : ℕ) : Type 0 where

@@ -2,7 +2,7 @@
 //! addresses: not, as in some papers, the one address that marking has come to.
 
 ghost use Rattle.std.specs.Prelude.{◌≡◌, ◌==◌, ◌<◌, false, true, IfOk, IfSome, length, MatchOption, replicate, slice_set};
-ghost use Rattle.heap_words.specs.Bits.{has, HasNone, IsLowest};
+ghost use Rattle.bit_sets.specs.Bits.{has, HasNone, IsLowest};
 ghost use Rattle.mark_bitmap.specs.Marks.{marked_count};
 
 use crate::summary::Summary;

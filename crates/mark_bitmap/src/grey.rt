@@ -28,7 +28,7 @@
 ghost use Rattle.std.specs.Prelude.{◌≡◌, ◌≢◌, ℕ, ◌<◌, List, Bool, true, false, Some, IfOk, IfSome, length, MatchOption, replicate};
 ghost use Rattle.std.specs.Prelude.{slice_set};
 ghost use Rattle.std.specs.Int.{div_ceil};
-ghost use Rattle.heap_words.specs.Bits.{has};
+ghost use Rattle.bit_sets.specs.Bits.{has};
 ghost use Rattle.mark_bitmap.specs.Marks.{is_marked, is_only, HasNone, IsLowest};
 ghost use Rattle.mark_bitmap.specs.Summary.{HasMember};
 ghost use Rattle.mark_bitmap.specs.Grey.{finger_of, held_without, is_grey, nothing_scanned, with_grey};

@@ -16,8 +16,8 @@ ghost use Rattle.std.specs.Prelude.{ℕ, List, Bool, false, true, IfOk, IfSome, 
 ghost use Rattle.heap_model.specs.Count.{ListsMarked};
 ghost use Rattle.mark_bitmap.specs.Marks.{is_between, is_marked, is_only, marked_count, HasNone, HasNoneBelow, IsLowest};
 
+use bit_sets::bits::Bits;
 use heap_words::addr::Addr;
-use heap_words::bits::Bits;
 use std::alloc::{AllocError, Global};
 use std::marker::Model;
 

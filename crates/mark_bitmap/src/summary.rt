@@ -17,11 +17,11 @@
 ghost use Rattle.std.specs.Prelude.{◌≡◌, ◌≢◌, ◌*◌, ◌/◌, ◌^◌, ◌<◌};
 ghost use Rattle.std.specs.Prelude.{ℕ, false, true, IfOk, IfSome, length, MatchOption, replicate, slice_set};
 ghost use Rattle.std.specs.Int.{div_ceil};
-ghost use Rattle.heap_words.specs.Bits.{has, HasNone, IsLowest};
+ghost use Rattle.bit_sets.specs.Bits.{has, HasNone, IsLowest};
 ghost use Rattle.mark_bitmap.specs.Summary.{AreLevels, HasMember, HasNoMember, IsMember, IsSummary};
 
-use heap_words::bits::Bits;
-use heap_words::small_bits::SmallBits;
+use bit_sets::bits::Bits;
+use bit_sets::small_bits::SmallBits;
 use std::alloc::{AllocError, Global};
 use std::marker::Model;
 

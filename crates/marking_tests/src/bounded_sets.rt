@@ -1,7 +1,7 @@
 //! Sets of numbers that know their lowest and their highest member.
 
-use heap_words::bits::Bits;
-use heap_words::bounded::BoundedBits;
+use bit_sets::bits::Bits;
+use bit_sets::bounded::BoundedBits;
 use std::test::Fail;
 
 /// Whether the set has these numbers, in this order, and no other ones.

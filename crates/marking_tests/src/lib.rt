@@ -1,8 +1,8 @@
 //! Tests of the layers that marking rests on, and of marking. They go by public calls alone and are apart from the crates that they try,
 //! so that these are proved once. The crate has nothing else, and nothing depends on it.
 //!
-//! `headers`, `sizes`, `memory`, `number_sets` and `bounded_sets` try `heap_words`, `roots` tries `root_table`, `steps` tries `heap_steps`,
-//! `marks` tries `mark_bitmap`, `logs` tries `satb_log`, and `cycles` the `marker`, over tables made by hand.
+//! `headers`, `sizes` and `memory` try `heap_words`, `number_sets` and `bounded_sets` try `bit_sets`, `roots` tries `root_table`,
+//! `steps` tries `heap_steps`, `marks` tries `mark_bitmap`, `logs` tries `satb_log`, and `cycles` the `marker`, over tables made by hand.
 #![tactic(auto)]
 
 #[cfg(test)]

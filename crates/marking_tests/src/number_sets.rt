@@ -1,7 +1,7 @@
 //! Sets of numbers as bits: over the borders of words of 64 bits.
 
-use heap_words::bits::Bits;
-use heap_words::small_bits::SmallBits;
+use bit_sets::bits::Bits;
+use bit_sets::small_bits::SmallBits;
 use std::alloc::{AllocError, Global};
 use std::test::Fail;
 

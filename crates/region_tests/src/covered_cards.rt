@@ -2,8 +2,8 @@
 
 ghost use Rattle.std.specs.Prelude.{◌≡◌, IfOk, length};
 
+use bit_sets::bounded::BoundedBits;
 use heap_words::addr::{Card, RegionNo};
-use heap_words::bounded::BoundedBits;
 use remembered_sets::RememberedSets;
 use std::alloc::{AllocError, Global};
 use std::test::Fail;

@@ -5,10 +5,10 @@ ghost use Rattle.std.specs.Prelude.{◌≡◌, ◌*◌, ◌<◌, ◌∷◌, [], 
 ghost use Rattle.region_tests.specs.Evacuated.{alone, by_weak_slot, itself, two_cards};
 
 use crate::refining::free_regions;
+use bit_sets::bounded::BoundedBits;
 use cards::CardTable;
 use evacuation::{Moved, PauseRoom, evacuate};
 use heap_words::addr::{Addr, Card, Ptr, RegionNo};
-use heap_words::bounded::BoundedBits;
 use heap_words::config::{Config, Format};
 use heap_words::header::{Count, FillerSize, HeaderCounts};
 use mark_bitmap::bitmaps::Bitmaps;

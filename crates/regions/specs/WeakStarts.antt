@@ -1,6 +1,6 @@
 -- The addresses at which an object with weak slots starts.
 use Rattle.std.specs.Prelude.{◌≡◌, ℕ, zero, suc, ◌*◌, ◌/◌, ◌<◌, ◌≤◌, Bool, true, false, List, length, Option, Some, None, slice_set}
-use Rattle.heap_words.specs.Bits.{has}
+use Rattle.bit_sets.specs.Bits.{has}
 use Rattle.heap_model.specs.Heap.{Stored}
 use Rattle.regions.specs.Table.{Table, object_at}
 

@@ -20,7 +20,7 @@
 ghost use Rattle.std.specs.Prelude.{◌≡◌, ◌+◌, ◌*◌, ◌/◌, ◌<◌, ◌≤◌, ◌^◌, ◌==◌, ◌&&◌, if◌then◌else◌};
 ghost use Rattle.std.specs.Prelude.{ℕ, IfOk, IsTrue, length, replicate, slice_index, vec_capacity, vec_len};
 ghost use Rattle.std.specs.Int.{div_ceil, is_power_of_two};
-ghost use Rattle.heap_words.specs.Bits.{is_between};
+ghost use Rattle.bit_sets.specs.Bits.{is_between};
 ghost use Rattle.heap_words.specs.Memory.{memory};
 ghost use Rattle.regions.specs.Tiles.{Filler};
 ghost use Rattle.regions.specs.FirstTiles.{last_card, entry_of, start_in};

@@ -14,12 +14,12 @@
 
 ghost use Rattle.std.specs.Prelude.{◌≡◌, ◌+◌, ◌*◌, ◌^◌, ◌<◌, ◌≤◌, if◌then◌else◌};
 ghost use Rattle.std.specs.Prelude.{ℕ, IfOk, MatchOption, false, length, replicate};
-ghost use Rattle.heap_words.specs.Bits.{has, is_between, HasNone, IsLowest};
+ghost use Rattle.bit_sets.specs.Bits.{has, is_between, HasNone, IsLowest};
 ghost use Rattle.regions.specs.WeakStarts.{noted, forgotten, IsNextWithWeaks};
 
 use crate::table::RegionTable;
+use bit_sets::bits::Bits;
 use heap_words::addr::Addr;
-use heap_words::bits::Bits;
 use std::alloc::{AllocError, Global};
 use std::marker::Model;
 

@@ -7,8 +7,8 @@ use Rattle.std.proofs.lemmas.Bool.{cases_lt, cases_eq, eq-eqb, ne_eqb, eqb-true,
 use Rattle.std.proofs.lemmas.List.{get_or_past, length-replicate, set-get_or}
 use Rattle.std.proofs.lemmas.Nat.{mul-add-lt, div-mul-add}
 use Rattle.std.proofs.Math.Nat.{pos_of_ne-zero}
-use Rattle.heap_words.specs.Bits.{has, is_between}
-use Rattle.heap_words.proofs.BitRanges.{between_yes, between_no_below, between_no_above, between_same}
+use Rattle.bit_sets.specs.Bits.{has, is_between}
+use Rattle.bit_sets.proofs.BitRanges.{between_yes, between_no_below, between_no_above, between_same}
 use Rattle.remembered_sets.specs.Sets.{CardFilter, IsFilter, lets_through, filter_with, taking, empty_filter, emptied_filter}
 use Rattle.remembered_sets.specs.Sets.{first_row, second_row, place_in}
 

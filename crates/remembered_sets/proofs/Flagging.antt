@@ -2,7 +2,7 @@
 use Rattle.std.proofs.Common.{◌≡◌, ◌≢◌, ◌+◌, ◌*◌, ◌/◌, ◌<◌, ◌≤◌, ◌∙◌, inl, inr, ℕ, Bool, true, false, List, sym, refl, ap, ap₂, arith}
 use Rattle.std.specs.Prelude.{◌||◌, ◌&&◌}
 use Rattle.std.proofs.lemmas.Bool.{cases_eq, cases_lt, eq-eqb, ne_eqb}
-use Rattle.heap_words.specs.Bits.{has, is_between, IsLowest}
+use Rattle.bit_sets.specs.Bits.{has, is_between, IsLowest}
 use Rattle.remembered_sets.proofs.Laws.{in_region_is}
 
 or_none : (b : Bool) → (b || false) ≡ b

@@ -8,8 +8,8 @@ use Rattle.std.proofs.lemmas.Bool.{cases_eq, cases_lt, eq-eqb, ne_eqb, and_from,
 use Rattle.std.proofs.lemmas.List.Elements.{All-head, All-tail, All-set}
 use Rattle.std.proofs.lemmas.List.{get_or_past, set-get_or}
 use Rattle.std.proofs.lemmas.List.FromFn.{fill_by_all, length-map-range_with_len, get_or-map-range_with_len}
-use Rattle.heap_words.specs.Bits.{has, is_between}
-use Rattle.heap_words.proofs.BitRanges.{between_yes, between_no_below, between_no_above}
+use Rattle.bit_sets.specs.Bits.{has, is_between}
+use Rattle.bit_sets.proofs.BitRanges.{between_yes, between_no_below, between_no_above}
 use Rattle.remembered_sets.specs.Sets.{Sets, CardSet, set_of, set_after, set_covers, set_leads, emptied, no_set, covers, may_lead, added}
 use Rattle.remembered_sets.specs.Sets.{cleared, letting, lets_through}
 use Rattle.remembered_sets.specs.Sets.{without_region, card_count, IsSet, AreSets, Change, changed, after_all, LeavesSet}

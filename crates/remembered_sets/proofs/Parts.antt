@@ -4,7 +4,7 @@ use Rattle.std.proofs.Common.{inl, inr, ℕ, zero, suc, Bool, true, false, lengt
 use Rattle.std.specs.Prelude.{◌||◌, ◌&&◌, if◌then◌else◌}
 use Rattle.std.proofs.lemmas.Bool.{cases_lt, eq-eqb, ne_eqb}
 use Rattle.std.proofs.lemmas.List.{get_or_past}
-use Rattle.heap_words.specs.Bits.{has, is_passing}
+use Rattle.bit_sets.specs.Bits.{has, is_passing}
 use Rattle.remembered_sets.specs.Sets.{CardFilter, IsFilter, filter_with, lets_through, taking, first_row, second_row, place_in}
 use Rattle.remembered_sets.specs.Sharing.{part_flags, filter_at}
 use Rattle.remembered_sets.specs.Inside.{four_of, IsSoundFilter}

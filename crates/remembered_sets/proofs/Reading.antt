@@ -3,7 +3,7 @@ use Rattle.std.proofs.Common.{◌≡◌, ◌*◌, ◌/◌, ◌%◌, ◌<◌, ◌
 use Rattle.std.proofs.Common.{◌≢◌, length-set}
 use Rattle.std.specs.Prelude.{◌&&◌}
 use Rattle.std.proofs.lemmas.List.{get_or_read}
-use Rattle.heap_words.specs.Bits.{has}
+use Rattle.bit_sets.specs.Bits.{has}
 use Rattle.remembered_sets.specs.Sets.{CardFilter, CardSet, Sets, AreSets, IsFilter, IsSet, no_set, emptied, emptied_filter, filter_with}
 use Rattle.remembered_sets.specs.Sets.{set_of, set_with, set_after, set_covers, set_leads, lets_through, may_lead}
 use Rattle.remembered_sets.specs.Sets.{added, cleared, without_region}

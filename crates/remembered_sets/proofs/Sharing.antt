@@ -7,7 +7,7 @@ use Rattle.std.proofs.lemmas.Bool.{cases_eq, eq-eqb, ne_eqb}
 use Rattle.std.proofs.lemmas.List.{get_or-replicate, length-replicate}
 use Rattle.std.proofs.lemmas.List.FromFn.{fill_by_all, length-map-range_with_len, get_or-map-range_with_len}
 use Rattle.std.proofs.lemmas.Nat.{mul-add-lt, div-mul-add}
-use Rattle.heap_words.specs.Bits.{has, is_between}
+use Rattle.bit_sets.specs.Bits.{has, is_between}
 use Rattle.remembered_sets.specs.Sets.{CardFilter, empty_filter, emptied_filter}
 use Rattle.remembered_sets.specs.Sharing.{no_filter, is_taken, part_flags, four_filters, filter_at}
 use Rattle.remembered_sets.proofs.Laws.{in_region_is}

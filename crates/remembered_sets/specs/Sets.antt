@@ -2,7 +2,7 @@
 use Rattle.std.specs.Prelude.{◌≡◌, ◌≢◌, ℕ, ◌+◌, ◌/◌, ◌%◌, ◌*◌, ◌<◌, ◌≤◌, Bool, true, false, ◌==◌, ◌||◌, ◌&&◌, nat_lt, if◌then◌else◌, ⊤}
 use Rattle.std.specs.Prelude.{All, count_by, List, [], ◌∷◌, ◌++◌, length, map, slice_index_or, slice_set, replicate}
 use Rattle.std.specs.List.{list_any, range_with_len}
-use Rattle.heap_words.specs.Bits.{has}
+use Rattle.bit_sets.specs.Bits.{has}
 
 -- a set's filter: rows of flags, in each one for each card of a region, twice as many of a first kind as of a second. The cards of a region
 -- share a row of each kind with those of other regions. Where it has no rows it lets each card through

@@ -1,7 +1,7 @@
 -- Filters of four neighbouring regions in one table of flags, and the sets that they belong to.
 use Rattle.std.specs.Prelude.{ℕ, ◌+◌, ◌*◌, ◌/◌, ◌%◌, ◌&&◌, Bool, List, [], length, map, slice_index_or}
 use Rattle.std.specs.List.{range_with_len}
-use Rattle.heap_words.specs.Bits.{has}
+use Rattle.bit_sets.specs.Bits.{has}
 use Rattle.remembered_sets.specs.Sets.{CardFilter, CardSet, empty_filter, no_set}
 
 -- a filter without rows

@@ -23,14 +23,14 @@
 ghost use Rattle.std.specs.Prelude.{◌≡◌, ◌≢◌, ◌||◌, ◌&&◌, ◌+◌, ◌*◌, ◌/◌, ◌<◌, ◌≤◌, ◌^◌, if◌then◌else◌};
 ghost use Rattle.std.specs.Prelude.{ℕ, false, true, IfOk, length, replicate, slice_set};
 ghost use Rattle.std.specs.Int.{div_ceil};
-ghost use Rattle.heap_words.specs.Bits.{has, is_between};
+ghost use Rattle.bit_sets.specs.Bits.{has, is_between};
 ghost use Rattle.remembered_sets.specs.Sets.{IsFilter, empty_filter, emptied_filter, filter_with, lets_through, taking};
 ghost use Rattle.remembered_sets.specs.Sets.{first_row, second_row, place_in};
 ghost use Rattle.remembered_sets.specs.Sharing.{filter_at, filter_of, is_taken};
 
+use bit_sets::bits::Bits;
+use bit_sets::bounded::BoundedBits;
 use heap_words::addr::Card;
-use heap_words::bits::Bits;
-use heap_words::bounded::BoundedBits;
 use std::alloc::{AllocError, Global};
 use std::marker::Model;
 

@@ -9,14 +9,14 @@
 
 ghost use Rattle.std.specs.Prelude.{◌≡◌, ◌==◌, ◌||◌, ◌&&◌, ◌<◌, ◌*◌, ◌/◌, ℕ, All, length};
 ghost use Rattle.std.specs.List.{list_any};
-ghost use Rattle.heap_words.specs.Bits.{has};
+ghost use Rattle.bit_sets.specs.Bits.{has};
 ghost use Rattle.remembered_sets.specs.Sets.{IsFilter, lets_through};
 ghost use Rattle.remembered_sets.specs.Sharing.{filter_at};
 
 use crate::filter::Filter;
+use bit_sets::bits::Bits;
+use bit_sets::bounded::BoundedBits;
 use heap_words::addr::Card;
-use heap_words::bits::Bits;
-use heap_words::bounded::BoundedBits;
 use heap_words::powers::quotient;
 
 /// Whether a card entered a set, and the filter lets it through, one of four.

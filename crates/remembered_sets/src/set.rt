@@ -1,15 +1,15 @@
 //! One remembered set, that of one region, without its filter: `RememberedSet`. `sets` has all of them.
 
 ghost use Rattle.std.specs.Prelude.{◌≡◌, ◌||◌, ◌&&◌, ◌<◌, ◌*◌, ◌/◌, ℕ, false, All, IfOk, Some, length, slice_get, slice_index_or};
-ghost use Rattle.heap_words.specs.Bits.{has};
+ghost use Rattle.bit_sets.specs.Bits.{has};
 ghost use Rattle.remembered_sets.specs.Sets.{IsFilter, empty_set, emptied, lets_through, set_covers, set_with};
 ghost use Rattle.remembered_sets.specs.Sharing.{filter_at};
 
 use crate::filter::Filter;
 use crate::flags::{flag_each, flag_sources};
+use bit_sets::bits::Bits;
+use bit_sets::bounded::BoundedBits;
 use heap_words::addr::Card;
-use heap_words::bits::Bits;
-use heap_words::bounded::BoundedBits;
 use heap_words::short_list::ShortList;
 use std::alloc::{AllocError, Global};
 use std::marker::Model;

@@ -18,15 +18,15 @@
 
 ghost use Rattle.std.specs.Prelude.{◌≡◌, ◌≢◌, ◌⊎◌, ◌||◌, ◌/◌, ◌%◌, ◌<◌};
 ghost use Rattle.std.specs.Prelude.{All, ℕ, false, true, IfOk, Some, length, slice_get, slice_index_or, List};
-ghost use Rattle.heap_words.specs.Bits.{has};
+ghost use Rattle.bit_sets.specs.Bits.{has};
 ghost use Rattle.remembered_sets.specs.Sets.{added, after_all, card_count, cleared, covers, empty_sets, may_lead, set_of};
 ghost use Rattle.remembered_sets.specs.Sets.{Change, AreSets, LeavesSet, Sets};
 
 use crate::filter::{Filter, SHARERS, add_to_filter, clear_filter, new_filters};
 use crate::set::RememberedSet;
+use bit_sets::bits::Bits;
+use bit_sets::bounded::BoundedBits;
 use heap_words::addr::{Card, RegionNo};
-use heap_words::bits::Bits;
-use heap_words::bounded::BoundedBits;
 use heap_words::powers::quotient;
 use std::alloc::{AllocError, Global};
 use std::marker::Model;

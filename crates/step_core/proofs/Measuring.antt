@@ -2,7 +2,7 @@
 use Rattle.std.proofs.Common.{◌≡◌, ℕ, true, false, Option, Some, None, refl, sym, ◌∙◌, ap, arith}
 use Rattle.std.specs.Prelude.{◌↔◌, IsTrue, IsSome, is_some, MatchOption}
 use Rattle.heap_model.specs.Heap.{Stored}
-use Rattle.heap_words.specs.Bits.{HasNone, IsLowest}
+use Rattle.bit_sets.specs.Bits.{HasNone, IsLowest}
 use Rattle.regions.specs.Table.{object_at, object_words, stored_size}
 use Rattle.mark_bitmap.specs.Grey.{is_grey}
 use Rattle.step_core.specs.Stands.{CoreState, kept_of}

@@ -4,7 +4,7 @@ use Rattle.regions.specs.Table.{kind_of}
 use Rattle.regions.specs.declared.row.Kind.TheVariants as kinds
 use Rattle.mark_bitmap.specs.Marks.{is_marked}
 use Rattle.marker.specs.declared.marker.Marker.{Marker}
-use Rattle.heap_words.specs.Bits.{has}
+use Rattle.bit_sets.specs.Bits.{has}
 use Rattle.remembered_sets.specs.Sets.{Sets, set_of, emptied}
 use Rattle.step_core.specs.Stands.{CoreState, kept_of}
 use Rattle.step_core.specs.Cycle.{IsDeadRegion, IsDead, IsAsNew, IsAsBefore, ChangesRegions}

@@ -3,8 +3,8 @@ use Rattle.std.proofs.Common.{◌≡◌, ◌≢◌, ◌∙◌, ◌<◌, ◌≤�
 use Rattle.std.proofs.lemmas.Bool.{cases_lt}
 use Rattle.std.proofs.lemmas.Nat.{mul-le}
 use Rattle.std.proofs.Math.Nat.{div-mul-le_self}
-use Rattle.heap_words.specs.Bits.{is_between}
-use Rattle.heap_words.proofs.BitRanges.{between_yes, between_no_below, between_no_above}
+use Rattle.bit_sets.specs.Bits.{is_between}
+use Rattle.bit_sets.proofs.BitRanges.{between_yes, between_no_below, between_no_above}
 use Rattle.regions.specs.Table.{Table, kind_of}
 use Rattle.regions.specs.declared.row.Kind.TheVariants as kinds
 use Rattle.mark_bitmap.proofs.Ranges.{div_is}

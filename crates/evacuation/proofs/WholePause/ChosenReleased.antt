@@ -15,7 +15,7 @@ use Rattle.regions.proofs.Tiles.Released.{region_released, released_one}
 use Rattle.regions.proofs.Words.Sizes.{EachForwardedIn-set}
 use Rattle.mark_bitmap.specs.Marks.{is_marked}
 use Rattle.mark_bitmap.specs.Tops.{is_in_region}
-use Rattle.heap_words.specs.Bits.{has}
+use Rattle.bit_sets.specs.Bits.{has}
 use Rattle.remembered_sets.specs.Sets.{Sets, cleared, emptied, set_of}
 use Rattle.remembered_sets.proofs.Laws.{has-without, cleared_same, cleared_other}
 use Rattle.remembered_sets.proofs.Covered.{emptied_twice}

@@ -35,7 +35,7 @@ use Rattle.heap_model.specs.Marking.{Marking}
 use Rattle.heap_model.specs.Relocation.{KeepsOld}
 use Rattle.mark_bitmap.specs.Tops.{below_next}
 use Rattle.cards.specs.Cards.{Cards, is_dirty}
-use Rattle.heap_words.specs.Bits.{has}
+use Rattle.bit_sets.specs.Bits.{has}
 use Rattle.remembered_sets.specs.Sets.{Sets, may_lead}
 use Rattle.remembered_sets.proofs.Laws.{leads_alike}
 use Rattle.refinement.specs.Remembering.{Remembers, field_card, field_word}

@@ -6,7 +6,7 @@ use Rattle.std.specs.Prelude.{if◌then◌else◌, ◌&&◌, ◌==◌}
 use Rattle.std.proofs.lemmas.Bool.{cases_lt, le-leb, lt-leb, lt-ltb, le-ltb}
 use Rattle.std.proofs.lemmas.List.{length-replicate}
 use Rattle.std.proofs.lemmas.Nat.{div-mul-add}
-use Rattle.heap_words.specs.Bits.{is_between}
+use Rattle.bit_sets.specs.Bits.{is_between}
 use Rattle.heap_model.specs.Heap.{Stored}
 use Rattle.regions.specs.Tiles.{Tile, Object, Filler, Forwarded, tile_size, tile_at, total_size}
 use Rattle.regions.specs.Table.{Table, Region, Free, Ordinary, First, Rest, nth_region, region_tile, tile_in, object_at}

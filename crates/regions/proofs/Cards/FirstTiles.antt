@@ -8,7 +8,7 @@ use Rattle.std.proofs.lemmas.List.{get_or-set_same, get_or-set_other}
 use Rattle.std.proofs.lemmas.Grind.{div_ceil_times}
 use Rattle.std.proofs.lemmas.Nat.{mul-le}
 use Rattle.std.specs.Int.{div_ceil}
-use Rattle.heap_words.specs.Bits.{is_between}
+use Rattle.bit_sets.specs.Bits.{is_between}
 use Rattle.regions.specs.Tiles.{Tile, Object, Filler, Forwarded, tile_size}
 use Rattle.regions.specs.Table.{Table, tile_in}
 use Rattle.regions.specs.Walks.{IsHolder}

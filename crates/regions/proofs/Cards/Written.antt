@@ -7,7 +7,7 @@ use Rattle.std.proofs.lemmas.Grind.{div_ceil_times}
 use Rattle.std.proofs.lemmas.Nat.{mul-le, pow_pos}
 use Rattle.std.proofs.lemmas.List.{length-append, length-replicate, get_or-append_right, get_or_append_left, get_or_past, take_at}
 use Rattle.heap_words.specs.Memory.{memory}
-use Rattle.heap_words.proofs.BitWords.{all_zeros}
+use Rattle.bit_sets.proofs.BitWords.{all_zeros}
 
 -- a card's entry, written or not
 pub entry_is : (xs : List ℕ) (n i : ℕ) → get_or (memory xs n).all i 0 ≡ get_or xs i 0

@@ -6,7 +6,7 @@ use Rattle.std.specs.Prelude.{MatchOption, if◌then◌else◌}
 use Rattle.std.proofs.lemmas.Bool.{cases_lt, cases_eq}
 use Rattle.std.proofs.lemmas.List.{get_or-set_same, get_or-set_other, get_or-drop}
 use Rattle.std.proofs.lemmas.Nat.{div-mul-add, mul-le, row_fits}
-use Rattle.heap_words.specs.Bits.{has, is_between, HasNone, HasNoneBelow, IsLowest}
+use Rattle.bit_sets.specs.Bits.{has, is_between, HasNone, HasNoneBelow, IsLowest}
 use Rattle.heap_model.specs.Heap.{Stored}
 use Rattle.regions.specs.Tiles.{Tile, Object, Filler, Forwarded, tile_size, tile_at}
 use Rattle.regions.specs.Table.{Table, Region, Free, Ordinary, First, Rest, kind_of, region_kind, tile_in, tile_object, object_at}

@@ -8,7 +8,7 @@ use Rattle.mark_bitmap.specs.Marks.{is_marked}
 use Rattle.mark_bitmap.specs.Tops.{Tops, is_in_region, with_bottom}
 use Rattle.mark_bitmap.proofs.Ranges as ranges
 use Rattle.marker.specs.declared.marker.Marker.{Marker}
-use Rattle.heap_words.specs.Bits.{has}
+use Rattle.bit_sets.specs.Bits.{has}
 use Rattle.remembered_sets.specs.Sets.{Sets, cleared, set_of, emptied}
 use Rattle.remembered_sets.proofs.Laws.{own_gone, others_left, cleared_same, cleared_other}
 use Rattle.step_core.specs.Cleaning.{HasForgotten, HasCleared}

@@ -28,7 +28,7 @@ use Rattle.marker.specs.Stands.{MarkerStands}
 use Rattle.marker.specs.declared.marker.Marker.{Marker}
 use Rattle.marker.proofs.Forgotten.{table_stands}
 use Rattle.cards.specs.Cards.{is_dirty}
-use Rattle.heap_words.specs.Bits.{has}
+use Rattle.bit_sets.specs.Bits.{has}
 use Rattle.remembered_sets.specs.Sets.{Sets, may_lead, set_of, emptied}
 use Rattle.remembered_sets.proofs.Laws.{leads_alike}
 use Rattle.remembered_sets.proofs.Covered.{emptied_twice}

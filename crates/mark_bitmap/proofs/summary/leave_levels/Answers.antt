@@ -1,4 +1,4 @@
-use Rattle.heap_words.specs.Bits.{has}
+use Rattle.bit_sets.specs.Bits.{has}
 use Rattle.mark_bitmap.proofs.Summaries.{leave_others}
 use Rattle.mark_bitmap.proofs.summary.leave_levels.Goals as goal
 

@@ -1,6 +1,6 @@
 use Rattle.std.proofs.Common.{◌^◌, ◌*◌, ◌∙◌, ℕ, ap}
 use Rattle.std.specs.Prelude.{if◌then◌else◌, ◌&&◌, ◌==◌}
-use Rattle.heap_words.specs.Bits.{is_between}
+use Rattle.bit_sets.specs.Bits.{is_between}
 use Rattle.regions.specs.FirstTiles.{last_card}
 use Rattle.regions.proofs.first_tiles.write_front.Goals as goal
 

@@ -1,6 +1,6 @@
 use Rattle.std.proofs.Common.{◌∙◌, arith}
 use Rattle.std.specs.Prelude.{◌&&◌}
-use Rattle.heap_words.specs.Bits.{has}
+use Rattle.bit_sets.specs.Bits.{has}
 use Rattle.remembered_sets.specs.Sets.{lets_through}
 use Rattle.remembered_sets.specs.Sharing.{filter_at}
 use Rattle.remembered_sets.proofs.Flagging.{flagged_below, flagged_above}

@@ -1,5 +1,5 @@
 use Rattle.std.proofs.Common.{Some}
-use Rattle.heap_words.specs.Bits.{has}
+use Rattle.bit_sets.specs.Bits.{has}
 use Rattle.mark_bitmap.proofs.Summaries.{lowest_member, found_within}
 use Rattle.mark_bitmap.proofs.summary.Summary.lowest.Goals as goal
 

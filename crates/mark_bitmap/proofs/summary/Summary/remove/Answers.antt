@@ -1,5 +1,5 @@
 use Rattle.std.proofs.Common.{false}
-use Rattle.heap_words.specs.Bits.{has}
+use Rattle.bit_sets.specs.Bits.{has}
 use Rattle.mark_bitmap.proofs.Summaries.{leave_others, has_set_there}
 use Rattle.mark_bitmap.proofs.summary.Summary.remove.Goals as goal
 

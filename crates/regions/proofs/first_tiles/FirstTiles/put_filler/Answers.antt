@@ -1,7 +1,7 @@
 use Rattle.std.proofs.Common.{◌≤◌, ◌+◌, ◌*◌, ◌^◌, ◌∙◌, ℕ, List, get_or, sym, ap, arith}
 use Rattle.std.proofs.lemmas.Nat.{pow_pos}
 use Rattle.std.specs.Prelude.{if◌then◌else◌}
-use Rattle.heap_words.specs.Bits.{is_between}
+use Rattle.bit_sets.specs.Bits.{is_between}
 use Rattle.regions.specs.Tiles.{Filler}
 use Rattle.regions.specs.FirstTiles.{entry_of}
 use Rattle.regions.proofs.Cards.FirstTiles.{cards_fit}

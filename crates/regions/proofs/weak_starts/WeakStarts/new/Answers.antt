@@ -1,6 +1,6 @@
 use Rattle.std.proofs.Common.{◌≡◌, ◌*◌, ◌<◌, ℕ, zero, suc, true, false, replicate, ap, sym, ◌∙◌}
 use Rattle.std.proofs.lemmas.List.{length-replicate}
-use Rattle.heap_words.specs.Bits.{has}
+use Rattle.bit_sets.specs.Bits.{has}
 use Rattle.regions.specs.WeakStarts.{AreRegions}
 use Rattle.regions.proofs.weak_starts.WeakStarts.new.Goals as goal
 

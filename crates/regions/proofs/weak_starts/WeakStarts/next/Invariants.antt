@@ -1,5 +1,5 @@
 use Rattle.std.proofs.Common.{◌-◌, ◌*◌, length}
-use Rattle.heap_words.specs.Bits.{has, HasNoneBelow}
+use Rattle.bit_sets.specs.Bits.{has, HasNoneBelow}
 use Rattle.regions.proofs.weak_starts.WeakStarts.next.Given as goal
 
 abbrev pub invariant-loop-region : goal.invariant-loop-region

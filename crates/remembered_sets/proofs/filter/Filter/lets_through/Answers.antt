@@ -1,7 +1,7 @@
 use Rattle.std.proofs.Common.{◌+◌, ◌*◌, ◌^◌, ◌∙◌, ap, sym, arith, Bool}
 use Rattle.std.specs.Prelude.{◌&&◌}
 use Rattle.std.proofs.Math.Nat.{pos_of_ne-zero}
-use Rattle.heap_words.specs.Bits.{has}
+use Rattle.bit_sets.specs.Bits.{has}
 use Rattle.remembered_sets.proofs.Parts.{part_at, few_flags, in_table, lets_all, lets_both, lets_none}
 use Rattle.remembered_sets.proofs.filter.Filter.lets_through.Goals as goal
 

@@ -1,7 +1,7 @@
 use Rattle.std.proofs.Common.{◌+◌, ◌*◌, ◌∙◌, arith, ap, Bool}
 use Rattle.std.specs.Prelude.{◌||◌, ◌&&◌}
 use Rattle.std.proofs.Math.Nat.{pos_of_ne-zero}
-use Rattle.heap_words.specs.Bits.{has, is_between}
+use Rattle.bit_sets.specs.Bits.{has, is_between}
 use Rattle.remembered_sets.specs.Sets.{lets_through}
 use Rattle.remembered_sets.specs.Sharing.{filter_at}
 use Rattle.remembered_sets.proofs.Parts.{part_at, lets_all, all_member}

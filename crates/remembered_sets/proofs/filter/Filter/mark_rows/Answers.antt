@@ -1,6 +1,6 @@
 use Rattle.std.proofs.Common.{◌≡◌, ◌+◌, ◌*◌, ◌/◌, ◌≤◌, ◌^◌, ◌∙◌, arith, sym, ap, ap₂, ℕ, refl}
 use Rattle.std.specs.Prelude.{◌||◌, ◌&&◌}
-use Rattle.heap_words.specs.Bits.{has, is_between, is_passing}
+use Rattle.bit_sets.specs.Bits.{has, is_between, is_passing}
 use Rattle.remembered_sets.specs.Sets.{lets_through}
 use Rattle.remembered_sets.specs.Sharing.{filter_at}
 use Rattle.remembered_sets.proofs.Filters.{group_within, one_more}

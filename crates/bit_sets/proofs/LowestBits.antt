@@ -1,0 +1,249 @@
+-- The lowest number of a set, word by word.
+use Rattle.std.proofs.Common.{◌≡◌, ◌+◌, ◌-◌, ◌*◌, ◌/◌, ◌%◌, ◌^◌, ◌<◌, ◌≤◌, ◌⊎◌, ◌∙◌}
+use Rattle.std.proofs.Common.{ℕ, Bool, true, false, List, length, slice_index, get_or, eqb, min, bit_and}
+use Rattle.std.proofs.Common.{w64, not, inl, inr, refl, sym, ap, ⊎_elim, arith}
+use Rattle.std.specs.Prelude.{◌&&◌, Option, Some, None, MatchOption}
+use Rattle.std.specs.Int.{bit_at, trailing_zeros, div_ceil}
+use Rattle.std.proofs.lemmas.Bool.{cases_lt, eqb-true, eqb-false, ne_eqb}
+use Rattle.std.proofs.lemmas.List.{get_or_read}
+use Rattle.std.proofs.lemmas.Nat.Bits.{bit_at-zero, bit_at-lt, bit_at_and, bit_at_not, bit_at-trailing_zeros}
+use Rattle.bit_sets.specs.Bits.{has, has_alone, HasNone, HasNoneBelow, IsLowest}
+use Rattle.bit_sets.specs.BitWords.{bit_of, flags_of}
+use Rattle.bit_sets.proofs.BitWords.{high_mask, bit_at-high_part, bit_at-high_part_below, part_fits}
+use Rattle.bit_sets.proofs.BitWords.{has-flags_of, length-flags_of, has_past, div_ceil_reaches}
+use Rattle.bit_sets.proofs.Written.{bit_past}
+
+-- m has the numbers of word i from `from` on, the word's first `low` ones lying below that
+pub record IsWord (has : ℕ → Bool) (from i m : ℕ) : Type 0 where
+  pub low : ℕ
+  pub start : low ≡ from - 64 * i
+  pub near : low < 64
+  pub fits : m < 2 ^ 64
+  pub same : (a : ℕ) → from ≤ a → a / 64 ≡ i → has a ≡ eqb (bit_at m (a % 64)) 1
+  pub below : (j : ℕ) → j < low → bit_at m j ≡ 0
+
+module _ (has : ℕ → Bool) (from i m : ℕ) (w : IsWord has from i m) where
+  none_with : HasNoneBelow has from (64 * i) → (t : ℕ) → t ≤ 64 → ((j : ℕ) → j < t → bit_at m j ≡ 0) → HasNoneBelow has from (64 * i + t)
+  none_with before t short none a h k =
+      let early : a < 64 * i → has a ≡ false = λ b. before a h b in
+      let here : 64 * i ≤ a → has a ≡ false = λ b. w.same a h (omega arith) ∙ ap (λ x. eqb x 1) (none (a % 64) (omega arith)) in
+      ⊎_elim early here (cases_lt a (64 * i))
+
+  pub none_in_word : HasNoneBelow has from (64 * i) → m ≡ 0 → HasNoneBelow has from (64 * (i + 1))
+  none_in_word before none a h k = none_with before 64 (omega arith) (λ j b. ap (λ v. bit_at v j) none ∙ bit_at-zero j) a h (omega arith)
+
+  none_before : HasNoneBelow has from (64 * i) → 0 < m → HasNoneBelow has from (64 * i + trailing_zeros w64 m)
+  none_before before some =
+      let lowest = bit_at-trailing_zeros w64 m some w.fits in
+      none_with before (trailing_zeros w64 m) (omega (arith, lowest.0)) lowest.2
+
+  from_le : 0 < m → from ≤ 64 * i + trailing_zeros w64 m
+  from_le some =
+      let lowest = bit_at-trailing_zeros w64 m some w.fits in
+      let t : ℕ = trailing_zeros w64 m in
+      let above : w.low ≤ t → from ≤ 64 * i + t = λ h. omega (arith, w.start) in
+      let under : t < w.low → from ≤ 64 * i + t = λ h. absurd (omega (arith, lowest.1, w.below t h)) in
+      ⊎_elim under above (cases_lt t w.low)
+
+  has_lowest : 0 < m → has (64 * i + trailing_zeros w64 m) ≡ true
+  has_lowest some =
+      let lowest = bit_at-trailing_zeros w64 m some w.fits in
+      let t : ℕ = trailing_zeros w64 m in
+      let place : (64 * i + t) % 64 ≡ t = omega (arith, lowest.0) in
+      w.same (64 * i + t) (from_le some) (omega (arith, lowest.0)) ∙ ap (λ j. eqb (bit_at m j) 1) place ∙ ap (λ b. eqb b 1) lowest.1
+
+-- the set of the flags, where it is that of the bits below their count n
+pub record Agree (is_in has : ℕ → Bool) (n : ℕ) : Type 0 where
+  pub inside : (a : ℕ) → a < n → is_in a ≡ has a
+  pub past : (a : ℕ) → n ≤ a → is_in a ≡ false
+
+-- from `from` up to `to` it is looked through as far as the flags go
+pub none_left : (is_in has : ℕ → Bool) (n from to upto : ℕ) → Agree is_in has n → HasNoneBelow has from upto
+    → min to n ≤ upto → HasNoneBelow is_in from to
+none_left is_in has n from to upto g none all a h k =
+    ⊎_elim (λ b. g.inside a b ∙ none a h (omega arith)) (λ b. g.past a b) (cases_lt a n)
+
+pub found_past : (is_in has : ℕ → Bool) (n from to i m : ℕ) → Agree is_in has n → IsWord has from i m → HasNoneBelow has from (64 * i)
+    → 0 < m → min to n ≤ 64 * i + trailing_zeros w64 m → HasNoneBelow is_in from to
+found_past is_in has n from to i m g w before some far = none_left is_in has n from to _ g (none_before has from i m w before some) far
+
+pub found_inside : (is_in has : ℕ → Bool) (n from i m : ℕ) → Agree is_in has n → IsWord has from i m → HasNoneBelow has from (64 * i)
+    → 0 < m → 64 * i + trailing_zeros w64 m < n → IsLowest is_in from (64 * i + trailing_zeros w64 m)
+found_inside is_in has n from i m g w before some inside = record {
+  at_least = from_le has from i m w some;
+  is_in = g.inside _ inside ∙ has_lowest has from i m w some;
+  lowest = λ a h k. g.inside a (omega arith) ∙ none_before has from i m w before some a h k;
+}
+
+-- none below the length is none at all
+pub none_at_all : (flags : List Bool) (from n : ℕ) (found : Option ℕ) → n ≡ length flags
+    → MatchOption found (HasNoneBelow (has flags) from n) (IsLowest (has flags) from)
+    → MatchOption found (HasNone (has flags) from) (IsLowest (has flags) from)
+none_at_all flags from n None e none = λ a h. ⊎_elim (λ b. none a h (omega arith)) (λ b. has_past flags a (omega arith)) (cases_lt a n)
+none_at_all flags from n (Some found) e lowest = lowest
+
+-- ---- one set of bits
+pub bits_word : (ws : List ℕ) (from i low w : ℕ) → i < length ws → w ≡ get_or ws i w → low ≡ from - 64 * i → low < 64
+    → IsWord (bit_of ws) from i (bit_and w (high_mask low))
+bits_word ws from i low w inside read start near =
+    let word : w ≡ slice_index ws i = get_or_read ws i w inside read 0 in
+    record {
+      low = low;
+      start = start;
+      near = near;
+      fits = part_fits w low;
+      same = λ a h e.
+          ap (λ q. eqb (bit_at (slice_index ws q) (a % 64)) 1) e ∙ ap (λ v. eqb (bit_at v (a % 64)) 1) (sym word)
+          ∙ ap (λ b. eqb b 1) (sym (bit_at-high_part w low (a % 64) (omega arith) (omega arith)));
+      below = λ j h. bit_at-high_part_below w low j h near;
+    }
+
+pub bits_agree : (flags : List Bool) (ws : List ℕ) (n : ℕ) → flags_of ws n ≡ flags → Agree (has flags) (bit_of ws) n
+bits_agree flags ws n view = record {
+  inside = λ a h. ap (λ v. has v a) (sym view) ∙ has-flags_of ws n a h;
+  past = λ a h. has_past flags a (omega (arith, length-flags_of ws n, ap length view));
+}
+
+-- where no word is left that is written, it is looked through to the end
+pub none_written : (is_in : ℕ → Bool) (ws : List ℕ) (from past i end : ℕ) → ((a : ℕ) → bit_of ws a ≡ false → is_in a ≡ false)
+    → past ≡ min (div_ceil end 64) (length ws) → past ≤ i → HasNoneBelow is_in from (64 * i) → HasNoneBelow is_in from end
+none_written is_in ws from past i end unset e h none a k l =
+    ⊎_elim (λ b. none a k b) (λ b. unset a (bit_past ws a (omega (arith, e, h, div_ceil_reaches end)))) (cases_lt a (64 * i))
+
+-- ---- the difference of two sets of bits
+abbrev pub only : List ℕ → List ℕ → ℕ → Bool
+only ws vs a = bit_of ws a && not (bit_of vs a)
+
+pub only_none : (ws vs : List ℕ) (a : ℕ) → bit_of ws a ≡ false → only ws vs a ≡ false
+only_none ws vs a e = ap (λ (b : Bool). b && not (bit_of vs a)) e
+
+abbrev pub left_part : ℕ → ℕ → ℕ → ℕ
+left_part w v low = bit_and (bit_and w (2 ^ 64 - 1 - v)) (high_mask low)
+
+pub one_or_zero : (x : ℕ) → x < 2 → (x ≡ 0) ⊎ (x ≡ 1)
+one_or_zero x h = elim (eqb x 0) as (λ b. eqb x 0 ≡ b → (x ≡ 0) ⊎ (x ≡ 1))
+    [ true ↦ λ e. inl (eqb-true x 0 e) | false ↦ λ e. inr (let ne : x ≡ 0 → ⊥ = eqb-false x 0 e in omega arith) ] refl
+
+and_not_bits : (x y z : ℕ) → x < 2 → y < 2 → z ≡ min x (1 - y) → eqb z 1 ≡ (eqb x 1 && not (eqb y 1))
+and_not_bits x y z h k e =
+    let no_x : x ≡ 0 → eqb z 1 ≡ (eqb x 1 && not (eqb y 1)) = λ p. rw (ap (λ v. eqb v 1) p) (ne_eqb z 1 (omega arith)) in
+    let one_y : x ≡ 1 → y ≡ 1 → eqb z 1 ≡ (eqb x 1 && not (eqb y 1)) = λ p q. rw (p, q) (ne_eqb z 1 (omega arith)) in
+    let no_y : x ≡ 1 → y ≡ 0 → eqb z 1 ≡ (eqb x 1 && not (eqb y 1)) = λ p q. rw (p, q, ap (λ v. eqb v 1) e) (rw (p, q) refl) in
+    ⊎_elim no_x (λ p. ⊎_elim (λ q. no_y p q) (λ q. one_y p q) (one_or_zero y k)) (one_or_zero x h)
+
+only_in_word : (ws vs : List ℕ) (from i low w v : ℕ) → w ≡ slice_index ws i → v ≡ slice_index vs i → v < 2 ^ 64 → low ≡ from - 64 * i
+    → low < 64 → (a : ℕ) → from ≤ a → a / 64 ≡ i → only ws vs a ≡ eqb (bit_at (left_part w v low) (a % 64)) 1
+only_in_word ws vs from i low w v read other fits start near a h e =
+    let j : ℕ = a % 64 in
+    let ws_bit : bit_of ws a ≡ eqb (bit_at w j) 1 =
+    ap (λ k. eqb (bit_at (slice_index ws k) j) 1) e ∙ ap (λ x. eqb (bit_at x j) 1) (sym read) in
+    let vs_bit : bit_of vs a ≡ eqb (bit_at v j) 1 =
+    ap (λ k. eqb (bit_at (slice_index vs k) j) 1) e ∙ ap (λ x. eqb (bit_at x j) 1) (sym other) in
+    let part : bit_at (left_part w v low) j ≡ min (bit_at w j) (1 - bit_at v j) =
+    bit_at-high_part (bit_and w (2 ^ 64 - 1 - v)) low j (omega arith) (omega arith) ∙ bit_at_and w (2 ^ 64 - 1 - v) j
+    ∙ ap (λ x. min (bit_at w j) x) (bit_at_not w64 v j fits (omega arith)) in
+    rw (ws_bit, vs_bit) (sym (and_not_bits (bit_at w j) (bit_at v j) (bit_at (left_part w v low) j) (bit_at-lt w j) (bit_at-lt v j) part))
+
+pub left_word : (ws vs : List ℕ) (from i low w v : ℕ) → i < length ws → w ≡ get_or ws i w → v ≡ slice_index vs i → v < 2 ^ 64
+    → low ≡ from - 64 * i → low < 64 → IsWord (only ws vs) from i (left_part w v low)
+left_word ws vs from i low w v inside read other_word v_fits start near =
+    let word : w ≡ slice_index ws i = get_or_read ws i w inside read 0 in
+    record {
+      low = low;
+      start = start;
+      near = near;
+      fits = part_fits (bit_and w (2 ^ 64 - 1 - v)) low;
+      same = λ a h e. only_in_word ws vs from i low w v word other_word v_fits start near a h e;
+      below = λ j h. bit_at-high_part_below (bit_and w (2 ^ 64 - 1 - v)) low j h near;
+    }
+
+pub only_agree : (flags others : List Bool) (ws vs : List ℕ) (n k : ℕ) → flags_of ws n ≡ flags → flags_of vs k ≡ others → k ≡ n
+    → Agree (has_alone flags others) (only ws vs) n
+only_agree flags others ws vs n k view other e =
+    let m = bits_agree flags ws n view in
+    let o = bits_agree others vs k other in
+    record {
+      inside = λ a h. rw (m.inside a h, o.inside a (omega arith)) refl;
+      past = λ a h. rw (m.past a h) refl;
+    }
+
+pub same_len : (flags others : List Bool) (ws vs : List ℕ) (n k : ℕ) → flags_of ws n ≡ flags
+    → flags_of vs k ≡ others → length others ≡ length flags → k ≡ n
+same_len flags others ws vs n k view other e = omega (arith, length-flags_of ws n, length-flags_of vs k, ap length view, ap length other)
+
+-- ---- one word, which is all of a group
+-- nothing is between a number and itself
+pub none_yet : (has : ℕ → Bool) (from : ℕ) → HasNoneBelow has from from
+none_yet has from a h k = absurd (omega arith)
+
+pub group_word : (ws : List ℕ) (i w : ℕ) → w ≡ slice_index ws i → w < 2 ^ 64 → IsWord (bit_of ws) (64 * i) i w
+group_word ws i w read fits = record {
+  low = 0;
+  start = omega arith;
+  near = omega arith;
+  fits = fits;
+  same = λ a h e. ap (λ q. eqb (bit_at (slice_index ws q) (a % 64)) 1) e ∙ ap (λ v. eqb (bit_at v (a % 64)) 1) (sym read);
+  below = λ j h. absurd (omega arith);
+}
+
+pub group_left : (ws vs : List ℕ) (i w v : ℕ) → w ≡ slice_index ws i → v ≡ slice_index vs i → v < 2 ^ 64
+    → bit_and w (2 ^ 64 - 1 - v) < 2 ^ 64 → IsWord (only ws vs) (64 * i) i (bit_and w (2 ^ 64 - 1 - v))
+group_left ws vs i w v read other fits less = record {
+  low = 0;
+  start = omega arith;
+  near = omega arith;
+  fits = less;
+  same = λ a h e.
+      let j : ℕ = a % 64 in
+      let ws_bit : bit_of ws a ≡ eqb (bit_at w j) 1 =
+      ap (λ k. eqb (bit_at (slice_index ws k) j) 1) e ∙ ap (λ x. eqb (bit_at x j) 1) (sym read) in
+      let vs_bit : bit_of vs a ≡ eqb (bit_at v j) 1 =
+      ap (λ k. eqb (bit_at (slice_index vs k) j) 1) e ∙ ap (λ x. eqb (bit_at x j) 1) (sym other) in
+      let part : bit_at (bit_and w (2 ^ 64 - 1 - v)) j ≡ min (bit_at w j) (1 - bit_at v j) =
+      bit_at_and w (2 ^ 64 - 1 - v) j ∙ ap (λ x. min (bit_at w j) x) (bit_at_not w64 v j fits (omega arith)) in
+      rw (ws_bit, vs_bit)
+      (sym (and_not_bits (bit_at w j) (bit_at v j) (bit_at (bit_and w (2 ^ 64 - 1 - v)) j) (bit_at-lt w j) (bit_at-lt v j) part));
+  below = λ j h. absurd (omega arith);
+}
+
+-- where the group has one of the set, the word isn't 0, and its lowest bit is of the set
+pub some_word : (is_in has : ℕ → Bool) (n i m : ℕ) → Agree is_in has n → IsWord has (64 * i) i m
+    → (HasNoneBelow is_in (64 * i) (64 * i + 64) → ⊥) → 0 < m
+some_word is_in has n i m g w some =
+    ⊎_elim (λ (h : 0 < m). h)
+    (λ (h : m ≤ 0). absurd (some (none_left is_in has n (64 * i) (64 * i + 64) (64 * (i + 1)) g
+    (none_in_word has (64 * i) i m w (none_yet has (64 * i)) (omega arith)) (omega arith))))
+    (cases_lt 0 m)
+
+pub some_inside : (is_in has : ℕ → Bool) (n i m : ℕ) → Agree is_in has n → IsWord has (64 * i) i m
+    → (HasNoneBelow is_in (64 * i) (64 * i + 64) → ⊥) → 64 * i + trailing_zeros w64 m < n
+some_inside is_in has n i m g w some =
+    ⊎_elim (λ (h : 64 * i + trailing_zeros w64 m < n). h)
+    (λ (h : n ≤ 64 * i + trailing_zeros w64 m). absurd (some (found_past is_in has n (64 * i) (64 * i + 64) i m g w
+    (none_yet has (64 * i)) (some_word is_in has n i m g w some) (omega arith))))
+    (cases_lt (64 * i + trailing_zeros w64 m) n)
+
+pub lowest_of_some : (is_in has : ℕ → Bool) (n i m : ℕ) → Agree is_in has n → IsWord has (64 * i) i m
+    → (HasNoneBelow is_in (64 * i) (64 * i + 64) → ⊥) → IsLowest is_in (64 * i) (64 * i + trailing_zeros w64 m)
+lowest_of_some is_in has n i m g w some =
+    found_inside is_in has n (64 * i) i m g w (none_yet has (64 * i)) (some_word is_in has n i m g w some)
+    (some_inside is_in has n i m g w some)
+
+-- a group that has one of the set is written
+pub group_written : (is_in : ℕ → Bool) (ws : List ℕ) (n i : ℕ) → Agree is_in (bit_of ws) n
+    → (HasNoneBelow is_in (64 * i) (64 * i + 64) → ⊥) → i < length ws
+group_written is_in ws n i g some =
+    ⊎_elim (λ (h : i < length ws). h)
+    (λ (h : length ws ≤ i). absurd (some (λ a k l.
+    ⊎_elim (λ b. g.inside a b ∙ bit_past ws a (omega arith)) (λ b. g.past a b) (cases_lt a n))))
+    (cases_lt i (length ws))
+
+pub number_written : (flags : List Bool) (ws : List ℕ) (n a : ℕ) → flags_of ws n ≡ flags → a < length flags → has flags a ≡ true
+    → a / 64 < length ws
+number_written flags ws n a view h e =
+    ⊎_elim (λ (b : a / 64 < length ws). b)
+    (λ (b : length ws ≤ a / 64).
+    let same = ap (λ (l : List Bool). has l a) (sym view) ∙ has-flags_of ws n a (omega (arith, h, length-flags_of ws n, ap length view)) in
+    let none = bit_past ws a b in
+    absurd cc)
+    (cases_lt (a / 64) (length ws))

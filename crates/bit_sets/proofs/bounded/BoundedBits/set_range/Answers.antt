@@ -1,0 +1,13 @@
+use Rattle.std.proofs.Common.{◌≤◌, length}
+use Rattle.bit_sets.proofs.Bounds.{AreWide, within_range}
+use Rattle.bit_sets.proofs.bounded.BoundedBits.set_range.Goals as goal
+
+pub invariant_of-self : goal.invariant_of-self
+invariant_of-self c =
+    let inside : c.args.to ≤ length c.self.inside.bits = rw c.self.view_is c.requires in
+    let w : AreWide c.self.inside.low c.self.inside.high c.args.from c.args.to c.widened-low.result.0 c.widened-low.result.1 = record {
+      more = c.widened-low.ensures.more;
+      old = c.widened-low.ensures.old;
+      no_more = c.widened-low.ensures.no_more;
+    } in
+    within_range _ _ _ _ _ _ c.args.from c.args.to inside c.set_range.ensures.len c.set_range.ensures.flags c.self.invariant w

@@ -1,0 +1,10 @@
+use Rattle.std.proofs.Common.{◌≤◌, ◌*◌, min, vec_len, vec_capacity}
+use Rattle.bit_sets.proofs.BitUnions.{IsJoinedUpTo}
+use Rattle.bit_sets.proofs.groups.join_bits.Given as goal
+
+abbrev pub invariant-loop-index : goal.invariant-loop-index
+invariant-loop-index l = record {
+  written : l.past ≤ vec_len l.words;
+  room : vec_capacity l.fn.words ≤ vec_capacity l.words;
+  bits : IsJoinedUpTo l.members.items l.fn.words.items l.words.items l.from (min l.to (64 * l.index));
+}

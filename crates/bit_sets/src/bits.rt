@@ -1,0 +1,368 @@
+//! Sets of numbers, as bits in words of 64.
+//!
+//! ```text
+//!   number    0  1  2 ..  63 | 64 65 ..  127 | 128 ..
+//!   bit       0  1  0 ..   1 |  0  0 ..    0 |   1 ..
+//!             word 0         | word 1: none  | word 2
+//!                next(2) = 63                next(64) = 128, without a look at each number
+//!                                            next_below(64, 128): none, without a look at word 2
+//! ```
+//!
+//! A set takes one bit a number. Room for all is reserved when it is made, and none of it touched: a word is written when the first
+//! number of its group, or of one above it, comes (`groups`), so of a large set costs what is used. To clear a range of it touches the
+//! range's words and not each number, to clear it whole none, and to go over its members costs the members and the words between them.
+//! A set of few numbers, which isn't to pay for tests of what is written, is a `SmallBits`.
+
+ghost use Rattle.std.specs.Prelude.{◌≡◌, ◌+◌, ◌*◌, ◌/◌, ◌^◌, ◌<◌, ◌≤◌, ◌||◌, ◌&&◌, if◌then◌else◌};
+ghost use Rattle.std.specs.Prelude.{ℕ, false, true, IfOk, IfSome, length, MatchOption, not, replicate, slice_set};
+ghost use Rattle.bit_sets.specs.Bits.{has, has_alone, is_between, is_passing, HasNone, HasNoneBelow, IsLowest};
+
+use crate::groups::{
+    clear_bits, fill_groups, join_bits, reach, reach_group, set_bits, whole_word, word_at,
+    word_without, written_below,
+};
+use std::alloc::{AllocError, Global};
+use std::marker::Model;
+
+/// A set of numbers below a length that is given when it is made. Clauses see a flag for each number.
+#[derive(Drop)]
+pub struct Bits {
+    /// The words that are written. There is room for all.
+    words: Vec<u64>,
+    len: u32,
+}
+
+impl Model for Bits {
+    ghost use Rattle.std.specs.Prelude.{List, Bool, ◌≤◌, ◌*◌, vec_capacity};
+    ghost use Rattle.bit_sets.specs.BitWords.{flags_of};
+
+    ghost Value = { List Bool };
+
+    ghost view = { λ s. flags_of s.words.items s.len };
+
+    ghost invariant = { λ s. s.len ≤ 64 * vec_capacity s.words };
+}
+
+impl Bits {
+    /// The empty set of the numbers below `count`. No call takes memory afterwards.
+    pub fn new(alloc: Global, count: u32) -> Result<Bits, AllocError>
+        ensures { IfOk result (λ bits. bits ≡ replicate count false) }
+    {
+        let words = Vec::with_capacity(alloc, count.div_ceil(64) as usize)?;
+        Ok(Bits { words, len: count })
+    }
+
+    /// Tells a proof what is known of each set: its numbers are below 2 to the 32nd. It does nothing.
+    pub fn law(&self)
+        ensures { length self.now < 2 ^ 32 }
+    {
+        let _len = self.len;
+    }
+
+    /// How many numbers there are, in the set or not.
+    pub fn len(&self) -> u32
+        ensures { result ≡ length self.now }
+    {
+        self.len
+    }
+
+    /// Whether a number is in the set.
+    #[inline(always)]
+    pub fn get(&self, number: u32) -> bool
+        requires { number < length self.now }
+        ensures { result ≡ has self.now number }
+    {
+        let group = number as usize / 64;
+        group < self.words.len() && self.words[group] >> (number % 64) & 1 == 1
+    }
+
+    /// A number is in the set.
+    #[inline(always)]
+    pub fn set(&mut self, number: u32)
+        requires { number < length self.old }
+        ensures { self.new ≡ slice_set self.old number true }
+    {
+        reach_group(&mut self.words, number / 64);
+        self.words[number as usize / 64] |= 1 << (number % 64);
+    }
+
+    /// A number comes into the set. Whether it wasn't there.
+    #[inline(always)]
+    pub fn insert(&mut self, number: u32) -> bool
+        requires { number < length self.old }
+        ensures came { result ≡ not (has self.old number) }
+        ensures same { result ≡ false → self.new ≡ self.old }
+        ensures set { self.new ≡ slice_set self.old number true }
+    {
+        reach_group(&mut self.words, number / 64);
+        let word = self.words[number as usize / 64];
+        if word >> (number % 64) & 1 == 1 {
+            return false;
+        }
+        self.words[number as usize / 64] = word | 1 << (number % 64);
+        true
+    }
+
+    /// A number is not in the set.
+    pub fn remove(&mut self, number: u32)
+        requires { number < length self.old }
+        ensures { self.new ≡ slice_set self.old number false }
+    {
+        let group = number as usize / 64;
+        if self.words.len() <= group {
+            return;
+        }
+        self.words[group] &= !(1 << (number % 64));
+    }
+
+    /// The set is empty: none of its words counts as written any more, and none is touched.
+    pub fn clear(&mut self)
+        ensures { self.new ≡ replicate (length self.old) false }
+    {
+        self.words.clear();
+    }
+
+    /// The numbers of whole groups, from one up to another, which is not one of them, are in the set, or they aren't.
+    fn put_groups(&mut self, first: u32, past: u32, value: bool)
+        requires order { first ≤ past }
+        requires within { 64 * past ≤ length self.old }
+        ensures len { length self.new ≡ length self.old }
+        ensures flags { (a : ℕ) → has self.new a ≡ (if is_between (64 * first) (64 * past) a then value else has self.old a) }
+    {
+        let word = whole_word(value);
+        fill_groups(&mut self.words, first, past, word);
+    }
+
+    /// The numbers from `from` up to `to`, which is not one of them, are in the set: word by word, by the bits of each.
+    fn set_part(&mut self, from: u32, to: u32)
+        requires { to ≤ length self.old }
+        ensures len { length self.new ≡ length self.old }
+        ensures flags { (a : ℕ) → has self.new a ≡ (if is_between from to a then true else has self.old a) }
+    {
+        set_bits(&mut self.words, from, to);
+    }
+
+    /// The numbers from `from` up to `to`, which is not one of them, are in the set. Words whose numbers all are in the range are
+    /// written whole.
+    pub fn set_range(&mut self, from: u32, to: u32)
+        requires { to ≤ length self.old }
+        ensures len { length self.new ≡ length self.old }
+        ensures flags { (a : ℕ) → has self.new a ≡ (if is_between from to a then true else has self.old a) }
+    {
+        let first = from.div_ceil(64);
+        let past = to / 64;
+        if first < past {
+            self.set_part(from, 64 * first);
+            self.put_groups(first, past, true);
+            self.set_part(64 * past, to);
+        } else {
+            self.set_part(from, to);
+        }
+    }
+
+    /// The members of another set of as many numbers, of those from `from` up to `to`, which is not one of them, come into this one. It
+    /// looks at the words of this range alone.
+    pub fn set_members(&mut self, members: &Bits, from: u32, to: u32)
+        requires within { to ≤ length self.old }
+        requires even { length members.now ≡ length self.old }
+        ensures len { length self.new ≡ length self.old }
+        ensures flags { (a : ℕ) → has self.new a ≡ (has self.old a || (is_between from to a && has members.now a)) }
+    {
+        join_bits(&mut self.words, &members.words, from, to);
+    }
+
+    /// Of the 64 numbers of a group those come into this set that are members of another set of as many numbers, and whose places in two
+    /// groups of a filter both are taken. It looks at one word of each.
+    pub fn set_passing(
+        &mut self,
+        members: &Bits,
+        filter: &Bits,
+        group: u32,
+        first: u32,
+        second: u32,
+    )
+        requires within { 64 * group + 64 ≤ length self.old }
+        requires even { length members.now ≡ length self.old }
+        requires first { 64 * first + 64 ≤ length filter.now }
+        requires second { 64 * second + 64 ≤ length filter.now }
+        ensures len { length self.new ≡ length self.old }
+        ensures flags { (a : ℕ) → has self.new a ≡ (has self.old a || (is_between (64 * group) (64 * group + 64) a
+            && (has members.now a && is_passing filter.now first second a))) }
+    {
+        let passing = word_at(&filter.words, first) & word_at(&filter.words, second);
+        let more = word_at(&members.words, group) & passing;
+        reach(&mut self.words, group + 1);
+        self.words[group as usize] |= more;
+    }
+
+    /// The numbers from `from` up to `to`, which is not one of them, are not in the set: word by word, by the bits of each.
+    fn clear_part(&mut self, from: u32, to: u32)
+        requires { to ≤ length self.old }
+        ensures len { length self.new ≡ length self.old }
+        ensures flags { (a : ℕ) → has self.new a ≡ (if is_between from to a then false else has self.old a) }
+    {
+        clear_bits(&mut self.words, from, to);
+    }
+
+    /// The numbers from `from` up to `to`, which is not one of them, are not in the set. Words whose numbers all are in the range
+    /// are written whole.
+    pub fn clear_range(&mut self, from: u32, to: u32)
+        requires { to ≤ length self.old }
+        ensures len { length self.new ≡ length self.old }
+        ensures flags { (a : ℕ) → has self.new a ≡ (if is_between from to a then false else has self.old a) }
+    {
+        let first = from.div_ceil(64);
+        let past = to / 64;
+        if first < past {
+            self.clear_part(from, 64 * first);
+            self.put_groups(first, past, false);
+            self.clear_part(64 * past, to);
+        } else {
+            self.clear_part(from, to);
+        }
+    }
+
+    /// The lowest number of the set at or above `from`.
+    pub fn next(&self, from: u32) -> Option<u32>
+        ensures lowest { MatchOption result (HasNone (has self.now) from) (IsLowest (has self.now) from) }
+        ensures within { IfSome result (λ found. found < length self.now) }
+    {
+        self.next_below(from, self.len)
+    }
+
+    /// The lowest number of the set at or above `from` and below `to`. It looks at the words of this range alone. Where members stand
+    /// in a row it looks at one bit for the next one.
+    pub fn next_below(&self, from: u32, to: u32) -> Option<u32>
+        ensures lowest { MatchOption result (HasNoneBelow (has self.now) from to) (IsLowest (has self.now) from) }
+        ensures below { IfSome result (λ found. found < to) }
+        ensures within { IfSome result (λ found. found < length self.now) }
+    {
+        let end = to.min(self.len);
+        if from < end {
+            if self.get(from) {
+                return Some(from);
+            }
+        }
+        self.search_below(from, to)
+    }
+
+    /// The same, word by word.
+    #[inline(always)]
+    pub(crate) fn search_below(&self, from: u32, to: u32) -> Option<u32>
+        ensures lowest { MatchOption result (HasNoneBelow (has self.now) from to) (IsLowest (has self.now) from) }
+        ensures below { IfSome result (λ found. found < to) }
+        ensures within { IfSome result (λ found. found < length self.now) }
+    {
+        let end = to.min(self.len);
+        let past = written_below(&self.words, end);
+        for index in from / 64..past {
+            let all = self.words[index as usize];
+            if all == 0 {
+                continue;
+            }
+            let low = from.saturating_sub(64 * index);
+            let word = all & u64::MAX << low;
+            if word != 0 {
+                let found = 64 * index + word.trailing_zeros();
+                return if found < end { Some(found) } else { None };
+            }
+        }
+        None
+    }
+
+    /// The lowest number of the set in a group: group g has the 64 numbers from 64 g on. It looks at one word.
+    pub fn lowest_in(&self, group: u32) -> Option<u32>
+        requires { 64 * group < length self.now }
+        ensures lowest { MatchOption result (HasNoneBelow (has self.now) (64 * group) (64 * group + 64))
+            (IsLowest (has self.now) (64 * group)) }
+        ensures below { IfSome result (λ found. found < 64 * group + 64) }
+        ensures within { IfSome result (λ found. found < length self.now) }
+    {
+        self.law();
+        let word = word_at(&self.words, group);
+        if word == 0 {
+            return None;
+        }
+        let found = 64 * group + word.trailing_zeros();
+        if found < self.len { Some(found) } else { None }
+    }
+
+    /// The lowest number of the set in a group that has one. It looks at one word, and tests nothing: that word is written.
+    #[inline(always)]
+    pub fn first_in(&self, group: u32) -> u32
+        requires known { 64 * group < length self.now }
+        requires some { HasNoneBelow (has self.now) (64 * group) (64 * group + 64) → ⊥ }
+        ensures lowest { IsLowest (has self.now) (64 * group) result }
+        ensures below { result < 64 * group + 64 }
+        ensures within { result < length self.now }
+    {
+        self.law();
+        let word = self.words[group as usize];
+        64 * group + word.trailing_zeros()
+    }
+
+    /// The lowest number of the group of `number` that is in this set and not in `other`, which has `number`: so that one's word is
+    /// written.
+    #[inline(always)]
+    pub fn lowest_left(&self, other: &Bits, number: u32) -> Option<u32>
+        requires known { number < length self.now }
+        requires even { length other.now ≡ length self.now }
+        requires there { has other.now number ≡ true }
+        ensures lowest { MatchOption result
+            (HasNoneBelow (has_alone self.now other.now) (64 * (number / 64)) (64 * (number / 64) + 64))
+            (IsLowest (has_alone self.now other.now) (64 * (number / 64))) }
+        ensures below { IfSome result (λ found. found < 64 * (number / 64) + 64) }
+        ensures within { IfSome result (λ found. found < length self.now) }
+    {
+        self.law();
+        let group = number / 64;
+        let word = word_at(&self.words, group) & !other.words[group as usize];
+        if word == 0 {
+            return None;
+        }
+        let found = 64 * group + word.trailing_zeros();
+        if found < self.len { Some(found) } else { None }
+    }
+
+    /// The lowest number of a group that is in this set and not in `other`. It looks at one word of each.
+    pub fn lowest_without(&self, other: &Bits, group: u32) -> Option<u32>
+        requires known { 64 * group < length self.now }
+        requires even { length other.now ≡ length self.now }
+        ensures lowest { MatchOption result
+            (HasNoneBelow (has_alone self.now other.now) (64 * group) (64 * group + 64))
+            (IsLowest (has_alone self.now other.now) (64 * group)) }
+        ensures below { IfSome result (λ found. found < 64 * group + 64) }
+        ensures within { IfSome result (λ found. found < length self.now) }
+    {
+        self.law();
+        let word = word_without(word_at(&self.words, group), &other.words, group);
+        if word == 0 {
+            return None;
+        }
+        let found = 64 * group + word.trailing_zeros();
+        if found < self.len { Some(found) } else { None }
+    }
+
+    /// The lowest number at or above `from` and below `to` that is in this set and not in `other`. It looks at the words
+    /// of this range alone.
+    #[inline(never)]
+    pub fn next_without(&self, other: &Bits, from: u32, to: u32) -> Option<u32>
+        requires { length other.now ≡ length self.now }
+        ensures lowest { MatchOption result (HasNoneBelow (has_alone self.now other.now) from to)
+            (IsLowest (has_alone self.now other.now) from) }
+        ensures below { IfSome result (λ found. found < to) }
+        ensures within { IfSome result (λ found. found < length self.now) }
+    {
+        let end = to.min(self.len);
+        let past = written_below(&self.words, end);
+        for index in from / 64..past {
+            let low = from.saturating_sub(64 * index);
+            let word = self.words[index as usize] & !word_at(&other.words, index) & u64::MAX << low;
+            if word != 0 {
+                let found = 64 * index + word.trailing_zeros();
+                return if found < end { Some(found) } else { None };
+            }
+        }
+        None
+    }
+}

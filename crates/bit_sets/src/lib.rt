@@ -1,0 +1,15 @@
+//! Sets of numbers as bits, in words of 64. Clauses see a flag for each number.
+//!
+//! ```text
+//!   Bits           large sets: the first words are written, the others not touched      marks, flags of cards
+//!   BoundedBits    the same, and between which bounds the members are                   what a pause notes
+//!   SmallBits      small sets: all words are written when a set is made                the upper levels of a summary
+//! ```
+//!
+//! `groups` has the words of the large sets.
+#![tactic(auto)]
+
+pub mod bits;
+pub mod bounded;
+mod groups;
+pub mod small_bits;

@@ -1,5 +1,0 @@
-use Rattle.heap_words.proofs.BitWords.{length-flags_of, flags_of_zeros}
-use Rattle.heap_words.proofs.bits.Bits.clear.Goals as goal
-
-pub returns : goal.returns
-returns c = rw (← c.self.view_is, length-flags_of) (flags_of_zeros _ _ 0 c.clear.ensures.items)

@@ -1,6 +1,0 @@
-use Rattle.std.proofs.Common.{sym}
-use Rattle.heap_words.proofs.BitWords.{length-flags_of}
-use Rattle.heap_words.proofs.bits.Bits.len.Goals as goal
-
-pub returns : goal.returns
-returns c = rw (← c.self.view_is) (sym (length-flags_of _ _))

@@ -1,5 +1,0 @@
-use Rattle.heap_words.proofs.BitWords.{flags_of_zeros}
-use Rattle.heap_words.proofs.bits.Bits.new.Goals as goal
-
-pub returns : goal.returns
-returns c = flags_of_zeros _ _ 0 c.in_ok-words.ensures.items

@@ -1,5 +1,0 @@
-use Rattle.heap_words.proofs.Bounds.{none_left}
-use Rattle.heap_words.proofs.bounded.BoundedBits.clear.Goals as goal
-
-pub returns : goal.returns
-returns c = rw (← c.self.view_is) (none_left _ _ _ _ c.self.invariant c.clear_range.ensures.len c.clear_range.ensures.flags)

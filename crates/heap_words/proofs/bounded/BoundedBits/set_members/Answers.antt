@@ -1,7 +1,0 @@
-use Rattle.heap_words.specs.Bits.{has}
-use Rattle.heap_words.proofs.BitUnions.{joined_nothing}
-use Rattle.heap_words.proofs.bounded.BoundedBits.set_members.Goals as goal
-
-pub returns-in_default-clause-flags : goal.returns-in_default-clause-flags
-returns-in_default-clause-flags c = λ a.
-    joined_nothing (has c.args.members.now) (has c.args.self.now a) c.args.from c.args.to a c.in_default.ensures.lowest

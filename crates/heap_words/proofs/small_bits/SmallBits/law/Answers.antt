@@ -1,6 +1,0 @@
-use Rattle.std.proofs.Common.{arith, ap, length}
-use Rattle.heap_words.proofs.BitWords.{length-flags_of}
-use Rattle.heap_words.proofs.small_bits.SmallBits.law.Goals as goal
-
-pub returns : goal.returns
-returns c = omega (arith, length-flags_of c.self.inside.words.items c.self.inside.len, ap length c.self.view_is)
