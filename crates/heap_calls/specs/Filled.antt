@@ -10,9 +10,9 @@ use Rattle.heap_steps.specs.declared.step.Reply.TheVariants as replies
 use Rattle.heap_steps.specs.declared.step.Step.{Step}
 use Rattle.step_core.specs.Stands.{CoreState}
 use Rattle.step_core.specs.Words.{Takes}
-use Rattle.g1heap_c.specs.Numbers.{by, counts, no_heap, no_step, numbers, register, value}
-use Rattle.g1heap_c.specs.Steps.{Stays}
-use Rattle.g1heap_c.specs.declared.answer.Answer.{Answer}
+use Rattle.heap_calls.specs.Numbers.{by, counts, no_heap, no_step, numbers, register, value}
+use Rattle.heap_calls.specs.Steps.{Stays}
+use Rattle.heap_calls.specs.declared.answer.Answer.{Answer}
 
 -- so many steps lead from one core to another, one after another
 abbrev pub RunsTo : CoreState → (ℕ → Step) → ℕ → CoreState → Type 0
