@@ -8,8 +8,8 @@ use Rattle.heap_steps.specs.declared.step.Register.{Register}
 use Rattle.heap_steps.specs.declared.step.Reply.{Reply}
 use Rattle.heap_steps.specs.declared.step.Reply.TheVariants as replies
 use Rattle.heap_steps.specs.declared.step.Step.{Step}
-use Rattle.object_graph.specs.Run.{IsRun}
-use Rattle.object_graph.specs.State.{State, first_state}
+use Rattle.graph_runs.specs.Run.{IsRun}
+use Rattle.graph_runs.specs.State.{State, first_state}
 use Rattle.step_core.specs.Passages.{actor_of, step_in}
 use Rattle.step_core.specs.Stands.{CoreState, Stands}
 use Rattle.step_core.specs.Words.{reading, writing}

@@ -7,7 +7,7 @@ use Rattle.heap_steps.specs.declared.step.Op.{Op}
 use Rattle.heap_steps.specs.declared.step.Reply.{Reply}
 use Rattle.heap_steps.specs.declared.step.Reply.TheVariants as replies
 use Rattle.heap_steps.specs.declared.step.Refusal.TheVariants as refusals
-use Rattle.object_graph.specs.State.{State}
+use Rattle.graph_runs.specs.State.{State}
 use Rattle.step_core.specs.Stands.{CoreState, Stands}
 use Rattle.collection.specs.Space.{IsCollected, IsPacked}
 use Rattle.collection.specs.Steps.{Collects, LeavesTwo, Makes}

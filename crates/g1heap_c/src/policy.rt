@@ -3,7 +3,7 @@
 
 ghost use Rattle.std.specs.Prelude.{◌≡◌, ◌↔◌, ◌<◌, ◌≤◌, Some, IsTrue};
 ghost use Rattle.heap_steps.specs.Actors.{IsOp};
-ghost use Rattle.object_graph.specs.Run.{IsNew};
+ghost use Rattle.graph_runs.specs.Run.{IsNew};
 ghost use Rattle.heap_calls.specs.Steps.{TakesNone};
 ghost use Rattle.g1heap_c.specs.Policies.{Asks, AsksFor, CollectsAll, CollectsAllIn, CollectsDue, CollectsDueIn, asked};
 

@@ -4,7 +4,7 @@ use Rattle.std.proofs.Common.{arith}
 use Rattle.std.specs.Prelude.{slice_index, slice_index_or}
 use Rattle.heap_words.specs.declared.config.Config.{Config}
 use Rattle.heap_steps.specs.Actors.{IsStep}
-use Rattle.object_graph.specs.State.{register_place, places_of}
+use Rattle.graph_runs.specs.State.{register_place, places_of}
 use Rattle.heap_steps.specs.declared.step.Refusal.TheVariants as refusals
 use Rattle.heap_steps.specs.declared.step.Register.{Register}
 use Rattle.heap_steps.specs.declared.step.Reply.{Reply}

@@ -1,7 +1,7 @@
 -- A new object with its fields in one call: the step that makes it, and those that fill it.
 use Rattle.std.specs.Prelude.{◌≡◌, ◌≢◌, ◌<◌, ◌^◌, ℕ, zero, suc, List, length, slice_index, Option, Some, None}
 use Rattle.heap_words.specs.declared.config.Config.{Config}
-use Rattle.object_graph.specs.State.{places_of}
+use Rattle.graph_runs.specs.State.{places_of}
 use Rattle.heap_steps.specs.Actors.{IsStep}
 use Rattle.heap_steps.specs.Roots.{IsValue}
 use Rattle.heap_steps.specs.declared.step.Action.TheVariants as actions

@@ -5,7 +5,7 @@ use Rattle.heap_words.specs.declared.config.NewFault.{NewFault}
 use Rattle.heap_words.specs.Configs.{Suits, IsNewFault, registers_of}
 use Rattle.heap_model.specs.Graph.{Graph, register_place}
 use Rattle.heap_steps.specs.Actors.{IsOp, IsStep}
-use Rattle.object_graph.specs.State.{State, root_at, first_state}
+use Rattle.graph_runs.specs.State.{State, root_at, first_state}
 use Rattle.heap_steps.specs.declared.step.Op.{Op}
 use Rattle.heap_steps.specs.declared.step.Step.{Step}
 use Rattle.heap_steps.specs.declared.step.Reply.{Reply}

@@ -2,7 +2,7 @@
 
 ghost use Rattle.std.specs.Prelude.{◌≡◌, OnOk, IfOk, IfErr};
 ghost use Rattle.heap_words.specs.Configs.{Suits, IsNewFault};
-ghost use Rattle.object_graph.specs.State.{first_state};
+ghost use Rattle.graph_runs.specs.State.{first_state};
 ghost use Rattle.step_core.specs.Stands.{Stands};
 ghost use Rattle.step_core.specs.Fresh.{fresh_core};
 ghost use Rattle.heap_calls.specs.Numbers.{config_of};
