@@ -3,8 +3,8 @@
 //! What the graph is, and what a run of it, is said in `graph_runs`, which the heap's contracts speak of too. Here they are code.
 //!
 //! `Graph` takes the steps of mutators (`apply`); `check` says whether a record is a run, from the graph of a new heap, and if not, at
-//! which event it breaks; `explain` says too what the graph gives there. A `Judge` takes events one by one, as they come. Steps, replies and
-//! records are those of `heap_steps`, which the heap has too.
+//! which event it breaks; `explain` says too what the graph gives there. A `Judge` takes events one by one, as they come. Steps,
+//! replies and records are those of `heap_steps`, which the heap has too.
 //!
 //! Examples of calls go on from this one, in which `rt` is a test's `HostRuntime` and `alloc` its allocator:
 //!
