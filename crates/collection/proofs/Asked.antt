@@ -8,8 +8,8 @@ use Rattle.heap_steps.specs.declared.step.Op.{Op}
 use Rattle.heap_steps.specs.declared.step.Reply.{Reply}
 use Rattle.heap_steps.specs.declared.step.Reply.TheVariants as replies
 use Rattle.heap_steps.specs.declared.step.Refusal.TheVariants as refusals
-use Rattle.object_graph.specs.State.{State}
-use Rattle.object_graph.specs.Run.{IsNew}
+use Rattle.graph_runs.specs.State.{State}
+use Rattle.graph_runs.specs.Run.{IsNew}
 use Rattle.regions.specs.Table.{free_count}
 use Rattle.step_core.specs.Stands.{CoreState, Stands}
 use Rattle.step_core.specs.Mutators.{ActsOn}

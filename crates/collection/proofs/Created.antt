@@ -15,8 +15,8 @@ use Rattle.heap_steps.specs.declared.step.Register.{Register}
 use Rattle.heap_steps.specs.declared.step.Reply.{Reply}
 use Rattle.heap_steps.specs.declared.step.Reply.TheVariants as replies
 use Rattle.heap_steps.specs.declared.step.Refusal.TheVariants as refusals
-use Rattle.object_graph.specs.Machine.{Outcome, act, made, refused}
-use Rattle.object_graph.specs.Run.{Creates, IsNew}
+use Rattle.graph_runs.specs.Machine.{Outcome, act, made, refused}
+use Rattle.graph_runs.specs.Run.{Creates, IsNew}
 use Rattle.step_core.specs.Stands.{CoreState, ShowsGraph}
 use Rattle.step_core.specs.Answers.{IsFull}
 use Rattle.collection.specs.Steps.{asked_words}

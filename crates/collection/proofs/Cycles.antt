@@ -13,7 +13,7 @@ use Rattle.heap_steps.specs.declared.step.CollectorStep.TheVariants as collector
 use Rattle.heap_steps.specs.declared.step.Reply.{Reply}
 use Rattle.heap_steps.specs.declared.step.Reply.TheVariants as replies
 use Rattle.heap_steps.specs.declared.step.Refusal.TheVariants as refusals
-use Rattle.object_graph.specs.State.{State}
+use Rattle.graph_runs.specs.State.{State}
 use Rattle.step_core.specs.Stands.{CoreState, IsCore, Stands, kept_of}
 use Rattle.step_core.specs.Answers.{Follows}
 use Rattle.step_core.specs.Cycle.{Collects, HasBegun, HasRemarked, HasCleaned}

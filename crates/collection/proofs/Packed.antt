@@ -15,7 +15,7 @@ use Rattle.region_choice.specs.Choice.{copy_limit, live_sum}
 use Rattle.evacuation.specs.Evacuates.{is_chosen, RegionsAfter}
 use Rattle.evacuation.proofs.WholePause.Asked.{found, get_is}
 use Rattle.heap_model.specs.Graph.{Graph}
-use Rattle.object_graph.specs.State.{State}
+use Rattle.graph_runs.specs.State.{State}
 use Rattle.step_core.specs.Stands.{CoreState, IsCore, Stands, kept_of}
 use Rattle.step_core.specs.Measures.{sum_below}
 use Rattle.step_core.specs.declared.candidates.Choice.{Choice}

@@ -6,7 +6,7 @@ use Rattle.heap_model.proofs.Cleared.{cleared_named, cleared_named_back, reach_b
 use Rattle.step_core.specs.Stands.{CoreState}
 use Rattle.step_core.specs.Pause.{words_of, named_words}
 use Rattle.step_core.proofs.Mutating.Reading.{AllZip-length}
-use Rattle.object_graph.specs.Run.{ClearsBy}
+use Rattle.graph_runs.specs.Run.{ClearsBy}
 use Rattle.collection.specs.Space.{AreReachable, FillHalf, HasReached, IsPacked, IsPackedAt, ordinary_count, run_count}
 
 pub none_cleared : (g : Graph) → HasReached g g

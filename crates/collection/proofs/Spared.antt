@@ -14,7 +14,7 @@ use Rattle.heap_steps.specs.declared.step.Counts.{Counts}
 use Rattle.heap_steps.specs.declared.step.Op.{Op}
 use Rattle.heap_steps.specs.declared.step.Reply.{Reply}
 use Rattle.heap_steps.specs.declared.step.Reply.TheVariants as replies
-use Rattle.object_graph.specs.Run.{IsNew}
+use Rattle.graph_runs.specs.Run.{IsNew}
 use Rattle.step_core.specs.Stands.{CoreState}
 use Rattle.step_core.specs.Answers.{IsFull}
 use Rattle.step_core.specs.Mutators.{ActsOn, HasActed, core_after, with_made}

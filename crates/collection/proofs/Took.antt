@@ -16,9 +16,9 @@ use Rattle.heap_steps.specs.declared.step.Refusal.TheVariants as refusals
 use Rattle.heap_steps.specs.declared.step.Step.{Step}
 use Rattle.heap_steps.specs.declared.step.Step.TheVariants as steps
 use Rattle.std.specs.Prelude.{◌↔◌}
-use Rattle.object_graph.specs.State.{State}
-use Rattle.object_graph.specs.Run as run
-use Rattle.object_graph.specs.Run.{Happens}
+use Rattle.graph_runs.specs.State.{State}
+use Rattle.graph_runs.specs.Run as run
+use Rattle.graph_runs.specs.Run.{Happens}
 use Rattle.step_core.specs.Stands.{CoreState, IsCore, IsWhole, Stands}
 use Rattle.step_core.specs.Answers.{Follows, IsFullStep}
 use Rattle.step_core.specs.Cycle.{Does}

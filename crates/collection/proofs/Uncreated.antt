@@ -13,7 +13,7 @@ use Rattle.heap_steps.specs.declared.step.Op.{Op}
 use Rattle.heap_steps.specs.declared.step.Reply.{Reply}
 use Rattle.heap_steps.specs.declared.step.Reply.TheVariants as replies
 use Rattle.heap_steps.specs.declared.step.Refusal.{Refusal}
-use Rattle.object_graph.specs.Run.{IsNew}
+use Rattle.graph_runs.specs.Run.{IsNew}
 use Rattle.step_core.specs.Stands.{CoreState, IsCore}
 use Rattle.step_core.specs.Answers.{IsWithin}
 use Rattle.step_core.specs.Mutators.{ActsOn, HasActed, core_after, with_made}

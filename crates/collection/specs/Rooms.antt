@@ -8,7 +8,7 @@ use Rattle.alloc_buffers.specs.Placement.{Placement, made_at, place_of, run_coun
 use Rattle.heap_steps.specs.Actors.{IsThird}
 use Rattle.heap_steps.specs.declared.step.Action.{Action}
 use Rattle.heap_steps.specs.declared.step.Op.{Op}
-use Rattle.object_graph.specs.State.{State}
+use Rattle.graph_runs.specs.State.{State}
 use Rattle.step_core.specs.Stands.{CoreState, Stands}
 use Rattle.step_core.specs.Mutators.{core_after}
 use Rattle.collection.specs.Space.{IsCollected, IsPackedAt, LieBelowFree}

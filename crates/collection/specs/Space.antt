@@ -7,7 +7,7 @@ use Rattle.regions.specs.declared.row.Kind.{Kind}
 use Rattle.regions.specs.declared.row.Kind.TheVariants as kinds
 use Rattle.mark_bitmap.specs.Live.{live_bound_of, kept_words}
 use Rattle.step_core.specs.Stands.{CoreState, Stands, kept_of}
-use Rattle.object_graph.specs.State.{State}
+use Rattle.graph_runs.specs.State.{State}
 use Rattle.heap_model.specs.Heap.{Stored}
 use Rattle.step_core.specs.Measures.{sum_below}
 use Rattle.step_core.specs.Pause.{words_of, named_words}

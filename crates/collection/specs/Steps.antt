@@ -14,8 +14,8 @@ use Rattle.heap_steps.specs.declared.step.Reply.{Reply}
 use Rattle.heap_steps.specs.declared.step.Reply.TheVariants as replies
 use Rattle.heap_steps.specs.declared.step.Refusal.TheVariants as refusals
 use Rattle.heap_steps.specs.declared.step.Step.TheVariants as steps
-use Rattle.object_graph.specs.State.{State}
-use Rattle.object_graph.specs.Run.{Creates}
+use Rattle.graph_runs.specs.State.{State}
+use Rattle.graph_runs.specs.Run.{Creates}
 use Rattle.step_core.specs.Stands.{CoreState, Stands}
 use Rattle.step_core.specs.Passages.{Passes, Runs}
 

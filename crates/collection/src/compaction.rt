@@ -4,8 +4,8 @@ ghost use Rattle.std.specs.Prelude.{◌≡◌, ◌+◌, ◌*◌, ◌<◌, ◌≤
 ghost use Rattle.heap_steps.specs.Actors.{IsThird, IsOp};
 ghost use Rattle.heap_steps.specs.declared.step.Reply.TheVariants as replies;
 ghost use Rattle.regions.specs.Table.{free_count};
-ghost use Rattle.object_graph.specs.State.{State};
-ghost use Rattle.object_graph.specs.Run.{IsNew};
+ghost use Rattle.graph_runs.specs.State.{State};
+ghost use Rattle.graph_runs.specs.Run.{IsNew};
 ghost use Rattle.collection.specs.Space.{IsQuiet, LieBelowFree, ordinary_end};
 ghost use Rattle.collection.specs.Steps.{Collects, asked_words};
 ghost use Rattle.collection.specs.Rooms.{HasRun, IsSpared};

@@ -2,8 +2,8 @@
 
 ghost use Rattle.std.specs.Prelude.{◌≡◌, ◌⊎◌, ◌+◌, ◌*◌, ◌<◌, ◌≤◌, true, false, ℕ};
 ghost use Rattle.regions.specs.Table.{free_count};
-ghost use Rattle.object_graph.specs.State.{State};
-ghost use Rattle.object_graph.specs.Run.{IsNew};
+ghost use Rattle.graph_runs.specs.State.{State};
+ghost use Rattle.graph_runs.specs.Run.{IsNew};
 ghost use Rattle.step_core.specs.Stands.{Stands};
 ghost use Rattle.heap_steps.specs.Actors.{IsOp, IsThird};
 ghost use Rattle.heap_steps.specs.declared.step.Reply.TheVariants as replies;

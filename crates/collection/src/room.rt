@@ -3,7 +3,7 @@
 ghost use Rattle.std.specs.Prelude.{◌≡◌, ◌↔◌, ◌+◌, ◌*◌, ◌<◌, ◌≤◌, ◌^◌, IsTrue, true, false, ℕ};
 ghost use Rattle.heap_steps.specs.Actors.{IsOp, IsThird};
 ghost use Rattle.regions.specs.Table.{free_count};
-ghost use Rattle.object_graph.specs.Run.{IsNew};
+ghost use Rattle.graph_runs.specs.Run.{IsNew};
 ghost use Rattle.alloc_buffers.specs.Placement.{run_count};
 ghost use Rattle.collection.specs.Steps.{LeavesTwo, asked_words};
 ghost use Rattle.collection.specs.Rooms.{FitsOpen, HasRun, IsCreatable, IsSpared, has_rest};

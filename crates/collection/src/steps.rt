@@ -3,7 +3,7 @@
 ghost use Rattle.std.specs.Prelude.{◌≡◌, ◌≤◌, ℕ, ⊤};
 ghost use Rattle.regions.specs.Table.{free_count};
 ghost use Rattle.regions.specs.Shaped.{IsShaped};
-ghost use Rattle.object_graph.specs.State.{State};
+ghost use Rattle.graph_runs.specs.State.{State};
 ghost use Rattle.heap_steps.specs.Actors.{HasCollection, IsOp};
 ghost use Rattle.heap_steps.specs.declared.step.Event.{Event};
 ghost use Rattle.heap_steps.specs.declared.step.Step.TheVariants as steps;

@@ -2,7 +2,7 @@
 
 ghost use Rattle.std.specs.Prelude.{◌≡◌, ◌+◌, ◌-◌, ◌<◌, ◌≤◌, ℕ, true, false};
 ghost use Rattle.regions.specs.Table.{free_count};
-ghost use Rattle.object_graph.specs.State.{State};
+ghost use Rattle.graph_runs.specs.State.{State};
 ghost use Rattle.step_core.specs.Stands.{Stands};
 ghost use Rattle.collection.specs.Space.{IsCollected, IsQuiet, IsPacked};
 ghost use Rattle.collection.specs.Steps.{Collects};

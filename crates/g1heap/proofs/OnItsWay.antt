@@ -17,7 +17,7 @@ use Rattle.heap_words.specs.declared.config.Config.{Config}
 use Rattle.heap_steps.specs.declared.fault.RunFault.{RunFault}
 use Rattle.heap_steps.specs.Faults.{IsRunFault}
 use Rattle.jobs.specs.declared.faults.JobFault.TheVariants.{Run, Write}
-use Rattle.object_graph.specs.State.{first_state}
+use Rattle.graph_runs.specs.State.{first_state}
 use Rattle.step_core.specs.Fresh.{fresh_core}
 use Rattle.script_text.specs.Written.{Lines, AreLinesOf, no_events, with_events}
 use Rattle.script_text.specs.declared.fault.WriteFault.{WriteFault}

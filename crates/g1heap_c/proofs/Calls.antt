@@ -9,8 +9,8 @@ use Rattle.heap_steps.specs.declared.step.Register.{Register}
 use Rattle.heap_steps.specs.declared.step.Reply.{Reply}
 use Rattle.heap_steps.specs.declared.step.Reply.TheVariants as replies
 use Rattle.heap_steps.specs.declared.step.Step.{Step}
-use Rattle.object_graph.specs.Run.{IsRun}
-use Rattle.object_graph.specs.State.{State, first_state}
+use Rattle.graph_runs.specs.Run.{IsRun}
+use Rattle.graph_runs.specs.State.{State, first_state}
 use Rattle.step_core.specs.Answers.{Follows}
 use Rattle.step_core.specs.Fresh.{fresh_core}
 use Rattle.step_core.specs.Passages.{step_in}
@@ -23,13 +23,13 @@ use Rattle.g1heap_c.specs.Calls.{AreCalls, AreRun, HasEvents, IsCall, event_of, 
 use Rattle.g1heap_c.specs.Calls.{StepCall, MakeCall, DueCall, WholeCall, ReadCall, WriteCall, FilledCall, MadeFilledCall, OtherCall}
 use Rattle.g1heap_c.specs.Calls.{OfStep, OfMaking, OfCollection, OfReads, OfWrites, OfFilling, OfMadeFilling, OfNone}
 use Rattle.g1heap_c.specs.Calls.{filling, first_steps}
-use Rattle.g1heap_c.specs.Filled.{FillsIt, RunsTo, Fills, making, pointing, wording}
+use Rattle.heap_calls.specs.Filled.{FillsIt, RunsTo, Fills, making, pointing, wording}
 use Rattle.g1heap_c.specs.MadeFilled.{AsksToFill}
-use Rattle.g1heap_c.specs.Numbers.{register, told}
-use Rattle.g1heap_c.specs.Steps.{IsMade, Steps}
+use Rattle.heap_calls.specs.Numbers.{register, told}
+use Rattle.heap_calls.specs.Steps.{IsMade, Steps}
 use Rattle.g1heap_c.specs.Policies.{Asks, CollectsIn, asked}
-use Rattle.g1heap_c.specs.Words.{ReadsAll, ReadsNone, WritesAll, WritesNone}
-use Rattle.g1heap_c.specs.declared.answer.Answer.{Answer}
+use Rattle.heap_calls.specs.Words.{ReadsAll, ReadsNone, WritesAll, WritesNone}
+use Rattle.heap_calls.specs.declared.answer.Answer.{Answer}
 
 run_then : (es fs : List Event) (s mid last : State) → IsRun s es mid → IsRun mid fs last → IsRun s (es ++ fs) last
 run_then [] fs s mid last h k = subst (λ (x : State). IsRun x fs last) h k

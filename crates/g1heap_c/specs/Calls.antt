@@ -8,19 +8,19 @@ use Rattle.heap_steps.specs.declared.step.Register.{Register}
 use Rattle.heap_steps.specs.declared.step.Reply.{Reply}
 use Rattle.heap_steps.specs.declared.step.Reply.TheVariants as replies
 use Rattle.heap_steps.specs.declared.step.Step.{Step}
-use Rattle.object_graph.specs.Run.{IsRun}
-use Rattle.object_graph.specs.State.{State, first_state}
+use Rattle.graph_runs.specs.Run.{IsRun}
+use Rattle.graph_runs.specs.State.{State, first_state}
 use Rattle.step_core.specs.Passages.{actor_of, step_in}
 use Rattle.step_core.specs.Stands.{CoreState, Stands}
 use Rattle.step_core.specs.Words.{reading, writing}
 use Rattle.collection.specs.Steps.{IsCollectors, own_event}
-use Rattle.g1heap_c.specs.Numbers.{told, numbers, register}
+use Rattle.heap_calls.specs.Numbers.{told, numbers, register}
 use Rattle.g1heap_c.specs.Policies.{AsksFor, CollectsAll, CollectsDue, asked}
-use Rattle.g1heap_c.specs.Steps.{HasRegister, IsMade, Takes}
-use Rattle.g1heap_c.specs.Words.{ReadsWords, WritesWords}
-use Rattle.g1heap_c.specs.Filled.{AreFields, MakesFilled, making, pointing, wording}
+use Rattle.heap_calls.specs.Steps.{HasRegister, IsMade, Takes}
+use Rattle.heap_calls.specs.Words.{ReadsWords, WritesWords}
+use Rattle.heap_calls.specs.Filled.{AreFields, MakesFilled, making, pointing, wording}
 use Rattle.g1heap_c.specs.MadeFilled.{AsksFilled}
-use Rattle.g1heap_c.specs.declared.answer.Answer.{Answer}
+use Rattle.heap_calls.specs.declared.answer.Answer.{Answer}
 
 -- the event of a step, taken by whose it is
 abbrev pub event_of : Step → Reply → Event

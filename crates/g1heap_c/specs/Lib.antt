@@ -1,10 +1,3 @@
 pub mod Calls
-pub mod Held
-pub mod Lending
-pub mod Numbers
 pub mod Policies
-pub mod Steps
-pub mod Words
-pub mod Filled
 pub mod MadeFilled
-pub mod FreeRuns

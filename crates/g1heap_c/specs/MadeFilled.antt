@@ -1,11 +1,11 @@
 -- An object that is asked for by the policy, and filled in the same call.
 use Rattle.std.specs.Prelude.{◌≡◌, ℕ, List, length, Option, Some, None}
 use Rattle.step_core.specs.Stands.{CoreState}
-use Rattle.g1heap_c.specs.Filled.{AreFields, FillsIt}
-use Rattle.g1heap_c.specs.Numbers.{no_heap, no_step}
+use Rattle.heap_calls.specs.Filled.{AreFields, FillsIt}
+use Rattle.heap_calls.specs.Numbers.{no_heap, no_step}
 use Rattle.g1heap_c.specs.Policies.{Asks, asked}
-use Rattle.g1heap_c.specs.Steps.{Stays}
-use Rattle.g1heap_c.specs.declared.answer.Answer.{Answer}
+use Rattle.heap_calls.specs.Steps.{Stays}
+use Rattle.heap_calls.specs.declared.answer.Answer.{Answer}
 
 -- an object is asked for, with all that the policy promises, and is filled by steps of their own if it was made
 pub record AsksToFill (c : CoreState) (m to : ℕ) (from words : List ℕ) (answer : Answer) (after : Option CoreState) : Type 0 where

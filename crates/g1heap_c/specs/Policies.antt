@@ -7,14 +7,14 @@ use Rattle.heap_steps.specs.declared.step.Op.{Op}
 use Rattle.heap_steps.specs.declared.step.Reply.{Reply}
 use Rattle.heap_steps.specs.declared.step.Reply.TheVariants as replies
 use Rattle.heap_steps.specs.declared.step.Refusal.TheVariants as refusals
-use Rattle.object_graph.specs.State.{State}
+use Rattle.graph_runs.specs.State.{State}
 use Rattle.step_core.specs.Stands.{CoreState, Stands}
 use Rattle.collection.specs.Space.{IsCollected, IsPacked}
 use Rattle.collection.specs.Steps.{Collects, LeavesTwo, Makes}
 use Rattle.collection.specs.Rooms.{IsFilled}
-use Rattle.g1heap_c.specs.Numbers.{counts, no_heap, no_step, numbers, register, told}
-use Rattle.g1heap_c.specs.Steps.{Stays}
-use Rattle.g1heap_c.specs.declared.answer.Answer.{Answer}
+use Rattle.heap_calls.specs.Numbers.{counts, no_heap, no_step, numbers, register, told}
+use Rattle.heap_calls.specs.Steps.{Stays}
+use Rattle.heap_calls.specs.declared.answer.Answer.{Answer}
 
 -- the step that makes an object, a plain one where it has no weak slots
 abbrev pub asked : ℕ → ℕ → ℕ → ℕ → ℕ → Op

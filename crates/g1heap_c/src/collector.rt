@@ -2,10 +2,10 @@
 
 ghost use Rattle.heap_steps.specs.declared.step.Step.TheVariants as steps;
 ghost use Rattle.heap_steps.specs.declared.step.CollectorStep.TheVariants as collector;
-ghost use Rattle.g1heap_c.specs.Steps.{Takes, plain, scanned};
+ghost use Rattle.heap_calls.specs.Steps.{Takes, plain, scanned};
 
-use crate::answer::Answer;
-use crate::heap::{Heap, mark, take};
+use heap_calls::answer::Answer;
+use heap_calls::heap::{Heap, mark, take};
 use heap_steps::{CollectorStep, Step};
 
 /// Marking begins.

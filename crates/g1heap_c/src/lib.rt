@@ -10,13 +10,9 @@
 //! clause says of the numbers what `Core::step` says of the step. Where they name none, or there is no heap, nothing changes.
 #![tactic(auto)]
 
-mod answer;
 pub mod collector;
 pub mod filled;
-mod handle;
-mod heap;
 pub mod laws;
-mod loose;
 pub mod made_filled;
 pub mod making;
 pub mod mutator;
@@ -25,7 +21,4 @@ pub mod policy;
 pub mod readers;
 pub mod words;
 
-pub use answer::Answer;
-pub use handle::Handle;
-pub use heap::Heap;
 pub use noted::Entry;

@@ -1,15 +1,15 @@
 //! Objects that are asked for by the policy, and filled in the same call.
 
 ghost use Rattle.std.specs.Prelude.{◌≡◌, Some};
-ghost use Rattle.g1heap_c.specs.Filled.{AreFields};
+ghost use Rattle.heap_calls.specs.Filled.{AreFields};
 ghost use Rattle.g1heap_c.specs.MadeFilled.{AsksFilled, AsksToFill, AsksToFillOrNot};
 
-use crate::answer::{Answer, answer_of, no_heap, no_step};
-use crate::filled::{fill_made, has_fields};
-use crate::heap::Heap;
 use crate::noted::{Entry, Notes};
 use crate::policy::plain;
 use collection::{Policy, Unwatched, Watch, make};
+use heap_calls::answer::{Answer, answer_of, no_heap, no_step};
+use heap_calls::filled::{fill_made, has_fields};
+use heap_calls::heap::Heap;
 use step_core::Core;
 
 /// Makes the object and fills it.

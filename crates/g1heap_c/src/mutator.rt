@@ -2,53 +2,14 @@
 
 ghost use Rattle.std.specs.Prelude.{◌≡◌, ◌<◌, ◌≤◌};
 ghost use Rattle.heap_steps.specs.declared.step.Action.TheVariants as actions;
-ghost use Rattle.g1heap_c.specs.Numbers as spec;
-ghost use Rattle.g1heap_c.specs.Numbers.{by};
-ghost use Rattle.g1heap_c.specs.Steps.{Takes, TakesNone, plain};
+ghost use Rattle.heap_calls.specs.Numbers as spec;
+ghost use Rattle.heap_calls.specs.Numbers.{by};
+ghost use Rattle.heap_calls.specs.Steps.{Takes, TakesNone, plain};
 
-use crate::answer::Answer;
-use crate::heap::{Heap, take, take_none, take_up_to};
-use heap_steps::{Action, Counts, GlobalRoot, Op, Register, Step};
-
-#[inline(always)]
-pub(crate) fn register(number: u32) -> Register
-    ensures { result ≡ spec.register number }
-{
-    Register { number }
-}
-
-#[inline(always)]
-fn global(number: u32) -> GlobalRoot
-    ensures { result ≡ spec.global number }
-{
-    GlobalRoot { number }
-}
-
-#[inline(always)]
-pub(crate) fn counts(pointers: u32, values: u32) -> Counts
-    ensures { result ≡ spec.counts pointers values }
-{
-    Counts { pointers, values }
-}
-
-/// What is stored: nil, or what a register holds.
-#[inline(always)]
-pub(crate) fn value(number: u32) -> Option<Register>
-    ensures { result ≡ spec.value number }
-{
-    if number == u32::MAX {
-        None
-    } else {
-        Some(register(number))
-    }
-}
-
-#[inline(always)]
-pub(crate) fn by(mutator: u32, action: Action) -> Step
-    ensures { result ≡ by mutator action }
-{
-    Step::Mutator(Op { mutator, action })
-}
+use heap_calls::answer::Answer;
+use heap_calls::heap::{Heap, take, take_none, take_up_to};
+use heap_calls::named::{by, counts, global, register, value};
+use heap_steps::{Action, Op, Register};
 
 /// `to` takes a new object of so many pointers and data words.
 #[unsafe(no_mangle)]

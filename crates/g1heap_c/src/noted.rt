@@ -2,8 +2,8 @@
 
 ghost use Rattle.std.specs.Prelude.{⊤};
 
-use crate::answer::{Answer, answer_of};
 use collection::Watch;
+use heap_calls::answer::{Answer, answer_of};
 use heap_steps::{CollectorStep, Event, Step};
 
 /// A step that was taken, with its answer: 0 begin, 1 mark, 2 remark, 3 cleanup, 4 refine, 5 pause, 6 compact, each with its number, and

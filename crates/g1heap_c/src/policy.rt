@@ -3,15 +3,15 @@
 
 ghost use Rattle.std.specs.Prelude.{◌≡◌, ◌↔◌, ◌<◌, ◌≤◌, Some, IsTrue};
 ghost use Rattle.heap_steps.specs.Actors.{IsOp};
-ghost use Rattle.object_graph.specs.Run.{IsNew};
-ghost use Rattle.g1heap_c.specs.Steps.{TakesNone};
+ghost use Rattle.graph_runs.specs.Run.{IsNew};
+ghost use Rattle.heap_calls.specs.Steps.{TakesNone};
 ghost use Rattle.g1heap_c.specs.Policies.{Asks, AsksFor, CollectsAll, CollectsAllIn, CollectsDue, CollectsDueIn, asked};
 
-use crate::answer::{Answer, answer_of, done, no_heap, no_step};
-use crate::heap::{Heap, has, take_none};
-use crate::making::{Sizes, config_of};
 use crate::noted::{Entry, Notes};
 use collection::{Policy, Unwatched, Watch, collect, collect_due, make};
+use heap_calls::answer::{Answer, answer_of, done, no_heap, no_step};
+use heap_calls::heap::{Heap, has, take_none};
+use heap_calls::making::{Sizes, config_of};
 use heap_steps::{Action, Counts, Op, Register, Step};
 use step_core::Core;
 

@@ -1,20 +1,15 @@
 //! What a policy of collection steers by, a call for each. C declares these with a heap that doesn't change: what it points to is the same
 //! after the call as before.
 
-ghost use Rattle.std.specs.Prelude.{◌≡◌, ◌↔◌, ◌<◌, IsTrue, length};
+ghost use Rattle.std.specs.Prelude.{length};
 ghost use Rattle.heap_words.specs.Configs.{globals_of, registers_of};
-ghost use Rattle.regions.specs.Table.{free_count, kind_of};
-ghost use Rattle.regions.specs.declared.row.Kind.TheVariants as kinds;
+ghost use Rattle.regions.specs.Table.{free_count};
 ghost use Rattle.step_core.specs.Measures.{used_words, live_words, HasGrey};
-ghost use Rattle.g1heap_c.specs.Steps.{Tells, IsNumber, IsRun, IsSign, IsMarking, IsName};
-ghost use Rattle.g1heap_c.specs.FreeRuns.{IsLongestRun};
+ghost use Rattle.heap_calls.specs.Steps.{Tells, IsNumber, IsRun, IsSign, IsMarking, IsName};
 
-use crate::answer::{Answer, answer_of, no_heap, no_step, number};
-use crate::heap::Heap;
-use heap_steps::{Register, Reply};
-use heap_words::addr::RegionNo;
-use regions::{Kind, RegionTable};
-use step_core::Core;
+use heap_calls::answer::{Answer, no_heap, number};
+use heap_calls::heap::Heap;
+use heap_calls::readers::{longest_run, name_at};
 
 /// How many regions are free.
 #[unsafe(no_mangle)]
@@ -26,32 +21,6 @@ pub extern "C" fn g1_free_regions(heap: &mut Heap) -> Answer
     }
     let core = heap.handle.core_mut();
     number(u64::from(core.free_regions()))
-}
-
-/// Whether a region is free.
-#[inline(always)]
-fn is_free(table: &RegionTable, region: RegionNo) -> bool
-    requires { region < length table.now.regions }
-    ensures { IsTrue result ↔ (kind_of table.now region ≡ kinds.Free) }
-{
-    matches!(table.kind(region), Kind::Free)
-}
-
-/// How many free regions lie side by side, at most.
-fn longest_run(table: &RegionTable) -> u32
-    ensures { IsLongestRun table.now result }
-{
-    let mut longest = 0u32;
-    let mut last = 0u32;
-    for number in 0..table.region_count() {
-        if is_free(table, RegionNo::new(number)) {
-            last += 1;
-            longest = longest.max(last);
-        } else {
-            last = 0;
-        }
-    }
-    longest
 }
 
 /// How many free regions lie side by side, at most.
@@ -148,16 +117,6 @@ pub extern "C" fn g1_registers(heap: &mut Heap) -> Answer
     }
     let core = heap.handle.core_mut();
     number(u64::from(core.registers()))
-}
-
-fn name_at(core: &Core, mutator: u32, which: u32) -> Answer
-    ensures { IsName mutator which core.now result }
-{
-    let places = core.roots().places();
-    if places.mutators() <= mutator || places.registers() <= which {
-        return no_step();
-    }
-    answer_of(Reply::Named(core.name_at(mutator, Register { number: which })))
 }
 
 /// The name that a register holds.

@@ -4,7 +4,7 @@ use Rattle.std.proofs.Common.{arith}
 use Rattle.std.specs.Prelude.{slice_index, slice_index_or}
 use Rattle.heap_words.specs.declared.config.Config.{Config}
 use Rattle.heap_steps.specs.Actors.{IsStep}
-use Rattle.object_graph.specs.State.{register_place, places_of}
+use Rattle.graph_runs.specs.State.{register_place, places_of}
 use Rattle.heap_steps.specs.declared.step.Refusal.TheVariants as refusals
 use Rattle.heap_steps.specs.declared.step.Register.{Register}
 use Rattle.heap_steps.specs.declared.step.Reply.{Reply}
@@ -14,8 +14,8 @@ use Rattle.step_core.specs.Stands.{CoreState}
 use Rattle.step_core.specs.Mutators.{register_of}
 use Rattle.heap_steps.specs.Roots.{IsRegister, IsValue}
 use Rattle.step_core.specs.Words.{AreRefused, Takes, putting, writing}
-use Rattle.g1heap_c.specs.Numbers.{register, value}
-use Rattle.g1heap_c.specs.Filled.{IsFilled, RunsTo, pointing, wording}
+use Rattle.heap_calls.specs.Numbers.{register, value}
+use Rattle.heap_calls.specs.Filled.{IsFilled, RunsTo, pointing, wording}
 
 -- so many steps are taken, in a heap of the same sizes
 pub record HasRun (c : CoreState) (step : ℕ → Step) (count : ℕ) (d : CoreState) : Type 0 where

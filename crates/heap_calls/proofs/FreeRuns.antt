@@ -3,7 +3,7 @@ use Rattle.std.proofs.Common.{◌≡◌, ◌≢◌, ◌+◌, ◌-◌, ◌≤◌,
 use Rattle.std.proofs.lemmas.Bool.{cases_eq, cases_lt}
 use Rattle.regions.specs.Table.{Table, kind_of}
 use Rattle.regions.specs.declared.row.Kind.TheVariants as kinds
-use Rattle.g1heap_c.specs.FreeRuns.{AreFree, IsLongest}
+use Rattle.heap_calls.specs.FreeRuns.{AreFree, IsLongest}
 
 -- the first n regions were looked at: the last of them are free, so many and no more, and the longest run among them is known
 pub record IsSeen (t : Table) (n last longest : ℕ) : Type 0 where

@@ -23,10 +23,10 @@ use Rattle.std_heap.specs.contracts.GlobalAllocator.TheImpl.{ghosts}
 use Rattle.std_heap.specs.contracts.Global.{the_row as Z}
 use Rattle.std_heap.proofs.Global.TheLaws.{the_row_laws as global_laws}
 use Rattle.step_core.specs.contracts.heap.Core.{the_row as R}
-use Rattle.g1heap_c.specs.Held.{held, is_held}
+use Rattle.heap_calls.specs.Held.{held, is_held}
 use Rattle.step_core.specs.Stands.{CoreState}
-use Rattle.g1heap_c.proofs.Values.{both}
-use Rattle.g1heap_c.specs.contracts.handle.Handle as handle
+use Rattle.heap_calls.proofs.Values.{both}
+use Rattle.heap_calls.specs.contracts.handle.Handle as handle
 
 abbrev pub al : Al
 al = record { row = Z; laws = global_laws; g = ghosts; d = impl [] tnil dnil; drops = impl [] tnil dnil }

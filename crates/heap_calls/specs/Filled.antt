@@ -1,7 +1,7 @@
 -- A new object with its fields in one call: the step that makes it, and those that fill it.
 use Rattle.std.specs.Prelude.{◌≡◌, ◌≢◌, ◌<◌, ◌^◌, ℕ, zero, suc, List, length, slice_index, Option, Some, None}
 use Rattle.heap_words.specs.declared.config.Config.{Config}
-use Rattle.object_graph.specs.State.{places_of}
+use Rattle.graph_runs.specs.State.{places_of}
 use Rattle.heap_steps.specs.Actors.{IsStep}
 use Rattle.heap_steps.specs.Roots.{IsValue}
 use Rattle.heap_steps.specs.declared.step.Action.TheVariants as actions
@@ -10,9 +10,9 @@ use Rattle.heap_steps.specs.declared.step.Reply.TheVariants as replies
 use Rattle.heap_steps.specs.declared.step.Step.{Step}
 use Rattle.step_core.specs.Stands.{CoreState}
 use Rattle.step_core.specs.Words.{Takes}
-use Rattle.g1heap_c.specs.Numbers.{by, counts, no_heap, no_step, numbers, register, value}
-use Rattle.g1heap_c.specs.Steps.{Stays}
-use Rattle.g1heap_c.specs.declared.answer.Answer.{Answer}
+use Rattle.heap_calls.specs.Numbers.{by, counts, no_heap, no_step, numbers, register, value}
+use Rattle.heap_calls.specs.Steps.{Stays}
+use Rattle.heap_calls.specs.declared.answer.Answer.{Answer}
 
 -- so many steps lead from one core to another, one after another
 abbrev pub RunsTo : CoreState → (ℕ → Step) → ℕ → CoreState → Type 0

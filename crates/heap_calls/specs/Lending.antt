@@ -3,8 +3,8 @@ use Rattle.std.specs.Prelude.{Some}
 use Rattle.std.specs.Borrow.{Lends, MutBor, Fml}
 use Rattle.step_core.specs.Stands.{CoreState}
 use Rattle.step_core.specs.contracts.heap.Core as core
-use Rattle.g1heap_c.specs.declared.handle.Handle.{Handle}
-use Rattle.g1heap_c.specs.contracts.handle.Handle.{the_row}
+use Rattle.heap_calls.specs.declared.handle.Handle.{Handle}
+use Rattle.heap_calls.specs.contracts.handle.Handle.{the_row}
 
 -- a handle of another core, where it was
 abbrev pub with_core : Handle → CoreState → Handle

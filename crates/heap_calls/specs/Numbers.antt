@@ -14,8 +14,8 @@ use Rattle.heap_steps.specs.declared.step.Reply.{Reply}
 use Rattle.heap_steps.specs.declared.step.Reply.TheVariants as replies
 use Rattle.heap_steps.specs.declared.step.Refusal.{Refusal}
 use Rattle.heap_steps.specs.declared.step.Refusal.TheVariants as refusals
-use Rattle.g1heap_c.specs.declared.answer.Answer.{Answer}
-use Rattle.g1heap_c.specs.declared.making.Sizes.{Sizes}
+use Rattle.heap_calls.specs.declared.answer.Answer.{Answer}
+use Rattle.heap_calls.specs.declared.making.Sizes.{Sizes}
 
 -- a code with two numbers
 abbrev pub told : ℕ → ℕ → ℕ → Answer

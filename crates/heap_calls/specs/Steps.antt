@@ -5,7 +5,7 @@ use Rattle.heap_words.specs.declared.config.NewFault.{NewFault}
 use Rattle.heap_words.specs.Configs.{Suits, IsNewFault, registers_of}
 use Rattle.heap_model.specs.Graph.{Graph, register_place}
 use Rattle.heap_steps.specs.Actors.{IsOp, IsStep}
-use Rattle.object_graph.specs.State.{State, root_at, first_state}
+use Rattle.graph_runs.specs.State.{State, root_at, first_state}
 use Rattle.heap_steps.specs.declared.step.Op.{Op}
 use Rattle.heap_steps.specs.declared.step.Step.{Step}
 use Rattle.heap_steps.specs.declared.step.Reply.{Reply}
@@ -14,12 +14,12 @@ use Rattle.heap_steps.specs.declared.step.Refusal.TheVariants as refusals
 use Rattle.step_core.specs.Stands.{CoreState, Stands, ShowsGraph, name_in}
 use Rattle.step_core.specs.Answers.{Follows, IsFullStep}
 use Rattle.step_core.specs.Reclaimed.{IsReclaimed}
-use Rattle.g1heap_c.specs.FreeRuns.{IsLongestRun}
+use Rattle.heap_calls.specs.FreeRuns.{IsLongestRun}
 use Rattle.step_core.specs.Cycle.{Does, MayReclaim}
 use Rattle.step_core.specs.Mutators.{register_of}
 use Rattle.step_core.specs.Fresh.{fresh_core}
-use Rattle.g1heap_c.specs.Numbers.{told, no_step, no_heap, numbers, counted, fault_code, register}
-use Rattle.g1heap_c.specs.declared.answer.Answer.{Answer}
+use Rattle.heap_calls.specs.Numbers.{told, no_step, no_heap, numbers, counted, fault_code, register}
+use Rattle.heap_calls.specs.declared.answer.Answer.{Answer}
 
 -- how the reply of a step from one core to another is told: as it is; and of a mark, by how many objects it scanned
 abbrev pub plain : CoreState → CoreState → Reply → Answer

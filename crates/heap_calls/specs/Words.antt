@@ -3,9 +3,9 @@ use Rattle.std.specs.Prelude.{◌≡◌, ◌⊎◌, ℕ, List, length, Option, S
 use Rattle.heap_steps.specs.declared.step.Refusal.{Refusal}
 use Rattle.step_core.specs.Stands.{CoreState}
 use Rattle.step_core.specs.Words.{AreRead, AreWritten, HasWords, IsUnread, IsUnwritten}
-use Rattle.g1heap_c.specs.Numbers.{no_heap, no_step, refused, register, told}
-use Rattle.g1heap_c.specs.Steps.{HasRegister, Stays}
-use Rattle.g1heap_c.specs.declared.answer.Answer.{Answer}
+use Rattle.heap_calls.specs.Numbers.{no_heap, no_step, refused, register, told}
+use Rattle.heap_calls.specs.Steps.{HasRegister, Stays}
+use Rattle.heap_calls.specs.declared.answer.Answer.{Answer}
 
 -- the object has so many words from one on, and each is what a step of its own would read
 pub record ReadsAll (c : CoreState) (m object from : ℕ) (before after : List ℕ) (answer : Answer) : Type 0 where

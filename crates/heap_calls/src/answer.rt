@@ -1,7 +1,7 @@
 //! What a call answers, in numbers.
 
 ghost use Rattle.std.specs.Prelude.{◌≡◌};
-ghost use Rattle.g1heap_c.specs.Numbers as spec;
+ghost use Rattle.heap_calls.specs.Numbers as spec;
 
 use heap_steps::{Refusal, Reply};
 use heap_words::config::NewFault;
@@ -15,7 +15,8 @@ pub struct Answer {
     pub first: u64,
 }
 
-pub(crate) fn told(code: u32, first: u64, second: u32) -> Answer
+/// An answer of this code and these numbers.
+pub fn told(code: u32, first: u64, second: u32) -> Answer
     ensures { result ≡ spec.told code first second }
 {
     Answer {
@@ -32,28 +33,28 @@ fn bare(code: u32) -> Answer
 }
 
 /// The answer where there is nothing to tell.
-pub(crate) fn done() -> Answer
+pub fn done() -> Answer
     ensures { result ≡ spec.told 0 0 0 }
 {
     bare(0)
 }
 
 /// The answer where numbers name no step of the heap.
-pub(crate) fn no_step() -> Answer
+pub fn no_step() -> Answer
     ensures { result ≡ spec.no_step }
 {
     bare(32)
 }
 
 /// The answer where there is no heap.
-pub(crate) fn no_heap() -> Answer
+pub fn no_heap() -> Answer
     ensures { result ≡ spec.no_heap }
 {
     bare(33)
 }
 
 /// A number of the heap.
-pub(crate) fn number(count: u64) -> Answer
+pub fn number(count: u64) -> Answer
     ensures { result ≡ spec.told 10 count 0 }
 {
     told(10, count, 0)
@@ -74,7 +75,7 @@ fn refused(refusal: Refusal) -> Answer
 }
 
 /// The reply in numbers.
-pub(crate) fn answer_of(reply: Reply) -> Answer
+pub fn answer_of(reply: Reply) -> Answer
     ensures { result ≡ spec.numbers reply }
 {
     match reply {
@@ -92,7 +93,7 @@ pub(crate) fn answer_of(reply: Reply) -> Answer
 }
 
 /// The same, but that what is done is told by a count.
-pub(crate) fn counted(count: u32, reply: Reply) -> Answer
+pub fn counted(count: u32, reply: Reply) -> Answer
     ensures { result ≡ spec.counted count reply }
 {
     match reply {
@@ -109,7 +110,7 @@ pub(crate) fn counted(count: u32, reply: Reply) -> Answer
 }
 
 /// Why no heap was made, in a number.
-pub(crate) fn fault_code(fault: NewFault) -> u32
+pub fn fault_code(fault: NewFault) -> u32
     ensures { result ≡ spec.fault_code fault }
 {
     match fault {

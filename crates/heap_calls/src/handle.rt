@@ -2,7 +2,7 @@
 
 ghost use Rattle.std.specs.Prelude.{◌≡◌, Option, Some, None, true};
 ghost use Rattle.step_core.specs.Stands.{CoreState};
-ghost use Rattle.g1heap_c.specs.Held.{is_held};
+ghost use Rattle.heap_calls.specs.Held.{is_held};
 
 use crate::loose::Loose;
 use std::alloc::Global;
@@ -19,18 +19,18 @@ pub struct Handle {
 }
 
 impl Model for Handle {
-    ghost use Rattle.g1heap_c.specs.Held.{held};
+    ghost use Rattle.heap_calls.specs.Held.{held};
 
     ghost also_owns = { λ h. held h.at h.alloc h.core };
 }
 
 impl Handle {
     ghost use Rattle.std.specs.Borrow.{sem};
-    ghost use Rattle.g1heap_c.specs.Lending.{LendsCore};
+    ghost use Rattle.heap_calls.specs.Lending.{LendsCore};
 
     /// Lends the core where it is.
     #[inline(always)]
-    pub(crate) fn core_mut(&mut self) -> &mut Core
+    pub fn core_mut(&mut self) -> &mut Core
         requires { is_held self.old.core ≡ true }
         ensures* writes_back { sem 𝓛 (LendsCore self.entry result) }
         ensures value { self.old.core ≡ Some result.now }
@@ -38,7 +38,8 @@ impl Handle {
         unsafe { &mut *(self.at as *mut Core) }
     }
 
-    pub(crate) fn of(loose: Loose<Core, Global>) -> Handle
+    /// A handle of the core in a box.
+    pub fn of(loose: Loose<Core, Global>) -> Handle
         ensures { result.core ≡ Some loose.value }
     {
         let Loose { at, alloc } = loose;
@@ -48,7 +49,8 @@ impl Handle {
         }
     }
 
-    pub(crate) fn into_loose(self) -> Loose<Core, Global>
+    /// The box of the core that is there.
+    pub fn into_loose(self) -> Loose<Core, Global>
         requires { is_held self.core ≡ true }
         ensures { self.core ≡ Some result.value }
     {
@@ -59,7 +61,8 @@ impl Handle {
         }
     }
 
-    pub(crate) fn empty(alloc: Global) -> Handle
+    /// A handle of no core.
+    pub fn empty(alloc: Global) -> Handle
         ensures { result.core ≡ None }
     {
         Handle {

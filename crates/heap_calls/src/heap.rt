@@ -5,9 +5,9 @@ ghost use Rattle.heap_words.specs.Configs.{registers_of};
 ghost use Rattle.heap_steps.specs.Actors.{IsStep};
 ghost use Rattle.heap_steps.specs.declared.step.Step.TheVariants as steps;
 ghost use Rattle.heap_steps.specs.declared.step.CollectorStep.TheVariants as collector;
-ghost use Rattle.g1heap_c.specs.Held.{is_held};
-ghost use Rattle.g1heap_c.specs.Numbers.{no_step, told};
-ghost use Rattle.g1heap_c.specs.Steps.{IsUpTo, Steps, Takes, TakesNone, plain, scanned};
+ghost use Rattle.heap_calls.specs.Held.{is_held};
+ghost use Rattle.heap_calls.specs.Numbers.{no_step, told};
+ghost use Rattle.heap_calls.specs.Steps.{IsUpTo, Steps, Takes, TakesNone, plain, scanned};
 
 use crate::answer::{Answer, answer_of, counted, no_heap, no_step, told};
 use crate::handle::Handle;
@@ -26,7 +26,7 @@ pub struct Heap {
 
 /// A handle of this core.
 #[inline(always)]
-pub(crate) fn handle_of(core: Box<Core>) -> Handle
+pub fn handle_of(core: Box<Core>) -> Handle
     ensures { result.core ≡ Some core.value }
 {
     Handle::of(Loose::of(core))
@@ -46,7 +46,7 @@ fn has_op(core: &Core, op: Op) -> bool
 
 /// Whether the heap's sizes have a step.
 #[inline(always)]
-pub(crate) fn has(core: &Core, step: Step) -> bool
+pub fn has(core: &Core, step: Step) -> bool
     ensures { IsTrue result ↔ IsStep core.now.config step }
 {
     match step {
@@ -65,7 +65,7 @@ fn perform(core: &mut Core, step: Step) -> Answer
 
 /// Does a step, if the heap's sizes have it. The core stays in its handle.
 #[inline(always)]
-pub(crate) fn take(heap: &mut Heap, step: Step) -> Answer
+pub fn take(heap: &mut Heap, step: Step) -> Answer
     ensures { Takes plain heap.old.handle.core step result heap.new.handle.core }
 {
     if !heap.live {
@@ -127,7 +127,7 @@ fn take_known(core: &mut Core, op: Op, highest: u32, apart: bool) -> Answer
 
 /// The same in a heap, for the calls that programs make most. `apart` tells whether a call answers that there is no such step.
 #[inline(always)]
-pub(crate) fn take_up_to(heap: &mut Heap, op: Op, highest: u32, apart: bool) -> Answer
+pub fn take_up_to(heap: &mut Heap, op: Op, highest: u32, apart: bool) -> Answer
     requires { IsUpTo highest op }
     ensures { Takes plain heap.old.handle.core (steps.Mutator op) result heap.new.handle.core }
 {
@@ -138,7 +138,7 @@ pub(crate) fn take_up_to(heap: &mut Heap, op: Op, highest: u32, apart: bool) -> 
 }
 
 /// The numbers name no step.
-pub(crate) fn take_none(heap: &mut Heap) -> Answer
+pub fn take_none(heap: &mut Heap) -> Answer
     ensures { TakesNone heap.old.handle.core result heap.new.handle.core }
 {
     if heap.live { no_step() } else { no_heap() }
@@ -153,7 +153,7 @@ fn scan(core: &mut Core, objects: u32) -> Answer
 }
 
 /// Marks, and counts the objects that were scanned.
-pub(crate) fn mark(heap: &mut Heap, objects: u32) -> Answer
+pub fn mark(heap: &mut Heap, objects: u32) -> Answer
     ensures { Takes scanned heap.old.handle.core (steps.Collector (collector.Mark objects)) result heap.new.handle.core }
 {
     if !heap.live {

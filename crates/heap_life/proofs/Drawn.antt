@@ -2,8 +2,8 @@
 use Rattle.std.proofs.Common.{◌≡◌, ◌∙◌, ℕ, List, map, subst}
 use Rattle.heap_words.specs.declared.config.Config.{Config}
 use Rattle.heap_steps.specs.Actors.{StepList, EventList}
-use Rattle.object_graph.specs.State.{first_state}
-use Rattle.object_graph.specs.Run.{IsRun}
+use Rattle.graph_runs.specs.State.{first_state}
+use Rattle.graph_runs.specs.Run.{IsRun}
 use Rattle.step_core.specs.Passages.{RunsFromNew, step_in, actor_in, actor_of}
 use Rattle.heap_life.specs.declared.life.Life.{Life}
 use Rattle.heap_life.specs.Lives.{IsLifeOf}

@@ -8,7 +8,7 @@ use Rattle.std.proofs.lemmas.List.Elements.{All-append}
 use Rattle.std.proofs.lemmas.Bool.{cases_lt}
 use Rattle.std.proofs.lemmas.Option.{get_or_from_slice_get}
 use Rattle.step_core.specs.Fresh.{fresh_core}
-use Rattle.object_graph.specs.State.{first_state}
+use Rattle.graph_runs.specs.State.{first_state}
 use Rattle.heap_words.specs.declared.config.Config.{Config}
 use Rattle.heap_steps.specs.Actors.{IsStep, IsStepOf}
 use Rattle.heap_steps.specs.declared.step.Actor.{Actor}
@@ -18,7 +18,7 @@ use Rattle.heap_steps.specs.declared.step.Step.{Step}
 use Rattle.heap_steps.specs.declared.step.Step.TheVariants as steps
 use Rattle.step_core.proofs.Cores.Following.{grown}
 use Rattle.heap_steps.specs.declared.step.Event.{Event}
-use Rattle.object_graph.specs.State.{State}
+use Rattle.graph_runs.specs.State.{State}
 use Rattle.step_core.specs.Stands.{CoreState, Stands, IsCore}
 use Rattle.step_core.specs.Passages.{Runs, RunsTo}
 use Rattle.heap_life.specs.Numbers.{IsNumbersOf}

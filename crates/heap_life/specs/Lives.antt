@@ -5,8 +5,8 @@ use Rattle.heap_steps.specs.declared.step.Event.{Event}
 use Rattle.heap_steps.specs.declared.step.Reply.{Reply}
 use Rattle.heap_steps.specs.declared.step.Reply.TheVariants.{Moved}
 use Rattle.heap_steps.specs.Actors.{EventList}
-use Rattle.object_graph.specs.State.{State, first_state}
-use Rattle.object_graph.specs.Run.{IsRun}
+use Rattle.graph_runs.specs.State.{State, first_state}
+use Rattle.graph_runs.specs.Run.{IsRun}
 use Rattle.step_core.specs.Stands.{CoreState, Stands}
 use Rattle.step_core.specs.Passages.{Runs, RunsTo, step_in, actor_in}
 use Rattle.heap_life.specs.Numbers.{IsNumbersOf}

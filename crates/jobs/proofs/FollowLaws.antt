@@ -5,8 +5,8 @@ use Rattle.std.proofs.Common.{append_assoc, arith, subst}
 use Rattle.std.specs.Io.KnownBytes.{IsAtEnd}
 use Rattle.std.proofs.lemmas.List.{take-append-le, length-append}
 use Rattle.heap_steps.specs.Actors.{EventList}
-use Rattle.object_graph.specs.State.{State, first_state}
-use Rattle.object_graph.specs.Run.{IsRun, BreaksAt}
+use Rattle.graph_runs.specs.State.{State, first_state}
+use Rattle.graph_runs.specs.Run.{IsRun, BreaksAt}
 use Rattle.object_graph.proofs.ReasonLaws.{found_judged}
 use Rattle.object_graph.specs.declared.given.Given.{Given}
 use Rattle.object_graph.specs.declared.judge.Finding.{Finding}

@@ -7,8 +7,8 @@ use Rattle.std.proofs.lemmas.List.{length_push, take_at}
 use Rattle.heap_words.specs.declared.config.Config.{Config}
 use Rattle.heap_words.specs.Configs.{Suits}
 use Rattle.heap_steps.specs.Actors.{EventList}
-use Rattle.object_graph.specs.State.{first_state}
-use Rattle.object_graph.specs.Run.{IsRun}
+use Rattle.graph_runs.specs.State.{first_state}
+use Rattle.graph_runs.specs.Run.{IsRun}
 use Rattle.object_graph.specs.Reasons.{Judging, HasJudged, JudgesNext, Refuses}
 use Rattle.object_graph.specs.declared.given.Given.{Given}
 use Rattle.object_graph.specs.declared.judge.Finding.TheVariants.{Allowed, Refused}

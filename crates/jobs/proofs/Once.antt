@@ -4,8 +4,8 @@ use Rattle.std.proofs.Common.{ℕ, zero, suc, inl, inr, List, [], length, take, 
 use Rattle.std.proofs.lemmas.Bool.{cases_order}
 use Rattle.std.proofs.lemmas.List.{length-take-le}
 use Rattle.heap_steps.specs.Actors.{EventList}
-use Rattle.object_graph.specs.State.{State, first_state}
-use Rattle.object_graph.specs.Run.{IsRun, BreaksAt}
+use Rattle.graph_runs.specs.State.{State, first_state}
+use Rattle.graph_runs.specs.Run.{IsRun, BreaksAt}
 use Rattle.object_graph.specs.Judged.{Judged}
 use Rattle.heap_steps.specs.declared.step.Event.{Event}
 use Rattle.object_graph.specs.declared.judge.Verdict.{Verdict}

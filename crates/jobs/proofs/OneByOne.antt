@@ -3,8 +3,8 @@ use Rattle.std.proofs.Common.{◌≡◌, ◌+◌, ◌-◌, ◌∷◌, ◌++◌, 
 use Rattle.std.proofs.Common.{ℕ, List, [], length, take, slice_get, Some, None, refl, sym, ap, subst, append_assoc, arith}
 use Rattle.std.proofs.lemmas.List.{append-nil, length_push, take_at}
 use Rattle.heap_words.specs.declared.config.Config.{Config}
-use Rattle.object_graph.specs.State.{first_state}
-use Rattle.object_graph.specs.Run.{IsRun}
+use Rattle.graph_runs.specs.State.{first_state}
+use Rattle.graph_runs.specs.Run.{IsRun}
 use Rattle.object_graph.specs.Reasons.{Judging, HasJudged, JudgesNext, Refuses, Finds}
 use Rattle.object_graph.specs.declared.given.Given.{Given}
 use Rattle.object_graph.specs.declared.judge.Finding.TheVariants.{Allowed, Refused}

@@ -3,7 +3,7 @@ use Rattle.std.specs.Prelude.{◌≡◌, ◌≢◌, ◌⊎◌, ℕ, ◌+◌, Lis
 use Rattle.std.specs.Fmt.{decimal}
 use Rattle.heap_words.specs.Configs.{Suits}
 use Rattle.heap_steps.specs.Actors.{EventList}
-use Rattle.object_graph.specs.State.{first_state}
+use Rattle.graph_runs.specs.State.{first_state}
 use Rattle.object_graph.specs.Reasons.{Finds, verdict_of}
 use Rattle.object_graph.specs.declared.given.Given.{Given}
 use Rattle.object_graph.specs.declared.given.Given.TheVariants as givens

@@ -2,7 +2,7 @@
 
 ghost use Rattle.std.specs.Prelude.{◌≡◌, ◌<◌, ◌^◌, [], length, IfOk, IfErr};
 ghost use Rattle.heap_words.specs.Configs.{Suits};
-ghost use Rattle.object_graph.specs.State.{first_state};
+ghost use Rattle.graph_runs.specs.State.{first_state};
 ghost use Rattle.object_graph.specs.Reasons.{Finds, HasJudged};
 ghost use Rattle.jobs.specs.Verdicts.{IsJudgeFault};
 ghost use Rattle.jobs.specs.Explanations.{FindsIn};

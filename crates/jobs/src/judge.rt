@@ -9,7 +9,8 @@ ghost use Rattle.jobs.specs.Verdicts.{IsTextOfRun, IsTextBrokenAt, ToldYes, Told
 use crate::explain::explained_law;
 use crate::faults::{JobFault, tell};
 use crate::finding::find_in;
-use object_graph::{Verdict, judged_once};
+use graph_runs::judged_once;
+use object_graph::Verdict;
 use script_text::{
     WatchedReader, WatchedWriter, WriteFault, put_number, put_text, read_record_is_spelled,
     read_text, spelled_record_is_read, write_bytes,

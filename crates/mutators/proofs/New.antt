@@ -8,7 +8,7 @@ use Rattle.heap_words.specs.declared.config.Config.{Config}
 use Rattle.heap_words.specs.Configs.{Suits}
 use Rattle.heap_words.proofs.Limits.{few_mutators}
 use Rattle.heap_steps.specs.Actors.{IsStep}
-use Rattle.object_graph.specs.State.{first_state}
+use Rattle.graph_runs.specs.State.{first_state}
 use Rattle.heap_steps.specs.declared.step.Actor.{Actor}
 use Rattle.heap_steps.specs.declared.step.Actor.TheVariants.{Mutator, Collector, Marker, Refiner}
 use Rattle.heap_steps.specs.declared.step.Step.{Step}

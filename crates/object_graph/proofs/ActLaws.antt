@@ -8,8 +8,8 @@ use Rattle.heap_steps.specs.declared.step.Reply.TheVariants as replies
 use Rattle.heap_steps.specs.declared.step.Refusal.TheVariants as refusals
 use Rattle.heap_model.specs.Graph.{Object, Graph, with_changed}
 use Rattle.object_graph.specs.Fields.{object_in}
-use Rattle.object_graph.specs.State.{within, index_of, root_at, register_place}
-use Rattle.object_graph.specs.Machine.{Outcome, refused, on_contents, on_name, on_object, on_field}
+use Rattle.graph_runs.specs.State.{within, index_of, root_at, register_place}
+use Rattle.graph_runs.specs.Machine.{Outcome, refused, on_contents, on_name, on_object, on_field}
 
 within-none : (objects : List Object) (at : ℕ) → within objects at ≡ None → length objects ≤ at
 within-none objects at none = grind (arith, nat_tests)

@@ -9,7 +9,7 @@ use Rattle.std.proofs.lemmas.Option.{slice_get-map, slice_get-get_or}
 use Rattle.heap_model.specs.Graph.{Object}
 use Rattle.object_graph.specs.Fields.{pointer_of, object_in}
 use Rattle.object_graph.specs.InWords.{start_of, weaks_of, object_at, objects_in, AreInTurn, some_weaks}
-use Rattle.object_graph.specs.Sparing.{have_weaks}
+use Rattle.graph_runs.specs.Sparing.{have_weaks}
 use Rattle.std.specs.Prelude.{nat_lt}
 use Rattle.object_graph.specs.declared.objects.Entry.{Entry}
 

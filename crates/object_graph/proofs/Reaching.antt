@@ -14,8 +14,8 @@ use Rattle.std.proofs.lemmas.List.{reverse-append, reverse-reverse}
 use Rattle.heap_model.proofs.Lists.{get_kept-set, get-set_same, get-set_other, get-push_last, get-push_cases, get-append_cases}
 use Rattle.heap_model.proofs.Lists.{get-append_left, get-append_right, length-set, length-push}
 use Rattle.heap_model.proofs.Changed.{named_at, at_least}
-use Rattle.object_graph.specs.State.{State, AtRoot, AtField, IsNameOf, HoldsNames, IsEarlier, ForSnapshot, IsSoundState}
-use Rattle.object_graph.specs.Run.{ClearsBy}
+use Rattle.graph_runs.specs.State.{State, AtRoot, AtField, IsNameOf, HoldsNames, IsEarlier, ForSnapshot, IsSoundState}
+use Rattle.graph_runs.specs.Run.{ClearsBy}
 use Rattle.object_graph.specs.Reached.{Search, started, flag_of, flagged_at, found, all_found, looked_in, looked_at, looked, searched}
 
 -- how many flags are set

@@ -11,10 +11,10 @@ use Rattle.heap_model.specs.Graph.{Graph, Places, next_name}
 use Rattle.heap_model.specs.Weak.{cleared_graph}
 use Rattle.heap_steps.specs.Actors.{IsStepOf, IsEvent}
 use Rattle.heap_steps.specs.Roots.{IsOpAt}
-use Rattle.object_graph.specs.State.{State, IsSoundState, ForSnapshot, IsEarlier, first_state, places_of}
+use Rattle.graph_runs.specs.State.{State, IsSoundState, ForSnapshot, IsEarlier, first_state, places_of}
 use Rattle.object_graph.specs.Reached.{started, all_found, searched, flag_of}
-use Rattle.object_graph.specs.Machine.{Outcome, refused, made, act, outcome_of, reply_of}
-use Rattle.object_graph.specs.Run.{ForMutator, IsNew, Creates, ClearsBy, Collects, Happens, EventHappens, IsRun, snapshot_after}
+use Rattle.graph_runs.specs.Machine.{Outcome, refused, made, act, outcome_of, reply_of}
+use Rattle.graph_runs.specs.Run.{ForMutator, IsNew, Creates, ClearsBy, Collects, Happens, EventHappens, IsRun, snapshot_after}
 use Rattle.object_graph.specs.Judged.{Judged}
 use Rattle.object_graph.specs.Reasons.{IsGiven, MayStand, Refuses, Finds, verdict_of, Judging, HasJudged, JudgesNext, SparingJudges}
 use Rattle.heap_steps.specs.declared.step.Actor.{Actor}
@@ -35,12 +35,12 @@ use Rattle.object_graph.specs.declared.given.Given.{Given}
 use Rattle.object_graph.specs.declared.given.Given.TheVariants as givens
 use Rattle.object_graph.specs.declared.judge.Finding.{Finding}
 use Rattle.object_graph.specs.declared.judge.Finding.TheVariants as findings
-use Rattle.object_graph.proofs.Collected.{kind}
-use Rattle.object_graph.proofs.MachineLaws.{cond_law}
+use Rattle.graph_runs.proofs.Collected.{kind}
+use Rattle.graph_runs.proofs.MachineLaws.{cond_law}
 use Rattle.object_graph.proofs.Reaching.{view_reached, cleared_by_flags}
-use Rattle.object_graph.proofs.RunLaws.{IsRun-more}
-use Rattle.object_graph.proofs.Sound.{get_in, first_sound, run_sound, run_places}
-use Rattle.object_graph.proofs.SinceLaws.{run_since}
+use Rattle.graph_runs.proofs.RunLaws.{IsRun-more}
+use Rattle.graph_runs.proofs.Sound.{get_in, first_sound, run_sound, run_places}
+use Rattle.graph_runs.proofs.SinceLaws.{run_since}
 use Rattle.object_graph.proofs.SparingLaws.{follows, allowed, stands_sound}
 
 -- an object that the graph makes has the next name

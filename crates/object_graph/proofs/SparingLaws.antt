@@ -8,19 +8,19 @@ use Rattle.std.proofs.lemmas.Bool.{lt-ltb}
 use Rattle.heap_words.specs.declared.config.Config.{Config}
 use Rattle.heap_model.specs.Graph.{Graph, Object}
 use Rattle.heap_model.specs.Weak.{IsClearedSlot, ClearsObject, Clears}
-use Rattle.object_graph.specs.State.{State, HoldsNames, IsEarlier, ForSnapshot, IsSoundState, first_state}
-use Rattle.object_graph.specs.Since.{IsKnown, IsSince, IsSinceState}
-use Rattle.object_graph.specs.Sparing.{have_weaks, kept_snapshot, SparingCollects, SparingHappens, HoldsKnown, Spares, StandsFor}
-use Rattle.object_graph.specs.Machine.{outcome_of}
-use Rattle.object_graph.specs.Run.{IsCollectorReply, snapshot_after, ClearsBy, Creates, Happens}
+use Rattle.graph_runs.specs.State.{State, HoldsNames, IsEarlier, ForSnapshot, IsSoundState, first_state}
+use Rattle.graph_runs.specs.Since.{IsKnown, IsSince, IsSinceState}
+use Rattle.graph_runs.specs.Sparing.{have_weaks, kept_snapshot, SparingCollects, SparingHappens, HoldsKnown, Spares, StandsFor}
+use Rattle.graph_runs.specs.Machine.{outcome_of}
+use Rattle.graph_runs.specs.Run.{IsCollectorReply, snapshot_after, ClearsBy, Creates, Happens}
 use Rattle.heap_steps.specs.declared.step.Op.{Op}
 use Rattle.heap_steps.specs.declared.step.CollectorStep.{CollectorStep}
 use Rattle.heap_steps.specs.declared.step.Step.{Step}
 use Rattle.heap_steps.specs.declared.step.Step.TheVariants as steps
 use Rattle.heap_steps.specs.declared.step.Reply.{Reply}
-use Rattle.object_graph.proofs.Collected.{kind}
-use Rattle.object_graph.proofs.Sound.{get_in}
-use Rattle.object_graph.proofs.SinceLaws.{op_slots}
+use Rattle.graph_runs.proofs.Collected.{kind}
+use Rattle.graph_runs.proofs.Sound.{get_in}
+use Rattle.graph_runs.proofs.SinceLaws.{op_slots}
 
 -- without weak slots, each holds what you like
 none_slots : (xs : List Object) → have_weaks xs ≡ false → (k i : ℕ) (x : Object) (v : Option ℕ) → slice_get xs k ≡ Some x

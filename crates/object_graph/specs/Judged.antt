@@ -1,7 +1,7 @@
 -- What the judge may say.
 use Rattle.std.specs.Prelude.{◌≡◌, List, length}
-use Rattle.object_graph.specs.State.{State}
-use Rattle.object_graph.specs.Run.{IsRun, BreaksAt}
+use Rattle.graph_runs.specs.State.{State}
+use Rattle.graph_runs.specs.Run.{IsRun, BreaksAt}
 use Rattle.heap_steps.specs.declared.step.Event.{Event}
 use Rattle.object_graph.specs.declared.judge.Verdict.{Verdict}
 use Rattle.object_graph.specs.declared.judge.Verdict.TheVariants as verdicts

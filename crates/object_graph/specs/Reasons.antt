@@ -2,10 +2,10 @@
 use Rattle.std.specs.Prelude.{◌≡◌, ◌-◌, ◌<◌, ◌⊎◌, List, [], ◌∷◌, ◌++◌, Option, Some, None, length, take, slice_get}
 use Rattle.heap_words.specs.declared.config.Config.{Config}
 use Rattle.heap_model.specs.Graph.{Graph, next_name}
-use Rattle.object_graph.specs.State.{State, first_state}
-use Rattle.object_graph.specs.Machine.{reply_of}
-use Rattle.object_graph.specs.Run.{IsCollectorReply, Creates, EventHappens, IsRun}
-use Rattle.object_graph.specs.Sparing.{SparingHappens, StandsFor}
+use Rattle.graph_runs.specs.State.{State, first_state}
+use Rattle.graph_runs.specs.Machine.{reply_of}
+use Rattle.graph_runs.specs.Run.{IsCollectorReply, Creates, EventHappens, IsRun}
+use Rattle.graph_runs.specs.Sparing.{SparingHappens, StandsFor}
 use Rattle.heap_steps.specs.declared.step.Step.{Step}
 use Rattle.heap_steps.specs.declared.step.Step.TheVariants as steps
 use Rattle.heap_steps.specs.declared.step.Event.{Event}

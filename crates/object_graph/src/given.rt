@@ -2,8 +2,8 @@
 
 ghost use Rattle.std.specs.Prelude.{◌≡◌, ◌↔◌, ℕ, IsTrue};
 ghost use Rattle.heap_model.specs.Graph as model;
-ghost use Rattle.object_graph.specs.Machine.{act};
-ghost use Rattle.object_graph.specs.Run.{IsNew};
+ghost use Rattle.graph_runs.specs.Machine.{act};
+ghost use Rattle.graph_runs.specs.Run.{IsNew};
 ghost use Rattle.object_graph.specs.Reasons.{IsGiven};
 ghost use Rattle.heap_steps.specs.declared.step.Step.{Step};
 

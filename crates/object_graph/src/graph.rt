@@ -27,7 +27,7 @@ pub struct Graph {
 
 impl Model for Graph {
     ghost use Rattle.heap_model.specs.Graph as model;
-    ghost use Rattle.object_graph.specs.State.{IsGraph};
+    ghost use Rattle.graph_runs.specs.State.{IsGraph};
 
     ghost Value = { model.Graph };
 
@@ -59,13 +59,13 @@ impl Drop for Graph {
 }
 
 impl Graph {
-    ghost use Rattle.object_graph.specs.State.{root_at, register_place, index_of, first_graph};
+    ghost use Rattle.graph_runs.specs.State.{root_at, register_place, index_of, first_graph};
     ghost use Rattle.heap_model.specs.Graph.{next_name, with_root};
     ghost use Rattle.heap_model.specs.Weak.{cleared_graph};
-    ghost use Rattle.object_graph.specs.Run.{Creates};
+    ghost use Rattle.graph_runs.specs.Run.{Creates};
     ghost use Rattle.object_graph.specs.Reached.{flag_of, started, all_found, searched};
-    ghost use Rattle.object_graph.specs.Sparing.{have_weaks};
-    ghost use Rattle.object_graph.specs.Machine.{made, act, outcome_of, stored};
+    ghost use Rattle.graph_runs.specs.Sparing.{have_weaks};
+    ghost use Rattle.graph_runs.specs.Machine.{made, act, outcome_of, stored};
     ghost use Rattle.heap_steps.specs.Roots.{IsRegister, IsGlobal, IsValue, IsOpAt};
 
     /// What a mutator's register holds.

@@ -1,7 +1,7 @@
 //! The judge of records, which knows names and the heap line alone.
 
 ghost use Rattle.std.specs.Prelude.{◌≡◌, List, [], IfOk};
-ghost use Rattle.object_graph.specs.State.{first_state};
+ghost use Rattle.graph_runs.specs.State.{first_state};
 ghost use Rattle.heap_steps.specs.Actors.{IsEvent};
 ghost use Rattle.object_graph.specs.Judged.{Judged};
 ghost use Rattle.object_graph.specs.Reasons.{Finds};

@@ -3,11 +3,11 @@
 ghost use Rattle.std.specs.Prelude.{◌≡◌, ◌++◌, None, reverse, IsTrue, IfOk, OnOk, ◌↔◌};
 ghost use Rattle.heap_model.specs.Graph as model;
 ghost use Rattle.heap_model.specs.Weak.{touched, AreReached};
-ghost use Rattle.object_graph.specs.State.{State, HoldsNames, IsSoundState, first_state};
+ghost use Rattle.graph_runs.specs.State.{State, HoldsNames, IsSoundState, first_state};
 ghost use Rattle.object_graph.specs.Reached.{flag_of};
 ghost use Rattle.heap_steps.specs.Roots.{IsOpAt};
-ghost use Rattle.object_graph.specs.Run.{IsCollectorReply, ClearsBy, ForMutator, snapshot_after};
-ghost use Rattle.object_graph.specs.Sparing.{SparingCollects, kept_snapshot};
+ghost use Rattle.graph_runs.specs.Run.{IsCollectorReply, ClearsBy, ForMutator, snapshot_after};
+ghost use Rattle.graph_runs.specs.Sparing.{SparingCollects, kept_snapshot};
 ghost use Rattle.object_graph.specs.Reasons.{SparingJudges};
 
 use crate::given::{Given, given_by};

@@ -9,7 +9,7 @@
 ghost use Rattle.std.specs.Prelude.{◌≡◌, ◌<◌, ◌^◌, ◌++◌, ◌∷◌, [], None, length, replicate, slice_get, slice_set, IfOk, OnOk, OnErr};
 ghost use Rattle.object_graph.specs.Fields.{object_in};
 ghost use Rattle.object_graph.specs.InWords.{start_of, weaks_of};
-ghost use Rattle.object_graph.specs.Sparing.{have_weaks};
+ghost use Rattle.graph_runs.specs.Sparing.{have_weaks};
 
 use crate::pointer::Pointer;
 use heap_steps::Counts;

@@ -4,9 +4,9 @@ use Rattle.heap_words.specs.declared.config.Config.{Config}
 use Rattle.heap_words.specs.Configs.{object_limit}
 use Rattle.heap_words.specs.Sizes.{size_of}
 use Rattle.heap_model.specs.Graph.{Graph, next_name}
-use Rattle.object_graph.specs.Machine.{Outcome, act}
-use Rattle.object_graph.specs.State.{State}
-use Rattle.object_graph.specs.Run.{Happens}
+use Rattle.graph_runs.specs.Machine.{Outcome, act}
+use Rattle.graph_runs.specs.State.{State}
+use Rattle.graph_runs.specs.Run.{Happens}
 use Rattle.heap_steps.specs.declared.step.Action.{Action}
 use Rattle.heap_steps.specs.declared.step.Action.TheVariants as actions
 use Rattle.heap_steps.specs.declared.step.Step.{Step}

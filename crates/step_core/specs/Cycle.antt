@@ -27,7 +27,7 @@ use Rattle.heap_steps.specs.declared.step.Step.TheVariants as steps
 use Rattle.heap_steps.specs.declared.step.Reply.{Reply}
 use Rattle.heap_steps.specs.declared.step.Reply.TheVariants as replies
 use Rattle.heap_steps.specs.declared.step.Refusal.TheVariants as refusals
-use Rattle.object_graph.specs.State.{State, ForSnapshot}
+use Rattle.graph_runs.specs.State.{State, ForSnapshot}
 use Rattle.step_core.specs.Stands.{CoreState, kept_of, heap_of, marking_of, ShowsGraph, Stands}
 use Rattle.step_core.specs.Mutators.{ActsOn}
 use Rattle.region_choice.specs.declared.LiveRow.{LiveRow}

@@ -7,7 +7,7 @@ use Rattle.alloc_buffers.specs.Placement.{closed}
 use Rattle.marker.specs.Views.{fresh_marker}
 use Rattle.cards.specs.Cards.{clean_cards}
 use Rattle.remembered_sets.specs.Sets.{empty_sets}
-use Rattle.object_graph.specs.State.{root_places}
+use Rattle.graph_runs.specs.State.{root_places}
 use Rattle.step_core.specs.Stands.{CoreState, places_of}
 
 -- how many rows of the second kind a set's filter has: 7 for 32 words of a card, so that a filter takes 21 bits for 32 words of a region;

@@ -10,7 +10,7 @@ use Rattle.cards.specs.Cards.{Cards, dirtied}
 use Rattle.refinement.specs.Remembering.{field_word}
 use Rattle.heap_words.specs.Configs.{registers_of}
 use Rattle.heap_model.specs.Graph.{with_nils}
-use Rattle.object_graph.specs.State.{register_place, places_of}
+use Rattle.graph_runs.specs.State.{register_place, places_of}
 use Rattle.heap_steps.specs.declared.step.Action.{Action}
 use Rattle.heap_steps.specs.declared.step.Action.TheVariants as actions
 use Rattle.heap_steps.specs.declared.step.Counts.{Counts}

@@ -11,8 +11,8 @@ use Rattle.heap_steps.specs.declared.step.Refusal.TheVariants as refusals
 use Rattle.cards.specs.Cards.{ListsDirtyOnce}
 use Rattle.heap_steps.specs.Actors.{StepList, EventList}
 pub use Rattle.heap_steps.specs.Actors.{step_in}
-use Rattle.object_graph.specs.Run.{IsRun}
-use Rattle.object_graph.specs.State.{State, first_state}
+use Rattle.graph_runs.specs.Run.{IsRun}
+use Rattle.graph_runs.specs.State.{State, first_state}
 use Rattle.step_core.specs.Stands.{CoreState, Stands, IsCore, IsWhole}
 use Rattle.step_core.specs.Fresh.{fresh_core}
 use Rattle.step_core.specs.Answers.{Follows, IsFullStep}

@@ -24,8 +24,8 @@ use Rattle.remembered_sets.specs.Sets.{Sets, card_count, may_lead}
 use Rattle.refinement.specs.Remembering.{Remembers}
 use Rattle.evacuation.specs.Rooms.{RoomSizes}
 pub use Rattle.root_table.specs.Roots.{places_of}
-use Rattle.object_graph.specs.State.{State, IsSoundState, root_places, root_at}
-use Rattle.object_graph.specs.Since.{IsSinceState}
+use Rattle.graph_runs.specs.State.{State, IsSoundState, root_places, root_at}
+use Rattle.graph_runs.specs.Since.{IsSinceState}
 
 pub record CoreState : Type 0 where
   pub config : Config

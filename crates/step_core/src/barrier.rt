@@ -26,7 +26,7 @@ ghost use Rattle.std.specs.Prelude.{◌≡◌, ℕ, ◌<◌, Option, Some, lengt
 ghost use Rattle.heap_model.specs.Graph.{Graph, Object, object_named, with_changed};
 ghost use Rattle.heap_model.specs.Heap.{Stored, IsRoot, IsHeld, IsShown};
 ghost use Rattle.heap_model.specs.Weak.{touched, KeepsUnreached};
-ghost use Rattle.object_graph.specs.State.{with_root, register_place, places_of};
+ghost use Rattle.graph_runs.specs.State.{with_root, register_place, places_of};
 ghost use Rattle.heap_steps.specs.Roots.{IsRegister};
 ghost use Rattle.regions.specs.Table.{pointers_at, weaks_at, fields_at, set_pointer, set_weak};
 ghost use Rattle.cards.specs.Cards.{is_dirty};

@@ -8,7 +8,7 @@
 //! ```
 
 ghost use Rattle.std.specs.Prelude.{◌≡◌, ◌<◌, IfNone, Some};
-ghost use Rattle.object_graph.specs.State.{places_of};
+ghost use Rattle.graph_runs.specs.State.{places_of};
 ghost use Rattle.heap_steps.specs.Roots.{IsRegister, IsValue};
 ghost use Rattle.step_core.specs.Mutators.{register_of};
 ghost use Rattle.step_core.specs.Words.{AreRefused, Takes, putting, writing};

@@ -4,7 +4,7 @@ ghost use Rattle.std.specs.Prelude.{◌≡◌, ℕ, ◌<◌, ◌-◌, length, Op
 ghost use Rattle.heap_words.specs.Configs.{Suits, IsNewFault};
 ghost use Rattle.heap_model.specs.Graph.{Graph};
 ghost use Rattle.heap_model.specs.Heap.{IsShown, IsHeld};
-ghost use Rattle.object_graph.specs.State.{State, root_places, register_place, places_of, with_root, with_nil_roots, root_at, first_state};
+ghost use Rattle.graph_runs.specs.State.{State, root_places, register_place, places_of, with_root, with_nil_roots, root_at, first_state};
 ghost use Rattle.heap_words.specs.Configs.{registers_of};
 ghost use Rattle.heap_steps.specs.Roots.{IsRegister, IsGlobal};
 ghost use Rattle.step_core.specs.Stands.{ShowsGraph, KeepsFrom, Stands, IsCore, IsWhole, heap_of};

@@ -11,7 +11,7 @@ ghost use Rattle.marker.specs.Stands.{MarkerStands};
 ghost use Rattle.marker.specs.Views.{fresh_marker};
 ghost use Rattle.cards.specs.Cards.{clean_cards};
 ghost use Rattle.remembered_sets.specs.Sets.{empty_sets};
-ghost use Rattle.object_graph.specs.State.{root_places};
+ghost use Rattle.graph_runs.specs.State.{root_places};
 ghost use Rattle.step_core.specs.Stands.{places_of};
 ghost use Rattle.step_core.specs.Fresh.{filter_rows};
 

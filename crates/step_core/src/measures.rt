@@ -14,7 +14,7 @@ ghost use Rattle.heap_words.specs.Configs.{globals_of, registers_of};
 ghost use Rattle.heap_model.specs.Graph.{Graph};
 ghost use Rattle.regions.specs.Table.{free_count, kind_of, stored_size, used_of};
 ghost use Rattle.regions.specs.declared.row.Kind.TheVariants as kinds;
-ghost use Rattle.object_graph.specs.State.{register_place, root_at};
+ghost use Rattle.graph_runs.specs.State.{register_place, root_at};
 ghost use Rattle.heap_steps.specs.Roots.{IsRegister};
 ghost use Rattle.step_core.specs.Stands.{places_of, kept_of, name_in, ShowsGraph};
 ghost use Rattle.step_core.specs.Mutators.{register_of};

@@ -2,8 +2,8 @@
 
 ghost use Rattle.std.specs.Prelude.{◌≡◌, ◌++◌, ◌∷◌, [], List, All, IfOk, IfErr, OnOk, map};
 ghost use Rattle.heap_words.specs.Configs.{Suits};
-ghost use Rattle.object_graph.specs.State.{State, first_state};
-ghost use Rattle.object_graph.specs.Run.{IsRun};
+ghost use Rattle.graph_runs.specs.State.{State, first_state};
+ghost use Rattle.graph_runs.specs.Run.{IsRun};
 ghost use Rattle.heap_steps.specs.Actors.{IsStep, IsStepOf};
 ghost use Rattle.heap_words.specs.declared.config.Config.{Config};
 ghost use Rattle.heap_steps.specs.declared.step.Event as events;

@@ -5,7 +5,7 @@ ghost use Rattle.heap_steps.specs.Actors.{IsStep};
 ghost use Rattle.heap_steps.specs.declared.step.Step.TheVariants as steps;
 ghost use Rattle.heap_steps.specs.declared.step.Reply.TheVariants as replies;
 ghost use Rattle.heap_steps.specs.declared.step.Refusal.TheVariants as refusals;
-ghost use Rattle.object_graph.specs.State.{State};
+ghost use Rattle.graph_runs.specs.State.{State};
 ghost use Rattle.step_core.specs.Stands.{Stands};
 ghost use Rattle.step_core.specs.Answers.{Follows, IsFullStep, IsWithinStep};
 ghost use Rattle.step_core.specs.Reclaimed.{IsReclaimed};

@@ -1,7 +1,7 @@
 //! Several data words of an object in one go, by one copy of memory.
 
 ghost use Rattle.std.specs.Prelude.{◌≡◌, ◌↔◌, ℕ, ◌<◌, length, IsOk, IfErr};
-ghost use Rattle.object_graph.specs.State.{places_of};
+ghost use Rattle.graph_runs.specs.State.{places_of};
 ghost use Rattle.heap_steps.specs.Roots.{IsRegister};
 ghost use Rattle.step_core.specs.Words.{HasWords, AreRead, AreWritten, IsUnread, IsUnwritten};
 

@@ -3,8 +3,8 @@ use Rattle.std.proofs.Common.{◌≡◌, ℕ, ◌⊎◌, Option, false, refl, sy
 use Rattle.std.specs.Prelude.{◌↔◌, ◌≢◌}
 use Rattle.heap_words.specs.Sizes.{size_of}
 use Rattle.heap_model.specs.Graph.{Graph}
-use Rattle.object_graph.specs.State.{State}
-use Rattle.object_graph.specs.Run.{snapshot_after}
+use Rattle.graph_runs.specs.State.{State}
+use Rattle.graph_runs.specs.Run.{snapshot_after}
 use Rattle.heap_steps.specs.declared.step.Op.{Op}
 use Rattle.heap_steps.specs.declared.step.Action.{Action}
 use Rattle.heap_steps.specs.declared.step.Action.TheVariants as actions
@@ -14,7 +14,7 @@ use Rattle.heap_steps.specs.declared.step.Step.TheVariants as steps
 use Rattle.heap_steps.specs.declared.step.Reply.{Reply}
 use Rattle.heap_steps.specs.declared.step.Reply.TheVariants as replies
 use Rattle.heap_steps.specs.declared.step.Refusal.TheVariants as refusals
-use Rattle.object_graph.proofs.MachineLaws.{act-not_full}
+use Rattle.graph_runs.proofs.MachineLaws.{act-not_full}
 use Rattle.step_core.specs.Stands.{CoreState, ShowsGraph, KeepsFrom, KeepsFor, Stands}
 use Rattle.step_core.specs.Answers.{Acts, Follows, HasNoPlace, IsFull, RepliesFull}
 use Rattle.step_core.specs.Mutators.{ActsOn, weaks_made}

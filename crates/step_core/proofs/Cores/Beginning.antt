@@ -10,9 +10,9 @@ use Rattle.regions.specs.Table.{Table, Free, free_table, object_at, tile_in, reg
 use Rattle.regions.proofs.Tiles.Making.{free_table-unmoved}
 use Rattle.heap_model.specs.Graph.{IsSound}
 use Rattle.heap_model.proofs.Unreached.{unreached_begins}
-use Rattle.object_graph.specs.State.{first_graph, first_state, root_places}
-use Rattle.object_graph.proofs.Sound.{first_sound}
-use Rattle.object_graph.proofs.SinceLaws.{holds_sound}
+use Rattle.graph_runs.specs.State.{first_graph, first_state, root_places}
+use Rattle.graph_runs.proofs.Sound.{first_sound}
+use Rattle.graph_runs.proofs.SinceLaws.{holds_sound}
 use Rattle.heap_words.specs.Configs.{Suits}
 use Rattle.alloc_buffers.specs.declared.buffers.Buffer.{Buffer}
 use Rattle.alloc_buffers.specs.Placement.{BuffersStand, AreAbove, closed}

@@ -1,9 +1,9 @@
 -- What each step of the collector ensures.
 use Rattle.std.proofs.Common.{◌≡◌, ℕ, Bool, true, false, refl, sym, ◌∙◌, ap, subst}
 use Rattle.heap_model.specs.Graph.{Graph}
-use Rattle.object_graph.specs.State.{State}
-use Rattle.object_graph.specs.Run.{IsCollectorReply}
-use Rattle.object_graph.specs.Run as run
+use Rattle.graph_runs.specs.State.{State}
+use Rattle.graph_runs.specs.Run.{IsCollectorReply}
+use Rattle.graph_runs.specs.Run as run
 use Rattle.heap_steps.specs.declared.step.CollectorStep.{CollectorStep}
 use Rattle.heap_steps.specs.declared.step.CollectorStep.TheVariants as collector
 use Rattle.heap_steps.specs.declared.step.Step.TheVariants as steps

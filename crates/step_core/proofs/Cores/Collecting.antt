@@ -1,8 +1,8 @@
 -- A step of the collector as one of the state's.
 use Rattle.std.proofs.Common.{◌≡◌, ℕ, true, false, Option, Some, None, refl, sym, ◌∙◌, ap, subst}
 use Rattle.heap_model.specs.Graph.{Graph}
-use Rattle.object_graph.specs.State.{State}
-use Rattle.object_graph.specs.Run.{IsCollectorReply, Collects, ClearsBy}
+use Rattle.graph_runs.specs.State.{State}
+use Rattle.graph_runs.specs.Run.{IsCollectorReply, Collects, ClearsBy}
 use Rattle.heap_steps.specs.declared.step.CollectorStep.{CollectorStep}
 use Rattle.heap_steps.specs.declared.step.CollectorStep.TheVariants as collector
 use Rattle.heap_steps.specs.declared.step.Step.TheVariants as steps

@@ -4,7 +4,7 @@ use Rattle.std.specs.Prelude.{IfNone}
 use Rattle.heap_words.specs.Configs.{registers_of}
 use Rattle.heap_model.specs.Graph.{Graph}
 use Rattle.heap_model.specs.Heap.{IsRoot}
-use Rattle.object_graph.specs.State.{register_place, places_of}
+use Rattle.graph_runs.specs.State.{register_place, places_of}
 use Rattle.heap_steps.specs.declared.step.Op.{Op}
 use Rattle.heap_steps.specs.declared.step.Action.{Action}
 use Rattle.heap_steps.specs.declared.step.Action.TheVariants as actions

@@ -6,10 +6,10 @@ use Rattle.std.proofs.lemmas.List.{take_more, length-map, get_or-map}
 use Rattle.heap_model.specs.Graph.{Graph, next_name}
 use Rattle.heap_model.specs.Weak.{KeepsUnreached}
 use Rattle.heap_steps.specs.declared.step.Step.{Step}
-use Rattle.object_graph.specs.State.{State, ForSnapshot, IsEarlier}
-use Rattle.object_graph.specs.Since.{IsSince}
-use Rattle.object_graph.specs.Machine.{Outcome, act}
-use Rattle.object_graph.specs.Run.{Happens, IsNew, IsRun, snapshot_after}
+use Rattle.graph_runs.specs.State.{State, ForSnapshot, IsEarlier}
+use Rattle.graph_runs.specs.Since.{IsSince}
+use Rattle.graph_runs.specs.Machine.{Outcome, act}
+use Rattle.graph_runs.specs.Run.{Happens, IsNew, IsRun, snapshot_after}
 use Rattle.heap_steps.specs.declared.step.Op.{Op}
 use Rattle.heap_steps.specs.declared.step.Action.{Action}
 use Rattle.heap_steps.specs.declared.step.Action.TheVariants as actions
@@ -20,8 +20,8 @@ use Rattle.heap_steps.specs.declared.step.Event.{Event}
 use Rattle.heap_steps.specs.declared.step.Reply.{Reply}
 use Rattle.heap_steps.specs.declared.step.Reply.TheVariants as replies
 use Rattle.heap_steps.specs.declared.step.Refusal.TheVariants as refusals
-use Rattle.object_graph.proofs.Sound.{happens_sound}
-use Rattle.object_graph.proofs.SinceLaws.{happens_since, since_unreached}
+use Rattle.graph_runs.proofs.Sound.{happens_sound}
+use Rattle.graph_runs.proofs.SinceLaws.{happens_since, since_unreached}
 use Rattle.step_core.specs.Stands.{CoreState, ShowsGraph, KeepsFor, Stands, IsCore, IsWhole}
 use Rattle.cards.specs.Cards.{ListsDirtyOnce}
 use Rattle.step_core.specs.Cycle.{Does}

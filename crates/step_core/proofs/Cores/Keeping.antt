@@ -12,8 +12,8 @@ use Rattle.heap_model.proofs.Unreached.{unreached_root, unreached_written}
 use Rattle.regions.specs.Table.{Table, object_at, pointers_at, weaks_at, values_at, set_value}
 use Rattle.regions.proofs.Tiles.Changes.{WritesObject, value_put}
 use Rattle.regions.proofs.Words.Values.{with_value}
-use Rattle.object_graph.specs.State.{root_at, with_root, root_places, register_place}
-use Rattle.object_graph.specs.Machine.{Outcome, act}
+use Rattle.graph_runs.specs.State.{root_at, with_root, root_places, register_place}
+use Rattle.graph_runs.specs.Machine.{Outcome, act}
 use Rattle.heap_steps.specs.declared.step.Action.TheVariants as actions
 use Rattle.heap_steps.specs.declared.step.Reply.TheVariants as replies
 use Rattle.heap_steps.specs.declared.step.Register.{Register}

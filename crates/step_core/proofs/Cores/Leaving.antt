@@ -1,7 +1,7 @@
 -- Roots that become nil: k is the core by its fields, c the same by its value.
 use Rattle.std.proofs.Common.{◌≡◌, ℕ, zero, suc, ◌+◌, ◌-◌, None, refl, sym, ap, ◌∙◌, subst}
 use Rattle.heap_model.specs.Graph.{Graph, Places}
-use Rattle.object_graph.specs.State.{with_nil_roots, register_place, places_of}
+use Rattle.graph_runs.specs.State.{with_nil_roots, register_place, places_of}
 use Rattle.step_core.specs.Stands.{CoreState, ShowsGraph, KeepsFrom, IsCore}
 use Rattle.step_core.specs.Mutators.{with_nil_words}
 use Rattle.step_core.specs.Cycle.{LeavesRegions}

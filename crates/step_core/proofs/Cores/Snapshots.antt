@@ -7,8 +7,8 @@ use Rattle.mark_bitmap.specs.Tops.{below_next}
 use Rattle.satb_log.specs.Logs.{log_of}
 use Rattle.marker.specs.Steps.{TakesFull, Overwrites, saved}
 use Rattle.marker.specs.declared.marker.Marker.{Marker}
-use Rattle.object_graph.specs.State.{ForSnapshot}
-use Rattle.object_graph.specs.Run.{snapshot_after}
+use Rattle.graph_runs.specs.State.{ForSnapshot}
+use Rattle.graph_runs.specs.Run.{snapshot_after}
 use Rattle.heap_steps.specs.declared.step.Action.{Action}
 use Rattle.heap_steps.specs.declared.step.Action.TheVariants as actions
 use Rattle.heap_steps.specs.declared.step.Register.{Register}

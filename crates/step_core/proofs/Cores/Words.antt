@@ -8,7 +8,7 @@ use Rattle.regions.specs.Table.{Table, values_at, set_value, set_values}
 use Rattle.regions.proofs.Cards.ValueRuns.{values_stay}
 use Rattle.heap_words.specs.Configs.{registers_of}
 use Rattle.heap_model.specs.Graph.{Graph}
-use Rattle.object_graph.specs.State.{register_place, places_of}
+use Rattle.graph_runs.specs.State.{register_place, places_of}
 use Rattle.heap_steps.specs.declared.step.Op.{Op}
 use Rattle.heap_steps.specs.declared.step.Register.{Register}
 use Rattle.heap_steps.specs.declared.step.Action.TheVariants as actions

@@ -28,7 +28,7 @@ use Rattle.heap_words.specs.Configs.{card_words}
 use Rattle.cards.specs.Cards.{is_dirty}
 use Rattle.remembered_sets.specs.Sets.{may_lead}
 use Rattle.refinement.specs.Remembering.{Remembers, IsCrossing}
-use Rattle.object_graph.specs.State.{ForSnapshot}
+use Rattle.graph_runs.specs.State.{ForSnapshot}
 use Rattle.step_core.specs.Stands.{CoreState, kept_of, RemembersFields, ShowsGraph, KeepsFrom, KeepsFor, IsCore}
 use Rattle.step_core.specs.Cycle.{HasRemarked, ShowsCleared}
 use Rattle.step_core.proofs.Cores.Added.{stand_same, object_none}

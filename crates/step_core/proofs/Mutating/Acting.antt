@@ -11,8 +11,8 @@ use Rattle.heap_model.proofs.Changed.{root_set_shows, object_set_shows}
 use Rattle.regions.specs.Table.{Table, pointers_at, weaks_at, values_at, object_values, set_value}
 use Rattle.regions.proofs.Tiles.Changes.{WritesObject, value_put}
 use Rattle.regions.proofs.Words.Values.{with_value}
-use Rattle.object_graph.specs.State.{with_root, root_at, register_place, places_of}
-use Rattle.object_graph.specs.Machine.{Outcome, act, on_object, on_name, on_contents, refused, stored}
+use Rattle.graph_runs.specs.State.{with_root, root_at, register_place, places_of}
+use Rattle.graph_runs.specs.Machine.{Outcome, act, on_object, on_name, on_contents, refused, stored}
 use Rattle.heap_steps.specs.declared.step.Action.{Action}
 use Rattle.heap_steps.specs.declared.step.Action.TheVariants as actions
 use Rattle.heap_steps.specs.declared.step.Reply.{Reply}

@@ -16,8 +16,8 @@ use Rattle.heap_model.proofs.Mutate.{object_added}
 use Rattle.heap_model.proofs.Changed.{object_added_shows}
 use Rattle.heap_model.proofs.Unreached.{object_sound, unreached_object}
 use Rattle.regions.specs.Table.{Table, new_object, object_at, object_words}
-use Rattle.object_graph.specs.State.{register_place, places_of}
-use Rattle.object_graph.specs.Machine.{made}
+use Rattle.graph_runs.specs.State.{register_place, places_of}
+use Rattle.graph_runs.specs.Machine.{made}
 use Rattle.heap_steps.specs.declared.step.Action.TheVariants as actions
 use Rattle.heap_steps.specs.declared.step.Reply.TheVariants as replies
 use Rattle.heap_steps.specs.declared.step.Register.{Register}

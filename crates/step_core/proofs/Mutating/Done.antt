@@ -7,7 +7,7 @@ use Rattle.alloc_buffers.specs.Placement.{Buffers, Placement, place_of, made_at,
 use Rattle.alloc_buffers.specs.declared.placement.Place.{Place}
 use Rattle.marker.specs.Steps.{Overwrites}
 use Rattle.marker.specs.declared.marker.Marker.{Marker}
-use Rattle.object_graph.specs.State.{register_place, places_of}
+use Rattle.graph_runs.specs.State.{register_place, places_of}
 use Rattle.heap_steps.specs.declared.step.Action.TheVariants as actions
 use Rattle.heap_steps.specs.declared.step.Counts.{Counts}
 use Rattle.heap_steps.specs.declared.step.Register.{Register}

@@ -13,7 +13,7 @@ use Rattle.heap_model.proofs.Shown.{stands_once}
 use Rattle.regions.specs.Shaped.{IsShaped}
 use Rattle.regions.proofs.Tiles.InUse.{object_in_use}
 use Rattle.marker.proofs.Views.{kept_object}
-use Rattle.object_graph.specs.State.{State, root_at}
+use Rattle.graph_runs.specs.State.{State, root_at}
 use Rattle.step_core.specs.Stands.{CoreState, kept_of, heap_of, ShowsGraph, Stands, IsCore, IsWordOf}
 use Rattle.step_core.specs.Stands.{IsRootWord, HasObject, Leads, name_in, name_of, IsWhole}
 

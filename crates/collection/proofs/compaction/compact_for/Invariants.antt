@@ -1,5 +1,5 @@
 use Rattle.std.proofs.Common.{◌≤◌, ◌-◌}
-use Rattle.object_graph.specs.State.{State}
+use Rattle.graph_runs.specs.State.{State}
 use Rattle.collection.specs.Space.{IsQuiet, ordinary_end}
 use Rattle.collection.specs.Steps.{Collects}
 use Rattle.collection.proofs.compaction.compact_for.Given as goal

@@ -1,6 +1,6 @@
 use Rattle.std.proofs.Common.{◌≤◌, ◌-◌}
 use Rattle.regions.specs.Table.{free_count}
-use Rattle.object_graph.specs.State.{State}
+use Rattle.graph_runs.specs.State.{State}
 use Rattle.collection.specs.Space.{IsQuiet}
 use Rattle.collection.specs.Steps.{Collects}
 use Rattle.collection.proofs.whole.pause_all.Given as goal

@@ -1,7 +1,7 @@
 use Rattle.std.proofs.Common.{refl, subst}
 use Rattle.heap_steps.specs.declared.step.Step.{Step}
 use Rattle.step_core.specs.Words.{Takes}
-use Rattle.g1heap_c.proofs.filled.fill.Goals as goal
+use Rattle.heap_calls.proofs.filled.fill.Goals as goal
 
 pub returns : goal.returns
 returns c = let w = c.step-reply.ensures in

@@ -1,6 +1,6 @@
 use Rattle.std.proofs.Common.{arith}
-use Rattle.g1heap_c.proofs.Filling.{CanPut, as_pointing, can_put, run_more, still_held}
-use Rattle.g1heap_c.proofs.filled.point.Goals as goal
+use Rattle.heap_calls.proofs.Filling.{CanPut, as_pointing, can_put, run_more, still_held}
+use Rattle.heap_calls.proofs.filled.point.Goals as goal
 
 can : (c : goal.After-value) → CanPut c.loop-i.core.config c.args.mutator c.register.result c.value.result
 can c = can_put _ _ _ _ _ c.loop-i.i _ _ c.loop-i.invariant.config c.register.ensures c.value.ensures

@@ -1,6 +1,6 @@
 use Rattle.std.proofs.Common.{refl}
-use Rattle.g1heap_c.proofs.Filling.{as_wording, run_more, still_held}
-use Rattle.g1heap_c.proofs.filled.word.Goals as goal
+use Rattle.heap_calls.proofs.Filling.{as_wording, run_more, still_held}
+use Rattle.heap_calls.proofs.filled.word.Goals as goal
 
 pub write_at-requires-clause-held : goal.write_at-requires-clause-held
 write_at-requires-clause-held c =

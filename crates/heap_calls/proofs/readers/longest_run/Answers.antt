@@ -1,7 +1,7 @@
 use Rattle.std.proofs.Common.{arith}
-use Rattle.g1heap_c.proofs.FreeRuns.{one_free, one_used}
-use Rattle.g1heap_c.proofs.readers.longest_run.Goals as goal
-use Rattle.g1heap_c.proofs.readers.longest_run.Goals.{then-is_free, else-is_free}
+use Rattle.heap_calls.proofs.FreeRuns.{one_free, one_used}
+use Rattle.heap_calls.proofs.readers.longest_run.Goals as goal
+use Rattle.heap_calls.proofs.readers.longest_run.Goals.{then-is_free, else-is_free}
 
 pub loop-number-preserved : goal.loop-number-preserved
 loop-number-preserved c = elim c.if-is_free.branch [

@@ -5,8 +5,8 @@ use Rattle.std.specs.Prelude.{All}
 use Rattle.heap_words.specs.declared.config.Config.{Config}
 use Rattle.heap_steps.specs.Actors.{AreEvents}
 use Rattle.heap_steps.specs.declared.step.Event.{Event}
-use Rattle.object_graph.specs.Run.{IsRun}
-use Rattle.object_graph.specs.State.{first_state}
+use Rattle.graph_runs.specs.Run.{IsRun}
+use Rattle.graph_runs.specs.State.{first_state}
 use Rattle.heap_steps.specs.Faults.{IsRunFault}
 use Rattle.step_core.specs.Passages.{RunsTo, step_in, actor_in}
 use Rattle.step_core.proofs.Cores.Following.{passage_is_run}

@@ -1,4 +1,4 @@
-use Rattle.object_graph.specs.State.{first_state}
+use Rattle.graph_runs.specs.State.{first_state}
 use Rattle.object_graph.proofs.ReasonLaws.{found_judged}
 use Rattle.jobs.proofs.explain.explained_law.Goals as goal
 

@@ -1,9 +1,9 @@
 use Rattle.std.proofs.Common.{◌∙◌, subst, take, Option}
 use Rattle.heap_words.specs.declared.config.Config.{Config}
-use Rattle.object_graph.specs.State.{first_state}
+use Rattle.graph_runs.specs.State.{first_state}
 use Rattle.object_graph.specs.Reasons.{Refuses, JudgesNext}
 use Rattle.object_graph.specs.declared.given.Given.{Given}
-use Rattle.object_graph.proofs.RunLaws.{event_in, event_there}
+use Rattle.graph_runs.proofs.RunLaws.{event_in, event_there}
 use Rattle.object_graph.proofs.ReasonLaws.{judged_more, found_there}
 use Rattle.object_graph.proofs.judge.explain.Goals as goal
 

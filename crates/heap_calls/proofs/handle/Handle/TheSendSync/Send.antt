@@ -14,8 +14,8 @@ use Rattle.std_heap.specs.declared.Global.{Global}
 use Rattle.step_core.specs.Stands.{CoreState}
 use Rattle.step_core.specs.contracts.heap.Core as Core
 use Rattle.step_core.proofs.heap.Core.TheSendSync.{the_send as core}
-use Rattle.g1heap_c.specs.Held.{held}
-use Rattle.g1heap_c.specs.contracts.handle.Handle.{the_row, the_type}
+use Rattle.heap_calls.specs.Held.{held}
+use Rattle.heap_calls.specs.contracts.handle.Handle.{the_row, the_type}
 
 held_keyless : (p : Ptr) (a : Global) (c : Option CoreState) → Keyless (held p a c)
 held_keyless p a None = tt

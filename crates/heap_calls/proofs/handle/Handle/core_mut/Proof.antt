@@ -31,14 +31,14 @@ use Rattle.std_alloc.proofs.VecSteps.Shapes.{after}
 use Rattle.std_heap.specs.contracts.Global.{the_row as Z}
 use Rattle.std_heap.specs.contracts.GlobalAllocator.TheImpl.{ghosts}
 use Rattle.step_core.specs.contracts.heap.Core.{the_row as R}
-use Rattle.g1heap_c.specs.Held.{is_held}
-use Rattle.g1heap_c.specs.Lending.{with_core}
-use Rattle.g1heap_c.specs.contracts.handle.Handle as handle
-use Rattle.g1heap_c.proofs.Values.{both}
-use Rattle.g1heap_c.proofs.Handles.{handle_out, handle_in, something}
-use Rattle.g1heap_c.specs.contracts.handle.Handle.core_mut as f
-use Rattle.g1heap_c.proofs.handle.Handle.core_mut.Statement.{statement}
-use Rattle.g1heap_c.proofs.handle.Handle.core_mut.Code as code
+use Rattle.heap_calls.specs.Held.{is_held}
+use Rattle.heap_calls.specs.Lending.{with_core}
+use Rattle.heap_calls.specs.contracts.handle.Handle as handle
+use Rattle.heap_calls.proofs.Values.{both}
+use Rattle.heap_calls.proofs.Handles.{handle_out, handle_in, something}
+use Rattle.heap_calls.specs.contracts.handle.Handle.core_mut as f
+use Rattle.heap_calls.proofs.handle.Handle.core_mut.Statement.{statement}
+use Rattle.heap_calls.proofs.handle.Handle.core_mut.Code as code
 
 abbrev L : RattleType
 L = handle.the_row

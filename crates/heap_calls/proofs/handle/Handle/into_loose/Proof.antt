@@ -10,7 +10,7 @@ use contract.Monad.{fact, fact_i}
 use contract.Running.{tables}
 use prog.Wp.{WpFn}
 use mathlib.Core.Bool.{true}
-use Rattle.g1heap_c.specs.Held.{is_held}
+use Rattle.heap_calls.specs.Held.{is_held}
 use base.Fml.{ftrue}
 use base.Logic.{SProp}
 use denote.Exit.{yes}
@@ -25,12 +25,12 @@ use Rattle.std_heap.specs.contracts.Global.{the_row as Z}
 use Rattle.std_heap.specs.contracts.GlobalAllocator.TheImpl.{ghosts}
 use Rattle.std_heap.proofs.Global.TheLaws.{the_row_laws as global_laws}
 use Rattle.step_core.specs.contracts.heap.Core.{the_row as R}
-use Rattle.g1heap_c.specs.contracts.handle.Handle as handle
-use Rattle.g1heap_c.proofs.Values.{both, loose_good, loose_in}
-use Rattle.g1heap_c.proofs.Handles.{handle_out, something}
-use Rattle.g1heap_c.specs.contracts.handle.Handle.into_loose as f
-use Rattle.g1heap_c.proofs.handle.Handle.into_loose.Statement.{statement}
-use Rattle.g1heap_c.proofs.handle.Handle.into_loose.Code as code
+use Rattle.heap_calls.specs.contracts.handle.Handle as handle
+use Rattle.heap_calls.proofs.Values.{both, loose_good, loose_in}
+use Rattle.heap_calls.proofs.Handles.{handle_out, something}
+use Rattle.heap_calls.specs.contracts.handle.Handle.into_loose as f
+use Rattle.heap_calls.proofs.handle.Handle.into_loose.Statement.{statement}
+use Rattle.heap_calls.proofs.handle.Handle.into_loose.Code as code
 
 abbrev L : RattleType
 L = handle.the_row

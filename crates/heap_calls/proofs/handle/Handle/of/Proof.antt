@@ -23,12 +23,12 @@ use Rattle.std_heap.specs.contracts.Global.{the_row as Z}
 use Rattle.std_heap.specs.contracts.GlobalAllocator.TheImpl.{ghosts}
 use Rattle.std_heap.proofs.Global.TheLaws.{the_row_laws as global_laws}
 use Rattle.step_core.specs.contracts.heap.Core.{the_row as R}
-use Rattle.g1heap_c.specs.contracts.loose.Loose as loose
-use Rattle.g1heap_c.proofs.Values.{both, loose_good, loose_out}
-use Rattle.g1heap_c.proofs.Handles.{handle_in}
-use Rattle.g1heap_c.specs.contracts.handle.Handle.of as f
-use Rattle.g1heap_c.proofs.handle.Handle.of.Statement.{statement}
-use Rattle.g1heap_c.proofs.handle.Handle.of.Code as code
+use Rattle.heap_calls.specs.contracts.loose.Loose as loose
+use Rattle.heap_calls.proofs.Values.{both, loose_good, loose_out}
+use Rattle.heap_calls.proofs.Handles.{handle_in}
+use Rattle.heap_calls.specs.contracts.handle.Handle.of as f
+use Rattle.heap_calls.proofs.handle.Handle.of.Statement.{statement}
+use Rattle.heap_calls.proofs.handle.Handle.of.Code as code
 
 abbrev L : RattleType
 L = loose.the_row R Z ghosts

@@ -1,5 +1,5 @@
 use Rattle.std.proofs.Common.{ℕ, Option, slice_set, sym, ap, ◌∙◌, arith}
-use Rattle.object_graph.specs.Machine.{stored}
+use Rattle.graph_runs.specs.Machine.{stored}
 use Rattle.object_graph.specs.Fields.{object_in}
 use Rattle.object_graph.proofs.ActLaws.{no_object, past_fields, changed_object}
 use Rattle.object_graph.proofs.graph.Graph.put_weak.Goals as goal

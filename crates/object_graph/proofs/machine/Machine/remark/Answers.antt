@@ -1,7 +1,7 @@
 use Rattle.std.proofs.Common.{List, Bool, sym, ap, ◌∙◌, subst}
 use Rattle.heap_model.specs.Graph.{next_name}
 use Rattle.heap_model.specs.Weak.{AreReached}
-use Rattle.object_graph.specs.State.{State}
+use Rattle.graph_runs.specs.State.{State}
 use Rattle.object_graph.specs.Reached.{flag_of}
 use Rattle.object_graph.proofs.Reaching.{cleared_by_flags}
 use Rattle.object_graph.proofs.machine.Machine.remark.Goals as goal

@@ -1,6 +1,6 @@
 use Rattle.std.proofs.Common.{refl, ◌<◌, ◌∙◌, sym, ap, subst, List, [], ℕ, length, length-set}
 use Rattle.heap_model.specs.Graph.{Places}
-use Rattle.object_graph.specs.State.{register_place, places_of}
+use Rattle.graph_runs.specs.State.{register_place, places_of}
 use Rattle.step_core.proofs.Cores.Keeping.{placed_in, register_at, register_shows}
 use Rattle.step_core.proofs.Mutating.Stored.{saved_room, taken_room, known_log}
 use Rattle.step_core.proofs.Mutating.Touching.{word_kept, touch_leaves, idle_shows, idle_keeps, idle_kept, taken_shows, taken_keeps}

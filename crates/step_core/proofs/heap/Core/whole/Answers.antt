@@ -1,5 +1,5 @@
 use Rattle.std.proofs.Common.{subst}
-use Rattle.object_graph.specs.State.{State}
+use Rattle.graph_runs.specs.State.{State}
 use Rattle.step_core.specs.Stands.{CoreState, Stands, IsWhole}
 use Rattle.step_core.proofs.Mutating.Reading.{whole_core}
 use Rattle.step_core.proofs.heap.Core.whole.Goals as goal

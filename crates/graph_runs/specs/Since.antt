@@ -1,7 +1,7 @@
 -- What the graph has to do with the snapshot, since marking began.
 use Rattle.std.specs.Prelude.{◌≡◌, ℕ, ◌+◌, ◌<◌, ◌≤◌, ◌⊎◌, Some, slice_get}
 use Rattle.heap_model.specs.Graph.{Graph, Object, next_name, IsReachable}
-use Rattle.object_graph.specs.State.{State, ForSnapshot}
+use Rattle.graph_runs.specs.State.{State, ForSnapshot}
 
 -- reachable in the snapshot from a root or a touched name, or newer
 abbrev pub IsKnown : Graph → ℕ → Type 0

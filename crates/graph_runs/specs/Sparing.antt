@@ -2,9 +2,9 @@
 -- a mutator can come by meanwhile is reachable in the snapshot or newer.
 use Rattle.std.specs.Prelude.{◌≡◌, ℕ, ⊤, List, [], ◌∷◌, Bool, true, false, Option, Some, None, length, slice_get, nat_lt, if◌then◌else◌}
 use Rattle.heap_model.specs.Graph.{Graph, Object}
-use Rattle.object_graph.specs.State.{State}
-use Rattle.object_graph.specs.Since.{IsKnown}
-use Rattle.object_graph.specs.Run.{IsCollectorReply, Collects, Happens}
+use Rattle.graph_runs.specs.State.{State}
+use Rattle.graph_runs.specs.Since.{IsKnown}
+use Rattle.graph_runs.specs.Run.{IsCollectorReply, Collects, Happens}
 use Rattle.heap_steps.specs.declared.step.CollectorStep.{CollectorStep}
 use Rattle.heap_steps.specs.declared.step.CollectorStep.TheVariants as collector
 use Rattle.heap_steps.specs.declared.step.Step.{Step}

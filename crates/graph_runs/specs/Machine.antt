@@ -3,7 +3,7 @@
 use Rattle.std.specs.Prelude.{ℕ, ◌-◌, ◌^◌, Option, Some, None, length, slice_get, slice_set, replicate, nat_lt, ◌==◌, if◌then◌else◌}
 use Rattle.heap_words.specs.Sizes.{size_of}
 use Rattle.heap_model.specs.Graph.{Object, Graph, next_name, with_root, with_object, with_changed}
-use Rattle.object_graph.specs.State.{register_place, root_at, with_nil_roots}
+use Rattle.graph_runs.specs.State.{register_place, root_at, with_nil_roots}
 use Rattle.heap_steps.specs.declared.step.Action.{Action}
 use Rattle.heap_steps.specs.declared.step.Action.TheVariants as actions
 use Rattle.heap_steps.specs.declared.step.Counts.{Counts}

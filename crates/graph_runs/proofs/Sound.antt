@@ -9,10 +9,10 @@ use Rattle.heap_model.specs.Weak.{touched, IsClearedSlot, ClearsObject, Clears}
 use Rattle.heap_model.proofs.Lists.{AllZip-get_right, AllZip_length, get-set_cases, get-append_cases, get-append_left, get-append_right}
 use Rattle.heap_model.proofs.Lists.{get-push_cases, length-set, length-push}
 use Rattle.heap_model.proofs.Unreached.{touched_cases}
-use Rattle.object_graph.specs.State.{State, root_places, places_of, register_place, with_nil_roots, root_at, Occurs, AtRoot, AtField}
-use Rattle.object_graph.specs.State.{IsNameOf, HoldsNames, IsEarlier, ForSnapshot, IsSoundState, first_graph, first_state}
-use Rattle.object_graph.specs.Machine.{Outcome, refused, on_contents, on_name, on_field, stored, made, act, outcome_of}
-use Rattle.object_graph.specs.Run.{snapshot_after, ClearsBy, Collects, Happens, IsRun}
+use Rattle.graph_runs.specs.State.{State, root_places, places_of, register_place, with_nil_roots, root_at, Occurs, AtRoot, AtField}
+use Rattle.graph_runs.specs.State.{IsNameOf, HoldsNames, IsEarlier, ForSnapshot, IsSoundState, first_graph, first_state}
+use Rattle.graph_runs.specs.Machine.{Outcome, refused, on_contents, on_name, on_field, stored, made, act, outcome_of}
+use Rattle.graph_runs.specs.Run.{snapshot_after, ClearsBy, Collects, Happens, IsRun}
 use Rattle.heap_steps.specs.declared.step.Action.{Action}
 use Rattle.heap_steps.specs.declared.step.Action.TheVariants as actions
 use Rattle.heap_steps.specs.declared.step.Counts.{Counts}
@@ -25,8 +25,8 @@ use Rattle.heap_steps.specs.declared.step.Event.{Event}
 use Rattle.heap_steps.specs.declared.step.Reply.{Reply}
 use Rattle.heap_steps.specs.declared.step.Reply.TheVariants as replies
 use Rattle.heap_steps.specs.declared.step.Refusal.TheVariants as refusals
-use Rattle.object_graph.proofs.MachineLaws.{cond_law, outcome_of-places}
-use Rattle.object_graph.proofs.Collected.{kind}
+use Rattle.graph_runs.proofs.MachineLaws.{cond_law, outcome_of-places}
+use Rattle.graph_runs.proofs.Collected.{kind}
 
 -- a graph with more objects has the names
 more_names : (g h : Graph) → h.first_name ≡ g.first_name → next_name g ≤ next_name h → (n : ℕ) → IsNameOf g n → IsNameOf h n

@@ -2,8 +2,8 @@
 use Rattle.std.specs.Prelude.{◌≡◌, ℕ, ◌-◌, ◌<◌, ◌≤◌, ◌⊎◌, List, Option, Some, None, length, take, slice_get, ◌∷◌, []}
 use Rattle.heap_model.specs.Graph.{Graph, next_name}
 use Rattle.heap_model.specs.Weak.{touched, Clears}
-use Rattle.object_graph.specs.State.{State}
-use Rattle.object_graph.specs.Machine.{outcome_of, reply_of}
+use Rattle.graph_runs.specs.State.{State}
+use Rattle.graph_runs.specs.Machine.{outcome_of, reply_of}
 use Rattle.heap_steps.specs.declared.step.Action.{Action}
 use Rattle.heap_steps.specs.declared.step.Action.TheVariants as actions
 use Rattle.heap_steps.specs.declared.step.Op.{Op}

@@ -3,9 +3,9 @@ use Rattle.std.proofs.Common.{◌≡◌, ◌-◌, ◌<◌, ◌∷◌, ◌∙◌}
 use Rattle.std.proofs.Common.{ℕ, zero, suc, inl, inr, List, [], length, take, slice_get, Option, Some, None, refl, sym, ap, subst, arith}
 use Rattle.heap_model.specs.Graph.{Graph}
 use Rattle.heap_model.proofs.Cleared.{clears_once}
-use Rattle.object_graph.specs.State.{State}
-use Rattle.object_graph.specs.Machine.{Outcome, outcome_of}
-use Rattle.object_graph.specs.Run.{Collects, ClearsBy, Happens, EventHappens, IsRun, BreaksAt, Creates}
+use Rattle.graph_runs.specs.State.{State}
+use Rattle.graph_runs.specs.Machine.{Outcome, outcome_of}
+use Rattle.graph_runs.specs.Run.{Collects, ClearsBy, Happens, EventHappens, IsRun, BreaksAt, Creates}
 use Rattle.heap_steps.specs.declared.step.Op.{Op}
 use Rattle.heap_steps.specs.declared.step.CollectorStep.{CollectorStep}
 use Rattle.heap_steps.specs.declared.step.Step.{Step}
@@ -13,7 +13,7 @@ use Rattle.heap_steps.specs.declared.step.Step.TheVariants as steps
 use Rattle.heap_steps.specs.declared.step.Event.{Event}
 use Rattle.heap_steps.specs.declared.step.Reply.{Reply}
 use Rattle.heap_steps.specs.declared.step.Reply.TheVariants as replies
-use Rattle.object_graph.proofs.Collected.{kind}
+use Rattle.graph_runs.proofs.Collected.{kind}
 use Rattle.heap_steps.specs.declared.step.Refusal.TheVariants as refusals
 
 not_both : (old : State) (g : Graph) (o : Op) (reply : Reply) → (reply, g) ≡ outcome_of old.graph o → Creates old.graph o

@@ -1,9 +1,9 @@
 use Rattle.std.proofs.Common.{Option, subst}
 use Rattle.heap_model.specs.Graph.{Graph}
-use Rattle.object_graph.specs.State.{ForSnapshot, IsEarlier}
-use Rattle.object_graph.specs.Since.{IsSince}
-use Rattle.object_graph.proofs.SinceLaws.{happens_since, reaches_known, since_unreached}
-use Rattle.object_graph.proofs.laws.since_law.Goals as goal
+use Rattle.graph_runs.specs.State.{ForSnapshot, IsEarlier}
+use Rattle.graph_runs.specs.Since.{IsSince}
+use Rattle.graph_runs.proofs.SinceLaws.{happens_since, reaches_known, since_unreached}
+use Rattle.graph_runs.proofs.laws.since_law.Goals as goal
 
 pub returns-clause-begins : goal.returns-clause-begins
 returns-clause-begins c = λ k. tt

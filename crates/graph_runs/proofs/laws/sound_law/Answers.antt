@@ -1,6 +1,6 @@
-use Rattle.object_graph.proofs.Sound.{first_sound, happens_sound}
-use Rattle.object_graph.proofs.SinceLaws.{holds_sound}
-use Rattle.object_graph.proofs.laws.sound_law.Goals as goal
+use Rattle.graph_runs.proofs.Sound.{first_sound, happens_sound}
+use Rattle.graph_runs.proofs.SinceLaws.{holds_sound}
+use Rattle.graph_runs.proofs.laws.sound_law.Goals as goal
 
 pub returns-clause-begins : goal.returns-clause-begins
 returns-clause-begins c = first_sound

@@ -1,9 +1,9 @@
 -- What a step of the collector may do to a state: it takes the snapshot, or clears by it and gives it up, or changes nothing; and so
 -- it is in the judge's states, where the snapshot that is taken may be none.
 use Rattle.std.proofs.Common.{◌≡◌, ◌⊎◌, Some, None, inl, inr}
-use Rattle.object_graph.specs.State.{State}
-use Rattle.object_graph.specs.Run.{ClearsBy, Collects}
-use Rattle.object_graph.specs.Sparing.{SparingCollects, kept_snapshot}
+use Rattle.graph_runs.specs.State.{State}
+use Rattle.graph_runs.specs.Run.{ClearsBy, Collects}
+use Rattle.graph_runs.specs.Sparing.{SparingCollects, kept_snapshot}
 use Rattle.heap_steps.specs.declared.step.CollectorStep.{CollectorStep}
 use Rattle.heap_steps.specs.declared.step.CollectorStep.TheVariants as collector
 use Rattle.heap_steps.specs.declared.step.Reply.{Reply}

@@ -3,8 +3,8 @@ use Rattle.std.proofs.Common.{◌≡◌, ◌+◌, ◌-◌, ◌<◌, ◌∷◌, �
 use Rattle.std.proofs.Common.{ℕ, zero, suc, Some, slice_get, arith, List, [], length, take, get_or, refl, sym, ap, subst}
 use Rattle.std.proofs.lemmas.List.{take_more}
 use Rattle.std.proofs.lemmas.Option.{slice_get-get_or}
-use Rattle.object_graph.specs.State.{State}
-use Rattle.object_graph.specs.Run.{EventHappens, IsRun, BreaksAt}
+use Rattle.graph_runs.specs.State.{State}
+use Rattle.graph_runs.specs.Run.{EventHappens, IsRun, BreaksAt}
 use Rattle.heap_steps.specs.declared.step.Event.{Event}
 use Rattle.heap_steps.specs.declared.step.Actor.TheVariants as actors
 use Rattle.heap_steps.specs.declared.step.Action.TheVariants as actions

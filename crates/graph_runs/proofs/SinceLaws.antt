@@ -12,12 +12,12 @@ use Rattle.heap_model.proofs.Lists.{AllZip-get_right, get-set_cases, get-set_oth
 use Rattle.heap_model.proofs.Cleared.{reach_back}
 use Rattle.heap_model.proofs.Changed.{named_at, at_least}
 use Rattle.heap_model.proofs.Unreached.{touched_cases, touched_next, touched_named, touched_reaches, touched_reached}
-use Rattle.object_graph.specs.State.{State, register_place, with_nil_roots, root_at, AtRoot, AtField, HoldsNames, IsEarlier, ForSnapshot}
-use Rattle.object_graph.specs.State.{IsSoundState}
-use Rattle.object_graph.specs.Since.{IsKnown, IsSince, IsSinceState}
-use Rattle.object_graph.specs.Sparing.{HoldsKnown}
-use Rattle.object_graph.specs.Machine.{Outcome, refused, on_contents, on_name, on_field, stored, made, act, outcome_of}
-use Rattle.object_graph.specs.Run.{snapshot_after, Happens, IsRun}
+use Rattle.graph_runs.specs.State.{State, register_place, with_nil_roots, root_at, AtRoot, AtField, HoldsNames, IsEarlier, ForSnapshot}
+use Rattle.graph_runs.specs.State.{IsSoundState}
+use Rattle.graph_runs.specs.Since.{IsKnown, IsSince, IsSinceState}
+use Rattle.graph_runs.specs.Sparing.{HoldsKnown}
+use Rattle.graph_runs.specs.Machine.{Outcome, refused, on_contents, on_name, on_field, stored, made, act, outcome_of}
+use Rattle.graph_runs.specs.Run.{snapshot_after, Happens, IsRun}
 use Rattle.heap_steps.specs.declared.step.Action.{Action}
 use Rattle.heap_steps.specs.declared.step.Action.TheVariants as actions
 use Rattle.heap_steps.specs.declared.step.Op.{Op}
@@ -28,9 +28,9 @@ use Rattle.heap_steps.specs.declared.step.Step.TheVariants as steps
 use Rattle.heap_steps.specs.declared.step.Event.{Event}
 use Rattle.heap_steps.specs.declared.step.Reply.{Reply}
 use Rattle.heap_steps.specs.declared.step.Refusal.TheVariants as refusals
-use Rattle.object_graph.proofs.MachineLaws.{cond_law}
-use Rattle.object_graph.proofs.Sound.{field_law, nils, get_in, after_law, happens_sound}
-use Rattle.object_graph.proofs.Collected.{kind}
+use Rattle.graph_runs.proofs.MachineLaws.{cond_law}
+use Rattle.graph_runs.proofs.Sound.{field_law, nils, get_in, after_law, happens_sound}
+use Rattle.graph_runs.proofs.Collected.{kind}
 
 -- an object's place and its name
 pub named_place : (g : Graph) (p : ℕ) (x : Object) → slice_get g.objects p ≡ Some x → object_named g (g.first_name + p) ≡ Some x

@@ -5,8 +5,8 @@ use Rattle.std.specs.Prelude.{◌==◌, nat_lt, IfOk, OnErr}
 use Rattle.heap_steps.specs.declared.step.Reply.{Reply}
 use Rattle.heap_steps.specs.declared.step.Reply.TheVariants as replies
 use Rattle.heap_model.specs.Graph.{Object, Graph, next_name}
-use Rattle.object_graph.specs.State.{root_at, register_place}
-use Rattle.object_graph.specs.Machine.{Outcome, refused, on_contents, on_name, on_field, made, act, outcome_of}
+use Rattle.graph_runs.specs.State.{root_at, register_place}
+use Rattle.graph_runs.specs.Machine.{Outcome, refused, on_contents, on_name, on_field, made, act, outcome_of}
 use Rattle.heap_steps.specs.declared.step.Action.{Action}
 use Rattle.heap_steps.specs.declared.step.Action.TheVariants as actions
 use Rattle.heap_steps.specs.declared.step.Counts.{Counts}

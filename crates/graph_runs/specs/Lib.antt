@@ -1,0 +1,5 @@
+pub mod State
+pub mod Machine
+pub mod Run
+pub mod Since
+pub mod Sparing

@@ -1,0 +1,4 @@
+pub mod Handles
+pub mod Values
+pub mod Filling
+pub mod FreeRuns

@@ -1,0 +1,159 @@
+//! A new object with its fields, in one call.
+
+ghost use Rattle.std.specs.Prelude.{◌≡◌, ◌≢◌, ℕ, ◌<◌, ◌^◌, List, length, slice_index, Some, true, false};
+ghost use Rattle.heap_steps.specs.Actors.{IsStep};
+ghost use Rattle.step_core.specs.Mutators.{register_of};
+ghost use Rattle.heap_calls.specs.Numbers as spec;
+ghost use Rattle.heap_calls.specs.Steps.{HasRegister};
+ghost use Rattle.heap_calls.specs.Filled.{AreFields, Fills, FillsIt, FillsOrNot, IsFilled, IsSource, RunsTo};
+ghost use Rattle.heap_calls.specs.Filled.{making, pointing, wording};
+
+use crate::answer::{Answer, answer_of, no_step};
+use crate::heap::has;
+use crate::named::{by, counts, register, value};
+use heap_steps::{Action, Reply, Step};
+use heap_words::addr::Addr;
+use step_core::Core;
+
+#[inline(always)]
+fn making(mutator: u32, to: u32, from: &[u32], words: &[u64]) -> Step
+    requires few { length from.now < 2 ^ 32 }
+    requires few_words { length words.now < 2 ^ 32 }
+    ensures { result ≡ making mutator to from.now words.now }
+{
+    by(
+        mutator,
+        Action::New {
+            to: register(to),
+            counts: counts(from.len() as u32, words.len() as u32),
+        },
+    )
+}
+
+/// Whether a number is that of nil or of a register, and of another one than the one that takes the object.
+#[inline(always)]
+fn is_source(core: &Core, to: u32, number: u32) -> bool
+    ensures is { result ≡ true → IsSource core.now.config to number }
+    ensures not { result ≡ false → IsSource core.now.config to number → ⊥ }
+{
+    if number == to {
+        return false;
+    }
+    match value(number) {
+        None => true,
+        Some(register) => register.number < core.roots().places().registers(),
+    }
+}
+
+/// Whether each source is nil or a register, and another one than the one that takes the object.
+#[inline(always)]
+fn has_sources(core: &Core, to: u32, from: &[u32]) -> bool
+    ensures all { result ≡ true → (i : ℕ) → i < length from.now → IsSource core.now.config to (slice_index from.now i) }
+    ensures not { result ≡ false → ((i : ℕ) → i < length from.now → IsSource core.now.config to (slice_index from.now i)) → ⊥ }
+{
+    for number in from.iter() {
+        if !is_source(core, to, *number) {
+            return false;
+        }
+    }
+    true
+}
+
+/// Whether the numbers name steps of the heap's.
+#[inline(always)]
+pub fn has_fields(core: &Core, mutator: u32, to: u32, from: &[u32], words: &[u64]) -> bool
+    ensures has { result ≡ true → AreFields core.now.config mutator to from.now words.now }
+    ensures not { result ≡ false → AreFields core.now.config mutator to from.now words.now → ⊥ }
+{
+    if from.len() > u32::MAX as usize || words.len() > u32::MAX as usize {
+        return false;
+    }
+    if !has(core, making(mutator, to, from, words)) {
+        return false;
+    }
+    has_sources(core, to, from)
+}
+
+/// Fills the pointers of the object that starts at an address, which the register holds.
+#[inline(always)]
+fn point(core: &mut Core, mutator: u32, to: u32, at: Addr, from: &[u32])
+    requires few { length from.now < 2 ^ 32 }
+    requires points { (i : ℕ) → i < length from.now → IsStep core.old.config (pointing mutator to from.now i) }
+    requires held { register_of core.old mutator (spec.register to) ≡ Some at }
+    ensures run { RunsTo core.old (pointing mutator to from.now) (length from.now) core.new }
+    ensures config { core.new.config ≡ core.old.config }
+    ensures held { register_of core.new mutator (spec.register to) ≡ Some at }
+{
+    for i in 0..from.len() {
+        let _ = core.put_at(mutator, register(to), at, i as u32, value(from[i]));
+    }
+}
+
+/// Fills the data words of the object that starts at an address, which the register holds.
+#[inline(always)]
+fn word(core: &mut Core, mutator: u32, to: u32, at: Addr, words: &[u64])
+    requires few { length words.now < 2 ^ 32 }
+    requires known { HasRegister core.old mutator to }
+    requires held { register_of core.old mutator (spec.register to) ≡ Some at }
+    ensures { RunsTo core.old (wording mutator to words.now) (length words.now) core.new }
+{
+    for i in 0..words.len() {
+        let _ = core.write_at(mutator, register(to), at, i as u32, words[i]);
+    }
+}
+
+/// Fills the object that a register holds. If it holds none, each step is refused, and none is done.
+#[inline(always)]
+fn fill_object(core: &mut Core, mutator: u32, to: u32, from: &[u32], words: &[u64])
+    requires { AreFields core.old.config mutator to from.now words.now }
+    ensures { IsFilled core.old mutator to from.now words.now core.new }
+{
+    let Some(at) = core.address_of(mutator, register(to)) else {
+        return;
+    };
+    point(core, mutator, to, at, from);
+    word(core, mutator, to, at, words);
+}
+
+/// Fills an object, if the reply says that it was made.
+#[inline(always)]
+pub fn fill_made(core: &mut Core, reply: Reply, mutator: u32, to: u32, from: &[u32], words: &[u64])
+    requires { AreFields core.old.config mutator to from.now words.now }
+    ensures { FillsIt reply core.old mutator to from.now words.now core.new }
+{
+    match reply {
+        Reply::Named(None) => {}
+        Reply::Named(Some(_)) => {
+            fill_object(core, mutator, to, from, words);
+        }
+        Reply::Done => {}
+        Reply::Word(_) => {}
+        Reply::Shape { .. } => {}
+        Reply::Marked(_) => {}
+        Reply::Reclaimed(_) => {}
+        Reply::Refined(_) => {}
+        Reply::Moved { .. } => {}
+        Reply::Refused(_) => {}
+    }
+}
+
+#[inline(always)]
+fn fill(core: &mut Core, mutator: u32, to: u32, from: &[u32], words: &[u64]) -> Answer
+    requires { AreFields core.old.config mutator to from.now words.now }
+    ensures { Fills core.old mutator to from.now words.now result (Some core.new) }
+{
+    let reply = core.step(making(mutator, to, from, words));
+    fill_made(core, reply, mutator, to, from, words);
+    answer_of(reply)
+}
+
+/// Makes an object and fills it, if the numbers name steps of the heap's.
+#[inline(always)]
+pub fn make(core: &mut Core, mutator: u32, to: u32, from: &[u32], words: &[u64]) -> Answer
+    ensures { FillsOrNot core.old mutator to from.now words.now result (Some core.new) }
+{
+    if !has_fields(core, mutator, to, from, words) {
+        return no_step();
+    }
+    fill(core, mutator, to, from, words)
+}
