@@ -19,7 +19,7 @@
 typedef uint32_t reg;
 
 /* What a program may change before m_start: some memories look at globals and registers alone. */
-static g1_sizes m_sizes = {.regions = 256, .words = 1024, .buffer = 127, .mutators = 1, .card = 8, .globals = 16, .registers = 64};
+static g1_sizes m_sizes = {.regions = 256, .words = 1024, .buffer = 127, .mutators = 1, .card = 64, .globals = 16, .registers = 64};
 static uint64_t m_objects;
 /* What m_count tells of; the heap's counts are 0 where there is no policy. */
 enum { M_OBJECTS, M_CYCLES, M_PAUSES, M_SCANNED, M_COPIED, M_FREE, M_COUNTS };
