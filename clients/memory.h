@@ -19,7 +19,7 @@
 typedef uint32_t reg;
 
 /* What a program may change before m_start: some memories look at globals and registers alone. */
-static g1_sizes m_sizes = {.regions = 256, .words = 1024, .buffer = 127, .mutators = 1, .card = 8, .globals = 16, .registers = 64};
+static g1_sizes m_sizes = {.regions = 256, .words = 1024, .buffer = 127, .mutators = 1, .card = 64, .globals = 16, .registers = 64};
 static uint64_t m_objects;
 /* What m_count tells of; the heap's counts are 0 where there is no policy. */
 enum { M_OBJECTS, M_CYCLES, M_PAUSES, M_SCANNED, M_COPIED, M_FREE, M_COUNTS };
@@ -102,11 +102,12 @@ static inline void m_save(uint32_t global, reg from) { m_done(g1_save(&m_heap, 0
 static inline void m_scope(reg first) { m_done(g1_scope(&m_heap, 0, first)); }
 static inline uint32_t m_pointers(reg object) { return (uint32_t)m_done(g1_shape(&m_heap, 0, object)).first; }
 static inline uint32_t m_values(reg object) { return m_done(g1_shape(&m_heap, 0, object)).second; }
-/* A data word of an object, or what is said where the register is nil. Nil is answered by the heap, so it costs one call. */
-static inline uint64_t m_word(reg object, uint32_t field, uint64_t of_nil)
+/* Data word 0 of an object, where a runtime keeps its tags, and 0 of nil. Nil is answered by the heap, so it costs one call. */
+static inline uint64_t m_head(reg object)
 {
-    g1_answer answer = g1_read(&m_heap, 0, object, field);
-    return answer.code == G1_NIL ? of_nil : m_done(answer).first;
+    g1_answer answer = g1_read(&m_heap, 0, object, 0);
+    if (answer.code == G1_WORD) return answer.first;
+    return answer.code == G1_NIL ? 0 : m_done(answer).first;
 }
 /* Whether two registers hold the same object, or both nil. */
 static inline int m_same(reg one, reg other)
@@ -206,15 +207,9 @@ static inline void m_scope(reg first)
 }
 static inline uint32_t m_pointers(reg object) { return m_registers[object]->pointers; }
 static inline uint32_t m_values(reg object) { return m_registers[object]->values; }
-static inline uint64_t m_word(reg object, uint32_t field, uint64_t of_nil)
-{
-    return m_registers[object] != NULL ? m_read(object, field) : of_nil;
-}
+static inline uint64_t m_head(reg object) { return m_registers[object] != NULL ? m_read(object, 0) : 0; }
 static inline int m_same(reg one, reg other) { return m_registers[one] == m_registers[other]; }
 
 #endif
-
-/* The first data word of an object, 0 of nil: where a runtime keeps its tags. */
-static inline uint64_t m_tag(reg object) { return m_word(object, 0, 0); }
 
 #endif

@@ -23,17 +23,19 @@ enum { EXPRESSION, ENVIRONMENT, VALUE, REST, PART, OTHER, WHOLE, STACK };
 enum { MOST_REGISTERS = 65536, MOST_SYMBOLS = 4096, MOST_NAME = 255, MOST_NESTED = 10000, MOST_PORTS = 64, MOST_TOLD = 60 };
 /* Globals: the symbols, the current ports, and the first ones. */
 enum { CURRENT_INPUT = MOST_SYMBOLS, CURRENT_OUTPUT, FIRST_INPUT, FIRST_OUTPUT, GLOBALS };
-/* The tag of an object is its data word 0; that of nil, the empty list, is 0. */
+/* An object's data word 0 is its head: the tag in four bits, and from bit SHIFT on what else one read is to tell. That of nil, the empty
+   list, is 0. A number that doesn't fit is LARGE, and is word 1. */
+enum { TAG = 15, LARGE = 16, SHIFT = 8 };
 enum { NIL, NUMBER, BOOLEAN, SYMBOL, STRING, PAIR, VECTOR, CHARACTER, INPUT, OUTPUT, END, CLOSURE, MACRO, PRIMITIVE, CONTINUATION,
        BINDING };
 static const char *const kinds[] = {"the empty list", "a number", "a truth value", "a symbol", "a string", "a pair", "a vector",
     "a character", "a port for input", "a port for output", "the end of a file", "a procedure", "a macro", "a procedure", "a procedure",
     "a binding"};
 
-/* pair: car, cdr; one that was read has the place of its car in word 1.  closure, macro: parameters, body, environment.  symbol: its global
-   value; word 1 its number, word 2 whether it has a value.  number, truth value, character: word 1.  binding: next, value; word 1 the
-   symbol's number.  string: word 1 the length in bytes, then these.  port: word 1 its number.  continuation: the stack's registers; word 1
-   how many frames, and a word for each. */
+/* pair: car, cdr; the head of one that was read has the place of its car.  closure, macro: parameters, body, environment.  symbol: its
+   global value; the head has its number, word 1 whether it has a value.  number, truth value, character, port, primitive: the head.
+   binding: next, value; the head has the symbol's number.  vector: its elements; the head has the length.  string: the head has the length
+   in bytes, then come these.  continuation: the stack's registers; the head has how many frames, and a word for each. */
 
 /* The names that C knows, symbols by their numbers. */
 enum { NO_NAME, QUOTE, IF, DEFINE, SET, RAW_LAMBDA, BEGIN, AND, OR, LOCAL, LAMBDA, QUASIQUOTE, UNQUOTE, UNQUOTE_SPLICING, DOT,
@@ -54,18 +56,23 @@ static uint64_t left_to_print = UINT64_MAX;
 static jmp_buf after_mistake;
 
 /* The stack: a frame begins at a register, and says what is to be done with a value. It holds the form that it is of, or of a sequence
-   what is left of it, and the environment; one of a call then the procedure and the arguments so far. */
+   what is left of it, and the environment; one of a call then the procedure and the arguments so far. From frame `kept` on the environment
+   is still that in ENVIRONMENT, and a frame gets it before another one comes there. */
 typedef struct frame { uint32_t base, what; } frame;
 static frame frames[MOST_REGISTERS];
-static uint32_t depth;
+static uint32_t depth, kept;
 static reg top = STACK;
 enum { DO_IF, DO_SET, DO_DEFINE, DO_SEQUENCE, DO_AND, DO_OR, DO_CALL, DO_LAST, DO_MACRO };
 
 static char *names[MOST_SYMBOLS];
+/* Whether a symbol ever had a binding, else its value is the global one; and whether that ever was a macro. */
+static int is_bound[MOST_SYMBOLS], is_macro[MOST_SYMBOLS];
 static void print(reg it, int quoted);
 
+static uint64_t head(unsigned tag, uint64_t told) { return tag | told << SHIFT; }
+static unsigned tag_of(reg it) { return m_head(it) & TAG; }
 /* The place of a pair that was read: a file's name and a line, 0 of another object. */
-static uint64_t place_of(reg it) { return m_tag(it) == PAIR && m_values(it) == 2 ? m_read(it, 1) : 0; }
+static uint64_t place_of(reg it) { return tag_of(it) == PAIR ? m_head(it) >> SHIFT : 0; }
 /* Leads PART to the innermost form that is being evaluated and was read, and answers its place. */
 static uint64_t find_form(void)
 {
@@ -88,7 +95,7 @@ static _Noreturn void mistake(int has_value, reg value, const char *why, ...)
     if (has_value) m_move(VALUE, value);
     place = find_form();
     if (reading || place == 0) place = (uint64_t)source->name << 32 | source->line;
-    depth = 0, nested = 0, m_scope(STACK), top = STACK;
+    depth = 0, kept = 0, nested = 0, m_scope(STACK), top = STACK;
     fflush(stdout), output = stderr;
     if (place >> 32 != NO_NAME && place >> 32 != PRELUDE) fprintf(stderr, "%s, ", names[place >> 32]);
     fprintf(stderr, "line %u, %s", (uint32_t)place, !reading ? "in " : recently > sizeof recent ? "after .." : "after ");
@@ -121,21 +128,30 @@ static void go_deeper(void)
 static void push(reg it) { m_move(room(1), it), top++; }
 static void leave(reg base) { m_scope(base), top = base; }
 
-static void make(reg to, unsigned tag, uint32_t pointers, uint32_t values)
+/* An object with a head, its pointers nil and `values` more words 0. */
+static void make(reg to, uint64_t head, uint32_t pointers, uint32_t values)
 {
     if (!m_new(to, pointers, values + 1))
         mistake(0, 0, "the heap is full of live objects: give it more by G1HEAP_REGIONS=%u", 2 * m_sizes.regions);
-    m_write(to, 0, tag);
+    m_write(to, 0, head);
 }
-/* A number, a character or a port. */
-static void make_word(reg to, unsigned tag, uint64_t value) { make(to, tag, 0, 1), m_write(to, 1, value); }
-static void number(reg to, int64_t value) { make_word(to, NUMBER, (uint64_t)value); }
-static int64_t value_of(reg it) { return (int64_t)m_read(it, 1); }
+/* An object of a head and two pointers; `to` is neither of these. */
+static void make_two(reg to, uint64_t head, reg one, reg two) { make(to, head, 2, 0), m_put(to, 0, one), m_put(to, 1, two); }
+/* A character, a port or a primitive. */
+static void make_word(reg to, unsigned tag, uint64_t value) { make(to, head(tag, value), 0, 0); }
+static void number(reg to, int64_t value)
+{
+    if ((int64_t)((uint64_t)value << SHIFT) >> SHIFT == value) make_word(to, NUMBER, (uint64_t)value);
+    else make(to, NUMBER | LARGE, 0, 1), m_write(to, 1, (uint64_t)value);
+}
+/* What an object tells whose head is known. */
+static int64_t told(reg it, uint64_t head) { return head & LARGE ? (int64_t)m_read(it, 1) : (int64_t)head >> SHIFT; }
+static int64_t value_of(reg it) { return told(it, m_read(it, 0)); }
 /* The pair of two registers; `to` may be one of them. */
 static void cons(reg to, reg car, reg cdr)
 {
-    make(OTHER, PAIR, 2, 0), m_put(OTHER, 0, car), m_put(OTHER, 1, cdr);
-    m_move(to, OTHER), m_drop(OTHER);
+    if (to != car && to != cdr) make_two(to, PAIR, car, cdr);
+    else make_two(OTHER, PAIR, car, cdr), m_move(to, OTHER);
 }
 static void car(reg to, reg pair) { m_get(to, pair, 0); }
 static int cdr(reg to, reg pair) { return m_get(to, pair, 1); }
@@ -157,24 +173,23 @@ static uint32_t intern(const char *name)
 static void symbol(reg to, uint32_t id)
 {
     if (m_load(to, id)) return;
-    make(to, id == TRUE_VALUE || id == FALSE_VALUE ? BOOLEAN : id == END_VALUE ? END : SYMBOL, 1, 2), m_write(to, 1, id);
+    make(to, head(id == TRUE_VALUE || id == FALSE_VALUE ? BOOLEAN : id == END_VALUE ? END : SYMBOL, id), 1, 1);
     m_save(id, to);
 }
-static void set_global(reg name, reg value) { m_put(name, 0, value), m_write(name, 2, 1); }
+static void set_global(reg name, reg it) { m_put(name, 0, it), m_write(name, 1, 1), is_macro[value_of(name)] |= tag_of(it) == MACRO; }
 static void truth(int yes) { m_load(VALUE, yes ? TRUE_VALUE : FALSE_VALUE); }
-static int is_false(reg it) { return m_tag(it) == BOOLEAN && value_of(it) == FALSE_VALUE; }
+static int is_false(reg it) { return m_head(it) == head(BOOLEAN, FALSE_VALUE); }
 
 /* Strings: eight bytes a word. */
 static void string(reg to, const char *bytes, size_t length)
 {
     uint64_t words[64];
-    make(to, STRING, 0, 1 + (uint32_t)(length + 7) / 8);
-    m_write(to, 1, length);
+    make(to, head(STRING, length), 0, (uint32_t)(length + 7) / 8);
     for (size_t i = 0, part; i < length; i += part) {
         part = length - i < sizeof words ? length - i : sizeof words;
         words[(part - 1) / 8] = 0;
         memcpy(words, bytes + i, part);
-        m_write_words(to, 2 + (uint32_t)(i / 8), words, (part + 7) / 8);
+        m_write_words(to, 1 + (uint32_t)(i / 8), words, (part + 7) / 8);
     }
 }
 /* The bytes of a string, with a 0 after them, until the next call but one. */
@@ -182,10 +197,10 @@ static char *bytes_of(reg it, size_t *length)
 {
     static char *buffers[2];
     static int turn;
-    *length = (size_t)m_read(it, 1), turn = !turn;
+    *length = (size_t)value_of(it), turn = !turn;
     buffers[turn] = (char *)realloc(buffers[turn], *length + 8);
     if (buffers[turn] == NULL) m_die("no memory");
-    m_read_words(it, 2, (uint64_t *)(void *)buffers[turn], (*length + 7) / 8);
+    m_read_words(it, 1, (uint64_t *)(void *)buffers[turn], (*length + 7) / 8);
     buffers[turn][*length] = 0;
     return buffers[turn];
 }
@@ -194,16 +209,17 @@ static char *bytes_of(reg it, size_t *length)
 static int64_t length_of(reg list)
 {
     int64_t length = 0, turn = 1;
-    for (m_move(OTHER, list), m_move(PART, list); m_tag(OTHER) == PAIR; length++) {
-        if (cdr(OTHER, OTHER) && m_same(OTHER, PART)) return -1;
+    for (m_move(OTHER, list), m_move(PART, list); tag_of(OTHER) == PAIR; length++) {
+        if (!cdr(OTHER, OTHER)) return length + 1;
+        if (m_same(OTHER, PART)) return -1;
         if (length == turn) m_move(PART, OTHER), turn *= 2;
     }
-    return m_tag(OTHER) == NIL ? length : -1;
+    return tag_of(OTHER) == NIL ? length : -1;
 }
 /* A vector of the list in a register, whose length is known. */
 static void vector_of(reg to, reg list, int64_t length)
 {
-    make(to, VECTOR, (uint32_t)length, 0);
+    make(to, head(VECTOR, (uint64_t)length), (uint32_t)length, 0);
     m_move(PART, list);
     for (uint32_t i = 0; i < (uint32_t)length; i++, cdr(PART, PART)) car(OTHER, PART), m_put(to, i, OTHER);
 }
@@ -302,13 +318,11 @@ static void need_expression(const char *where, unsigned line)
 {
     if (!read_expression()) mistake(0, 0, "the text ends within a %s that begins in line %u", where, line);
 }
-static int is_dot(reg it) { return m_tag(it) == SYMBOL && m_read(it, 1) == DOT; }
+static int is_dot(reg it) { return m_head(it) == head(SYMBOL, DOT); }
 /* Makes the pair of VALUE, which began in a line, and what a register holds. */
 static void read_pair(unsigned line, reg rest)
 {
-    make(OTHER, PAIR, 2, source->name != PRELUDE);
-    if (source->name != PRELUDE) m_write(OTHER, 1, (uint64_t)source->name << 32 | line);
-    m_put(OTHER, 0, VALUE), m_put(OTHER, 1, rest);
+    make_two(OTHER, head(PAIR, source->name != PRELUDE ? (uint64_t)source->name << 32 | line : 0), VALUE, rest);
     m_move(VALUE, OTHER), m_drop(OTHER);
 }
 /* A list, into VALUE. Its frame holds its pairs: the first and the last. */
@@ -321,14 +335,14 @@ static void read_list(const char *what)
         put_back(c), begin = source->line;
         need_expression(what, line);
         if (is_dot(VALUE)) {                                     /* one expression more, for the last pair */
-            if (m_tag(base) == NIL || *what == 'v') mistake(0, 0, "a %s %s", what, *what == 'v' ? "has no dot" : "begins with a dot");
+            if (tag_of(base) == NIL || *what == 'v') mistake(0, 0, "a %s %s", what, *what == 'v' ? "has no dot" : "begins with a dot");
             if ((c = next_mark()) == ')') mistake(0, 0, "nothing follows the dot of a list");
             put_back(c), need_expression(what, line), m_put(base + 1, 1, VALUE);
             if (is_dot(VALUE) || next_mark() != ')') mistake(1, VALUE, "a list doesn't end after what follows its dot");
             break;
         }
-        m_drop(PART), read_pair(begin, PART);
-        if (m_tag(base) == NIL) m_move(base, VALUE);
+        read_pair(begin, G1_NIL_REGISTER);
+        if (tag_of(base) == NIL) m_move(base, VALUE);
         else m_put(base + 1, 1, VALUE);
     }
     m_move(VALUE, base), leave(base);
@@ -338,7 +352,7 @@ static void read_quotation(uint32_t name)
 {
     unsigned line = source->line;
     need_expression("quotation", line);
-    m_drop(PART), read_pair(line, PART);
+    read_pair(line, G1_NIL_REGISTER);
     m_move(PART, VALUE), symbol(VALUE, name), read_pair(line, PART);
 }
 /* Reads an expression into VALUE; 0 at the end of the text. */
@@ -388,19 +402,19 @@ static void print_list(reg it, int quoted)
     reg at = room(3);
     uint32_t steps = 0, most = 1;
     push(it), push(it), push(it);
-    for (; m_tag(at) == PAIR && left_to_print != 0 && (steps == 0 || !m_same(at, at + 2)); cdr(at, at), steps++) {
+    for (; tag_of(at) == PAIR && left_to_print != 0 && (steps == 0 || !m_same(at, at + 2)); cdr(at, at), steps++) {
         if (steps == most) m_move(at + 2, at), steps = 0, most *= 2;
         fputc(most == 1 && steps == 0 ? '(' : ' ', output);
         car(at + 1, at), print(at + 1, quoted);
     }
-    if (m_tag(at) == PAIR) fputs(" ..", output);
-    else if (m_tag(at) != NIL) fputs(" . ", output), print(at, quoted);
+    if (tag_of(at) == PAIR) fputs(" ..", output);
+    else if (tag_of(at) != NIL) fputs(" . ", output), print(at, quoted);
     fputc(')', output), leave(at);
 }
 static void print_vector(reg it, int quoted)
 {
     reg at = room(1);
-    uint32_t i = 0, length = m_pointers(it);
+    uint32_t i = 0, length = (uint32_t)value_of(it);
     push(it), fputs("#(", output);
     for (; i < length && left_to_print != 0; i++) fputs(i == 0 ? "" : " ", output), m_get(at, it, i), print(at, quoted);
     fputs(i < length ? " ..)" : ")", output), leave(at);
@@ -410,7 +424,7 @@ static void print(reg it, int quoted)
     size_t length;
     const char *bytes;
     go_deeper(), left_to_print--;
-    switch (m_tag(it)) {
+    switch (tag_of(it)) {
     case NIL: fputs("()", output); break;
     case NUMBER: fprintf(output, "%" PRId64, value_of(it)); break;
     case BOOLEAN: case SYMBOL: case END: fputs(names[value_of(it)], output); break;
@@ -425,7 +439,7 @@ static void print(reg it, int quoted)
         break;
     case PAIR: print_list(it, quoted); break;
     case VECTOR: print_vector(it, quoted); break;
-    default: fprintf(output, "#<%s>", kinds[m_tag(it)] + 2);
+    default: fprintf(output, "#<%s>", kinds[tag_of(it)] + 2);
     }
     nested--;
 }
@@ -436,64 +450,72 @@ static void print(reg it, int quoted)
 static void begin_frame(uint32_t what, reg form)
 {
     reg base = room(4);
-    frames[depth++] = (frame){base, what}, push(form), push(ENVIRONMENT);
+    frames[depth++] = (frame){base, what}, m_move(base, form), top += 2;
 }
 static reg end_frame(void) { return frames[--depth].base; }
-
-/* Leads PART to the binding of a name, or to the symbol itself; the answer is the field of the value. */
-static uint32_t find(reg name)
+/* Before another environment comes: so many frames get theirs, but those that want none again. */
+static void keep_environment(uint32_t count)
 {
-    uint64_t id = m_read(name, 1), found;
-    for (m_move(PART, ENVIRONMENT); (found = m_word(PART, 1, UINT64_MAX)) != UINT64_MAX; m_get(PART, PART, 0))
-        if (found == id) return 1;
-    m_move(PART, name);
-    return 0;
+    for (; kept < count; kept++)
+        if (frames[kept].what != DO_LAST) m_move(frames[kept].base + 1, ENVIRONMENT);
 }
+
+/* The register that holds the binding of a name, whose head is known, or else the name's own: the value is field 1 or 0 there. */
+static reg find(reg name, uint64_t symbol)
+{
+    uint64_t id = symbol >> SHIFT, wanted = head(BINDING, id), found;
+    reg at = ENVIRONMENT;
+    if (!is_bound[id]) return name;
+    for (; (found = m_head(at)) != wanted; at = PART)
+        if (found == NIL || !m_get(PART, at, 0)) return name;
+    return at;
+}
+static _Noreturn void want_name(reg it) { mistake(1, it, "a name is wanted here, not %s", kinds[tag_of(it)]); }
 static void bind(reg name, reg value)
 {
-    make(PART, BINDING, 2, 1);
-    m_write(PART, 1, m_read(name, 1)), m_put(PART, 0, ENVIRONMENT), m_put(PART, 1, value);
-    m_move(ENVIRONMENT, PART);
+    uint64_t symbol = m_head(name), id = symbol >> SHIFT;
+    if ((symbol & TAG) != SYMBOL) want_name(name);
+    make_two(PART, head(BINDING, id), ENVIRONMENT, value);
+    m_move(ENVIRONMENT, PART), is_bound[id] = 1;
 }
-static void need_symbol(reg it) { if (m_tag(it) != SYMBOL) mistake(1, it, "a name is wanted here, not %s", kinds[m_tag(it)]); }
 static void need_part(const char *form)
 {
-    if (m_tag(REST) == PAIR) return;
+    if (tag_of(REST) == PAIR) return;
     begin_frame(DO_IF, EXPRESSION);
     mistake(0, 0, "%s lacks a part", form);
 }
 /* What is left of a list of operands or of a body has to be a list. Answers whether there is more. */
 static int has_more(reg list)
 {
-    uint64_t tag = m_tag(list);
+    unsigned tag = tag_of(list);
     if (tag != PAIR && tag != NIL) mistake(1, list, "a list of operands or of a body ends with a dot");
     return tag == PAIR;
 }
+/* Goes on in such a list, and answers whether there is more. */
+static int goes_on(reg list) { return cdr(list, list) && has_more(list); }
 /* A closure of the parameters in PART and the body in REST. */
 static void closure(void) { make(VALUE, CLOSURE, 3, 0), m_put(VALUE, 0, PART), m_put(VALUE, 1, REST), m_put(VALUE, 2, ENVIRONMENT); }
-/* What a name stands for, into a register; answers whether that is a binding's value. */
-static uint32_t look_up(reg to, reg name)
+/* What a name stands for, into another register; answers whether that is a binding's value. */
+static int look_up(reg to, reg name, uint64_t symbol)
 {
-    uint32_t field = find(name);
-    if (!m_get(to, PART, field) && field == 0 && m_read(name, 2) == 0) mistake(1, name, "a name that isn't defined");
-    return field;
+    reg at = find(name, symbol);
+    if (!m_get(to, at, at != name) && at == name && m_read(name, 1) == 0) mistake(1, name, "a name that isn't defined");
+    return at != name;
 }
 
-/* Binds the parameters in REST to the arguments from a register on, `count` of them. */
+/* Binds the parameters of a procedure to the arguments from a register on, `count` of them. */
 static void bind_arguments(reg first, uint32_t count, reg procedure)
 {
     uint32_t taken = 0;
-    for (; m_tag(REST) == PAIR && taken < count; taken++) {
-        car(OTHER, REST);
-        need_symbol(OTHER);
-        bind(OTHER, first + taken);
-        cdr(REST, REST);
-    }
-    if (m_tag(REST) == SYMBOL) {
+    int more = m_get(REST, procedure, 0);
+    unsigned tag;
+    for (; (tag = more ? tag_of(REST) : NIL) == PAIR && taken < count; taken++)
+        car(OTHER, REST), bind(OTHER, first + taken), more = cdr(REST, REST);
+    if (tag == SYMBOL) {
         m_drop(VALUE);
         for (uint32_t i = count; i > taken; i--) cons(VALUE, first + i - 1, VALUE);
         bind(REST, VALUE);
-    } else if (m_tag(REST) != NIL || taken < count) {
+    } else if (tag != NIL || taken < count) {
         m_get(REST, procedure, 0);
         mistake(1, REST, "a procedure got %u arguments for its parameters", count);
     }
@@ -502,35 +524,33 @@ static void bind_arguments(reg first, uint32_t count, reg procedure)
 /* A continuation of all frames below `base`. */
 static void capture(reg to, reg base)
 {
-    make(to, CONTINUATION, base - STACK, 1 + depth);
-    m_write(to, 1, depth);
-    for (uint32_t i = 0; i < depth; i++) m_write(to, 2 + i, (uint64_t)frames[i].base << 8 | frames[i].what);
+    keep_environment(depth);
+    make(to, head(CONTINUATION, depth), base - STACK, depth);
+    for (uint32_t i = 0; i < depth; i++) m_write(to, 1 + i, (uint64_t)frames[i].base << 8 | frames[i].what);
     for (uint32_t i = 0; i < base - STACK; i++) m_put(to, i, STACK + i);
 }
 static void resume(reg from)
 {
-    depth = (uint32_t)m_read(from, 1);
+    depth = kept = (uint32_t)value_of(from);
     leave(STACK);
-    for (uint32_t i = 0; i < depth; i++) frames[i] = (frame){(uint32_t)(m_read(from, 2 + i) >> 8), m_read(from, 2 + i) & 255};
+    for (uint32_t i = 0; i < depth; i++) frames[i] = (frame){(uint32_t)(m_read(from, 1 + i) >> 8), m_read(from, 1 + i) & 255};
     top = STACK + m_pointers(from);
     for (uint32_t i = 0; i < m_pointers(from); i++) m_get(STACK + i, from, i);
 }
 
-/* How the machine goes on: with an expression, with a value, with the call whose frame is on top. */
-enum { EVALUATE, RETURN, CALL };
+/* How the machine goes on: with an expression, with one that is known to be a pair, with a value, with the call whose frame is on top. */
+enum { EVALUATE, EVALUATE_FORM, RETURN, CALL };
 
 /* Evaluates the operands in REST, for the frame on top. Before one that isn't simple what is left is pushed where its value is to stand;
    before the last one nothing is, so a recursion there takes no register more. */
 static int operands(void)
 {
-    for (; has_more(REST); cdr(REST, REST)) {
-        uint64_t tag;
-        car(EXPRESSION, REST);
-        tag = m_tag(EXPRESSION);
-        if (tag == SYMBOL) look_up(room(1), EXPRESSION), top++;
-        else if (tag != PAIR) push(EXPRESSION);
-        else if (cdr(PART, REST)) return push(PART), EVALUATE;
-        else return frames[depth - 1].what = DO_LAST, EVALUATE;
+    for (int more = has_more(REST); more; more = goes_on(REST)) {
+        uint64_t head = (car(EXPRESSION, REST), m_head(EXPRESSION));
+        if ((head & TAG) == SYMBOL) look_up(room(1), EXPRESSION, head), top++;
+        else if ((head & TAG) != PAIR) push(EXPRESSION);
+        else if (cdr(room(1), REST)) return top++, EVALUATE_FORM;
+        else return frames[depth - 1].what = DO_LAST, EVALUATE_FORM;
     }
     return CALL;
 }
@@ -553,19 +573,17 @@ static int define(void)
     begin_frame(DO_DEFINE, EXPRESSION), name = top;
     need_part("define");
     car(PART, REST), cdr(REST, REST);
-    if (m_tag(PART) == PAIR) {                                   /* (define (f x) ..) is (define f (lambda (x) ..)) */
+    if (tag_of(PART) == PAIR) {                                   /* (define (f x) ..) is (define f (lambda (x) ..)) */
         car(EXPRESSION, PART), push(EXPRESSION), cdr(PART, PART);
         cons(REST, PART, REST);
         symbol(PART, lambda_name);
         cons(REST, PART, REST);
-        m_drop(PART);
-        cons(REST, REST, PART);
+        cons(REST, REST, G1_NIL_REGISTER);
     } else push(PART);
-    need_symbol(name);
+    if (tag_of(name) != SYMBOL) want_name(name);
     need_part("define");
-    if (m_tag(ENVIRONMENT) == BINDING) {                         /* what is left of the body sees it too */
-        m_drop(VALUE);
-        bind(name, VALUE), m_move(name - 1, ENVIRONMENT);
+    if (tag_of(ENVIRONMENT) == BINDING) {                         /* what is left of the body sees it too */
+        keep_environment(depth), bind(name, G1_NIL_REGISTER), m_move(name - 1, ENVIRONMENT);
         if (depth > 1 && frames[depth - 2].what == DO_SEQUENCE) m_move(frames[depth - 2].base + 1, ENVIRONMENT);
         frames[depth - 1].what = DO_SET;
     }
@@ -576,35 +594,34 @@ static int define(void)
 static int define_local(void)
 {
     if (depth == 0 || frames[depth - 1].what != DO_SEQUENCE) mistake(0, 0, "%%local begins no body");
-    m_drop(VALUE);
-    for (; has_more(REST); cdr(REST, REST)) car(OTHER, REST), need_symbol(OTHER), bind(OTHER, VALUE);
+    keep_environment(depth), m_drop(VALUE);
+    for (int more = has_more(REST); more; more = goes_on(REST)) car(OTHER, REST), bind(OTHER, VALUE);
     m_move(frames[depth - 1].base + 1, ENVIRONMENT);
     return RETURN;
 }
-/* A macro, in VALUE, gets its operands as they are. The frame on top holds the form. */
+/* A macro, in OTHER, gets its operands as they are. The frame on top holds the form. */
 static int expand(void)
 {
     frames[depth - 1].what = DO_MACRO;
-    m_drop(PART), begin_frame(DO_CALL, PART), push(VALUE);
-    for (; has_more(REST); cdr(REST, REST)) car(PART, REST), push(PART);
+    m_drop(PART), begin_frame(DO_CALL, PART), push(OTHER);
+    for (int more = has_more(REST); more; more = goes_on(REST)) car(room(1), REST), top++;
     return CALL;
 }
 
-static int evaluate(void)
+static int evaluate(int is_form)
 {
-    uint64_t tag = m_tag(EXPRESSION);
-    if (tag == SYMBOL) return look_up(VALUE, EXPRESSION), RETURN;
-    if (tag != PAIR) return m_move(VALUE, EXPRESSION), RETURN;
-    cdr(REST, EXPRESSION);
-    car(OTHER, EXPRESSION);
-    tag = m_tag(OTHER);
-    switch (tag == SYMBOL ? m_read(OTHER, 1) : NO_NAME) {
+    uint64_t head = is_form ? PAIR : m_head(EXPRESSION);
+    if ((head & TAG) == SYMBOL) return look_up(VALUE, EXPRESSION, head), RETURN;
+    if ((head & TAG) != PAIR) return m_move(VALUE, EXPRESSION), RETURN;
+    cdr(REST, EXPRESSION), car(OTHER, EXPRESSION), head = m_head(OTHER);
+    switch ((head & TAG) == SYMBOL ? head >> SHIFT : NO_NAME) {
     case QUOTE: need_part("quote"), car(VALUE, REST); return RETURN;
     case IF: begin_frame(DO_IF, EXPRESSION), need_part("if"), car(EXPRESSION, REST); return EVALUATE;
     case DEFINE: return define();
     case SET:
         begin_frame(DO_SET, EXPRESSION), need_part("set!"), car(PART, REST), cdr(REST, REST), need_part("set!");
-        need_symbol(PART), push(PART), car(EXPRESSION, REST);
+        if (tag_of(PART) != SYMBOL) want_name(PART);
+        push(PART), car(EXPRESSION, REST);
         return EVALUATE;
     case RAW_LAMBDA: need_part("lambda"), car(PART, REST), cdr(REST, REST), closure(); return RETURN;
     case BEGIN: return parts(DO_SEQUENCE);
@@ -613,24 +630,23 @@ static int evaluate(void)
     case LOCAL: return define_local();
     }
     begin_frame(DO_CALL, EXPRESSION);
-    if (tag == SYMBOL) {
-        if (look_up(VALUE, OTHER) == 0 && m_tag(VALUE) == MACRO) return expand();
-        push(VALUE);
-    } else if (tag != PAIR) push(OTHER);
-    else {
+    if ((head & TAG) == PAIR) {
         m_move(EXPRESSION, OTHER);
-        if (m_tag(REST) != NIL) push(REST);
+        if (tag_of(REST) != NIL) push(REST);
         else frames[depth - 1].what = DO_LAST;
-        return EVALUATE;
+        return EVALUATE_FORM;
     }
+    if ((head & TAG) != SYMBOL) push(OTHER);
+    else if (!look_up(top, OTHER, head) && is_macro[head >> SHIFT] && tag_of(top) == MACRO) return m_move(OTHER, top), expand();
+    else top++;
     return operands();
 }
 
 static int assign(uint32_t what, reg name)
 {
-    uint32_t field = what == DO_DEFINE ? 0 : find(name);
-    if (field == 1) m_put(PART, 1, VALUE);
-    else if (what == DO_SET && m_read(name, 2) == 0) mistake(1, name, "a name that isn't defined");
+    reg at = what == DO_DEFINE ? name : find(name, m_head(name));
+    if (at != name) m_put(at, 1, VALUE);
+    else if (what == DO_SET && m_read(name, 1) == 0) mistake(1, name, "a name that isn't defined");
     else set_global(name, VALUE);
     m_move(VALUE, name), leave(end_frame());
     return RETURN;
@@ -641,8 +657,8 @@ static int give_value(void)
 {
     reg base = frames[depth - 1].base;
     uint32_t what = frames[depth - 1].what;
+    if (kept == depth && (kept--, what != DO_LAST)) m_move(ENVIRONMENT, base + 1);
     if (what == DO_LAST) return push(VALUE), CALL;
-    m_move(ENVIRONMENT, base + 1);
     switch (what) {
     case DO_CALL:
         m_move(REST, top - 1), m_move(top - 1, VALUE);
@@ -650,17 +666,14 @@ static int give_value(void)
     case DO_SET: case DO_DEFINE: return assign(what, base + 2);
     case DO_IF:
         cdr(REST, base);
-        if (m_tag(REST) != PAIR || !cdr(REST, REST) || m_tag(REST) != PAIR) mistake(0, 0, "if lacks a part");
+        if (tag_of(REST) != PAIR || !cdr(REST, REST) || tag_of(REST) != PAIR) mistake(0, 0, "if lacks a part");
         leave(end_frame());
-        if (is_false(VALUE)) {
-            cdr(REST, REST);
-            if (!has_more(REST)) return m_drop(VALUE), RETURN;
-        }
+        if (is_false(VALUE) && !goes_on(REST)) return m_drop(VALUE), RETURN;
         car(EXPRESSION, REST);
         return EVALUATE;
     case DO_MACRO:                                               /* the expansion takes the place of the expression, for good */
         m_move(EXPRESSION, base);
-        if (m_tag(VALUE) != PAIR) m_drop(PART), cons(VALUE, VALUE, PART), symbol(PART, BEGIN), cons(VALUE, PART, VALUE);
+        if (tag_of(VALUE) != PAIR) cons(VALUE, VALUE, G1_NIL_REGISTER), symbol(PART, BEGIN), cons(VALUE, PART, VALUE);
         car(PART, VALUE), m_put(EXPRESSION, 0, PART), cdr(PART, VALUE), m_put(EXPRESSION, 1, PART);
         leave(end_frame());
         return EVALUATE;
@@ -676,9 +689,10 @@ static int call(void)
 {
     reg base = frames[depth - 1].base, procedure = base + 2, first = base + 3;
     uint32_t count = top - first, which;
-    switch (m_tag(procedure)) {
+    uint64_t head = m_head(procedure);
+    switch (head & TAG) {
     case PRIMITIVE:
-        which = (uint32_t)m_read(procedure, 1);
+        which = (uint32_t)(head >> SHIFT);
         need_count(which, count);
         if (which == CALL_CC) {                                  /* (f k) in place of (call/cc f) */
             end_frame(), capture(VALUE, base), depth++;
@@ -688,13 +702,13 @@ static int call(void)
         if (which == APPLY) {                                    /* (f a b c) in place of (apply f a '(b c)) */
             m_move(REST, top - 1), m_move(EXPRESSION, REST);
             for (reg it = procedure; it + 2 < top; it++) m_move(it, it + 1);
-            for (leave(top - 2); m_tag(REST) == PAIR; cdr(REST, REST)) car(VALUE, REST), push(VALUE);
-            if (m_tag(REST) != NIL) mistake(1, EXPRESSION, "apply wants a list of arguments");
+            for (leave(top - 2); tag_of(REST) == PAIR; cdr(REST, REST)) car(room(1), REST), top++;
+            if (tag_of(REST) != NIL) mistake(1, EXPRESSION, "apply wants a list of arguments");
             return CALL;
         }
         if (which == EVAL) {
-            m_move(EXPRESSION, first), m_move(WHOLE, first), m_drop(ENVIRONMENT);
-            return leave(end_frame()), EVALUATE;
+            m_move(EXPRESSION, first), m_move(WHOLE, first), leave(end_frame());
+            return keep_environment(depth), m_drop(ENVIRONMENT), EVALUATE;
         }
         primitive(which, first, count);
         return leave(end_frame()), RETURN;
@@ -703,18 +717,19 @@ static int call(void)
         m_move(VALUE, first), m_move(PART, procedure), resume(PART);
         return RETURN;
     case CLOSURE: case MACRO:
-        m_get(ENVIRONMENT, procedure, 2), m_get(REST, procedure, 0);
+        keep_environment(depth - 1), m_get(ENVIRONMENT, procedure, 2);
         bind_arguments(first, count, procedure);
         m_get(REST, procedure, 1);
         return leave(end_frame()), parts(DO_SEQUENCE);
-    default: mistake(1, procedure, "%s can't be called", kinds[m_tag(procedure)]);
+    default: mistake(1, procedure, "%s can't be called", kinds[head & TAG]);
     }
 }
 
 static void run(void)
 {
     m_move(WHOLE, VALUE), m_move(EXPRESSION, VALUE), m_drop(ENVIRONMENT);
-    for (int next = EVALUATE; next != RETURN || depth != 0;) next = next == EVALUATE ? evaluate() : next == CALL ? call() : give_value();
+    for (int next = EVALUATE; next != RETURN || depth != 0;)
+        next = next <= EVALUATE_FORM ? evaluate(next == EVALUATE_FORM) : next == CALL ? call() : give_value();
 }
 
 /* Afterwards a program's names are objects of their own, so what it defines anew changes nothing within the prelude. Names with % are the
@@ -728,7 +743,7 @@ static void read_prelude(void)
         fclose(source->file);
     }
     for (uint32_t id = 0; id < symbols; id++) {
-        if (!m_load(REST, id) || m_tag(REST) != SYMBOL || m_read(REST, 2) == 0) continue;
+        if (!m_load(REST, id) || tag_of(REST) != SYMBOL || m_read(REST, 1) == 0) continue;
         m_get(VALUE, REST, 0), m_drop(REST), m_save(id, REST), symbol(REST, id);
         if (names[id][0] != '%') set_global(REST, VALUE);
     }
@@ -764,7 +779,7 @@ static int evaluate_all(port *from, int person)
         if (person) fputs("> ", stdout), fflush(stdout);
         if (!read_from(from)) return 0;
         run();
-        if (person && m_tag(VALUE) != NIL) output = stdout, print(VALUE, 1), putchar('\n');
+        if (person && tag_of(VALUE) != NIL) output = stdout, print(VALUE, 1), putchar('\n');
     }
 }
 

@@ -40,15 +40,18 @@ static void need_count(uint32_t which, uint32_t count)
     if (count < least) mistake(0, 0, "%s needs %u arguments, and got %u", primitives[which].name, least, count);
     if (count > most && most != ANY) mistake(0, 0, "%s takes %u arguments, and got %u", primitives[which].name, most, count);
 }
-static void need(uint32_t which, reg it, uint64_t kind)
+/* Answers what an object tells: the value of a number or a character, the length of a vector or a string. */
+static int64_t need(uint32_t which, reg it, unsigned kind)
 {
-    if (m_tag(it) != kind) mistake(1, it, "%s wants %s, not %s", primitives[which].name, kinds[kind], kinds[m_tag(it)]);
+    uint64_t head = m_head(it);
+    if ((head & TAG) != kind) mistake(1, it, "%s wants %s, not %s", primitives[which].name, kinds[kind], kinds[head & TAG]);
+    return told(it, head);
 }
 static uint32_t need_within(uint32_t which, reg it, int64_t least, int64_t most, const char *why)
 {
-    need(which, it, NUMBER);
-    if (value_of(it) < least || value_of(it) > most) mistake(1, it, "%s: %s", primitives[which].name, why);
-    return (uint32_t)value_of(it);
+    int64_t value = need(which, it, NUMBER);
+    if (value < least || value > most) mistake(1, it, "%s: %s", primitives[which].name, why);
+    return (uint32_t)value;
 }
 
 static int64_t arithmetic(uint32_t which, int64_t one, int64_t other)
@@ -69,41 +72,41 @@ static void compute(uint32_t which, reg first, uint32_t count)
 {
     int64_t result = which == MULTIPLY ? 1 : 0;
     for (uint32_t i = 0; i < count; i++) {
-        need(which, first + i, NUMBER);
-        if (i == 0 && count > 1) result = value_of(first);
-        else result = arithmetic(which, result, value_of(first + i));
+        int64_t value = need(which, first + i, NUMBER);
+        result = i == 0 && count > 1 ? value : arithmetic(which, result, value);
     }
     number(VALUE, result);
 }
-/* Below 0, 0 or above: how one number, character or string compares with another. */
-static int order_of(reg one, reg other, int is_string)
+/* Below 0, 0 or above: how one string compares with another. */
+static int order_of(reg one, reg other)
 {
     size_t length, more;
-    const char *left, *right;
-    int order;
-    if (!is_string) return (value_of(one) > value_of(other)) - (value_of(one) < value_of(other));
-    left = bytes_of(one, &length), right = bytes_of(other, &more);
-    order = memcmp(left, right, length < more ? length : more);
+    const char *left = bytes_of(one, &length), *right = bytes_of(other, &more);
+    int order = memcmp(left, right, length < more ? length : more);
     return order != 0 ? order : (length > more) - (length < more);
 }
-/* Compares each argument with the next one. */
+/* Compares each argument with the one before. */
 static void compare(uint32_t which, reg first, uint32_t count)
 {
     static const unsigned char kind[] = {NUMBER, CHARACTER, STRING};
     static const unsigned char fits[][3] = {{1, 0, 0}, {0, 0, 1}, {0, 1, 0}, {1, 1, 0}, {0, 1, 1}}; /* where it is below, the same, above */
     uint32_t group = (which - LESS) / 5, by = (which - LESS) % 5;
+    int64_t before = 0;
     int yes = 1;
-    for (uint32_t i = 0; i < count; i++) need(which, first + i, kind[group]);
-    for (uint32_t i = 1; i < count && yes; i++) {
-        int order = order_of(first + i - 1, first + i, group == 2);
-        yes = fits[by][order < 0 ? 0 : order == 0 ? 1 : 2];
+    for (uint32_t i = 0; i < count; i++) {
+        int64_t value = need(which, first + i, kind[group]);
+        if (i != 0 && yes) {
+            int order = group == 2 ? order_of(first + i - 1, first + i) : (before > value) - (before < value);
+            yes = fits[by][order < 0 ? 0 : order == 0 ? 1 : 2];
+        }
+        before = value;
     }
     truth(yes);
 }
 static int is_eq(reg one, reg other)
 {
-    uint64_t tag = m_tag(one);
-    return (tag == NUMBER || tag == CHARACTER) && m_tag(other) == tag ? value_of(one) == value_of(other) : m_same(one, other);
+    unsigned tag = tag_of(one);
+    return (tag == NUMBER || tag == CHARACTER) && tag_of(other) == tag ? value_of(one) == value_of(other) : m_same(one, other);
 }
 
 /* Lists. */
@@ -118,7 +121,7 @@ static void reverse_onto(reg list, reg tail)
 {
     need_list(REVERSE, list);
     m_move(VALUE, tail);
-    for (m_move(PART, list); m_tag(PART) == PAIR; cdr(PART, PART)) car(REST, PART), cons(VALUE, REST, VALUE);
+    for (m_move(PART, list); tag_of(PART) == PAIR; cdr(PART, PART)) car(REST, PART), cons(VALUE, REST, VALUE);
 }
 /* The car of a cdr and the like, by the letters of the name from the last one on. */
 static void follow(const char *name, reg it)
@@ -128,16 +131,17 @@ static void follow(const char *name, reg it)
 }
 
 /* Vectors and strings. */
-static uint32_t place(uint32_t which, reg of, uint64_t kind, reg at)
+static uint32_t place(uint32_t which, reg of, unsigned kind, reg at)
 {
-    need(which, of, kind);
-    if (kind == VECTOR) return need_within(which, at, 0, (int64_t)m_pointers(of) - 1, "the vector has no such place");
-    return need_within(which, at, 0, (int64_t)m_read(of, 1) - 1, "the string has no such place");
+    const char *why = kind == VECTOR ? "the vector has no such place" : "the string has no such place";
+    return need_within(which, at, 0, need(which, of, kind) - 1, why);
 }
 static void make_vector(reg length, reg fill, uint32_t count)
 {
-    make(VALUE, VECTOR, need_within(MAKE_VECTOR, length, 0, 16777216, "no vector is as long"), 0);
-    for (uint32_t i = 0; count > 1 && i < m_pointers(VALUE) && m_tag(fill) != NIL; i++) m_put(VALUE, i, fill);
+    uint32_t elements = need_within(MAKE_VECTOR, length, 0, 16777216, "no vector is as long");
+    make(VALUE, head(VECTOR, elements), elements, 0);
+    if (count > 1 && tag_of(fill) != NIL)
+        for (uint32_t i = 0; i < elements; i++) m_put(VALUE, i, fill);
 }
 static void make_string(reg length, reg fill, uint32_t count)
 {
@@ -145,26 +149,26 @@ static void make_string(reg length, reg fill, uint32_t count)
     if (count > 1) need(MAKE_STRING, fill, CHARACTER);
     uint64_t part[64];
     for (uint32_t i = 0; i < 64; i++) part[i] = 0x0101010101010101u * (uint64_t)(count > 1 ? value_of(fill) : ' ');
-    make(VALUE, STRING, 0, 1 + words), m_write(VALUE, 1, bytes);
-    for (uint32_t i = 0; i < words; i += 64) m_write_words(VALUE, 2 + i, part, words - i < 64 ? words - i : 64);
+    make(VALUE, head(STRING, bytes), 0, words);
+    for (uint32_t i = 0; i < words; i += 64) m_write_words(VALUE, 1 + i, part, words - i < 64 ? words - i : 64);
 }
 static void string_place(uint32_t which, reg of, reg at, reg value)
 {
     uint32_t byte = place(which, of, STRING, at);
-    uint64_t word = m_read(of, 2 + byte / 8);
+    uint64_t word = m_read(of, 1 + byte / 8);
     unsigned char bytes[8];
     memcpy(bytes, &word, 8);
     if (which == STRING_SET) {
         need(which, value, CHARACTER), bytes[byte % 8] = (unsigned char)value_of(value);
         memcpy(&word, bytes, 8);
-        m_write(of, 2 + byte / 8, word), m_move(VALUE, of);
+        m_write(of, 1 + byte / 8, word), m_move(VALUE, of);
     } else make_word(VALUE, CHARACTER, bytes[byte % 8]);
 }
 static void append_strings(reg first, uint32_t count)
 {
     static char *text;
     size_t length = 0, more;
-    for (uint32_t i = 0; i < count; i++) need(STRING_APPEND, first + i, STRING), length += (size_t)m_read(first + i, 1);
+    for (uint32_t i = 0; i < count; i++) length += (size_t)need(STRING_APPEND, first + i, STRING);
     text = (char *)realloc(text, length + 1), length = 0;
     if (text == NULL) m_die("no memory");
     for (uint32_t i = 0; i < count; i++, length += more) {
@@ -211,24 +215,25 @@ static void open_port(uint32_t which, reg name)
     make_word(VALUE, which == OPEN_INPUT ? INPUT : OUTPUT, CLOSED);
     ports[number] = (port){strlen(bytes) == length ? fopen(bytes, which == OPEN_INPUT ? "r" : "w") : NULL, 1, intern(bytes)};
     if (ports[number].file == NULL) mistake(1, name, "%s: the file can't be opened", primitives[which].name);
-    m_write(VALUE, 1, number);
+    m_write(VALUE, 0, head(which == OPEN_INPUT ? INPUT : OUTPUT, number));
 }
 static void close_port(uint32_t which, reg it)
 {
-    uint64_t number;
-    need(which, it, which == CLOSE_INPUT ? INPUT : OUTPUT), number = m_read(it, 1);
-    if (number >= OTHERS && number != CLOSED) fclose(ports[number].file), ports[number].file = NULL, m_write(it, 1, CLOSED);
+    unsigned kind = which == CLOSE_INPUT ? INPUT : OUTPUT;
+    int64_t number = need(which, it, kind);
+    if (number >= OTHERS && number != CLOSED) fclose(ports[number].file), ports[number].file = NULL, m_write(it, 0, head(kind, CLOSED));
     m_drop(VALUE);
 }
 /* The port in a register, or the current one where there is no argument for it. */
 static port *port_of(uint32_t which, reg it, int given)
 {
-    uint64_t kind = which < WRITE ? INPUT : OUTPUT;
+    unsigned kind = which < WRITE ? INPUT : OUTPUT;
+    int64_t number;
     if (given) m_move(OTHER, it);
     else m_load(OTHER, kind == INPUT ? CURRENT_INPUT : CURRENT_OUTPUT);
-    need(which, OTHER, kind);
-    if (m_read(OTHER, 1) == CLOSED) mistake(1, OTHER, "%s: the port is closed", primitives[which].name);
-    return &ports[m_read(OTHER, 1)];
+    number = need(which, OTHER, kind);
+    if (number == CLOSED) mistake(1, OTHER, "%s: the port is closed", primitives[which].name);
+    return &ports[number];
 }
 static void read_character_of(uint32_t which, port *from)
 {
@@ -241,7 +246,7 @@ static void read_character_of(uint32_t which, port *from)
 static void print_to(uint32_t which, reg it, port *to)
 {
     output = to->file;
-    if (which == WRITE_CHAR) need(which, it, CHARACTER), fputc((int)value_of(it), output);
+    if (which == WRITE_CHAR) fputc((int)need(which, it, CHARACTER), output);
     else print(it, which == WRITE);
     m_drop(VALUE);
 }
@@ -253,11 +258,11 @@ static void of_text(uint32_t which, reg first, uint32_t count)
     switch (which) {
     case MAKE_STRING: make_string(first, first + 1, count); break;
     case STRING_REF: case STRING_SET: string_place(which, first, first + 1, first + 2); break;
-    case STRING_LENGTH: need(which, first, STRING), number(VALUE, (int64_t)m_read(first, 1)); break;
+    case STRING_LENGTH: number(VALUE, need(which, first, STRING)); break;
     case STRING_APPEND: append_strings(first, count); break;
     case SUBSTRING: substring(first, first + 1, first + 2); break;
     case NUMBER_TO_STRING:
-        need(which, first, NUMBER), snprintf(text, sizeof text, "%" PRId64, value_of(first)), string(VALUE, text, strlen(text));
+        snprintf(text, sizeof text, "%" PRId64, need(which, first, NUMBER)), string(VALUE, text, strlen(text));
         break;
     case STRING_TO_NUMBER:
         need(which, first, STRING);
@@ -265,15 +270,15 @@ static void of_text(uint32_t which, reg first, uint32_t count)
         break;
     case SYMBOL_TO_STRING: need(which, first, SYMBOL), string(VALUE, names[value_of(first)], strlen(names[value_of(first)])); break;
     case STRING_TO_SYMBOL: need(which, first, STRING), string_to_symbol(first); break;
-    case CHAR_TO_INTEGER: need(which, first, CHARACTER), number(VALUE, value_of(first)); break;
+    case CHAR_TO_INTEGER: number(VALUE, need(which, first, CHARACTER)); break;
     case INTEGER_TO_CHAR: make_word(VALUE, CHARACTER, need_within(which, first, 0, 255, "a character is a byte")); break;
-    case UPCASE: need(which, first, CHARACTER), make_word(VALUE, CHARACTER, (uint64_t)toupper((int)value_of(first))); break;
-    case DOWNCASE: need(which, first, CHARACTER), make_word(VALUE, CHARACTER, (uint64_t)tolower((int)value_of(first))); break;
+    case UPCASE: make_word(VALUE, CHARACTER, (uint64_t)toupper((int)need(which, first, CHARACTER))); break;
+    case DOWNCASE: make_word(VALUE, CHARACTER, (uint64_t)tolower((int)need(which, first, CHARACTER))); break;
     case OPEN_INPUT: case OPEN_OUTPUT: open_port(which, first); break;
     case CLOSE_INPUT: case CLOSE_OUTPUT: close_port(which, first); break;
     case INPUT_PORT: m_load(VALUE, CURRENT_INPUT); break;
     case OUTPUT_PORT: m_load(VALUE, CURRENT_OUTPUT); break;
-    case USE_PORT: m_save(m_tag(first) == INPUT ? CURRENT_INPUT : CURRENT_OUTPUT, first); break;
+    case USE_PORT: m_save(tag_of(first) == INPUT ? CURRENT_INPUT : CURRENT_OUTPUT, first); break;
     case READ:
         if (!read_from(port_of(which, first, count == 1))) symbol(VALUE, END_VALUE);
         break;
@@ -291,12 +296,12 @@ static void of_text(uint32_t which, reg first, uint32_t count)
 }
 static void primitive(uint32_t which, reg first, uint32_t count)
 {
-    uint64_t tag = count != 0 ? m_tag(first) : NIL;
+    unsigned tag;
     switch (which) {
     case ADD: case SUBTRACT: case MULTIPLY: case QUOTIENT: case REMAINDER: case MODULO: compute(which, first, count); break;
     case IS_NULL: case IS_NUMBER: case IS_BOOLEAN: case IS_SYMBOL: case IS_STRING: case IS_PAIR: case IS_VECTOR: case IS_CHARACTER:
-    case IS_INPUT: case IS_OUTPUT: case IS_END: truth(tag == which - IS_NULL); break;
-    case IS_PROCEDURE: truth(tag == CLOSURE || tag == PRIMITIVE || tag == CONTINUATION); break;
+    case IS_INPUT: case IS_OUTPUT: case IS_END: truth(tag_of(first) == which - IS_NULL); break;
+    case IS_PROCEDURE: tag = tag_of(first), truth(tag == CLOSURE || tag == PRIMITIVE || tag == CONTINUATION); break;
     case IS_LIST: truth(length_of(first) >= 0); break;
     case IS_EQ: truth(is_eq(first, first + 1)); break;
     case CONS: cons(VALUE, first, first + 1); break;
@@ -309,7 +314,7 @@ static void primitive(uint32_t which, reg first, uint32_t count)
     case MAKE_VECTOR: make_vector(first, first + 1, count); break;
     case VECTOR_REF: m_get(VALUE, first, place(which, first, VECTOR, first + 1)); break;
     case VECTOR_SET: m_put(first, place(which, first, VECTOR, first + 1), first + 2), m_move(VALUE, first); break;
-    case VECTOR_LENGTH: need(which, first, VECTOR), number(VALUE, m_pointers(first)); break;
+    case VECTOR_LENGTH: number(VALUE, need(which, first, VECTOR)); break;
     default:
         if (which >= LESS && which <= S_AT_LEAST) compare(which, first, count);
         else if (which >= CAAR && which <= CDDDDR) follow(primitives[which].name, first);
