@@ -156,8 +156,9 @@ pub frame_is_nil : (v t : RootTable) (g r : List (Option ℕ)) (used : List ℕ)
     → IsTable v.places g r used → m < t.places.mutators → k < t.places.registers → get_or used (m + 1) 0 ≤ k → t ≡ left_from t m k
 frame_is_nil v t g r used m k e words table known inside below =
     subst (λ (u : RootTable). u ≡ left_from u m k) e
-    (left_nothing v used m k (get_or used (m + 1) 0) (subst (λ (ws : List (Option ℕ)). AreBounded v.places ws used) (sym words) table.bounded)
-    (mutator_in v t m e known) (register_in v t k e inside) below
+    (left_nothing v used m k (get_or used (m + 1) 0)
+    (subst (λ (ws : List (Option ℕ)). AreBounded v.places ws used) (sym words) table.bounded) (mutator_in v t m e known)
+    (register_in v t k e inside) below
     (register_used v.places g r used m table (mutator_in v t m e known)))
 
 -- the table in which it is
