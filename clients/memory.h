@@ -66,13 +66,15 @@ static inline void m_count(uint64_t counts[M_COUNTS])
     counts[M_OBJECTS] = m_objects, counts[M_CYCLES] = m_policy.cycles, counts[M_PAUSES] = m_policy.pauses;
     counts[M_SCANNED] = m_policy.scanned, counts[M_COPIED] = m_policy.copied, counts[M_FREE] = g1_free_regions(&m_heap).first;
 }
+static _Noreturn void m_refused(uint32_t code)
+{
+    fprintf(stderr, "a mistake in the program: the heap refused a step with code %u\n", code);
+    abort();
+}
 /* Each answer is looked at: a refusal here is a mistake of the program. */
 static inline g1_answer m_done(g1_answer answer)
 {
-    if (answer.code >= G1_NIL) {
-        fprintf(stderr, "a mistake in the program: the heap refused a step with code %u\n", answer.code);
-        abort();
-    }
+    if (answer.code >= G1_NIL) m_refused(answer.code);
     return answer;
 }
 /* 0 where there is no room. */
