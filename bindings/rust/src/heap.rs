@@ -124,7 +124,7 @@ pub struct Sizes {
     pub words: u32,
     /// Words of an allocation buffer: 4 to half of a region's; an eighth of them less 1 is a good one.
     pub buffer: u32,
-    /// Words of a card: 8, 16, 32 or 64, and at most a region's.
+    /// Words of a card: a power of two, 8 to 512, and at most a region's.
     pub card: u32,
     /// Globals, for [`Global`] and [`Kept`]: 0 to 65,536.
     pub globals: u32,
