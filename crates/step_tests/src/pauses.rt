@@ -96,10 +96,11 @@ fn first_tile(core: &Core, card: u32) -> Option<u32> {
 /// Where the object starts that a register of mutator 0 names.
 fn place_of(core: &Core, number: u32) -> Option<u32> {
     let place = core.globals() as usize + number as usize;
-    match core.roots().as_slice().get(place) {
-        Some(Some(at)) => Some(at.word()),
-        _ => None,
+    let roots = core.roots();
+    if roots.len() <= place {
+        return None;
     }
+    roots.get(place).map(|at| at.word())
 }
 
 /// Does the lines with mutator 0, and compares the collector's replies; then each register's object is at its place.

@@ -149,10 +149,11 @@ fn word_seen(core: &Core, word: u32, previous: u32) -> Option<Seen> {
 
 /// The object that a root place names.
 pub(crate) fn named(core: &Core, place: usize) -> Option<Seen> {
-    match core.roots().as_slice().get(place) {
-        Some(Some(at)) => word_seen(core, at.word(), 0),
-        _ => None,
+    let roots = core.roots();
+    if roots.len() <= place {
+        return None;
     }
+    word_seen(core, roots.get(place)?.word(), 0)
 }
 
 /// The region of this number.
@@ -192,8 +193,8 @@ pub(crate) fn look(alloc: Global, core: &Core) -> Result<Sight, AllocError> {
         }
     }
     let mut roots = Vec::new(alloc);
-    for root in core.roots().as_slice() {
-        roots.push(root.map(|target| target.word()))?;
+    for place in 0..core.roots().len() {
+        roots.push(core.roots().get(place).map(|target| target.word()))?;
     }
     Ok(Sight {
         words,
