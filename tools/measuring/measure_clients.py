@@ -47,7 +47,7 @@ GROWTH = [
 CLIENTS = [
     ("Scheme, fib {}", "scheme", ("fib.scm", "(fib 15)", "(fib {})"), 23, 18),
     ("Scheme, lists, {} times", "scheme", ("lists.scm", "(run 25 0)", "(run {} 0)"), 600, 100),
-    ("Scheme, queens {}", "scheme", ("queens.scm", "(queens 6)", "(queens {})"), 7, 6),
+    ("Scheme, queens {}", "scheme", ("queens.scm", "(queens 6)", "(queens {})"), 8, 6),
     ("Scheme, primes to {}", "scheme", ("vectors.scm", "(sieve 1000)", "(sieve {})"), 20000, 4000),
     ("Scheme, {} digits of pi", "scheme", ("pi.scm", "(digits 50)", "(digits {})"), 200, 100),
     ("GCBench, depth {}", "gcbench", "{}", 16, 12),
