@@ -52,7 +52,7 @@ fn names_marked(marks: &Marks, roots: &Roots, place: usize) -> bool
 }
 
 /// The first place from `from` on that doesn't name a marked object, be it nil, unmarked or after the last one. A place costs one look
-/// at a bit: the loop only reads, and is after a first look, so that the compiler keeps both pointers in registers.
+/// at a bit: the loop only reads, and is after a first look, so that the compiler keeps what it looks at in registers.
 #[inline(always)]
 fn past_marked(marks: &Marks, roots: &Roots, from: usize) -> usize
     requires { AreNamedBelow roots.now.words from (length marks.now) }
