@@ -49,6 +49,15 @@ def offer(name):
         rt().offer(crate, crate.stamp())
 
 
+def is_kept(name):
+    """Whether there is what rt kept of a library when it proved functions: in this checkout, or of the same text in another one of this
+    machine's, where the kit's rt notes that."""
+    crate = crates()[name]
+    places = rt().places_of(crate) if hasattr(rt(), "places_of") else []
+    folders = [crate.folder, *(folder for folder, stamp in places if stamp == crate.stamp())]
+    return any((Path(it) / "out" / "incremental").is_dir() for it in folders)
+
+
 def stands_over_ci(names):
     """Whether these libraries are all as `rt ci` leaves them in a fresh clone: built from nothing, and without the stamp by which other
     commands know what they built themselves."""
