@@ -5,6 +5,7 @@ ghost use Rattle.regions.specs.Table.{free_count};
 ghost use Rattle.graph_runs.specs.State.{State};
 ghost use Rattle.graph_runs.specs.Run.{IsNew};
 ghost use Rattle.step_core.specs.Stands.{Stands};
+ghost use Rattle.step_core.specs.Making.{HasMade};
 ghost use Rattle.heap_steps.specs.Actors.{IsOp, IsThird};
 ghost use Rattle.heap_steps.specs.declared.step.Reply.TheVariants as replies;
 ghost use Rattle.heap_steps.specs.declared.step.Refusal.TheVariants as refusals;
@@ -138,6 +139,7 @@ fn make_creatable<W: Watch>(
     ensures full { result ≡ replies.Refused refusals.Full → (s : State) → Stands s core.old
         → IsFilled s.graph core.old op.action core.new }
     ensures two { LeavesTwo core.old.config op.action → 2 ≤ free_count core.old.table → 2 ≤ free_count core.new.table }
+    ensures made { HasMade op.mutator op.action result core.new }
     ensures config { core.new.config ≡ core.old.config }
 {
     if !make_room(core, policy, &op, size, due, watch) {
@@ -163,6 +165,7 @@ fn make_looking<W: Watch>(
     ensures full { result ≡ replies.Refused refusals.Full → (s : State) → Stands s core.old
         → IsFilled s.graph core.old op.action core.new }
     ensures two { LeavesTwo core.old.config op.action → 2 ≤ free_count core.old.table → 2 ≤ free_count core.new.table }
+    ensures made { HasMade op.mutator op.action result core.new }
     ensures config { core.new.config ≡ core.old.config }
 {
     core.remembers();
@@ -192,6 +195,7 @@ pub fn make<W: Watch>(core: &mut Core, policy: &mut Policy, op: Op, watch: &mut 
     ensures full { result ≡ replies.Refused refusals.Full → (s : State) → Stands s core.old
         → IsFilled s.graph core.old op.action core.new }
     ensures two { LeavesTwo core.old.config op.action → 2 ≤ free_count core.old.table → 2 ≤ free_count core.new.table }
+    ensures made { HasMade op.mutator op.action result core.new }
     ensures config { core.new.config ≡ core.old.config }
 {
     let size = words_of(&op.action);

@@ -4,6 +4,7 @@ use Rattle.std.proofs.Common.{arith}
 use Rattle.std.specs.Prelude.{slice_index, slice_index_or}
 use Rattle.heap_words.specs.declared.config.Config.{Config}
 use Rattle.heap_steps.specs.Actors.{IsStep}
+use Rattle.regions.specs.Table.{pointers_at, values_at}
 use Rattle.graph_runs.specs.State.{register_place, places_of}
 use Rattle.heap_steps.specs.declared.step.Refusal.TheVariants as refusals
 use Rattle.heap_steps.specs.declared.step.Register.{Register}
@@ -11,6 +12,7 @@ use Rattle.heap_steps.specs.declared.step.Reply.{Reply}
 use Rattle.heap_steps.specs.declared.step.Reply.TheVariants as replies
 use Rattle.heap_steps.specs.declared.step.Step.{Step}
 use Rattle.step_core.specs.Stands.{CoreState}
+use Rattle.step_core.specs.Making.{NamesObject}
 use Rattle.step_core.specs.Mutators.{register_of}
 use Rattle.heap_steps.specs.Roots.{IsRegister, IsValue}
 use Rattle.step_core.specs.Words.{AreRefused, Takes, putting, writing}
@@ -23,10 +25,16 @@ pub record HasRun (c : CoreState) (step : ℕ → Step) (count : ℕ) (d : CoreS
   pub config : d.config ≡ c.config
   pub roots : d.roots ≡ c.roots
 
-pub none_run : (c : CoreState) (step : ℕ → Step) → HasRun c step 0 c
-none_run c step = record { run = refl; config = refl; roots = refl }
+-- and the object at an address has as many pointers and data words as before
+pub record HasFilled (c : CoreState) (step : ℕ → Step) (a count : ℕ) (d : CoreState) : Type 0 where
+  pub taken : HasRun c step count d
+  pub pointers : length (pointers_at d.table a) ≡ length (pointers_at c.table a)
+  pub values : length (values_at d.table a) ≡ length (values_at c.table a)
 
-pub run_more : (c b d : CoreState) (step : ℕ → Step) (i : ℕ) (taken : Step) (reply : Reply) → HasRun c step i b → taken ≡ step i
+pub none_filled_yet : (c : CoreState) (step : ℕ → Step) (a : ℕ) → HasFilled c step a 0 c
+none_filled_yet c step a = record { taken = record { run = refl; config = refl; roots = refl }; pointers = refl; values = refl }
+
+run_more : (c b d : CoreState) (step : ℕ → Step) (i : ℕ) (taken : Step) (reply : Reply) → HasRun c step i b → taken ≡ step i
     → Takes b taken reply d → d.config ≡ b.config → d.roots ≡ b.roots → HasRun c step (i + 1) d
 run_more c b d step i taken reply h e t same roots =
     let one : i + 1 ≡ suc i = omega arith in
@@ -36,6 +44,16 @@ run_more c b d step i taken reply h e t same roots =
       config = same ∙ h.config;
       roots = roots ∙ h.roots;
     }
+
+pub filled_more : (c b d : CoreState) (step : ℕ → Step) (a i : ℕ) (taken : Step) (reply : Reply) → HasFilled c step a i b → taken ≡ step i
+    → Takes b taken reply d → d.config ≡ b.config → d.roots ≡ b.roots
+    → length (pointers_at d.table a) ≡ length (pointers_at b.table a) → length (values_at d.table a) ≡ length (values_at b.table a)
+    → HasFilled c step a (i + 1) d
+filled_more c b d step a i taken reply h e t same roots pointers values = record {
+  taken = run_more c b d step i taken reply h.taken e t same roots;
+  pointers = pointers ∙ h.pointers;
+  values = values ∙ h.values;
+}
 
 -- a register holds what it held where all roots do
 pub still_held : (c d : CoreState) (m : ℕ) (r to : Register) (a : ℕ) → d.config ≡ c.config → d.roots ≡ c.roots → r ≡ to
@@ -87,3 +105,15 @@ pub none_filled : (c : CoreState) (m to : ℕ) (from words : List ℕ) (r : Regi
 none_filled c m to from words r e h =
     let all = subst (λ (x : Register). AreRefused c m x) e h in
     (c, (none_pointed c m to from all (length from), none_worded c m to words all (length words)))
+
+-- where the register names an object of such counts, what it holds is the object's address
+pub record HasCounts (c : CoreState) (a p d : ℕ) : Type 0 where
+  pub pointers : length (pointers_at c.table a) ≡ p
+  pub values : length (values_at c.table a) ≡ d
+
+pub counts_here : (c : CoreState) (m : ℕ) (r to : Register) (a p d : ℕ) → NamesObject c m to p d → r ≡ to → Some a ≡ register_of c m r
+    → HasCounts c a p d
+counts_here c m r to a p d made e h =
+    let same : Some a ≡ Some made.at = h ∙ ap (λ (x : Register). register_of c m x) e ∙ made.held in
+    let at : a ≡ made.at = cc in
+    subst (λ (x : ℕ). HasCounts c x p d) (sym at) (record { pointers = made.pointers; values = made.values })

@@ -1,7 +1,9 @@
 //! A new object with its fields, in one call.
 
 ghost use Rattle.std.specs.Prelude.{◌≡◌, ◌≢◌, ℕ, ◌<◌, ◌^◌, List, length, slice_index, Some, true, false};
+ghost use Rattle.regions.specs.Table.{pointers_at, values_at};
 ghost use Rattle.heap_steps.specs.Actors.{IsStep};
+ghost use Rattle.step_core.specs.Making.{HasMadeStep, NamesObject};
 ghost use Rattle.step_core.specs.Mutators.{register_of};
 ghost use Rattle.heap_calls.specs.Numbers as spec;
 ghost use Rattle.heap_calls.specs.Steps.{HasRegister};
@@ -39,10 +41,7 @@ fn is_source(core: &Core, to: u32, number: u32) -> bool
     if number == to {
         return false;
     }
-    match value(number) {
-        None => true,
-        Some(register) => register.number < core.roots().places().registers(),
-    }
+    number < core.roots().places().registers() || number == u32::MAX
 }
 
 /// Whether each source is nil or a register, and another one than the one that takes the object.
@@ -80,12 +79,14 @@ fn point(core: &mut Core, mutator: u32, to: u32, at: Addr, from: &[u32])
     requires few { length from.now < 2 ^ 32 }
     requires points { (i : ℕ) → i < length from.now → IsStep core.old.config (pointing mutator to from.now i) }
     requires held { register_of core.old mutator (spec.register to) ≡ Some at }
+    requires counts { length (pointers_at core.old.table at) ≡ length from.now }
     ensures run { RunsTo core.old (pointing mutator to from.now) (length from.now) core.new }
     ensures config { core.new.config ≡ core.old.config }
     ensures held { register_of core.new mutator (spec.register to) ≡ Some at }
+    ensures values { length (values_at core.new.table at) ≡ length (values_at core.old.table at) }
 {
     for i in 0..from.len() {
-        let _ = core.put_at(mutator, register(to), at, i as u32, value(from[i]));
+        core.put_at(mutator, register(to), at, i as u32, value(from[i]));
     }
 }
 
@@ -95,17 +96,20 @@ fn word(core: &mut Core, mutator: u32, to: u32, at: Addr, words: &[u64])
     requires few { length words.now < 2 ^ 32 }
     requires known { HasRegister core.old mutator to }
     requires held { register_of core.old mutator (spec.register to) ≡ Some at }
+    requires counts { length (values_at core.old.table at) ≡ length words.now }
     ensures { RunsTo core.old (wording mutator to words.now) (length words.now) core.new }
 {
     for i in 0..words.len() {
-        let _ = core.write_at(mutator, register(to), at, i as u32, words[i]);
+        core.write_at(mutator, register(to), at, i as u32, words[i]);
     }
 }
 
-/// Fills the object that a register holds. If it holds none, each step is refused, and none is done.
+/// Fills the object that a register holds, which has as many pointers and data words. If it held none, each step would be refused, and none
+/// is done.
 #[inline(always)]
 fn fill_object(core: &mut Core, mutator: u32, to: u32, from: &[u32], words: &[u64])
-    requires { AreFields core.old.config mutator to from.now words.now }
+    requires fields { AreFields core.old.config mutator to from.now words.now }
+    requires made { NamesObject core.old mutator (spec.register to) (length from.now) (length words.now) }
     ensures { IsFilled core.old mutator to from.now words.now core.new }
 {
     let Some(at) = core.address_of(mutator, register(to)) else {
@@ -118,7 +122,8 @@ fn fill_object(core: &mut Core, mutator: u32, to: u32, from: &[u32], words: &[u6
 /// Fills an object, if the reply says that it was made.
 #[inline(always)]
 pub fn fill_made(core: &mut Core, reply: Reply, mutator: u32, to: u32, from: &[u32], words: &[u64])
-    requires { AreFields core.old.config mutator to from.now words.now }
+    requires fields { AreFields core.old.config mutator to from.now words.now }
+    requires made { HasMadeStep (making mutator to from.now words.now) reply core.old }
     ensures { FillsIt reply core.old mutator to from.now words.now core.new }
 {
     match reply {

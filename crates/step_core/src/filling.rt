@@ -1,4 +1,4 @@
-//! Fields of an object whose address is known: who fills a new object looks at its register once.
+//! Fields of an object whose address and counts are known: who fills a new object looks at its register once, and not at its header.
 //!
 //! ```text
 //!   new r0 2 1      r0 holds 40          address_of(0, r0) = 40
@@ -7,14 +7,16 @@
 //!   write r0 0 7    write_at(0, r0, 40, 0, 7)
 //! ```
 
-ghost use Rattle.std.specs.Prelude.{◌≡◌, ◌<◌, IfNone, Some};
+ghost use Rattle.std.specs.Prelude.{◌≡◌, ◌<◌, IfNone, Some, length};
 ghost use Rattle.graph_runs.specs.State.{places_of};
 ghost use Rattle.heap_steps.specs.Roots.{IsRegister, IsValue};
+ghost use Rattle.heap_steps.specs.declared.step.Reply.TheVariants as replies;
+ghost use Rattle.regions.specs.Table.{pointers_at, values_at};
 ghost use Rattle.step_core.specs.Mutators.{register_of};
 ghost use Rattle.step_core.specs.Words.{AreRefused, Takes, putting, writing};
 
 use crate::heap::Core;
-use heap_steps::{Register, Reply};
+use heap_steps::Register;
 use heap_words::addr::{Addr, Ptr};
 
 impl Core {
@@ -35,12 +37,12 @@ impl Core {
         self.register(mutator, object)
     }
 
-    /// Does the step `put` of a mutator, whose register `object` holds the object that starts at an address.
+    /// Does the step `put` of a mutator, whose register `object` holds the object that starts at an address, for a field that the object
+    /// has: its header isn't looked at. The object has as many fields as before.
     ///
     /// ```rust
     /// core.step(new);
-    /// assert_eq!(rt; core.put_at(0, r0, Addr::new(0), 0, Some(r0)), Reply::Done);
-    /// assert_eq!(rt; core.put_at(0, r0, Addr::new(0), 1, None), Reply::Refused(Refusal::NoField));
+    /// core.put_at(0, r0, Addr::new(0), 0, Some(r0));
     /// ```
     #[inline(always)]
     pub fn put_at(
@@ -50,43 +52,42 @@ impl Core {
         at: Addr,
         field: u32,
         value: Option<Register>,
-    ) -> Reply
+    )
         requires mutator { mutator < self.old.config.mutators }
         requires object { IsRegister (places_of self.old.config) object }
         requires value { IsValue (places_of self.old.config) value }
         requires held { register_of self.old mutator object ≡ Some at }
-        ensures takes { Takes self.old (putting mutator object field value) result self.new }
+        requires field { field < length (pointers_at self.old.table at) }
+        ensures takes { Takes self.old (putting mutator object field value) replies.Done self.new }
         ensures roots { self.new.roots ≡ self.old.roots }
         ensures config { self.new.config ≡ self.old.config }
+        ensures pointers { length (pointers_at self.new.table at) ≡ length (pointers_at self.old.table at) }
+        ensures values { length (values_at self.new.table at) ≡ length (values_at self.old.table at) }
     {
         self.remembers();
-        self.put_in(mutator, object, at, field, value)
+        self.put_known(mutator, object, at, field, value);
     }
 
-    /// Does the step `write` of a mutator, whose register `object` holds the object that starts at an address.
+    /// Does the step `write` of a mutator, whose register `object` holds the object that starts at an address, for a data word that the
+    /// object has. The object has as many fields as before.
     ///
     /// ```rust
     /// core.step(new);
-    /// assert_eq!(rt; core.write_at(0, r0, Addr::new(0), 0, 7), Reply::Done);
-    /// assert_eq!(rt; core.write_at(0, r0, Addr::new(0), 1, 7), Reply::Refused(Refusal::NoField));
+    /// core.write_at(0, r0, Addr::new(0), 0, 7);
     /// ```
     #[inline(always)]
-    pub fn write_at(
-        &mut self,
-        mutator: u32,
-        object: Register,
-        at: Addr,
-        field: u32,
-        value: u64,
-    ) -> Reply
+    pub fn write_at(&mut self, mutator: u32, object: Register, at: Addr, field: u32, value: u64)
         requires mutator { mutator < self.old.config.mutators }
         requires object { IsRegister (places_of self.old.config) object }
         requires held { register_of self.old mutator object ≡ Some at }
-        ensures takes { Takes self.old (writing mutator object field value) result self.new }
+        requires field { field < length (values_at self.old.table at) }
+        ensures takes { Takes self.old (writing mutator object field value) replies.Done self.new }
         ensures roots { self.new.roots ≡ self.old.roots }
         ensures config { self.new.config ≡ self.old.config }
+        ensures pointers { length (pointers_at self.new.table at) ≡ length (pointers_at self.old.table at) }
+        ensures values { length (values_at self.new.table at) ≡ length (values_at self.old.table at) }
     {
         self.remembers();
-        self.write_in(mutator, object, at, field, value)
+        self.write_known(mutator, object, at, field, value);
     }
 }

@@ -13,11 +13,11 @@ ghost use Rattle.graph_runs.specs.Run.{snapshot_after};
 ghost use Rattle.graph_runs.specs.Machine.{stored};
 ghost use Rattle.heap_steps.specs.declared.step.Reply.TheVariants as replies;
 ghost use Rattle.heap_steps.specs.declared.step.Refusal.TheVariants as refusals;
-ghost use Rattle.regions.specs.Table.{new_object};
+ghost use Rattle.regions.specs.Table.{new_object, pointers_at, values_at, set_pointer, set_value};
 ghost use Rattle.alloc_buffers.specs.Placement.{address_of, place_of, CanHold, CanPlace, IsMadeAt, Placement, made_at};
 ghost use Rattle.step_core.specs.Stands.{ShowsGraph, KeepsFrom, Leads, Stands, heap_of, IsWordOf, IsRootWord};
 ghost use Rattle.step_core.specs.Answers.{Acts, IsFull, IsWithin, Follows, new_reply};
-ghost use Rattle.step_core.specs.Making.{MakesObject};
+ghost use Rattle.step_core.specs.Making.{HasMade, MakesObject};
 ghost use Rattle.step_core.specs.Mutators.{ActsOn, register_of, value_of, weaks_made};
 ghost use Rattle.step_core.specs.Cycle.{LeavesRegions};
 
@@ -279,6 +279,32 @@ impl Core {
         Reply::Done
     }
 
+    /// The same of a field that the object has, whose header isn't looked at then.
+    #[inline(always)]
+    pub(crate) fn put_known(
+        &mut self,
+        mutator: u32,
+        object: Register,
+        at: Addr,
+        field: u32,
+        value: Option<Register>,
+    )
+        requires mutator { mutator < self.old.config.mutators }
+        requires value { IsValue (places_of self.old.config) value }
+        requires held { register_of self.old mutator object ≡ Some at }
+        requires rooted { IsRoot (heap_of self.old) at }
+        requires leads { Leads self.old (register_place (places_of self.old.config) mutator object.number) (Some at) }
+        requires field { field < length (pointers_at self.old.table at) }
+        ensures acts { (g : Graph) → ShowsGraph g self.old → Acts g mutator (actions.Put object field value) replies.Done self.new }
+        ensures keeps { (s : Graph) → KeepsFrom s self.old → KeepsFrom s self.new }
+        ensures after { ActsOn mutator (actions.Put object field value) replies.Done self.old self.new }
+        ensures leaves { LeavesRegions self.old self.new }
+        ensures table { self.new.table ≡ set_pointer self.old.table at field (value_of self.old mutator value) }
+    {
+        let target = self.stored(mutator, value);
+        self.store_new(mutator, at, field, target);
+    }
+
     fn write(&mut self, mutator: u32, object: Register, field: u32, value: u64) -> Reply
         requires mutator { mutator < self.old.config.mutators }
         requires object { IsRegister (places_of self.old.config) object }
@@ -315,6 +341,28 @@ impl Core {
         }
         self.table.set_value(at, field, value);
         Reply::Done
+    }
+
+    /// The same of a data word that the object has, whose number isn't tested then.
+    #[inline(always)]
+    pub(crate) fn write_known(
+        &mut self,
+        mutator: u32,
+        object: Register,
+        at: Addr,
+        field: u32,
+        value: u64,
+    )
+        requires held { register_of self.old mutator object ≡ Some at }
+        requires leads { Leads self.old (register_place (places_of self.old.config) mutator object.number) (Some at) }
+        requires field { field < length (values_at self.old.table at) }
+        ensures acts { (g : Graph) → ShowsGraph g self.old → Acts g mutator (actions.Write object field value) replies.Done self.new }
+        ensures keeps { (s : Graph) → KeepsFrom s self.old → KeepsFrom s self.new }
+        ensures after { ActsOn mutator (actions.Write object field value) replies.Done self.old self.new }
+        ensures leaves { LeavesRegions self.old self.new }
+        ensures table { self.new.table ≡ set_value self.old.table at field value }
+    {
+        self.table.set_value(at, field, value);
     }
 
     fn move_register(&mut self, mutator: u32, to: Register, from: Register) -> Reply
@@ -607,6 +655,7 @@ impl Core {
         ensures after { ActsOn op.mutator op.action result self.old self.new }
         ensures leaves { LeavesRegions self.old self.new }
         ensures within { IsWithin self.old.config op.action result }
+        ensures made { HasMade op.mutator op.action result self.new }
     {
         let mutator = op.mutator;
         match op.action {

@@ -1,7 +1,12 @@
 use Rattle.std.proofs.Common.{refl, subst}
 use Rattle.heap_steps.specs.declared.step.Step.{Step}
+use Rattle.step_core.specs.Making.{HasMadeStep}
 use Rattle.step_core.specs.Words.{Takes}
 use Rattle.heap_calls.proofs.filled.fill.Goals as goal
+
+pub fill_made-requires-clause-made : goal.fill_made-requires-clause-made
+fill_made-requires-clause-made c =
+    subst (λ (s : Step). HasMadeStep s c.step-reply.result c.step-reply.new.self) c.making.ensures c.step-reply.ensures.made
 
 pub returns : goal.returns
 returns c = let w = c.step-reply.ensures in
