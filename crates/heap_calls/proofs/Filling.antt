@@ -6,6 +6,7 @@ use Rattle.heap_words.specs.declared.config.Config.{Config}
 use Rattle.heap_steps.specs.Actors.{IsStep}
 use Rattle.regions.specs.Table.{pointers_at, values_at}
 use Rattle.graph_runs.specs.State.{register_place, places_of}
+use Rattle.heap_steps.specs.declared.step.Counts.{Counts}
 use Rattle.heap_steps.specs.declared.step.Refusal.TheVariants as refusals
 use Rattle.heap_steps.specs.declared.step.Register.{Register}
 use Rattle.heap_steps.specs.declared.step.Reply.{Reply}
@@ -16,8 +17,9 @@ use Rattle.step_core.specs.Making.{NamesObject}
 use Rattle.step_core.specs.Mutators.{register_of}
 use Rattle.heap_steps.specs.Roots.{IsRegister, IsValue}
 use Rattle.step_core.specs.Words.{AreRefused, Takes, putting, writing}
-use Rattle.heap_calls.specs.Numbers.{register, value}
-use Rattle.heap_calls.specs.Filled.{IsFilled, RunsTo, pointing, wording}
+use Rattle.step_core.specs.Words as step
+use Rattle.heap_calls.specs.Numbers.{counts, register, value}
+use Rattle.heap_calls.specs.Filled.{IsFilled, RunsTo, making, pointing, wording}
 
 -- so many steps are taken, in a heap of the same sizes
 pub record HasRun (c : CoreState) (step : ℕ → Step) (count : ℕ) (d : CoreState) : Type 0 where
@@ -63,6 +65,17 @@ still_held c d m r to a e f q h =
     ∙ ap (λ (k : Config). slice_index_or d.roots (register_place (places_of k) m to.number) None) e
     ∙ ap (λ (rs : List (Option ℕ)). slice_index_or rs (register_place (places_of c.config) m to.number) None) f ∙ h
 
+-- what making the object asks for
+pub record CanMake (k : Config) (m : ℕ) (r : Register) : Type 0 where
+  pub mutator : m < k.mutators
+  pub to : IsRegister (places_of k) r
+
+pub can_make : (k : Config) (m to : ℕ) (from words : List ℕ) (r : Register) → r ≡ register to → IsStep k (making m to from words)
+    → CanMake k m r
+can_make k m to from words r e is =
+    let at = is.at in
+    subst (λ (x : Register). CanMake k m x) (sym e) (record { mutator = at.mutator; to = at.roots })
+
 -- what a store of a pointer asks for
 pub record CanPut (k : Config) (m : ℕ) (r : Register) (v : Option Register) : Type 0 where
   pub mutator : m < k.mutators
@@ -79,6 +92,11 @@ can_put k l m to from i r v e f g is =
     (record { mutator = at.mutator; object = at.roots.0; value = at.roots.1 })))
 
 -- the steps by the names that the code has
+pub as_making : (m to : ℕ) (from words : List ℕ) (r : Register) (n : Counts) → r ≡ register to → n ≡ counts (length from) (length words)
+    → step.making m r n ≡ making m to from words
+as_making m to from words r n e f =
+    ap (λ (x : Register). step.making m x n) e ∙ ap (λ (x : Counts). step.making m (register to) x) f
+
 pub as_pointing : (m to : ℕ) (from : List ℕ) (i : ℕ) (r : Register) (v : Option Register) → r ≡ register to
     → v ≡ value (slice_index from i) → putting m r i v ≡ pointing m to from i
 as_pointing m to from i r v f g = ap (λ (x : Register). putting m x i v) f ∙ ap (λ (x : Option Register). putting m (register to) i x) g

@@ -1,8 +1,9 @@
 //! A new object with its fields, in one call.
 
-ghost use Rattle.std.specs.Prelude.{◌≡◌, ◌≢◌, ℕ, ◌<◌, ◌^◌, List, length, slice_index, Some, true, false};
+ghost use Rattle.std.specs.Prelude.{◌≡◌, ◌≢◌, ℕ, ◌<◌, ◌^◌, List, length, slice_index, IfOk, Some, true, false};
 ghost use Rattle.regions.specs.Table.{pointers_at, values_at};
 ghost use Rattle.heap_steps.specs.Actors.{IsStep};
+ghost use Rattle.step_core.specs.Answers.{new_reply};
 ghost use Rattle.step_core.specs.Making.{HasMadeStep, NamesObject};
 ghost use Rattle.step_core.specs.Mutators.{register_of};
 ghost use Rattle.heap_calls.specs.Numbers as spec;
@@ -13,9 +14,19 @@ ghost use Rattle.heap_calls.specs.Filled.{making, pointing, wording};
 use crate::answer::{Answer, answer_of, no_step};
 use crate::heap::has;
 use crate::named::{by, counts, register, value};
-use heap_steps::{Action, Reply, Step};
+use heap_steps::{Action, Counts, Refusal, Reply, Step};
 use heap_words::addr::Addr;
-use step_core::Core;
+use step_core::{Core, NewObject, new_reply};
+
+/// How many pointers and data words the object gets.
+#[inline(always)]
+fn counts_of(from: &[u32], words: &[u64]) -> Counts
+    requires few { length from.now < 2 ^ 32 }
+    requires few_words { length words.now < 2 ^ 32 }
+    ensures { result ≡ spec.counts (length from.now) (length words.now) }
+{
+    counts(from.len() as u32, words.len() as u32)
+}
 
 #[inline(always)]
 fn making(mutator: u32, to: u32, from: &[u32], words: &[u64]) -> Step
@@ -27,12 +38,13 @@ fn making(mutator: u32, to: u32, from: &[u32], words: &[u64]) -> Step
         mutator,
         Action::New {
             to: register(to),
-            counts: counts(from.len() as u32, words.len() as u32),
+            counts: counts_of(from, words),
         },
     )
 }
 
-/// Whether a number is that of nil or of a register, and of another one than the one that takes the object.
+/// Whether a number is that of nil or of a register, and of another one than the one that takes the object. The number of nil is the
+/// largest, and 0 follows it here: so one comparison does.
 #[inline(always)]
 fn is_source(core: &Core, to: u32, number: u32) -> bool
     ensures is { result ≡ true → IsSource core.now.config to number }
@@ -41,7 +53,7 @@ fn is_source(core: &Core, to: u32, number: u32) -> bool
     if number == to {
         return false;
     }
-    number < core.roots().places().registers() || number == u32::MAX
+    number.wrapping_add(1) <= core.roots().places().registers()
 }
 
 /// Whether each source is nil or a register, and another one than the one that takes the object.
@@ -104,8 +116,19 @@ fn word(core: &mut Core, mutator: u32, to: u32, at: Addr, words: &[u64])
     }
 }
 
-/// Fills the object that a register holds, which has as many pointers and data words. If it held none, each step would be refused, and none
-/// is done.
+/// Fills the object that starts at an address, which the register holds. It has as many pointers and data words.
+#[inline(always)]
+fn fill_at(core: &mut Core, mutator: u32, to: u32, at: Addr, from: &[u32], words: &[u64])
+    requires fields { AreFields core.old.config mutator to from.now words.now }
+    requires made { NamesObject core.old mutator (spec.register to) (length from.now) (length words.now) }
+    requires held { register_of core.old mutator (spec.register to) ≡ Some at }
+    ensures { IsFilled core.old mutator to from.now words.now core.new }
+{
+    point(core, mutator, to, at, from);
+    word(core, mutator, to, at, words);
+}
+
+/// Fills the object that a register holds. If it held none, each step would be refused, and none is done.
 #[inline(always)]
 fn fill_object(core: &mut Core, mutator: u32, to: u32, from: &[u32], words: &[u64])
     requires fields { AreFields core.old.config mutator to from.now words.now }
@@ -115,8 +138,7 @@ fn fill_object(core: &mut Core, mutator: u32, to: u32, from: &[u32], words: &[u6
     let Some(at) = core.address_of(mutator, register(to)) else {
         return;
     };
-    point(core, mutator, to, at, from);
-    word(core, mutator, to, at, words);
+    fill_at(core, mutator, to, at, from, words);
 }
 
 /// Fills an object, if the reply says that it was made.
@@ -142,14 +164,37 @@ pub fn fill_made(core: &mut Core, reply: Reply, mutator: u32, to: u32, from: &[u
     }
 }
 
+/// Fills an object, if it was made: the address is known then.
+#[inline(always)]
+fn fill_new(
+    core: &mut Core,
+    made: &Result<NewObject, Refusal>,
+    mutator: u32,
+    to: u32,
+    from: &[u32],
+    words: &[u64],
+)
+    requires fields { AreFields core.old.config mutator to from.now words.now }
+    requires made { HasMadeStep (making mutator to from.now words.now) (new_reply made.now) core.old }
+    requires at { IfOk made.now (λ x. register_of core.old mutator (spec.register to) ≡ Some x.at) }
+    ensures { FillsIt (new_reply made.now) core.old mutator to from.now words.now core.new }
+{
+    match made {
+        Ok(object) => {
+            fill_at(core, mutator, to, object.at, from, words);
+        }
+        Err(_) => {}
+    }
+}
+
 #[inline(always)]
 fn fill(core: &mut Core, mutator: u32, to: u32, from: &[u32], words: &[u64]) -> Answer
     requires { AreFields core.old.config mutator to from.now words.now }
     ensures { Fills core.old mutator to from.now words.now result (Some core.new) }
 {
-    let reply = core.step(making(mutator, to, from, words));
-    fill_made(core, reply, mutator, to, from, words);
-    answer_of(reply)
+    let made = core.make_at(mutator, register(to), counts_of(from, words));
+    fill_new(core, &made, mutator, to, from, words);
+    answer_of(new_reply(&made))
 }
 
 /// Makes an object and fills it, if the numbers name steps of the heap's.

@@ -1,25 +1,53 @@
 //! Fields of an object whose address and counts are known: who fills a new object looks at its register once, and not at its header.
 //!
 //! ```text
-//!   new r0 2 1      r0 holds 40          address_of(0, r0) = 40
+//!   new r0 2 1      r0 holds 40          make_at(0, r0, 2 1) = #7, 40, or after a step address_of(0, r0) = 40
 //!   put r0 0 r1     put_at(0, r0, 40, 0, r1)
 //!   put r0 1 nil    put_at(0, r0, 40, 1, nil)         none of these looks at r0
 //!   write r0 0 7    write_at(0, r0, 40, 0, 7)
 //! ```
 
-ghost use Rattle.std.specs.Prelude.{◌≡◌, ◌<◌, IfNone, Some, length};
+ghost use Rattle.std.specs.Prelude.{◌≡◌, ◌<◌, IfNone, IfOk, Some, length};
 ghost use Rattle.graph_runs.specs.State.{places_of};
 ghost use Rattle.heap_steps.specs.Roots.{IsRegister, IsValue};
 ghost use Rattle.heap_steps.specs.declared.step.Reply.TheVariants as replies;
 ghost use Rattle.regions.specs.Table.{pointers_at, values_at};
 ghost use Rattle.step_core.specs.Mutators.{register_of};
-ghost use Rattle.step_core.specs.Words.{AreRefused, Takes, putting, writing};
+ghost use Rattle.step_core.specs.Answers.{new_reply};
+ghost use Rattle.step_core.specs.Making.{HasMade};
+ghost use Rattle.step_core.specs.Words.{AreRefused, Takes, making, putting, writing};
 
 use crate::heap::Core;
-use heap_steps::Register;
+use crate::mutator::NewObject;
+use heap_steps::{Counts, Refusal, Register};
 use heap_words::addr::{Addr, Ptr};
 
 impl Core {
+    ghost use Rattle.heap_steps.specs.declared.step.Action.TheVariants as actions;
+
+    /// Makes an object, as the step `new` does, and answers its name and where it starts, or why it is refused.
+    ///
+    /// ```rust
+    /// let made = core.make_at(0, r0, counts);
+    /// assert_eq!(rt; made.map(|object| object.at), Ok(Addr::new(0)));
+    /// ```
+    #[inline(always)]
+    pub fn make_at(
+        &mut self,
+        mutator: u32,
+        to: Register,
+        counts: Counts,
+    ) -> Result<NewObject, Refusal>
+        requires mutator { mutator < self.old.config.mutators }
+        requires to { IsRegister (places_of self.old.config) to }
+        ensures takes { Takes self.old (making mutator to counts) (new_reply result) self.new }
+        ensures made { HasMade mutator (actions.New to counts) (new_reply result) self.new }
+        ensures at { IfOk result (λ x. register_of self.new mutator to ≡ Some x.at) }
+        ensures config { self.new.config ≡ self.old.config }
+    {
+        self.made(mutator, to, counts, 0)
+    }
+
     /// Where the object starts that a mutator's register holds, as an address in words. It is none if the register holds nil, and each
     /// `put` and `write` of its fields is refused then.
     ///

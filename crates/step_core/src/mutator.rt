@@ -170,14 +170,26 @@ fn weaks_of(action: Action) -> u8
     }
 }
 
+/// A new object: its name, and where it starts.
+#[derive(Drop)]
+pub struct NewObject {
+    pub name: u64,
+    pub at: Addr,
+}
+
 /// The reply to who asks for an object: its name, or why it is refused.
+///
+/// ```rust
+/// let made = core.make_at(0, r0, counts);
+/// assert_eq!(rt; new_reply(&made), Reply::Named(Some(0)));
+/// ```
 #[inline(always)]
-fn new_reply(made: Result<u64, Refusal>) -> Reply
-    ensures { result ≡ new_reply made }
+pub fn new_reply(made: &Result<NewObject, Refusal>) -> Reply
+    ensures { result ≡ new_reply made.now }
 {
     match made {
-        Ok(name) => Reply::Named(Some(name)),
-        Err(refusal) => Reply::Refused(refusal),
+        Ok(object) => Reply::Named(Some(object.name)),
+        Err(refusal) => Reply::Refused(*refusal),
     }
 }
 
@@ -539,19 +551,20 @@ impl Core {
         (size as u32) < self.buffers.rest(mutator)
     }
 
-    /// Makes an object with so many weak slots, 0 of them for a plain one, and answers its name, or why it is refused. A small one is made
+    /// Makes an object with so many weak slots, 0 of them for a plain one, and answers it, or why it is refused. A small one is made
     /// within the caller, and any other by a call, for which a small one saves no registers.
     #[inline(always)]
-    fn made(
+    pub(crate) fn made(
         &mut self,
         mutator: u32,
         to: Register,
         counts: Counts,
         weaks: u8,
-    ) -> Result<u64, Refusal>
+    ) -> Result<NewObject, Refusal>
         requires mutator { mutator < self.old.config.mutators }
         requires to { IsRegister (places_of self.old.config) to }
-        ensures { MakesObject mutator to counts weaks (new_reply result) self.old self.new }
+        ensures makes { MakesObject mutator to counts weaks (new_reply result) self.old self.new }
+        ensures at { IfOk result (λ x. register_of self.new mutator to ≡ Some x.at) }
     {
         if self.is_small(mutator, counts, weaks) {
             self.new_here(mutator, to, counts, weaks)
@@ -567,7 +580,7 @@ impl Core {
         requires to { IsRegister (places_of self.old.config) to }
         ensures { MakesObject mutator to counts weaks result self.old self.new }
     {
-        new_reply(self.made(mutator, to, counts, weaks))
+        new_reply(&self.made(mutator, to, counts, weaks))
     }
 
     /// Makes an object by a call, which writes its answer into memory. That memory is cleared here, so that who makes a small object
@@ -579,10 +592,11 @@ impl Core {
         to: Register,
         counts: Counts,
         weaks: u8,
-    ) -> Result<u64, Refusal>
+    ) -> Result<NewObject, Refusal>
         requires mutator { mutator < self.old.config.mutators }
         requires to { IsRegister (places_of self.old.config) to }
-        ensures { MakesObject mutator to counts weaks (new_reply result) self.old self.new }
+        ensures makes { MakesObject mutator to counts weaks (new_reply result) self.old self.new }
+        ensures at { IfOk result (λ x. register_of self.new mutator to ≡ Some x.at) }
     {
         self.new_apart(mutator, to, counts, weaks)
     }
@@ -595,10 +609,11 @@ impl Core {
         to: Register,
         counts: Counts,
         weaks: u8,
-    ) -> Result<u64, Refusal>
+    ) -> Result<NewObject, Refusal>
         requires mutator { mutator < self.old.config.mutators }
         requires to { IsRegister (places_of self.old.config) to }
-        ensures { MakesObject mutator to counts weaks (new_reply result) self.old self.new }
+        ensures makes { MakesObject mutator to counts weaks (new_reply result) self.old self.new }
+        ensures at { IfOk result (λ x. register_of self.new mutator to ≡ Some x.at) }
     {
         self.new_here(mutator, to, counts, weaks)
     }
@@ -611,10 +626,11 @@ impl Core {
         to: Register,
         counts: Counts,
         weaks: u8,
-    ) -> Result<u64, Refusal>
+    ) -> Result<NewObject, Refusal>
         requires mutator { mutator < self.old.config.mutators }
         requires to { IsRegister (places_of self.old.config) to }
-        ensures { MakesObject mutator to counts weaks (new_reply result) self.old self.new }
+        ensures makes { MakesObject mutator to counts weaks (new_reply result) self.old self.new }
+        ensures at { IfOk result (λ x. register_of self.new mutator to ≡ Some x.at) }
     {
         let size = counts.size(weaks);
         if self.is_too_big(size) {
@@ -642,7 +658,7 @@ impl Core {
         };
         self.roots.set_register(mutator, to.number, Some(at));
         self.next += 1;
-        Ok(name)
+        Ok(NewObject { name, at })
     }
 
     /// Does a mutator's step. Where the step is known, as in a call of the C library, its own arm alone is left of this.

@@ -1,5 +1,6 @@
 -- What a register names once an object is made, and that a store leaves the object's counts.
 use Rattle.std.proofs.Common.{◌≡◌, ◌<◌, ◌⊎◌, ◌∙◌, ℕ, Option, Some, None, List, length, inl, inr, refl, sym, ap, subst, arith}
+use Rattle.std.specs.Prelude.{slice_index_or, slice_set}
 use Rattle.std.proofs.lemmas.List.{length-replicate, length-set, get_or-set_same}
 use Rattle.heap_words.specs.Configs.{registers_of}
 use Rattle.heap_model.specs.Heap.{Stored}
@@ -30,21 +31,26 @@ values_are : (t : Table) (a : ℕ) (s : Stored) → object_at t a ≡ Some s →
 unfolding values_at
 values_are t a s e = ap object_values e
 
+-- a register holds what it took
+pub register_taken : (k : CoreState) (m : ℕ) (to : Register) (a : ℕ) → IsCore k → m < k.config.mutators → to.number < registers_of k.config
+    → slice_index_or (slice_set k.roots (register_place (places_of k.config) m to.number) (Some a))
+    (register_place (places_of k.config) m to.number) None ≡ Some a
+register_taken k m to a core known inside =
+    let place : ℕ = register_place (places_of k.config) m to.number in
+    let all = core.places in
+    get_or-set_same k.roots place (Some a) None (omega (arith, register_inside k.config m to.number known inside, all))
+
 -- the register names the new object
 pub made_named : (k : CoreState) (m : ℕ) (to : Register) (t : Table) (b : Buffers) (a name p weak d : ℕ) → IsCore k
     → m < k.config.mutators → to.number < registers_of k.config → object_at t a ≡ Some (new_object name p weak d)
     → NamesObject (with_new k t b (register_place (places_of k.config) m to.number) a) m to p d
-made_named k m to t b a name p weak d core known inside is =
-    let place : ℕ = register_place (places_of k.config) m to.number in
-    let all = core.places in
-    let within : place < length k.roots = omega (arith, register_inside k.config m to.number known inside, all) in
-    record {
-      at = a;
-      held = get_or-set_same k.roots place (Some a) None within;
-      pointers = ap (λ (ps : List (Option ℕ)). length ps) (pointers_are t a (new_object name p weak d) is)
-          ∙ length-replicate {A = Option ℕ} p None;
-      values = ap (λ (vs : List ℕ). length vs) (values_are t a (new_object name p weak d) is) ∙ length-replicate {A = ℕ} d 0;
-    }
+made_named k m to t b a name p weak d core known inside is = record {
+  at = a;
+  held = register_taken k m to a core known inside;
+  pointers = ap (λ (ps : List (Option ℕ)). length ps) (pointers_are t a (new_object name p weak d) is)
+      ∙ length-replicate {A = Option ℕ} p None;
+  values = ap (λ (vs : List ℕ). length vs) (values_are t a (new_object name p weak d) is) ∙ length-replicate {A = ℕ} d 0;
+}
 
 -- whether the action says how many weak slots the object has or not
 made_plain : (m : ℕ) (to : Register) (counts : Counts) (weaks : ℕ) (r : Reply) (c : CoreState)

@@ -5,7 +5,7 @@ use Rattle.step_core.specs.Stands.{CoreState, ShowsGraph, KeepsFrom}
 use Rattle.step_core.proofs.Cores.Added.{creates}
 use Rattle.step_core.proofs.Mutating.Creating.{new_acts, new_kept, new_keeps, new_leaves}
 use Rattle.step_core.proofs.Mutating.Done.{made_in_place, has_place}
-use Rattle.step_core.proofs.Mutating.Made.{made_named}
+use Rattle.step_core.proofs.Mutating.Made.{made_named, register_taken}
 use Rattle.heap_words.specs.Configs.{object_limit, registers_of}
 use Rattle.step_core.proofs.heap.Core.new_here.Goals as goal
 
@@ -22,8 +22,15 @@ invariant_of-self-2 c =
     (new_kept _ c.args.mutator c.args.to _ _ _ c.args.counts.pointers c.args.weaks c.args.counts.values c.self.invariant w
     (omega (arith, fits, same, c.size-size.ensures)) c.if-self.false)
 
-pub returns : goal.returns
-returns c =
+pub returns-clause-at : goal.returns-clause-at
+returns-clause-at c =
+    rw (c.set_register.ensures, register_there _ c.self.invariant c.args.mutator c.args.to.number, c.in-Ok.ensures.made.1.at)
+    (register_taken _ c.args.mutator c.args.to _ c.self.invariant
+    (subst (λ (d : CoreState). c.args.mutator < d.config.mutators) (sym c.self.view_is) c.requires.mutator)
+    (subst (λ (d : CoreState). c.args.to.number < registers_of d.config) (sym c.self.view_is) c.requires.to))
+
+pub returns-clause-makes : goal.returns-clause-makes
+returns-clause-makes c =
     let m = c.in-Ok.ensures.made.1 in
     let fits = c.is_too_big.ensures.fits c.if-is_too_big.false in
     let same : object_limit c.self.inside.config ≡ object_limit c.args.self.now.config =
