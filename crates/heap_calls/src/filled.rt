@@ -12,9 +12,9 @@ ghost use Rattle.heap_calls.specs.Filled.{AreFields, Fills, FillsIt, FillsOrNot,
 ghost use Rattle.heap_calls.specs.Filled.{making, pointing, wording};
 
 use crate::answer::{Answer, answer_of, no_step};
-use crate::heap::has;
-use crate::named::{by, counts, register, value};
-use heap_steps::{Action, Counts, Refusal, Reply, Step};
+use crate::heap::is_known;
+use crate::named::{counts, register, value};
+use heap_steps::{Counts, Refusal, Reply};
 use heap_words::addr::Addr;
 use step_core::{Core, NewObject, new_reply};
 
@@ -26,21 +26,6 @@ fn counts_of(from: &[u32], words: &[u64]) -> Counts
     ensures { result ≡ spec.counts (length from.now) (length words.now) }
 {
     counts(from.len() as u32, words.len() as u32)
-}
-
-#[inline(always)]
-fn making(mutator: u32, to: u32, from: &[u32], words: &[u64]) -> Step
-    requires few { length from.now < 2 ^ 32 }
-    requires few_words { length words.now < 2 ^ 32 }
-    ensures { result ≡ making mutator to from.now words.now }
-{
-    by(
-        mutator,
-        Action::New {
-            to: register(to),
-            counts: counts_of(from, words),
-        },
-    )
 }
 
 /// Whether a number is that of nil or of a register, and of another one than the one that takes the object. The number of nil is the
@@ -79,7 +64,7 @@ pub fn has_fields(core: &Core, mutator: u32, to: u32, from: &[u32], words: &[u64
     if from.len() > u32::MAX as usize || words.len() > u32::MAX as usize {
         return false;
     }
-    if !has(core, making(mutator, to, from, words)) {
+    if !is_known(core, mutator, to) {
         return false;
     }
     has_sources(core, to, from)

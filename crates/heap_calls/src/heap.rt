@@ -84,7 +84,7 @@ pub fn take(heap: &mut Heap, step: Step) -> Answer
 /// Whether a heap has the mutator, and its mutators the register. Each heap has mutator 0: a compiler that knows that number leaves the
 /// first test out.
 #[inline(always)]
-pub(crate) fn is_known(core: &Core, mutator: u32, register: u32) -> bool
+pub fn is_known(core: &Core, mutator: u32, register: u32) -> bool
     ensures { IsTrue result ↔ (mutator < core.now.config.mutators) × (register < registers_of core.now.config) }
 {
     let _config = core.config();
