@@ -5,6 +5,7 @@ ghost use Rattle.regions.specs.Table.{free_count};
 ghost use Rattle.graph_runs.specs.State.{State};
 ghost use Rattle.graph_runs.specs.Run.{IsNew};
 ghost use Rattle.step_core.specs.Stands.{Stands};
+ghost use Rattle.step_core.specs.Making.{HasMade};
 ghost use Rattle.heap_steps.specs.Actors.{IsOp, IsThird};
 ghost use Rattle.heap_steps.specs.declared.step.Reply.TheVariants as replies;
 ghost use Rattle.heap_steps.specs.declared.step.Refusal.TheVariants as refusals;
@@ -138,6 +139,7 @@ fn make_creatable<W: Watch>(
     ensures full { result ≡ replies.Refused refusals.Full → (s : State) → Stands s core.old
         → IsFilled s.graph core.old op.action core.new }
     ensures two { LeavesTwo core.old.config op.action → 2 ≤ free_count core.old.table → 2 ≤ free_count core.new.table }
+    ensures made { HasMade op.mutator op.action result core.new }
     ensures config { core.new.config ≡ core.old.config }
 {
     if !make_room(core, policy, &op, size, due, watch) {
@@ -163,6 +165,7 @@ fn make_looking<W: Watch>(
     ensures full { result ≡ replies.Refused refusals.Full → (s : State) → Stands s core.old
         → IsFilled s.graph core.old op.action core.new }
     ensures two { LeavesTwo core.old.config op.action → 2 ≤ free_count core.old.table → 2 ≤ free_count core.new.table }
+    ensures made { HasMade op.mutator op.action result core.new }
     ensures config { core.new.config ≡ core.old.config }
 {
     core.remembers();
@@ -171,6 +174,29 @@ fn make_looking<W: Watch>(
         return take_own(core, op, watch);
     }
     make_creatable(core, policy, op, size as u32, due, watch)
+}
+
+/// The same. The call writes its answer into memory, and that is cleared here, so that who makes an object at once doesn't clear any.
+#[inline(always)]
+fn make_apart<W: Watch>(
+    core: &mut Core,
+    policy: &mut Policy,
+    op: Op,
+    size: u64,
+    due: bool,
+    watch: &mut W,
+) -> Reply
+    requires op { IsOp core.old.config op }
+    requires new { IsNew op.action }
+    requires size { size ≡ asked_words op.action }
+    ensures makes { Makes W.sees (4 * core.old.config.regions + 12) op result core.old watch.old core.new watch.new }
+    ensures full { result ≡ replies.Refused refusals.Full → (s : State) → Stands s core.old
+        → IsFilled s.graph core.old op.action core.new }
+    ensures two { LeavesTwo core.old.config op.action → 2 ≤ free_count core.old.table → 2 ≤ free_count core.new.table }
+    ensures made { HasMade op.mutator op.action result core.new }
+    ensures config { core.new.config ≡ core.old.config }
+{
+    make_looking(core, policy, op, size, due, watch)
 }
 
 /// Makes an object, with the steps of the collector that are due before it. Like any step that makes one it may be refused; as Full only
@@ -192,6 +218,7 @@ pub fn make<W: Watch>(core: &mut Core, policy: &mut Policy, op: Op, watch: &mut 
     ensures full { result ≡ replies.Refused refusals.Full → (s : State) → Stands s core.old
         → IsFilled s.graph core.old op.action core.new }
     ensures two { LeavesTwo core.old.config op.action → 2 ≤ free_count core.old.table → 2 ≤ free_count core.new.table }
+    ensures made { HasMade op.mutator op.action result core.new }
     ensures config { core.new.config ≡ core.old.config }
 {
     let size = words_of(&op.action);
@@ -199,5 +226,5 @@ pub fn make<W: Watch>(core: &mut Core, policy: &mut Policy, op: Op, watch: &mut 
     if !due && has_spare(core, &op, size) {
         return take_own(core, op, watch);
     }
-    make_looking(core, policy, op, size, due, watch)
+    make_apart(core, policy, op, size, due, watch)
 }

@@ -10,6 +10,7 @@ ghost use Rattle.heap_steps.specs.declared.step.Step.TheVariants as steps;
 ghost use Rattle.step_core.specs.Stands.{Stands, IsCore};
 ghost use Rattle.step_core.specs.Answers.{Follows, IsWithin};
 ghost use Rattle.step_core.specs.Cycle.{Collects as CollectsStep};
+ghost use Rattle.step_core.specs.Making.{HasMade};
 ghost use Rattle.step_core.specs.Mutators.{ActsOn};
 ghost use Rattle.collection.specs.Steps.{Collects, TakesOwn};
 
@@ -78,6 +79,7 @@ pub(crate) fn take_own<W: Watch>(core: &mut Core, op: Op, watch: &mut W) -> Repl
     ensures own { TakesOwn W.sees op result core.old watch.old core.new watch.new }
     ensures does { ActsOn op.mutator op.action result core.old core.new }
     ensures within { IsWithin core.old.config op.action result }
+    ensures made { HasMade op.mutator op.action result core.new }
     ensures config { core.new.config ≡ core.old.config }
     ensures core { IsCore core.new }
 {

@@ -7,7 +7,7 @@ ghost use Rattle.heap_calls.specs.Numbers.{by};
 ghost use Rattle.heap_calls.specs.Steps.{Takes, TakesNone, plain};
 
 use heap_calls::answer::Answer;
-use heap_calls::heap::{Heap, take, take_none, take_up_to};
+use heap_calls::heap::{Heap, take, take_none, take_scope, take_up_to};
 use heap_calls::named::{by, counts, global, register, value};
 use heap_steps::{Action, Op, Register};
 
@@ -190,15 +190,13 @@ pub extern "C" fn g1_move(heap: &mut Heap, mutator: u32, to: u32, from: u32) -> 
 pub extern "C" fn g1_drop(heap: &mut Heap, mutator: u32, to: u32) -> Answer
     ensures { Takes plain heap.old.handle.core (by mutator (actions.Drop (spec.register to))) result heap.new.handle.core }
 {
-    take(
-        heap,
-        by(
-            mutator,
-            Action::Drop {
-                register: register(to),
-            },
-        ),
-    )
+    let op = Op {
+        mutator,
+        action: Action::Drop {
+            register: register(to),
+        },
+    };
+    take_up_to(heap, op, to, true)
 }
 
 /// `to` takes what a global holds.
@@ -242,15 +240,13 @@ pub extern "C" fn g1_save(heap: &mut Heap, mutator: u32, to: u32, from: u32) -> 
 pub extern "C" fn g1_shape(heap: &mut Heap, mutator: u32, object: u32) -> Answer
     ensures { Takes plain heap.old.handle.core (by mutator (actions.Shape (spec.register object))) result heap.new.handle.core }
 {
-    take(
-        heap,
-        by(
-            mutator,
-            Action::Shape {
-                object: register(object),
-            },
-        ),
-    )
+    let op = Op {
+        mutator,
+        action: Action::Shape {
+            object: register(object),
+        },
+    };
+    take_up_to(heap, op, object, true)
 }
 
 /// `to` takes what a weak slot of the object holds that `object` names.
@@ -308,15 +304,13 @@ pub extern "C" fn g1_put_weak(
 pub extern "C" fn g1_weaks(heap: &mut Heap, mutator: u32, object: u32) -> Answer
     ensures { Takes plain heap.old.handle.core (by mutator (actions.Weaks (spec.register object))) result heap.new.handle.core }
 {
-    take(
-        heap,
-        by(
-            mutator,
-            Action::Weaks {
-                object: register(object),
-            },
-        ),
-    )
+    let op = Op {
+        mutator,
+        action: Action::Weaks {
+            object: register(object),
+        },
+    };
+    take_up_to(heap, op, object, true)
 }
 
 /// A frame is left: each register from one on becomes nil.
@@ -324,13 +318,5 @@ pub extern "C" fn g1_weaks(heap: &mut Heap, mutator: u32, object: u32) -> Answer
 pub extern "C" fn g1_scope(heap: &mut Heap, mutator: u32, first: u32) -> Answer
     ensures { Takes plain heap.old.handle.core (by mutator (actions.Scope (spec.register first))) result heap.new.handle.core }
 {
-    take(
-        heap,
-        by(
-            mutator,
-            Action::Scope {
-                from: register(first),
-            },
-        ),
-    )
+    take_scope(heap, mutator, first)
 }

@@ -4,15 +4,15 @@
 ghost use Rattle.std.specs.Prelude.{◌≡◌, ◌↔◌, ◌<◌, ◌≤◌, Some, IsTrue};
 ghost use Rattle.heap_steps.specs.Actors.{IsOp};
 ghost use Rattle.graph_runs.specs.Run.{IsNew};
-ghost use Rattle.heap_calls.specs.Steps.{TakesNone};
+ghost use Rattle.heap_calls.specs.Steps.{IsUpTo, TakesNone};
 ghost use Rattle.g1heap_c.specs.Policies.{Asks, AsksFor, CollectsAll, CollectsAllIn, CollectsDue, CollectsDueIn, asked};
 
 use crate::noted::{Entry, Notes};
 use collection::{Policy, Unwatched, Watch, collect, collect_due, make};
 use heap_calls::answer::{Answer, answer_of, done, no_heap, no_step};
-use heap_calls::heap::{Heap, has, take_none};
+use heap_calls::heap::{Heap, is_known, take_none};
 use heap_calls::making::{Sizes, config_of};
-use heap_steps::{Action, Counts, Op, Register, Step};
+use heap_steps::{Action, Counts, Op, Register};
 use step_core::Core;
 
 /// The step that makes the object that is asked for, a plain one.
@@ -20,6 +20,7 @@ use step_core::Core;
 pub(crate) fn plain(mutator: u32, to: u32, pointers: u32, values: u32) -> Op
     ensures op { result ≡ asked mutator to pointers 0 values }
     ensures new { IsNew result.action }
+    ensures known { IsUpTo to result }
 {
     let to = Register { number: to };
     let counts = Counts { pointers, values };
@@ -35,6 +36,7 @@ fn with_weaks(mutator: u32, to: u32, pointers: u32, weaks: u8, values: u32) -> O
     requires { 0 < weaks }
     ensures op { result ≡ asked mutator to pointers weaks values }
     ensures new { IsNew result.action }
+    ensures known { IsUpTo to result }
 {
     let to = Register { number: to };
     let counts = Counts { pointers, values };
@@ -53,17 +55,18 @@ fn make_in<W: Watch>(core: &mut Core, policy: &mut Policy, op: Op, watch: &mut W
     answer_of(make(core, policy, op, watch))
 }
 
-/// Makes the object, if the heap's sizes have the step.
+/// Makes the object, if the heap's sizes have the step: the mutator, and the register that takes the object.
 #[inline(always)]
-fn ask<W: Watch>(heap: &mut Heap, policy: &mut Policy, op: Op, watch: &mut W) -> Answer
-    requires { IsNew op.action }
+fn ask<W: Watch>(heap: &mut Heap, policy: &mut Policy, op: Op, to: u32, watch: &mut W) -> Answer
+    requires new { IsNew op.action }
+    requires known { IsUpTo to op }
     ensures { AsksFor heap.old.handle.core op result heap.new.handle.core }
 {
     if !heap.live {
         return no_heap();
     }
     let core = heap.handle.core_mut();
-    if !has(core, Step::Mutator(op)) {
+    if !is_known(core, op.mutator, to) {
         return no_step();
     }
     make_in(core, policy, op, watch)
@@ -92,13 +95,13 @@ pub extern "C" fn g1_make(
     // Each call of `ask` is written out here with the kind of its action known.
     if weaks == 0 {
         let op = plain(mutator, to, pointers, values);
-        return ask(heap, policy, op, &mut Unwatched);
+        return ask(heap, policy, op, to, &mut Unwatched);
     }
     if 255 < weaks {
         return take_none(heap);
     }
     let op = with_weaks(mutator, to, pointers, weaks as u8, values);
-    ask(heap, policy, op, &mut Unwatched)
+    ask(heap, policy, op, to, &mut Unwatched)
 }
 
 fn collect_in<W: Watch>(core: &mut Core, policy: &mut Policy, watch: &mut W) -> Answer
@@ -177,7 +180,7 @@ pub extern "C" fn g1_make_noted(
         with_weaks(mutator, to, pointers, weaks as u8, values)
     };
     let mut notes = Notes { entries, count: 0 };
-    let answer = ask(heap, policy, op, &mut notes);
+    let answer = ask(heap, policy, op, to, &mut notes);
     *count = notes.count;
     answer
 }

@@ -4,18 +4,22 @@ use Rattle.std.proofs.Common.{arith}
 use Rattle.std.specs.Prelude.{slice_index, slice_index_or}
 use Rattle.heap_words.specs.declared.config.Config.{Config}
 use Rattle.heap_steps.specs.Actors.{IsStep}
+use Rattle.regions.specs.Table.{pointers_at, values_at}
 use Rattle.graph_runs.specs.State.{register_place, places_of}
+use Rattle.heap_steps.specs.declared.step.Counts.{Counts}
 use Rattle.heap_steps.specs.declared.step.Refusal.TheVariants as refusals
 use Rattle.heap_steps.specs.declared.step.Register.{Register}
 use Rattle.heap_steps.specs.declared.step.Reply.{Reply}
 use Rattle.heap_steps.specs.declared.step.Reply.TheVariants as replies
 use Rattle.heap_steps.specs.declared.step.Step.{Step}
 use Rattle.step_core.specs.Stands.{CoreState}
+use Rattle.step_core.specs.Making.{NamesObject}
 use Rattle.step_core.specs.Mutators.{register_of}
 use Rattle.heap_steps.specs.Roots.{IsRegister, IsValue}
 use Rattle.step_core.specs.Words.{AreRefused, Takes, putting, writing}
-use Rattle.heap_calls.specs.Numbers.{register, value}
-use Rattle.heap_calls.specs.Filled.{IsFilled, RunsTo, pointing, wording}
+use Rattle.step_core.specs.Words as step
+use Rattle.heap_calls.specs.Numbers.{counts, register, value}
+use Rattle.heap_calls.specs.Filled.{IsFilled, RunsTo, making, pointing, wording}
 
 -- so many steps are taken, in a heap of the same sizes
 pub record HasRun (c : CoreState) (step : ℕ → Step) (count : ℕ) (d : CoreState) : Type 0 where
@@ -23,10 +27,16 @@ pub record HasRun (c : CoreState) (step : ℕ → Step) (count : ℕ) (d : CoreS
   pub config : d.config ≡ c.config
   pub roots : d.roots ≡ c.roots
 
-pub none_run : (c : CoreState) (step : ℕ → Step) → HasRun c step 0 c
-none_run c step = record { run = refl; config = refl; roots = refl }
+-- and the object at an address has as many pointers and data words as before
+pub record HasFilled (c : CoreState) (step : ℕ → Step) (a count : ℕ) (d : CoreState) : Type 0 where
+  pub taken : HasRun c step count d
+  pub pointers : length (pointers_at d.table a) ≡ length (pointers_at c.table a)
+  pub values : length (values_at d.table a) ≡ length (values_at c.table a)
 
-pub run_more : (c b d : CoreState) (step : ℕ → Step) (i : ℕ) (taken : Step) (reply : Reply) → HasRun c step i b → taken ≡ step i
+pub none_filled_yet : (c : CoreState) (step : ℕ → Step) (a : ℕ) → HasFilled c step a 0 c
+none_filled_yet c step a = record { taken = record { run = refl; config = refl; roots = refl }; pointers = refl; values = refl }
+
+run_more : (c b d : CoreState) (step : ℕ → Step) (i : ℕ) (taken : Step) (reply : Reply) → HasRun c step i b → taken ≡ step i
     → Takes b taken reply d → d.config ≡ b.config → d.roots ≡ b.roots → HasRun c step (i + 1) d
 run_more c b d step i taken reply h e t same roots =
     let one : i + 1 ≡ suc i = omega arith in
@@ -37,6 +47,16 @@ run_more c b d step i taken reply h e t same roots =
       roots = roots ∙ h.roots;
     }
 
+pub filled_more : (c b d : CoreState) (step : ℕ → Step) (a i : ℕ) (taken : Step) (reply : Reply) → HasFilled c step a i b → taken ≡ step i
+    → Takes b taken reply d → d.config ≡ b.config → d.roots ≡ b.roots
+    → length (pointers_at d.table a) ≡ length (pointers_at b.table a) → length (values_at d.table a) ≡ length (values_at b.table a)
+    → HasFilled c step a (i + 1) d
+filled_more c b d step a i taken reply h e t same roots pointers values = record {
+  taken = run_more c b d step i taken reply h.taken e t same roots;
+  pointers = pointers ∙ h.pointers;
+  values = values ∙ h.values;
+}
+
 -- a register holds what it held where all roots do
 pub still_held : (c d : CoreState) (m : ℕ) (r to : Register) (a : ℕ) → d.config ≡ c.config → d.roots ≡ c.roots → r ≡ to
     → register_of c m to ≡ Some a → register_of d m r ≡ Some a
@@ -44,6 +64,17 @@ still_held c d m r to a e f q h =
     ap (λ (x : Register). register_of d m x) q
     ∙ ap (λ (k : Config). slice_index_or d.roots (register_place (places_of k) m to.number) None) e
     ∙ ap (λ (rs : List (Option ℕ)). slice_index_or rs (register_place (places_of c.config) m to.number) None) f ∙ h
+
+-- what making the object asks for
+pub record CanMake (k : Config) (m : ℕ) (r : Register) : Type 0 where
+  pub mutator : m < k.mutators
+  pub to : IsRegister (places_of k) r
+
+pub can_make : (k : Config) (m to : ℕ) (from words : List ℕ) (r : Register) → r ≡ register to → IsStep k (making m to from words)
+    → CanMake k m r
+can_make k m to from words r e is =
+    let at = is.at in
+    subst (λ (x : Register). CanMake k m x) (sym e) (record { mutator = at.mutator; to = at.roots })
 
 -- what a store of a pointer asks for
 pub record CanPut (k : Config) (m : ℕ) (r : Register) (v : Option Register) : Type 0 where
@@ -61,6 +92,11 @@ can_put k l m to from i r v e f g is =
     (record { mutator = at.mutator; object = at.roots.0; value = at.roots.1 })))
 
 -- the steps by the names that the code has
+pub as_making : (m to : ℕ) (from words : List ℕ) (r : Register) (n : Counts) → r ≡ register to → n ≡ counts (length from) (length words)
+    → step.making m r n ≡ making m to from words
+as_making m to from words r n e f =
+    ap (λ (x : Register). step.making m x n) e ∙ ap (λ (x : Counts). step.making m (register to) x) f
+
 pub as_pointing : (m to : ℕ) (from : List ℕ) (i : ℕ) (r : Register) (v : Option Register) → r ≡ register to
     → v ≡ value (slice_index from i) → putting m r i v ≡ pointing m to from i
 as_pointing m to from i r v f g = ap (λ (x : Register). putting m x i v) f ∙ ap (λ (x : Option Register). putting m (register to) i x) g
@@ -87,3 +123,15 @@ pub none_filled : (c : CoreState) (m to : ℕ) (from words : List ℕ) (r : Regi
 none_filled c m to from words r e h =
     let all = subst (λ (x : Register). AreRefused c m x) e h in
     (c, (none_pointed c m to from all (length from), none_worded c m to words all (length words)))
+
+-- where the register names an object of such counts, what it holds is the object's address
+pub record HasCounts (c : CoreState) (a p d : ℕ) : Type 0 where
+  pub pointers : length (pointers_at c.table a) ≡ p
+  pub values : length (values_at c.table a) ≡ d
+
+pub counts_here : (c : CoreState) (m : ℕ) (r to : Register) (a p d : ℕ) → NamesObject c m to p d → r ≡ to → Some a ≡ register_of c m r
+    → HasCounts c a p d
+counts_here c m r to a p d made e h =
+    let same : Some a ≡ Some made.at = h ∙ ap (λ (x : Register). register_of c m x) e ∙ made.held in
+    let at : a ≡ made.at = cc in
+    subst (λ (x : ℕ). HasCounts c x p d) (sym at) (record { pointers = made.pointers; values = made.values })

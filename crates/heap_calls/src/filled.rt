@@ -1,7 +1,10 @@
 //! A new object with its fields, in one call.
 
-ghost use Rattle.std.specs.Prelude.{◌≡◌, ◌≢◌, ℕ, ◌<◌, ◌^◌, List, length, slice_index, Some, true, false};
+ghost use Rattle.std.specs.Prelude.{◌≡◌, ◌≢◌, ℕ, ◌<◌, ◌^◌, List, length, slice_index, IfOk, Some, true, false};
+ghost use Rattle.regions.specs.Table.{pointers_at, values_at};
 ghost use Rattle.heap_steps.specs.Actors.{IsStep};
+ghost use Rattle.step_core.specs.Answers.{new_reply};
+ghost use Rattle.step_core.specs.Making.{HasMadeStep, NamesObject};
 ghost use Rattle.step_core.specs.Mutators.{register_of};
 ghost use Rattle.heap_calls.specs.Numbers as spec;
 ghost use Rattle.heap_calls.specs.Steps.{HasRegister};
@@ -9,28 +12,24 @@ ghost use Rattle.heap_calls.specs.Filled.{AreFields, Fills, FillsIt, FillsOrNot,
 ghost use Rattle.heap_calls.specs.Filled.{making, pointing, wording};
 
 use crate::answer::{Answer, answer_of, no_step};
-use crate::heap::has;
-use crate::named::{by, counts, register, value};
-use heap_steps::{Action, Reply, Step};
+use crate::heap::is_known;
+use crate::named::{counts, register, value};
+use heap_steps::{Counts, Refusal, Reply};
 use heap_words::addr::Addr;
-use step_core::Core;
+use step_core::{Core, NewObject, new_reply};
 
+/// How many pointers and data words the object gets.
 #[inline(always)]
-fn making(mutator: u32, to: u32, from: &[u32], words: &[u64]) -> Step
+fn counts_of(from: &[u32], words: &[u64]) -> Counts
     requires few { length from.now < 2 ^ 32 }
     requires few_words { length words.now < 2 ^ 32 }
-    ensures { result ≡ making mutator to from.now words.now }
+    ensures { result ≡ spec.counts (length from.now) (length words.now) }
 {
-    by(
-        mutator,
-        Action::New {
-            to: register(to),
-            counts: counts(from.len() as u32, words.len() as u32),
-        },
-    )
+    counts(from.len() as u32, words.len() as u32)
 }
 
-/// Whether a number is that of nil or of a register, and of another one than the one that takes the object.
+/// Whether a number is that of nil or of a register, and of another one than the one that takes the object. The number of nil is the
+/// largest, and 0 follows it here: so one comparison does.
 #[inline(always)]
 fn is_source(core: &Core, to: u32, number: u32) -> bool
     ensures is { result ≡ true → IsSource core.now.config to number }
@@ -39,10 +38,7 @@ fn is_source(core: &Core, to: u32, number: u32) -> bool
     if number == to {
         return false;
     }
-    match value(number) {
-        None => true,
-        Some(register) => register.number < core.roots().places().registers(),
-    }
+    number.wrapping_add(1) <= core.roots().places().registers()
 }
 
 /// Whether each source is nil or a register, and another one than the one that takes the object.
@@ -68,7 +64,7 @@ pub fn has_fields(core: &Core, mutator: u32, to: u32, from: &[u32], words: &[u64
     if from.len() > u32::MAX as usize || words.len() > u32::MAX as usize {
         return false;
     }
-    if !has(core, making(mutator, to, from, words)) {
+    if !is_known(core, mutator, to) {
         return false;
     }
     has_sources(core, to, from)
@@ -80,12 +76,14 @@ fn point(core: &mut Core, mutator: u32, to: u32, at: Addr, from: &[u32])
     requires few { length from.now < 2 ^ 32 }
     requires points { (i : ℕ) → i < length from.now → IsStep core.old.config (pointing mutator to from.now i) }
     requires held { register_of core.old mutator (spec.register to) ≡ Some at }
+    requires counts { length (pointers_at core.old.table at) ≡ length from.now }
     ensures run { RunsTo core.old (pointing mutator to from.now) (length from.now) core.new }
     ensures config { core.new.config ≡ core.old.config }
     ensures held { register_of core.new mutator (spec.register to) ≡ Some at }
+    ensures values { length (values_at core.new.table at) ≡ length (values_at core.old.table at) }
 {
     for i in 0..from.len() {
-        let _ = core.put_at(mutator, register(to), at, i as u32, value(from[i]));
+        core.put_at(mutator, register(to), at, i as u32, value(from[i]));
     }
 }
 
@@ -95,30 +93,44 @@ fn word(core: &mut Core, mutator: u32, to: u32, at: Addr, words: &[u64])
     requires few { length words.now < 2 ^ 32 }
     requires known { HasRegister core.old mutator to }
     requires held { register_of core.old mutator (spec.register to) ≡ Some at }
+    requires counts { length (values_at core.old.table at) ≡ length words.now }
     ensures { RunsTo core.old (wording mutator to words.now) (length words.now) core.new }
 {
     for i in 0..words.len() {
-        let _ = core.write_at(mutator, register(to), at, i as u32, words[i]);
+        core.write_at(mutator, register(to), at, i as u32, words[i]);
     }
 }
 
-/// Fills the object that a register holds. If it holds none, each step is refused, and none is done.
+/// Fills the object that starts at an address, which the register holds. It has as many pointers and data words.
+#[inline(always)]
+fn fill_at(core: &mut Core, mutator: u32, to: u32, at: Addr, from: &[u32], words: &[u64])
+    requires fields { AreFields core.old.config mutator to from.now words.now }
+    requires made { NamesObject core.old mutator (spec.register to) (length from.now) (length words.now) }
+    requires held { register_of core.old mutator (spec.register to) ≡ Some at }
+    ensures { IsFilled core.old mutator to from.now words.now core.new }
+{
+    point(core, mutator, to, at, from);
+    word(core, mutator, to, at, words);
+}
+
+/// Fills the object that a register holds. If it held none, each step would be refused, and none is done.
 #[inline(always)]
 fn fill_object(core: &mut Core, mutator: u32, to: u32, from: &[u32], words: &[u64])
-    requires { AreFields core.old.config mutator to from.now words.now }
+    requires fields { AreFields core.old.config mutator to from.now words.now }
+    requires made { NamesObject core.old mutator (spec.register to) (length from.now) (length words.now) }
     ensures { IsFilled core.old mutator to from.now words.now core.new }
 {
     let Some(at) = core.address_of(mutator, register(to)) else {
         return;
     };
-    point(core, mutator, to, at, from);
-    word(core, mutator, to, at, words);
+    fill_at(core, mutator, to, at, from, words);
 }
 
 /// Fills an object, if the reply says that it was made.
 #[inline(always)]
 pub fn fill_made(core: &mut Core, reply: Reply, mutator: u32, to: u32, from: &[u32], words: &[u64])
-    requires { AreFields core.old.config mutator to from.now words.now }
+    requires fields { AreFields core.old.config mutator to from.now words.now }
+    requires made { HasMadeStep (making mutator to from.now words.now) reply core.old }
     ensures { FillsIt reply core.old mutator to from.now words.now core.new }
 {
     match reply {
@@ -137,14 +149,37 @@ pub fn fill_made(core: &mut Core, reply: Reply, mutator: u32, to: u32, from: &[u
     }
 }
 
+/// Fills an object, if it was made: the address is known then.
+#[inline(always)]
+fn fill_new(
+    core: &mut Core,
+    made: &Result<NewObject, Refusal>,
+    mutator: u32,
+    to: u32,
+    from: &[u32],
+    words: &[u64],
+)
+    requires fields { AreFields core.old.config mutator to from.now words.now }
+    requires made { HasMadeStep (making mutator to from.now words.now) (new_reply made.now) core.old }
+    requires at { IfOk made.now (λ x. register_of core.old mutator (spec.register to) ≡ Some x.at) }
+    ensures { FillsIt (new_reply made.now) core.old mutator to from.now words.now core.new }
+{
+    match made {
+        Ok(object) => {
+            fill_at(core, mutator, to, object.at, from, words);
+        }
+        Err(_) => {}
+    }
+}
+
 #[inline(always)]
 fn fill(core: &mut Core, mutator: u32, to: u32, from: &[u32], words: &[u64]) -> Answer
     requires { AreFields core.old.config mutator to from.now words.now }
     ensures { Fills core.old mutator to from.now words.now result (Some core.new) }
 {
-    let reply = core.step(making(mutator, to, from, words));
-    fill_made(core, reply, mutator, to, from, words);
-    answer_of(reply)
+    let made = core.make_at(mutator, register(to), counts_of(from, words));
+    fill_new(core, &made, mutator, to, from, words);
+    answer_of(new_reply(&made))
 }
 
 /// Makes an object and fills it, if the numbers name steps of the heap's.

@@ -6,12 +6,15 @@ ghost use Rattle.heap_steps.specs.Actors.{IsStep};
 ghost use Rattle.heap_steps.specs.declared.step.Step.TheVariants as steps;
 ghost use Rattle.heap_steps.specs.declared.step.CollectorStep.TheVariants as collector;
 ghost use Rattle.heap_calls.specs.Held.{is_held};
-ghost use Rattle.heap_calls.specs.Numbers.{no_step, told};
+ghost use Rattle.heap_steps.specs.declared.step.Action.TheVariants as actions;
+ghost use Rattle.heap_calls.specs.Numbers as spec;
+ghost use Rattle.heap_calls.specs.Numbers.{by, no_step, told};
 ghost use Rattle.heap_calls.specs.Steps.{IsUpTo, Steps, Takes, TakesNone, plain, scanned};
 
 use crate::answer::{Answer, answer_of, counted, no_heap, no_step, told};
 use crate::handle::Handle;
 use crate::loose::Loose;
+use crate::named::{by, register};
 use heap_steps::{Action, CollectorStep, Op, Step, is_third};
 use step_core::Core;
 
@@ -81,7 +84,7 @@ pub fn take(heap: &mut Heap, step: Step) -> Answer
 /// Whether a heap has the mutator, and its mutators the register. Each heap has mutator 0: a compiler that knows that number leaves the
 /// first test out.
 #[inline(always)]
-fn is_known(core: &Core, mutator: u32, register: u32) -> bool
+pub fn is_known(core: &Core, mutator: u32, register: u32) -> bool
     ensures { IsTrue result ↔ (mutator < core.now.config.mutators) × (register < registers_of core.now.config) }
 {
     let _config = core.config();
@@ -102,7 +105,7 @@ fn no_step_code(core: &Core) -> u32
 /// The answer where numbers name no step. A call's number isn't made before the tests that lead here, where each step would pay for it. But
 /// where the step makes a call too, one more costs more than that.
 #[inline(always)]
-fn no_step_of(core: &Core, apart: bool) -> Answer
+pub(crate) fn no_step_of(core: &Core, apart: bool) -> Answer
     ensures { result ≡ no_step }
 {
     if apart {
@@ -135,6 +138,37 @@ pub fn take_up_to(heap: &mut Heap, op: Op, highest: u32, apart: bool) -> Answer
         return no_heap();
     }
     take_known(heap.handle.core_mut(), op, highest, apart)
+}
+
+/// Leaves a frame, if the heap's format has that step and its sizes the mutator and the register.
+#[inline(always)]
+fn leave_frame(core: &mut Core, mutator: u32, first: u32) -> Answer
+    ensures { Takes plain (Some core.old) (by mutator (actions.Scope (spec.register first))) result (Some core.new) }
+{
+    if is_third(core.config().format) && is_known(core, mutator, first) {
+        perform(
+            core,
+            by(
+                mutator,
+                Action::Scope {
+                    from: register(first),
+                },
+            ),
+        )
+    } else {
+        no_step()
+    }
+}
+
+/// The same in a heap.
+#[inline(always)]
+pub fn take_scope(heap: &mut Heap, mutator: u32, first: u32) -> Answer
+    ensures { Takes plain heap.old.handle.core (by mutator (actions.Scope (spec.register first))) result heap.new.handle.core }
+{
+    if !heap.live {
+        return no_heap();
+    }
+    leave_frame(heap.handle.core_mut(), mutator, first)
 }
 
 /// The numbers name no step.

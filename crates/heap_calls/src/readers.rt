@@ -6,7 +6,8 @@ ghost use Rattle.regions.specs.declared.row.Kind.TheVariants as kinds;
 ghost use Rattle.heap_calls.specs.Steps.{IsName};
 ghost use Rattle.heap_calls.specs.FreeRuns.{IsLongestRun};
 
-use crate::answer::{Answer, answer_of, no_step};
+use crate::answer::{Answer, answer_of};
+use crate::heap::{is_known, no_step_of};
 use heap_steps::{Register, Reply};
 use heap_words::addr::RegionNo;
 use regions::{Kind, RegionTable};
@@ -39,12 +40,12 @@ pub fn longest_run(table: &RegionTable) -> u32
 }
 
 /// The name that a register holds, if there is such a register.
+#[inline(always)]
 pub fn name_at(core: &Core, mutator: u32, which: u32) -> Answer
     ensures { IsName mutator which core.now result }
 {
-    let places = core.roots().places();
-    if places.mutators() <= mutator || places.registers() <= which {
-        return no_step();
+    if !is_known(core, mutator, which) {
+        return no_step_of(core, true);
     }
     answer_of(Reply::Named(core.name_at(mutator, Register { number: which })))
 }

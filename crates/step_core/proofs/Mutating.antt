@@ -9,5 +9,6 @@ pub mod Storing
 pub mod Stored
 pub mod Noting
 pub mod Creating
+pub mod Made
 pub mod WeakStoring
 pub mod Touching

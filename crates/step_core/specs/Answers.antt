@@ -17,6 +17,7 @@ use Rattle.heap_steps.specs.declared.step.Refusal.{Refusal}
 use Rattle.heap_steps.specs.declared.step.Refusal.TheVariants as refusals
 use Rattle.alloc_buffers.specs.Placement.{place_of}
 use Rattle.step_core.specs.Stands.{CoreState, ShowsGraph, Stands}
+use Rattle.step_core.specs.declared.mutator.NewObject.{NewObject}
 
 -- the reply is an outcome's, and the core shows the outcome's graph
 pub record Yields (out : Outcome) (reply : Reply) (c : CoreState) : Type 0 where
@@ -28,8 +29,8 @@ abbrev pub Acts : Graph → ℕ → Action → Reply → CoreState → Type 0
 Acts g m a reply c = Yields (act g m a) reply c
 
 -- the reply to who asks for an object: its name, or why it is refused
-abbrev pub new_reply : Result ℕ Refusal → Reply
-new_reply (Ok name) = replies.Named (Some name)
+abbrev pub new_reply : Result NewObject Refusal → Reply
+new_reply (Ok object) = replies.Named (Some object.name)
 new_reply (Err why) = replies.Refused why
 
 -- placement finds no place for so many words

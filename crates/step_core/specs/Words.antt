@@ -2,6 +2,7 @@
 use Rattle.std.specs.Prelude.{◌≡◌, ◌↔◌, ◌+◌, ◌-◌, ◌<◌, ◌≤◌, ℕ, suc, List, [], ◌∷◌, length, slice_index, Option, Some}
 use Rattle.regions.specs.Table.{values_at}
 use Rattle.graph_runs.specs.State.{State}
+use Rattle.heap_steps.specs.declared.step.Counts.{Counts}
 use Rattle.heap_steps.specs.declared.step.Register.{Register}
 use Rattle.heap_steps.specs.declared.step.Action.TheVariants as actions
 use Rattle.heap_steps.specs.declared.step.Step.{Step}
@@ -29,6 +30,10 @@ reading m object field = steps.Mutator (record { mutator = m; action = actions.R
 
 abbrev pub writing : ℕ → Register → ℕ → ℕ → Step
 writing m object field word = steps.Mutator (record { mutator = m; action = actions.Write object field word })
+
+-- a mutator makes an object without weak slots
+abbrev pub making : ℕ → Register → Counts → Step
+making m to counts = steps.Mutator (record { mutator = m; action = actions.New to counts })
 
 -- a mutator stores a pointer: nil, or what a register holds
 abbrev pub putting : ℕ → Register → ℕ → Option Register → Step

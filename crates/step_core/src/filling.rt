@@ -1,23 +1,53 @@
-//! Fields of an object whose address is known: who fills a new object looks at its register once.
+//! Fields of an object whose address and counts are known: who fills a new object looks at its register once, and not at its header.
 //!
 //! ```text
-//!   new r0 2 1      r0 holds 40          address_of(0, r0) = 40
+//!   new r0 2 1      r0 holds 40          make_at(0, r0, 2 1) = #7, 40, or after a step address_of(0, r0) = 40
 //!   put r0 0 r1     put_at(0, r0, 40, 0, r1)
 //!   put r0 1 nil    put_at(0, r0, 40, 1, nil)         none of these looks at r0
 //!   write r0 0 7    write_at(0, r0, 40, 0, 7)
 //! ```
 
-ghost use Rattle.std.specs.Prelude.{◌≡◌, ◌<◌, IfNone, Some};
+ghost use Rattle.std.specs.Prelude.{◌≡◌, ◌<◌, IfNone, IfOk, Some, length};
 ghost use Rattle.graph_runs.specs.State.{places_of};
 ghost use Rattle.heap_steps.specs.Roots.{IsRegister, IsValue};
+ghost use Rattle.heap_steps.specs.declared.step.Reply.TheVariants as replies;
+ghost use Rattle.regions.specs.Table.{pointers_at, values_at};
 ghost use Rattle.step_core.specs.Mutators.{register_of};
-ghost use Rattle.step_core.specs.Words.{AreRefused, Takes, putting, writing};
+ghost use Rattle.step_core.specs.Answers.{new_reply};
+ghost use Rattle.step_core.specs.Making.{HasMade};
+ghost use Rattle.step_core.specs.Words.{AreRefused, Takes, making, putting, writing};
 
 use crate::heap::Core;
-use heap_steps::{Register, Reply};
+use crate::mutator::NewObject;
+use heap_steps::{Counts, Refusal, Register};
 use heap_words::addr::{Addr, Ptr};
 
 impl Core {
+    ghost use Rattle.heap_steps.specs.declared.step.Action.TheVariants as actions;
+
+    /// Makes an object, as the step `new` does, and answers its name and where it starts, or why it is refused.
+    ///
+    /// ```rust
+    /// let made = core.make_at(0, r0, counts);
+    /// assert_eq!(rt; made.map(|object| object.at), Ok(Addr::new(0)));
+    /// ```
+    #[inline(always)]
+    pub fn make_at(
+        &mut self,
+        mutator: u32,
+        to: Register,
+        counts: Counts,
+    ) -> Result<NewObject, Refusal>
+        requires mutator { mutator < self.old.config.mutators }
+        requires to { IsRegister (places_of self.old.config) to }
+        ensures takes { Takes self.old (making mutator to counts) (new_reply result) self.new }
+        ensures made { HasMade mutator (actions.New to counts) (new_reply result) self.new }
+        ensures at { IfOk result (λ x. register_of self.new mutator to ≡ Some x.at) }
+        ensures config { self.new.config ≡ self.old.config }
+    {
+        self.made(mutator, to, counts, 0)
+    }
+
     /// Where the object starts that a mutator's register holds, as an address in words. It is none if the register holds nil, and each
     /// `put` and `write` of its fields is refused then.
     ///
@@ -35,12 +65,12 @@ impl Core {
         self.register(mutator, object)
     }
 
-    /// Does the step `put` of a mutator, whose register `object` holds the object that starts at an address.
+    /// Does the step `put` of a mutator, whose register `object` holds the object that starts at an address, for a field that the object
+    /// has: its header isn't looked at. The object has as many fields as before.
     ///
     /// ```rust
     /// core.step(new);
-    /// assert_eq!(rt; core.put_at(0, r0, Addr::new(0), 0, Some(r0)), Reply::Done);
-    /// assert_eq!(rt; core.put_at(0, r0, Addr::new(0), 1, None), Reply::Refused(Refusal::NoField));
+    /// core.put_at(0, r0, Addr::new(0), 0, Some(r0));
     /// ```
     #[inline(always)]
     pub fn put_at(
@@ -50,43 +80,42 @@ impl Core {
         at: Addr,
         field: u32,
         value: Option<Register>,
-    ) -> Reply
+    )
         requires mutator { mutator < self.old.config.mutators }
         requires object { IsRegister (places_of self.old.config) object }
         requires value { IsValue (places_of self.old.config) value }
         requires held { register_of self.old mutator object ≡ Some at }
-        ensures takes { Takes self.old (putting mutator object field value) result self.new }
+        requires field { field < length (pointers_at self.old.table at) }
+        ensures takes { Takes self.old (putting mutator object field value) replies.Done self.new }
         ensures roots { self.new.roots ≡ self.old.roots }
         ensures config { self.new.config ≡ self.old.config }
+        ensures pointers { length (pointers_at self.new.table at) ≡ length (pointers_at self.old.table at) }
+        ensures values { length (values_at self.new.table at) ≡ length (values_at self.old.table at) }
     {
         self.remembers();
-        self.put_in(mutator, object, at, field, value)
+        self.put_known(mutator, object, at, field, value);
     }
 
-    /// Does the step `write` of a mutator, whose register `object` holds the object that starts at an address.
+    /// Does the step `write` of a mutator, whose register `object` holds the object that starts at an address, for a data word that the
+    /// object has. The object has as many fields as before.
     ///
     /// ```rust
     /// core.step(new);
-    /// assert_eq!(rt; core.write_at(0, r0, Addr::new(0), 0, 7), Reply::Done);
-    /// assert_eq!(rt; core.write_at(0, r0, Addr::new(0), 1, 7), Reply::Refused(Refusal::NoField));
+    /// core.write_at(0, r0, Addr::new(0), 0, 7);
     /// ```
     #[inline(always)]
-    pub fn write_at(
-        &mut self,
-        mutator: u32,
-        object: Register,
-        at: Addr,
-        field: u32,
-        value: u64,
-    ) -> Reply
+    pub fn write_at(&mut self, mutator: u32, object: Register, at: Addr, field: u32, value: u64)
         requires mutator { mutator < self.old.config.mutators }
         requires object { IsRegister (places_of self.old.config) object }
         requires held { register_of self.old mutator object ≡ Some at }
-        ensures takes { Takes self.old (writing mutator object field value) result self.new }
+        requires field { field < length (values_at self.old.table at) }
+        ensures takes { Takes self.old (writing mutator object field value) replies.Done self.new }
         ensures roots { self.new.roots ≡ self.old.roots }
         ensures config { self.new.config ≡ self.old.config }
+        ensures pointers { length (pointers_at self.new.table at) ≡ length (pointers_at self.old.table at) }
+        ensures values { length (values_at self.new.table at) ≡ length (values_at self.old.table at) }
     {
         self.remembers();
-        self.write_in(mutator, object, at, field, value)
+        self.write_known(mutator, object, at, field, value);
     }
 }

@@ -67,5 +67,6 @@ mod words;
 
 pub use candidates::Choice;
 pub use heap::Core;
+pub use mutator::{NewObject, new_reply};
 pub use names::object_name;
 pub use runs::{run, run_to_core};

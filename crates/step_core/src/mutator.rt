@@ -13,11 +13,11 @@ ghost use Rattle.graph_runs.specs.Run.{snapshot_after};
 ghost use Rattle.graph_runs.specs.Machine.{stored};
 ghost use Rattle.heap_steps.specs.declared.step.Reply.TheVariants as replies;
 ghost use Rattle.heap_steps.specs.declared.step.Refusal.TheVariants as refusals;
-ghost use Rattle.regions.specs.Table.{new_object};
+ghost use Rattle.regions.specs.Table.{new_object, pointers_at, values_at, set_pointer, set_value};
 ghost use Rattle.alloc_buffers.specs.Placement.{address_of, place_of, CanHold, CanPlace, IsMadeAt, Placement, made_at};
 ghost use Rattle.step_core.specs.Stands.{ShowsGraph, KeepsFrom, Leads, Stands, heap_of, IsWordOf, IsRootWord};
 ghost use Rattle.step_core.specs.Answers.{Acts, IsFull, IsWithin, Follows, new_reply};
-ghost use Rattle.step_core.specs.Making.{MakesObject};
+ghost use Rattle.step_core.specs.Making.{HasMade, MakesObject};
 ghost use Rattle.step_core.specs.Mutators.{ActsOn, register_of, value_of, weaks_made};
 ghost use Rattle.step_core.specs.Cycle.{LeavesRegions};
 
@@ -170,14 +170,26 @@ fn weaks_of(action: Action) -> u8
     }
 }
 
+/// A new object: its name, and where it starts.
+#[derive(Drop)]
+pub struct NewObject {
+    pub name: u64,
+    pub at: Addr,
+}
+
 /// The reply to who asks for an object: its name, or why it is refused.
+///
+/// ```rust
+/// let made = core.make_at(0, r0, counts);
+/// assert_eq!(rt; new_reply(&made), Reply::Named(Some(0)));
+/// ```
 #[inline(always)]
-fn new_reply(made: Result<u64, Refusal>) -> Reply
-    ensures { result ≡ new_reply made }
+pub fn new_reply(made: &Result<NewObject, Refusal>) -> Reply
+    ensures { result ≡ new_reply made.now }
 {
     match made {
-        Ok(name) => Reply::Named(Some(name)),
-        Err(refusal) => Reply::Refused(refusal),
+        Ok(object) => Reply::Named(Some(object.name)),
+        Err(refusal) => Reply::Refused(*refusal),
     }
 }
 
@@ -279,6 +291,32 @@ impl Core {
         Reply::Done
     }
 
+    /// The same of a field that the object has, whose header isn't looked at then.
+    #[inline(always)]
+    pub(crate) fn put_known(
+        &mut self,
+        mutator: u32,
+        object: Register,
+        at: Addr,
+        field: u32,
+        value: Option<Register>,
+    )
+        requires mutator { mutator < self.old.config.mutators }
+        requires value { IsValue (places_of self.old.config) value }
+        requires held { register_of self.old mutator object ≡ Some at }
+        requires rooted { IsRoot (heap_of self.old) at }
+        requires leads { Leads self.old (register_place (places_of self.old.config) mutator object.number) (Some at) }
+        requires field { field < length (pointers_at self.old.table at) }
+        ensures acts { (g : Graph) → ShowsGraph g self.old → Acts g mutator (actions.Put object field value) replies.Done self.new }
+        ensures keeps { (s : Graph) → KeepsFrom s self.old → KeepsFrom s self.new }
+        ensures after { ActsOn mutator (actions.Put object field value) replies.Done self.old self.new }
+        ensures leaves { LeavesRegions self.old self.new }
+        ensures table { self.new.table ≡ set_pointer self.old.table at field (value_of self.old mutator value) }
+    {
+        let target = self.stored(mutator, value);
+        self.store_new(mutator, at, field, target);
+    }
+
     fn write(&mut self, mutator: u32, object: Register, field: u32, value: u64) -> Reply
         requires mutator { mutator < self.old.config.mutators }
         requires object { IsRegister (places_of self.old.config) object }
@@ -315,6 +353,28 @@ impl Core {
         }
         self.table.set_value(at, field, value);
         Reply::Done
+    }
+
+    /// The same of a data word that the object has, whose number isn't tested then.
+    #[inline(always)]
+    pub(crate) fn write_known(
+        &mut self,
+        mutator: u32,
+        object: Register,
+        at: Addr,
+        field: u32,
+        value: u64,
+    )
+        requires held { register_of self.old mutator object ≡ Some at }
+        requires leads { Leads self.old (register_place (places_of self.old.config) mutator object.number) (Some at) }
+        requires field { field < length (values_at self.old.table at) }
+        ensures acts { (g : Graph) → ShowsGraph g self.old → Acts g mutator (actions.Write object field value) replies.Done self.new }
+        ensures keeps { (s : Graph) → KeepsFrom s self.old → KeepsFrom s self.new }
+        ensures after { ActsOn mutator (actions.Write object field value) replies.Done self.old self.new }
+        ensures leaves { LeavesRegions self.old self.new }
+        ensures table { self.new.table ≡ set_value self.old.table at field value }
+    {
+        self.table.set_value(at, field, value);
     }
 
     fn move_register(&mut self, mutator: u32, to: Register, from: Register) -> Reply
@@ -491,19 +551,20 @@ impl Core {
         (size as u32) < self.buffers.rest(mutator)
     }
 
-    /// Makes an object with so many weak slots, 0 of them for a plain one, and answers its name, or why it is refused. A small one is made
+    /// Makes an object with so many weak slots, 0 of them for a plain one, and answers it, or why it is refused. A small one is made
     /// within the caller, and any other by a call, for which a small one saves no registers.
     #[inline(always)]
-    fn made(
+    pub(crate) fn made(
         &mut self,
         mutator: u32,
         to: Register,
         counts: Counts,
         weaks: u8,
-    ) -> Result<u64, Refusal>
+    ) -> Result<NewObject, Refusal>
         requires mutator { mutator < self.old.config.mutators }
         requires to { IsRegister (places_of self.old.config) to }
-        ensures { MakesObject mutator to counts weaks (new_reply result) self.old self.new }
+        ensures makes { MakesObject mutator to counts weaks (new_reply result) self.old self.new }
+        ensures at { IfOk result (λ x. register_of self.new mutator to ≡ Some x.at) }
     {
         if self.is_small(mutator, counts, weaks) {
             self.new_here(mutator, to, counts, weaks)
@@ -519,7 +580,7 @@ impl Core {
         requires to { IsRegister (places_of self.old.config) to }
         ensures { MakesObject mutator to counts weaks result self.old self.new }
     {
-        new_reply(self.made(mutator, to, counts, weaks))
+        new_reply(&self.made(mutator, to, counts, weaks))
     }
 
     /// Makes an object by a call, which writes its answer into memory. That memory is cleared here, so that who makes a small object
@@ -531,10 +592,11 @@ impl Core {
         to: Register,
         counts: Counts,
         weaks: u8,
-    ) -> Result<u64, Refusal>
+    ) -> Result<NewObject, Refusal>
         requires mutator { mutator < self.old.config.mutators }
         requires to { IsRegister (places_of self.old.config) to }
-        ensures { MakesObject mutator to counts weaks (new_reply result) self.old self.new }
+        ensures makes { MakesObject mutator to counts weaks (new_reply result) self.old self.new }
+        ensures at { IfOk result (λ x. register_of self.new mutator to ≡ Some x.at) }
     {
         self.new_apart(mutator, to, counts, weaks)
     }
@@ -547,10 +609,11 @@ impl Core {
         to: Register,
         counts: Counts,
         weaks: u8,
-    ) -> Result<u64, Refusal>
+    ) -> Result<NewObject, Refusal>
         requires mutator { mutator < self.old.config.mutators }
         requires to { IsRegister (places_of self.old.config) to }
-        ensures { MakesObject mutator to counts weaks (new_reply result) self.old self.new }
+        ensures makes { MakesObject mutator to counts weaks (new_reply result) self.old self.new }
+        ensures at { IfOk result (λ x. register_of self.new mutator to ≡ Some x.at) }
     {
         self.new_here(mutator, to, counts, weaks)
     }
@@ -563,10 +626,11 @@ impl Core {
         to: Register,
         counts: Counts,
         weaks: u8,
-    ) -> Result<u64, Refusal>
+    ) -> Result<NewObject, Refusal>
         requires mutator { mutator < self.old.config.mutators }
         requires to { IsRegister (places_of self.old.config) to }
-        ensures { MakesObject mutator to counts weaks (new_reply result) self.old self.new }
+        ensures makes { MakesObject mutator to counts weaks (new_reply result) self.old self.new }
+        ensures at { IfOk result (λ x. register_of self.new mutator to ≡ Some x.at) }
     {
         let size = counts.size(weaks);
         if self.is_too_big(size) {
@@ -594,7 +658,7 @@ impl Core {
         };
         self.roots.set_register(mutator, to.number, Some(at));
         self.next += 1;
-        Ok(name)
+        Ok(NewObject { name, at })
     }
 
     /// Does a mutator's step. Where the step is known, as in a call of the C library, its own arm alone is left of this.
@@ -607,6 +671,7 @@ impl Core {
         ensures after { ActsOn op.mutator op.action result self.old self.new }
         ensures leaves { LeavesRegions self.old self.new }
         ensures within { IsWithin self.old.config op.action result }
+        ensures made { HasMade op.mutator op.action result self.new }
     {
         let mutator = op.mutator;
         match op.action {

@@ -10,6 +10,7 @@ ghost use Rattle.step_core.specs.Stands.{Stands};
 ghost use Rattle.step_core.specs.Answers.{Follows, IsFullStep, IsWithinStep};
 ghost use Rattle.step_core.specs.Reclaimed.{IsReclaimed};
 ghost use Rattle.step_core.specs.Cycle.{Collects, Does, MayReclaim};
+ghost use Rattle.step_core.specs.Making.{HasMadeStep};
 
 use crate::heap::Core;
 use heap_steps::{CollectorStep, Refusal, Reply, Step};
@@ -85,6 +86,7 @@ impl Core {
         ensures reclaims { (k : ℕ) → IsReclaimed self.old.table self.new.table k → MayReclaim step self.old k }
         ensures full { (s : State) → Stands s self.old → (result ≡ replies.Refused refusals.Full) ↔ IsFullStep s.graph step self.old }
         ensures within { IsWithinStep self.old.config step result }
+        ensures made { HasMadeStep step result self.new }
         ensures config { self.new.config ≡ self.old.config }
     {
         match step {

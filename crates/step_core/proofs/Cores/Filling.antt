@@ -1,5 +1,5 @@
 -- Stores into an object whose address is known: what the steps `put` and `write` ensure.
-use Rattle.std.proofs.Common.{◌≡◌, ◌<◌, ℕ, Option, Some, None, length, ◌∙◌, refl, sym, ap, arith}
+use Rattle.std.proofs.Common.{◌≡◌, ◌<◌, ℕ, Option, Some, None, length, ◌∙◌, inl, refl, sym, ap, arith}
 use Rattle.std.specs.Prelude.{IfNone}
 use Rattle.heap_words.specs.Configs.{registers_of}
 use Rattle.heap_model.specs.Graph.{Graph}
@@ -8,6 +8,7 @@ use Rattle.graph_runs.specs.State.{register_place, places_of}
 use Rattle.heap_steps.specs.declared.step.Op.{Op}
 use Rattle.heap_steps.specs.declared.step.Action.{Action}
 use Rattle.heap_steps.specs.declared.step.Action.TheVariants as actions
+use Rattle.heap_steps.specs.declared.step.Counts.{Counts}
 use Rattle.heap_steps.specs.declared.step.Register.{Register}
 use Rattle.heap_steps.specs.declared.step.Reply.{Reply}
 use Rattle.heap_steps.specs.declared.step.Reply.TheVariants as replies
@@ -16,12 +17,29 @@ use Rattle.step_core.specs.Stands.{CoreState, IsCore, KeepsFrom, Leads, ShowsGra
 use Rattle.step_core.specs.Answers.{Acts}
 use Rattle.step_core.specs.Cycle.{LeavesRegions}
 use Rattle.step_core.specs.Mutators.{ActsOn, core_after, register_of}
-use Rattle.step_core.specs.Words.{AreRefused, Takes, putting, writing}
-use Rattle.step_core.proofs.Cores.Acted.{acted_plain}
+use Rattle.step_core.specs.Making.{MakesObject}
+use Rattle.step_core.specs.Words.{AreRefused, Takes, making, putting, writing}
+use Rattle.step_core.proofs.Cores.Acted.{acted_plain, full_as}
+use Rattle.step_core.proofs.Cores.Following.{acts_as, created_as}
+use Rattle.step_core.proofs.Cores.Snapshots.{keeps_after}
 use Rattle.step_core.proofs.Cores.Keeping.{register_inside}
 use Rattle.step_core.proofs.Cores.Words.{still, takes, write_op}
 use Rattle.step_core.proofs.Mutating.Reading.{leads, root_rooted}
 use Rattle.step_core.proofs.Mutating.Acting.{put_nil, write_nil}
+
+abbrev new_op : ℕ → Register → Counts → Op
+new_op m to counts = record { mutator = m; action = actions.New to counts }
+
+pub new_takes : (c c' : CoreState) (m : ℕ) (to : Register) (counts : Counts) (r : Reply) → MakesObject m to counts 0 r c c'
+    → Takes c (making m to counts) r c'
+new_takes c c' m to counts r h =
+    let a : Action = actions.New to counts in
+    takes (new_op m to counts) r c c' (record {
+      follows = λ s st. created_as s (new_op m to counts) m to counts 0 r c c' refl (inl refl) refl st (h.acts s.graph st.shows)
+          (keeps_after s.snapshot m (actions.NewWeak to counts 0) r c c' refl h.after h.keeps st.keeps);
+      full = λ s st. full_as s.graph m a to counts 0 r c c' (inl refl) refl (h.acts s.graph st.shows) h.full;
+      after = acts_as m a to counts 0 r c c' (inl refl) refl h.after;
+    }) h.leaves
 
 abbrev put_op : ℕ → Register → ℕ → Option Register → Op
 put_op m object i value = record { mutator = m; action = actions.Put object i value }

@@ -1,9 +1,15 @@
 use Rattle.std.proofs.Common.{refl, subst}
 use Rattle.heap_steps.specs.declared.step.Op.{Op}
+use Rattle.step_core.specs.Making.{HasMade}
 use Rattle.collection.proofs.Took.{unseen_made}
 use Rattle.g1heap_c.specs.Policies.{Asks}
 use Rattle.std.specs.Prelude.{Some}
 use Rattle.g1heap_c.proofs.made_filled.make_and_fill.Goals as goal
+
+pub fill_made-requires-clause-made : goal.fill_made-requires-clause-made
+fill_made-requires-clause-made g c =
+    subst (λ (op : Op). HasMade op.mutator op.action c.make-reply.result c.make-reply.new.core) c.plain-op.ensures.op
+    c.make-reply.ensures.made
 
 pub returns : goal.returns
 returns g c = record {

@@ -2,6 +2,7 @@ use Rattle.std.proofs.Common.{refl}
 use Rattle.step_core.proofs.Cores.Following.{created_as, acts_as, unreached_of}
 use Rattle.step_core.proofs.Cores.Snapshots.{keeps_after, keeps_touched}
 use Rattle.step_core.proofs.Cores.Acted.{Acted, acted_by, acted_plain, full_as}
+use Rattle.step_core.proofs.Mutating.Made.{made_as}
 use Rattle.step_core.proofs.heap.Core.act.Goals as goal
 
 pub returns-in-New-clause-follows : goal.returns-in-New-clause-follows
@@ -15,6 +16,9 @@ returns-in-New-clause-full c = λ s st.
 
 pub returns-in-New-clause-after : goal.returns-in-New-clause-after
 returns-in-New-clause-after c = acts_as _ _ _ _ _ _ _ _ c.in-New.is c.weaks_of.ensures c.new_object.ensures.after
+
+pub returns-in-New-clause-made : goal.returns-in-New-clause-made
+returns-in-New-clause-made c = made_as _ _ _ _ c.weaks_of.result _ _ c.in-New.is c.new_object.ensures.made
 
 get : (c : goal.After-get) → Acted c.args.op c.get.result c.args.self.now c.get.new.self
 get c = acted_plain c.args.op _ _ _ _ c.in-Get.is refl (λ g f. f) c.get.ensures.acts c.get.ensures.keeps c.get.ensures.after

@@ -5,7 +5,8 @@ use Rattle.step_core.specs.Stands.{CoreState, ShowsGraph, KeepsFrom}
 use Rattle.step_core.proofs.Cores.Added.{creates}
 use Rattle.step_core.proofs.Mutating.Creating.{new_acts, new_kept, new_keeps, new_leaves}
 use Rattle.step_core.proofs.Mutating.Done.{made_in_place, has_place}
-use Rattle.heap_words.specs.Configs.{object_limit}
+use Rattle.step_core.proofs.Mutating.Made.{made_named, register_taken}
+use Rattle.heap_words.specs.Configs.{object_limit, registers_of}
 use Rattle.step_core.proofs.heap.Core.new_here.Goals as goal
 
 pub invariant_of-self-2 : goal.invariant_of-self-2
@@ -21,8 +22,15 @@ invariant_of-self-2 c =
     (new_kept _ c.args.mutator c.args.to _ _ _ c.args.counts.pointers c.args.weaks c.args.counts.values c.self.invariant w
     (omega (arith, fits, same, c.size-size.ensures)) c.if-self.false)
 
-pub returns : goal.returns
-returns c =
+pub returns-clause-at : goal.returns-clause-at
+returns-clause-at c =
+    rw (c.set_register.ensures, register_there _ c.self.invariant c.args.mutator c.args.to.number, c.in-Ok.ensures.made.1.at)
+    (register_taken _ c.args.mutator c.args.to _ c.self.invariant
+    (subst (λ (d : CoreState). c.args.mutator < d.config.mutators) (sym c.self.view_is) c.requires.mutator)
+    (subst (λ (d : CoreState). c.args.to.number < registers_of d.config) (sym c.self.view_is) c.requires.to))
+
+pub returns-clause-makes : goal.returns-clause-makes
+returns-clause-makes c =
     let m = c.in-Ok.ensures.made.1 in
     let fits = c.is_too_big.ensures.fits c.if-is_too_big.false in
     let same : object_limit c.self.inside.config ≡ object_limit c.args.self.now.config =
@@ -59,6 +67,10 @@ returns c =
           (omega (arith, fits, same, c.size-size.ensures)) c.if-self.false _ c.self.view_is);
       full = λ none name e. has_place _ _ c.args.mutator c.size-size.result _ _ c.self.view_is m.place c.size-size.ensures none;
       within = search rules;
+      made = rw (c.set_register.ensures, register_there _ c.self.invariant c.args.mutator c.args.to.number, m.at, m.made, m.buffers)
+          (made_named _ c.args.mutator c.args.to _ _ _ _ c.args.counts.pointers c.args.weaks c.args.counts.values c.self.invariant
+          (subst (λ (d : CoreState). c.args.mutator < d.config.mutators) (sym c.self.view_is) c.requires.mutator)
+          (subst (λ (d : CoreState). c.args.to.number < registers_of d.config) (sym c.self.view_is) c.requires.to) w.is);
     }
 
 pub set_register-requires-clause-mutator : goal.set_register-requires-clause-mutator
