@@ -36,7 +36,7 @@
 //! use heap_words::addr::Addr;
 //! use heap_words::config::{Config, Format};
 //! use heap_steps::{Action, Actor, CollectorStep, Counts, Event, Op, Refusal, Register, Reply, Step};
-//! use step_core::{Core, object_name, run, run_to_core};
+//! use step_core::{Core, new_reply, object_name, run, run_to_core};
 //!
 //! let config = Config { format: Format::V1, regions: 4, words: 16, buffer: 8, mutators: 1, first_name: 0 };
 //! let r0 = Register { number: 0 };
