@@ -189,18 +189,23 @@ RARE static g1_answer new_apart(tuned *heap, mutator *m, uint32_t to, uint32_t p
     m->registers.at[to] = it;
     return tell(G1_NAME, (uint64_t)it);
 }
-g1_answer g1_new_object(g1_heap *heap, uint32_t by, uint32_t to, uint32_t pointers, uint32_t values)
+/* An object in the buffer. Its words are cleared, unless the caller writes them all. */
+static inline g1_answer new_in_buffer(tuned *all, mutator *m, uint32_t to, uint32_t pointers, uint32_t values, bool clears)
 {
-    BEGIN;
-    STEP_IF(opens(mine, to));
     uint64_t words = (uint64_t)pointers + values, size = sizeof(object) + 8 * words;
     object *it = (object *)m->next;
     if (!LIKELY(size <= (uint64_t)(m->end - m->next))) return new_apart(all, m, to, pointers, values);
     m->next += size;
     it->pointers = pointers, it->values = values;
-    for (uint64_t i = 0; i < words; i++) it->words[i].value = 0;
+    for (uint64_t i = 0; clears && i < words; i++) it->words[i].value = 0;
     m->registers.at[to] = it;
     return tell(G1_NAME, (uint64_t)it);
+}
+g1_answer g1_new_object(g1_heap *heap, uint32_t by, uint32_t to, uint32_t pointers, uint32_t values)
+{
+    BEGIN;
+    STEP_IF(opens(mine, to));
+    return new_in_buffer(all, m, to, pointers, values, true);
 }
 
 /* What a policy of collection asks for: no region is ever taken, so it never collects. */
@@ -237,21 +242,30 @@ g1_answer g1_write_words(g1_heap *heap, uint32_t by, uint32_t object, uint32_t f
     for (size_t i = 0; i < count && answer.code < G1_NIL; i++) answer = g1_write(heap, by, object, from + (uint32_t)i, in[i]);
     return answer;
 }
-static g1_answer filled(g1_answer made, g1_heap *heap, uint32_t by, uint32_t to, const uint32_t *from, size_t pointers, const uint64_t *words,
-                        size_t values)
+/* Whether each source is nil or a register, and another one than the one that takes the object: the number of nil is the largest. */
+static inline bool are_sources(const row *mine, uint32_t to, const uint32_t *from, size_t count)
 {
-    for (size_t i = 0; i < pointers; i++) g1_put(heap, by, to, (uint32_t)i, from[i]);
-    for (size_t i = 0; i < values; i++) g1_write(heap, by, to, (uint32_t)i, words[i]);
-    return made;
+    for (size_t i = 0; i < count; i++)
+        if (!LIKELY(from[i] != to && from[i] + 1 <= mine->count)) return false;
+    return true;
 }
 g1_answer g1_new_filled(g1_heap *heap, uint32_t by, uint32_t to, const uint32_t *from, size_t pointers, const uint64_t *words, size_t values)
 {
-    return filled(g1_new_object(heap, by, to, (uint32_t)pointers, (uint32_t)values), heap, by, to, from, pointers, words, values);
+    BEGIN;
+    STEP_IF(LIKELY(pointers <= UINT32_MAX && values <= UINT32_MAX) && are_sources(mine, to, from, pointers) && opens(mine, to));
+    g1_answer made = new_in_buffer(all, m, to, (uint32_t)pointers, (uint32_t)values, false);
+    object *it = (object *)made.first;
+    if (!LIKELY(made.code == G1_NAME)) return made;
+    for (size_t i = 0; i < pointers; i++)
+        store(all, &it->words[i].object, from[i] < mine->bound ? mine->at[from[i]] : NULL);
+    for (size_t i = 0; i < values; i++) it->words[pointers + i].value = words[i];
+    return made;
 }
 g1_answer g1_make_filled(g1_heap *heap, g1_policy *policy, uint32_t by, uint32_t to, const uint32_t *from, size_t pointers,
                          const uint64_t *words, size_t values)
 {
-    return filled(g1_make(heap, policy, by, to, (uint32_t)pointers, 0, (uint32_t)values), heap, by, to, from, pointers, words, values);
+    policy->left -= (uint32_t)(2 + pointers + values);
+    return g1_new_filled(heap, by, to, from, pointers, words, values);
 }
 g1_answer g1_collect(g1_heap *heap, g1_policy *policy) { return (void)heap, (void)policy, tell(G1_DONE, 0); }
 g1_answer g1_collect_all(g1_heap *heap, g1_policy *policy) { return g1_collect(heap, policy); }
