@@ -8,3 +8,4 @@ pub mod Spans
 pub mod LiveWords
 pub mod Summaries
 pub mod LiveBounds
+pub mod Held

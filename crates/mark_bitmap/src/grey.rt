@@ -13,30 +13,33 @@
 //!                                                                                   falls where no other one is left
 //! ```
 //!
-//! One grey object is held beside the fingers, the first that comes while none is: it needs no finger. While marking goes down a list
-//! one object is grey at a time, so no finger is set, and none is looked for.
+//! The lowest grey object is held beside the fingers, and needs none. While marking goes down a list one object is grey at a time, so
+//! no finger is set, and none is looked for.
 //!
 //! ```text
 //!   a list    add 5: held 5     any = 5     remove 5: none held     add 90: held 90 ..      no finger is ever set
-//!   a tree    add 5: held 5     add 90: finger 1 is set     any = 5     remove 5: none held, and 90 is left by its finger
+//!   a tree    add 90: held 90   add 5: held 5, finger 1 is set      remove 5: held 90, and finger 1 stays
 //! ```
+//!
+//! The next object is known as soon as one is scanned, before the targets of this one are looked for. So who scans can read its header
+//! early, and the processor fetches it meanwhile.
 //!
 //! Over a marking cycle: `begin` clears the scanned set and the fingers; each object that is marked is added; `any` and
 //! `remove` take one grey object after another, until none is left. Each of the three costs a few words, however many
 //! objects there are and wherever they lie.
 
-ghost use Rattle.std.specs.Prelude.{◌≡◌, ◌≢◌, ℕ, ◌<◌, List, Bool, true, false, Some, IfOk, IfSome, length, MatchOption, replicate};
+ghost use Rattle.std.specs.Prelude.{◌≡◌, ◌≢◌, ℕ, ◌<◌, List, Bool, true, false, Some, None, IfOk, IfSome, length, MatchOption, replicate};
 ghost use Rattle.std.specs.Prelude.{slice_set};
 ghost use Rattle.std.specs.Int.{div_ceil};
 ghost use Rattle.bit_sets.specs.Bits.{has};
 ghost use Rattle.mark_bitmap.specs.Marks.{is_marked, is_only, HasNone, IsLowest};
-ghost use Rattle.mark_bitmap.specs.Summary.{HasMember};
-ghost use Rattle.mark_bitmap.specs.Grey.{finger_of, held_without, is_grey, nothing_scanned, with_grey};
+ghost use Rattle.mark_bitmap.specs.Summary.{HasMember, HasNoMember};
+ghost use Rattle.mark_bitmap.specs.Grey.{finger_of, is_grey, nothing_scanned, with_grey};
 ghost use Rattle.mark_bitmap.specs.Grey.{HasFingers, HasNoFinger, IsLowestBeside, Scans};
 
 use crate::finger_set::Fingers;
 use crate::marks::Marks;
-use heap_words::addr::Addr;
+use heap_words::addr::{Addr, Ptr};
 use std::alloc::{AllocError, Global};
 use std::marker::Model;
 
@@ -44,19 +47,20 @@ use std::marker::Model;
 pub struct Grey {
     scanned: Marks,
     fingers: Fingers,
-    held: Option<u32>,
+    held: Ptr,
+    /// What was read last of an object that comes soon. It is read so that the processor fetches that object, and written here so that the
+    /// compiler keeps the reading. Nobody looks at it.
+    ahead: u32,
 }
 
 impl Model for Grey {
-    ghost use Rattle.std.specs.Prelude.{◌≡◌, length};
-    ghost use Rattle.std.specs.Int.{div_ceil};
-    ghost use Rattle.mark_bitmap.specs.Grey.{Scans};
+    ghost use Rattle.mark_bitmap.specs.Grey.{HasPlaces, Scans};
 
     ghost Value = { Scans };
 
     ghost view = { λ g. record { scanned = g.scanned; fingers = g.fingers; held = g.held } };
 
-    ghost invariant = { λ g. length g.fingers ≡ div_ceil (length g.scanned) 64 };
+    ghost invariant = { λ g. HasPlaces g.scanned g.fingers g.held };
 }
 
 /// Where it is let go there is one call, and not a drop for each of its parts.
@@ -66,18 +70,20 @@ impl Drop for Grey {
             scanned: _,
             fingers: _,
             held: _,
+            ahead: _,
         } = self;
     }
 }
 
-/// An object isn't held any more, if it was.
-fn let_go(held: &mut Option<u32>, object: u32)
-    ensures { held.new ≡ held_without held.old object }
+/// Whether an object is the one that is held.
+#[inline(always)]
+fn holds(held: Ptr, object: Addr) -> bool
+    ensures held { result ≡ true → held ≡ Some object }
+    ensures not { result ≡ false → held ≢ Some object }
 {
-    if let Some(found) = *held {
-        if found == object {
-            *held = None;
-        }
+    match held {
+        Some(found) => found.word() == object.word(),
+        None => false,
     }
 }
 
@@ -92,7 +98,7 @@ fn lowest_beside(marks: &Marks, scanned: &Marks, fingers: &Fingers) -> Option<Ad
     ensures within { IfSome result (λ found. found < length marks.now) }
 {
     let finger = fingers.lowest()?;
-    // Mostly it stands among the finger's own addresses.
+    // Mostly it is among the finger's own addresses.
     if let Some(found) = marks.lowest_without(scanned, finger) {
         return Some(found);
     }
@@ -111,6 +117,7 @@ impl Grey {
             scanned: Marks::new(alloc, count)?,
             fingers: Fingers::new(alloc, count.div_ceil(64))?,
             held: None,
+            ahead: 0,
         })
     }
 
@@ -128,7 +135,8 @@ impl Grey {
         self.held = None;
     }
 
-    /// An object is marked that wasn't scanned, which makes it grey: it is held, if no other one is, and else its finger is set.
+    /// An object is marked that wasn't scanned, which makes it grey. The lower of it and the held one is held, and the finger of the other
+    /// is set.
     #[inline(always)]
     #[tactic(auto, unfolding(crate::specs::Grey::finger_of))]
     pub fn add(&mut self, object: Addr)
@@ -139,11 +147,12 @@ impl Grey {
         ensures fingers { (marks : List Bool) → length marks ≡ length self.old.scanned → HasFingers marks self.old
             → HasFingers (slice_set marks object true) self.new }
     {
-        if self.held.is_none() {
-            self.held = Some(object.word());
+        let Some(held) = self.held else {
+            self.held = Some(object);
             return;
-        }
-        self.fingers.set(object.word() / 64);
+        };
+        self.held = Some(Addr::new(held.word().min(object.word())));
+        self.fingers.set(held.word().max(object.word()) / 64);
     }
 
     /// The lowest grey object.
@@ -154,18 +163,33 @@ impl Grey {
         ensures lowest { MatchOption result (HasNone (is_grey marks.now self.now) 0) (IsLowest (is_grey marks.now self.now) 0) }
         ensures within { IfSome result (λ found. found < length marks.now) }
     {
-        let beside = lowest_beside(marks, &self.scanned, &self.fingers);
-        let Some(held) = self.held else {
-            return beside;
-        };
-        match beside {
-            Some(found) => Some(Addr::new(found.word().min(held))),
-            None => Some(Addr::new(held)),
+        self.held
+    }
+
+    /// The finger of an object that is scanned now falls, if no grey object is left at one of its addresses.
+    #[inline(always)]
+    #[tactic(auto, unfolding(crate::specs::Grey::finger_of))]
+    fn drop_finger(&mut self, marks: &Marks, object: Addr)
+        requires even { length marks.now ≡ length self.old.scanned }
+        requires known { object < length self.old.scanned }
+        requires scanned { is_marked self.old.scanned object ≡ true }
+        ensures left { has self.new.fingers (finger_of object) ≡ true → HasMember (is_grey marks.now self.new) (finger_of object) }
+        ensures others { (i : ℕ) → i ≢ finger_of object → has self.new.fingers i ≡ has self.old.fingers i }
+        ensures set { (i : ℕ) → has self.new.fingers i ≡ false → has self.old.fingers i ≡ true
+            → HasNoMember (is_grey marks.now self.new) i }
+        ensures scanned { self.new.scanned ≡ self.old.scanned }
+        ensures held { self.new.held ≡ self.old.held }
+    {
+        if self.fingers.is_empty() {
+            return;
+        }
+        if marks.lowest_left(&self.scanned, object).is_none() {
+            self.fingers.remove(object.word() / 64);
         }
     }
 
     /// An object is scanned: it is no longer grey. Its finger is still set only if a grey object is left at one of the
-    /// finger's addresses.
+    /// finger's addresses. If it was held, the lowest of those with a finger is held.
     #[tactic(auto, unfolding(crate::specs::Grey::finger_of))]
     pub fn remove(&mut self, marks: &Marks, object: Addr)
         requires even { length marks.now ≡ length self.old.scanned }
@@ -173,17 +197,24 @@ impl Grey {
         ensures scanned { self.new.scanned ≡ slice_set self.old.scanned object true }
         ensures left { has self.new.fingers (finger_of object) ≡ true → HasMember (is_grey marks.now self.new) (finger_of object) }
         ensures others { (i : ℕ) → i ≢ finger_of object → has self.new.fingers i ≡ has self.old.fingers i }
-        ensures held { self.new.held ≡ held_without self.old.held object }
+        ensures held { self.old.held ≢ Some object → self.new.held ≡ self.old.held }
+        ensures next { self.old.held ≡ Some object → MatchOption self.new.held
+            (HasNoFinger marks.now self.new.scanned self.new.fingers) (IsLowestBeside marks.now self.new.scanned self.new.fingers) }
         ensures fingers { HasFingers marks.now self.old → HasFingers marks.now self.new }
     {
         self.scanned.set(object);
-        let_go(&mut self.held, object.word());
-        if self.fingers.is_empty() {
-            return;
+        self.drop_finger(marks, object);
+        if holds(self.held, object) {
+            self.held = lowest_beside(marks, &self.scanned, &self.fingers);
         }
-        if marks.lowest_left(&self.scanned, object).is_none() {
-            self.fingers.remove(object.word() / 64);
-        }
+    }
+
+    /// Takes what was read of an object that comes soon, for the reading's sake.
+    #[inline(always)]
+    pub fn read_ahead(&mut self, word: u32)
+        ensures { self.new ≡ self.old }
+    {
+        self.ahead = word;
     }
 
     /// Whether an object is scanned.

@@ -64,8 +64,8 @@ impl Marker {
         self.live.add(table.region_of(at), size);
     }
 
-    /// A grey object enters the scanned ones. Its targets are still to be marked.
-    fn enter(&mut self, table: &RegionTable, object: Addr)
+    /// A grey object enters the scanned ones.
+    fn set_scanned(&mut self, table: &RegionTable, object: Addr)
         requires stands { MarkerStands table.now self.old }
         requires running { self.old.running ≡ true }
         requires grey { is_grey self.old.bitmaps.next self.old.grey object ≡ true }
@@ -79,6 +79,37 @@ impl Marker {
         table.law();
         self.grey.remove(&self.bitmaps.next, object);
         self.scans.add();
+    }
+
+    /// Reads the header of the object that is to be scanned next, if it is known, so that the processor fetches it while the targets of the
+    /// one before are marked.
+    #[inline(always)]
+    fn read_next(&mut self, table: &RegionTable)
+        requires stands { MarkerStands table.now self.old }
+        requires running { self.old.running ≡ true }
+        ensures { self.new ≡ self.old }
+    {
+        let Some(next) = self.grey.any(&self.bitmaps.next) else {
+            return;
+        };
+        let count = table.pointer_count(next);
+        self.grey.read_ahead(count);
+    }
+
+    /// A grey object enters the scanned ones, and the next one is looked at. The object's targets are still to be marked.
+    fn enter(&mut self, table: &RegionTable, object: Addr)
+        requires stands { MarkerStands table.now self.old }
+        requires running { self.old.running ≡ true }
+        requires grey { is_grey self.old.bitmaps.next self.old.grey object ≡ true }
+        ensures stands { MarkerStands table.now self.new }
+        ensures next { self.new.bitmaps.next ≡ self.old.bitmaps.next }
+        ensures scanned { self.new.grey.scanned ≡ slice_set self.old.grey.scanned object true }
+        ensures counted { self.new.scans ≡ added self.old.scans }
+        ensures same { SameRoles self.old self.new }
+        ensures logs { self.new.logs ≡ self.old.logs }
+    {
+        self.set_scanned(table, object);
+        self.read_next(table);
     }
 
     /// Scans a grey object: each of its targets that was there when marking began is marked.

@@ -286,6 +286,8 @@ module _ (k : CoreState) (core : IsCore k) (which : Choice) (budget : ℕ) (chos
           record {
             each = λ a lt. elim (fingers.each a lt) [ inl held ↦ inl held | inr none ↦ inr (grey_same run a ∙ none) ];
             held = λ a held. grey_same run a ∙ fingers.held a held;
+            lowest = λ a b held less. grey_same run b ∙ fingers.lowest a b held less;
+            none = λ a held. grey_same run a ∙ fingers.none a held;
           };
       newer = newer;
       follows = λ run. follows_of after core.footing.graph core.footing.snapshot (paused_shows core.footing.graph core.rests.shows)

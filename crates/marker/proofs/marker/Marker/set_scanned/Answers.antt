@@ -1,5 +1,5 @@
 use Rattle.marker.proofs.Entered.{scan_stands}
-use Rattle.marker.proofs.marker.Marker.enter.Goals as goal
+use Rattle.marker.proofs.marker.Marker.set_scanned.Goals as goal
 
 pub returns-clause-stands : goal.returns-clause-stands
 returns-clause-stands c =
