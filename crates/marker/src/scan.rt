@@ -64,23 +64,6 @@ impl Marker {
         self.live.add(table.region_of(at), size);
     }
 
-    /// A grey object enters the scanned ones.
-    fn set_scanned(&mut self, table: &RegionTable, object: Addr)
-        requires stands { MarkerStands table.now self.old }
-        requires running { self.old.running ≡ true }
-        requires grey { is_grey self.old.bitmaps.next self.old.grey object ≡ true }
-        ensures stands { MarkerStands table.now self.new }
-        ensures next { self.new.bitmaps.next ≡ self.old.bitmaps.next }
-        ensures scanned { self.new.grey.scanned ≡ slice_set self.old.grey.scanned object true }
-        ensures counted { self.new.scans ≡ added self.old.scans }
-        ensures same { SameRoles self.old self.new }
-        ensures logs { self.new.logs ≡ self.old.logs }
-    {
-        table.law();
-        self.grey.remove(&self.bitmaps.next, object);
-        self.scans.add();
-    }
-
     /// Reads the header of the object that is to be scanned next, if it is known, so that the processor fetches it while the targets of the
     /// one before are marked.
     #[inline(always)]
@@ -108,7 +91,9 @@ impl Marker {
         ensures same { SameRoles self.old self.new }
         ensures logs { self.new.logs ≡ self.old.logs }
     {
-        self.set_scanned(table, object);
+        table.law();
+        self.grey.remove(&self.bitmaps.next, object);
+        self.scans.add();
         self.read_next(table);
     }
 
