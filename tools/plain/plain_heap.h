@@ -116,18 +116,14 @@ public:
         }
         levels_[0][index] |= Word(1) << (member & 63);
     }
-    // Whether there is a member; none may be below `from`.
-    bool has_any(Number from) { return levels_[0][from >> 6] != 0 || used_above(from >> 6) != nowhere; }
-    // Takes out the lowest member, where none is below `from`; nowhere if there is none. Mostly it is near.
-    Number take(Number from) {
+    // The lowest member, where none is below `from`; nowhere if there is none. Mostly it is near.
+    Number lowest(Number from) {
         Number index = from >> 6, last = index + near;
         while (levels_[0][index] == 0)
             if (index++ == last && (index = used_above(last)) == nowhere) return nowhere;
-        Word& word = levels_[0][index];
-        Number member = Number(index << 6) + Number(__builtin_ctzll(word));
-        word &= word - 1;
-        return member;
+        return Number(index << 6) + Number(__builtin_ctzll(levels_[0][index]));
     }
+    void remove(Number member) { levels_[0][member >> 6] &= ~(Word(1) << (member & 63)); }
 
 private:
     static constexpr int top = 3;
@@ -237,6 +233,7 @@ public:
           card_log_counts_(sizes.mutators), queue_(heap_words_ / card_words_), remembered_(sizes.regions),
           sources_(std::size_t(sizes.regions) * source_stride(sizes.regions)), previous_marks_(heap_words_),
           next_marks_(heap_words_), grey_(heap_words_), finger_(heap_words_),
+          stack_room_(sizes.format == 3 ? 64 : 0),
           deletion_logs_(sizes.mutators * deletion_log_length), deletion_log_counts_(sizes.mutators),
           weak_regions_(sizes.regions), covered_(heap_words_ / card_words_), noted_(heap_words_ / card_words_) {
         for (Number region = 0; region < sizes.regions; ++region) {
@@ -677,20 +674,38 @@ protected:
         next_marks_.add(at);
         grey_.add(at);
         finger_ = std::min(finger_, at);
+        hold(at);
         region.next_live += object_size(words_[at]);
         ++marked_;
     }
 
-    // Scans so many grey objects, or all there are, the lowest first; of none it looks at the weak slots. No grey object starts below the
-    // finger.
+    // The object that is scanned next is held. In the third format it is the one that was found last, and those that were held before are
+    // on a stack while there is room. Else it is the lower of the two.
+    void hold(Address at) {
+        if (held_ == nowhere) held_ = at;
+        else if (stacked_ < stack_room_) stack_[stacked_++] = std::exchange(held_, at);
+        else held_ = std::min(held_, at);
+    }
+
+    // The held object isn't grey any more. The last one of the stack is held, or else the lowest grey one. None starts below the finger.
+    Address take_held() {
+        Address at = std::exchange(held_, nowhere);
+        if (at == nowhere) return at;
+        grey_.remove(at);
+        if (stacked_ > 0) {
+            held_ = stack_[--stacked_];
+        } else {
+            held_ = grey_.lowest(finger_);
+            finger_ = held_ == nowhere ? heap_words_ : held_;
+        }
+        return at;
+    }
+
+    // Scans so many grey objects, or all there are; of none it looks at the weak slots.
     Number scan(Number units) {
         for (Number scanned = 0; scanned != units; ++scanned) {
-            Address at = grey_.take(finger_);
-            if (at == nowhere) {
-                finger_ = heap_words_;
-                return scanned;
-            }
-            finger_ = at + 1;
+            Address at = take_held();
+            if (at == nowhere) return scanned;
             Address end = at + 2 + pointer_count(words_[at]);
             for (Address field = at + 2; field < end; ++field)
                 if (words_[field] != 0) mark_object(Address(words_[field] - 1));
@@ -877,7 +892,8 @@ protected:
 
     Bitmap previous_marks_, next_marks_;
     GreySet grey_;
-    Address finger_;
+    Address finger_, held_ = nowhere, stack_[64];
+    Number stack_room_, stacked_ = 0;
     bool marking_ = false;
     Number marked_ = 0;
     std::vector<Address> deletion_logs_;

@@ -31,7 +31,7 @@ public:
     Number registers() const { return sizes_.registers; }
     Number free_regions() const { return free_count_; }
     bool is_marking() const { return marking_; }
-    bool has_grey() { return marking_ && grey_.has_any(finger_); }
+    bool has_grey() { return marking_ && held_ != plain::nowhere; }
     Number queued() const { return queue_count_; }
     plain::Reply name(Number mutator, Number number) const { return named(root(mutator, number)); }
     const plain::Sizes& sizes() const { return sizes_; }

@@ -28,7 +28,7 @@ Sizes read_sizes(const std::string& line) {
     words >> format >> sizes.regions >> sizes.words >> sizes.buffer >> sizes.mutators >> sizes.first_name;
     sizes.card = 8, sizes.globals = 16, sizes.registers = 8;
     if (format != "heap") words >> sizes.card;
-    if (format == "heap3") words >> sizes.globals >> sizes.registers;
+    if (format == "heap3") sizes.format = 3, words >> sizes.globals >> sizes.registers;
     return sizes;
 }
 

@@ -1,39 +1,50 @@
 -- Grey objects: marked, and not scanned yet.
-use Rattle.std.specs.Prelude.{◌≡◌, ℕ, ◌/◌, ◌<◌, ◌⊎◌, Bool, true, false, List, Option, Some, None, length, max, min, replicate, slice_set}
+use Rattle.std.specs.Prelude.{◌≡◌, ℕ, ◌/◌, ◌<◌, ◌≤◌, ◌⊎◌, Bool, true, false, List, Option, Some, None, length, max, min, replicate, slice_set}
+use Rattle.std.specs.Prelude.{MatchOption, if◌then◌else◌}
 use Rattle.std.specs.Int.{div_ceil}
 use Rattle.bit_sets.specs.Bits.{has}
 use Rattle.mark_bitmap.specs.Marks.{is_only}
+use Rattle.mark_bitmap.specs.Stack.{Stack, AreBelow, IsOn, TakesAll, TakesLast, empty_stack, has_room, with_object}
 
 -- the finger of an address: a bit of a summary, one for each 64 addresses
 unfoldable pub finger_of : ℕ → ℕ
 finger_of address = address / 64
 
--- which objects are scanned; a finger for each 64 addresses that is set where a grey object may start at one of them; and the lowest grey
--- object, which is held beside the fingers
+-- which objects are scanned; a finger for each 64 addresses that is set where a grey object may start at one of them; the grey object that
+-- is held beside the fingers, to be scanned next; and the stack of those that were held before
 pub record Scans : Type 0 where
   pub scanned : List Bool
   pub fingers : List Bool
   pub held : Option ℕ
+  pub stack : Stack
 
--- there is a finger for each 64 addresses, and the held object starts at an address
-pub record HasPlaces (scanned fingers : List Bool) (held : Option ℕ) : Type 0 where
+-- there is a finger for each 64 addresses, objects that are held or on the stack start at an address, and the stack has room for its own
+pub record HasPlaces (scanned fingers : List Bool) (held : Option ℕ) (stack : Stack) : Type 0 where
   pub count : length fingers ≡ div_ceil (length scanned) 64
   pub within : (a : ℕ) → held ≡ Some a → a < length scanned
+  pub stacked : AreBelow stack (length scanned)
+  pub fits : length stack.objects ≤ stack.room
 
--- of so many addresses none is scanned, no finger is set and nothing is held
-unfoldable pub nothing_scanned : ℕ → Scans
-nothing_scanned count = record { scanned = replicate count false; fingers = replicate (div_ceil count 64) false; held = None }
+-- of so many addresses none is scanned, no finger is set, nothing is held, and the stack is empty
+unfoldable pub nothing_scanned : ℕ → Bool → Scans
+nothing_scanned count by_address = record {
+  scanned = replicate count false;
+  fingers = replicate (div_ceil count 64) false;
+  held = None;
+  stack = empty_stack by_address;
+}
 
 -- marked, and not scanned
 abbrev pub is_grey : List Bool → Scans → ℕ → Bool
 is_grey marks scans = is_only marks scans.scanned
 
--- the held object is the lowest grey one, nothing is held if and only if none is grey, and no grey object but the held one starts at an
--- address whose finger isn't set
+-- the held object is grey, and the lowest grey one if the stack has no room; nothing is held if and only if none is grey; and no grey
+-- object starts at an address whose finger isn't set, but the held one and those on the stack. What is on the stack may have been scanned
 pub record HasFingers (marks : List Bool) (scans : Scans) : Type 0 where
-  pub each : (a : ℕ) → has scans.fingers (finger_of a) ≡ false → (scans.held ≡ Some a) ⊎ (is_grey marks scans a ≡ false)
+  pub each : (a : ℕ) → has scans.fingers (finger_of a) ≡ false
+      → (scans.held ≡ Some a) ⊎ (IsOn scans.stack a ⊎ (is_grey marks scans a ≡ false))
   pub held : (a : ℕ) → scans.held ≡ Some a → is_grey marks scans a ≡ true
-  pub lowest : (a b : ℕ) → scans.held ≡ Some a → b < a → is_grey marks scans b ≡ false
+  pub lowest : scans.stack.room ≡ 0 → (a b : ℕ) → scans.held ≡ Some a → b < a → is_grey marks scans b ≡ false
   pub none : (a : ℕ) → scans.held ≡ None → is_grey marks scans a ≡ false
 
 -- no grey object starts at an address whose finger is set
@@ -45,8 +56,19 @@ abbrev pub IsLowestBeside : List Bool → List Bool → List Bool → ℕ → Ty
 IsLowestBeside marks scanned fingers x = (is_only marks scanned x ≡ true)
     × ((a : ℕ) → a < x → has fingers (finger_of a) ≡ true → is_only marks scanned a ≡ false)
 
--- the scans once an object more is grey: the lower of it and the held one is held, and the finger of the other is set
+-- what is held after the object that was held is scanned: the last grey one of the stack; where none is grey there, the lowest of those
+-- with a finger, if there is one
+pub data HoldsNext (marks : List Bool) (old new : Scans) : Type 0 where
+  OfStack : (found : ℕ) → new.held ≡ Some found → TakesLast (is_grey marks new) old.stack new.stack found → HoldsNext marks old new
+  OfFingers : TakesAll (is_grey marks new) old.stack new.stack
+      → MatchOption new.held (HasNoFinger marks new.scanned new.fingers) (IsLowestBeside marks new.scanned new.fingers)
+      → HoldsNext marks old new
+
+-- the scans once an object more is grey: it is held, and the one that was held is put on the stack; where that has no room, the lower of
+-- the two is held, and the finger of the other is set
 abbrev pub with_grey : Option ℕ → Scans → ℕ → Scans
-with_grey None scans a = record { scanned = scans.scanned; fingers = scans.fingers; held = Some a }
+with_grey None scans a = record scans { held = Some a }
 with_grey (Some held) scans a =
-    record { scanned = scans.scanned; fingers = slice_set scans.fingers (finger_of (max held a)) true; held = Some (min held a) }
+    if has_room scans.stack
+    then record scans { held = Some a; stack = with_object scans.stack held }
+    else record scans { fingers = slice_set scans.fingers (finger_of (max held a)) true; held = Some (min held a) }

@@ -4,3 +4,4 @@ pub mod Grey
 pub mod Kept
 pub mod Live
 pub mod Summary
+pub mod Stack

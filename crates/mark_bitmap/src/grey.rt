@@ -1,24 +1,25 @@
 //! The grey objects: marked, and not scanned yet.
 //!
-//! There is no list of them. They are the difference of two bitmaps, and fingers tell where to look: one for each 64
-//! addresses, which is set where a grey object starts at one of them. The fingers have levels above them (`summary`), so
-//! the lowest one that is set is found in a few steps, wherever it is.
+//! They are the difference of two bitmaps. One of them is held, to be scanned next. The others are on a stack (`mark_stack`), or have a
+//! finger: there is one for each 64 addresses, which is set where a grey object starts at one of them. The fingers have levels above them
+//! (`summary`), so the lowest one that is set is found in a few steps, wherever it is.
 //!
 //! ```text
 //!   address   0 ..          64 ..         128 ..        192 ..
-//!   marked    . x . . x     x . . . .     . . . . .     . . x . x        add        the object's finger is set
-//!   scanned   . x . . x     . . . . .     . . . . .     . . x . .        any        the lowest grey object, by the
-//!   grey      . . . . .     x . . . .     . . . . .     . . . . x                   lowest finger that is set
-//!   finger    no            yes           no            yes              remove     the object is scanned; its finger
-//!                                                                                   falls where no other one is left
+//!   marked    . x . . x     x . . . .     . . . . .     . . x . x        add        the object is held; the one that was goes on
+//!   scanned   . x . . x     . . . . .     . . . . .     . . x . .                   the stack, or gets a finger if that is full
+//!   grey      . . . . .     x . . . .     . . . . .     . . . . x        any        the one that is held
+//!   finger    no            yes           no            yes              remove     the object is scanned; its finger falls where
+//!                                                                                   no other one is left, and the next one is held
 //! ```
 //!
-//! The lowest grey object is held beside the fingers, and needs none. While marking goes down a list one object is grey at a time, so
-//! no finger is set, and none is looked for.
+//! The stack has no room where objects are scanned by rising address, as in the first two formats. The lower of two objects is held then,
+//! and the other one gets a finger:
 //!
 //! ```text
-//!   a list    add 5: held 5     any = 5     remove 5: none held     add 90: held 90 ..      no finger is ever set
-//!   a tree    add 90: held 90   add 5: held 5, finger 1 is set      remove 5: held 90, and finger 1 stays
+//!   by the stack      add 90: held 90   add 5: held 5, on the stack 90      remove 5: held 90     no finger is set
+//!   by address        add 5: held 5     add 90: held 5, finger 1 is set     remove 5: held 90, and finger 1 stays
+//!   a list            add 5: held 5     remove 5: none held                 add 90: held 90 ..    in either order
 //! ```
 //!
 //! The next object is known as soon as one is scanned, before the targets of this one are looked for. So who scans can read its header
@@ -29,25 +30,28 @@
 //! objects there are and wherever they lie.
 
 ghost use Rattle.std.specs.Prelude.{◌≡◌, ◌≢◌, ℕ, ◌<◌, List, Bool, true, false, Some, None, IfOk, IfSome, length, MatchOption, replicate};
-ghost use Rattle.std.specs.Prelude.{slice_set};
+ghost use Rattle.std.specs.Prelude.{slice_set, []};
 ghost use Rattle.std.specs.Int.{div_ceil};
 ghost use Rattle.bit_sets.specs.Bits.{has};
 ghost use Rattle.mark_bitmap.specs.Marks.{is_marked, is_only, HasNone, IsLowest};
 ghost use Rattle.mark_bitmap.specs.Summary.{HasMember, HasNoMember};
 ghost use Rattle.mark_bitmap.specs.Grey.{finger_of, is_grey, nothing_scanned, with_grey};
-ghost use Rattle.mark_bitmap.specs.Grey.{HasFingers, HasNoFinger, IsLowestBeside, Scans};
+ghost use Rattle.mark_bitmap.specs.Grey.{HasFingers, HasNoFinger, HoldsNext, IsLowestBeside, Scans};
+ghost use Rattle.mark_bitmap.specs.Stack.{empty_stack};
 
 use crate::finger_set::Fingers;
+use crate::mark_stack::MarkStack;
 use crate::marks::Marks;
 use heap_words::addr::{Addr, Ptr};
 use std::alloc::{AllocError, Global};
 use std::marker::Model;
 
-/// Which objects are scanned, the fingers, and the object that is held beside them. Clauses see the three.
+/// Which objects are scanned, the fingers, the object that is held beside them, and the stack. Clauses see the four.
 pub struct Grey {
     scanned: Marks,
     fingers: Fingers,
     held: Ptr,
+    stack: MarkStack,
     /// What was read last of an object that comes soon. It is read so that the processor fetches that object, and written here so that the
     /// compiler keeps the reading. Nobody looks at it.
     ahead: u32,
@@ -58,9 +62,9 @@ impl Model for Grey {
 
     ghost Value = { Scans };
 
-    ghost view = { λ g. record { scanned = g.scanned; fingers = g.fingers; held = g.held } };
+    ghost view = { λ g. record { scanned = g.scanned; fingers = g.fingers; held = g.held; stack = g.stack } };
 
-    ghost invariant = { λ g. HasPlaces g.scanned g.fingers g.held };
+    ghost invariant = { λ g. HasPlaces g.scanned g.fingers g.held g.stack };
 }
 
 /// Where it is let go there is one call, and not a drop for each of its parts.
@@ -70,6 +74,7 @@ impl Drop for Grey {
             scanned: _,
             fingers: _,
             held: _,
+            stack: _,
             ahead: _,
         } = self;
     }
@@ -107,36 +112,40 @@ fn lowest_beside(marks: &Marks, scanned: &Marks, fingers: &Fingers) -> Option<Ad
 }
 
 impl Grey {
-    /// Nothing is scanned of the addresses below `count`, no finger is set, and nothing is held. No call takes memory afterwards.
-    #[tactic(auto, unfolding(crate::specs::Grey::nothing_scanned))]
-    pub fn new(alloc: Global, count: u32) -> Result<Grey, AllocError>
-        ensures none { IfOk result (λ grey. grey ≡ nothing_scanned count) }
+    /// Nothing is scanned of the addresses below `count`, no finger is set, nothing is held, and the stack is empty. Objects are scanned by
+    /// rising address, or the one that was found last comes next. No call takes memory afterwards.
+    #[tactic(auto, unfolding(crate::specs::Grey::nothing_scanned, crate::specs::Stack::empty_stack))]
+    pub fn new(alloc: Global, count: u32, by_address: bool) -> Result<Grey, AllocError>
+        ensures none { IfOk result (λ grey. grey ≡ nothing_scanned count by_address) }
         ensures fingers { IfOk result (λ grey. (marks : List Bool) → ((a : ℕ) → is_marked marks a ≡ false) → HasFingers marks grey) }
     {
         Ok(Grey {
             scanned: Marks::new(alloc, count)?,
             fingers: Fingers::new(alloc, count.div_ceil(64))?,
             held: None,
+            stack: MarkStack::new(by_address),
             ahead: 0,
         })
     }
 
-    /// Marking begins with no marks: nothing is scanned, no finger is set, and nothing is held.
+    /// Marking begins with no marks: nothing is scanned, no finger is set, nothing is held, and the stack is empty.
     pub fn clear(&mut self)
         ensures none { self.new ≡ record {
           scanned = replicate (length self.old.scanned) false;
           fingers = replicate (length self.old.fingers) false;
           held = None;
+          stack = record { objects = []; room = self.old.stack.room };
         } }
         ensures fingers { (marks : List Bool) → ((a : ℕ) → is_marked marks a ≡ false) → HasFingers marks self.new }
     {
         self.scanned.clear();
         self.fingers.clear();
+        self.stack.clear();
         self.held = None;
     }
 
-    /// An object is marked that wasn't scanned, which makes it grey. The lower of it and the held one is held, and the finger of the other
-    /// is set.
+    /// An object is marked that wasn't scanned, which makes it grey. It is held, and the one that was held is put on the stack. Where that
+    /// has no room, the lower of the two is held, and the finger of the other is set.
     #[inline(always)]
     #[tactic(auto, unfolding(crate::specs::Grey::finger_of))]
     pub fn add(&mut self, object: Addr)
@@ -151,16 +160,21 @@ impl Grey {
             self.held = Some(object);
             return;
         };
+        if self.stack.push(held) {
+            self.held = Some(object);
+            return;
+        }
         self.held = Some(Addr::new(held.word().min(object.word())));
         self.fingers.set(held.word().max(object.word()) / 64);
     }
 
-    /// The lowest grey object.
+    /// A grey object, if there is one: the lowest where objects are scanned by rising address, so that the stack has no room.
     #[inline(always)]
     pub fn any(&self, marks: &Marks) -> Option<Addr>
         requires even { length marks.now ≡ length self.now.scanned }
         requires fingers { HasFingers marks.now self.now }
-        ensures lowest { MatchOption result (HasNone (is_grey marks.now self.now) 0) (IsLowest (is_grey marks.now self.now) 0) }
+        ensures grey { MatchOption result (HasNone (is_grey marks.now self.now) 0) (λ found. is_grey marks.now self.now found ≡ true) }
+        ensures lowest { self.now.stack.room ≡ 0 → MatchOption result (HasNone (is_grey marks.now self.now) 0) (IsLowest (is_grey marks.now self.now) 0) }
         ensures within { IfSome result (λ found. found < length marks.now) }
     {
         self.held
@@ -179,6 +193,7 @@ impl Grey {
             → HasNoMember (is_grey marks.now self.new) i }
         ensures scanned { self.new.scanned ≡ self.old.scanned }
         ensures held { self.new.held ≡ self.old.held }
+        ensures stack { self.new.stack ≡ self.old.stack }
     {
         if self.fingers.is_empty() {
             return;
@@ -188,8 +203,24 @@ impl Grey {
         }
     }
 
+    /// The last grey object of the stack is held, or where none is grey there the lowest of those with a finger.
+    #[inline(always)]
+    #[tactic(auto, unfolding(crate::specs::Grey::finger_of))]
+    fn hold_next(&mut self, marks: &Marks)
+        requires even { length marks.now ≡ length self.old.scanned }
+        ensures next { HoldsNext marks.now self.old self.new }
+        ensures scanned { self.new.scanned ≡ self.old.scanned }
+        ensures fingers { self.new.fingers ≡ self.old.fingers }
+    {
+        if let Some(found) = self.stack.take(marks, &self.scanned) {
+            self.held = Some(found);
+            return;
+        }
+        self.held = lowest_beside(marks, &self.scanned, &self.fingers);
+    }
+
     /// An object is scanned: it is no longer grey. Its finger is still set only if a grey object is left at one of the
-    /// finger's addresses. If it was held, the lowest of those with a finger is held.
+    /// finger's addresses. If it was held, the next one is held.
     #[tactic(auto, unfolding(crate::specs::Grey::finger_of))]
     pub fn remove(&mut self, marks: &Marks, object: Addr)
         requires even { length marks.now ≡ length self.old.scanned }
@@ -198,14 +229,14 @@ impl Grey {
         ensures left { has self.new.fingers (finger_of object) ≡ true → HasMember (is_grey marks.now self.new) (finger_of object) }
         ensures others { (i : ℕ) → i ≢ finger_of object → has self.new.fingers i ≡ has self.old.fingers i }
         ensures held { self.old.held ≢ Some object → self.new.held ≡ self.old.held }
-        ensures next { self.old.held ≡ Some object → MatchOption self.new.held
-            (HasNoFinger marks.now self.new.scanned self.new.fingers) (IsLowestBeside marks.now self.new.scanned self.new.fingers) }
+        ensures stack { self.old.held ≢ Some object → self.new.stack ≡ self.old.stack }
+        ensures next { self.old.held ≡ Some object → HoldsNext marks.now self.old self.new }
         ensures fingers { HasFingers marks.now self.old → HasFingers marks.now self.new }
     {
         self.scanned.set(object);
         self.drop_finger(marks, object);
         if holds(self.held, object) {
-            self.held = lowest_beside(marks, &self.scanned, &self.fingers);
+            self.hold_next(marks);
         }
     }
 

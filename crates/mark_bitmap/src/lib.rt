@@ -26,6 +26,7 @@ pub mod finger_set;
 pub mod grey;
 pub mod kept;
 pub mod live;
+pub mod mark_stack;
 pub mod marks;
 pub mod objects;
 pub mod summary;

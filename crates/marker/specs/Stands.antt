@@ -24,8 +24,8 @@ pub record CanFollow (t : Table) (m : Marker) : Type 0 where
   pub logged_kept : (a : ℕ) → Contains (logged m.logs) a → IsKept t m a
   pub logged_below : (a : ℕ) → Contains (logged m.logs) a → below_next t m.tams a ≡ true
 
--- marks of both roles stand at objects below their tops, and while marking runs each grey object has its finger set or is held, no
--- next top lies below the previous one and it can follow every pointer; while it doesn't, nothing is logged
+-- marks of both roles stand at objects below their tops, and while marking runs each grey object has its finger set, is held or is on the
+-- stack, no next top lies below the previous one and it can follow every pointer; while it doesn't, nothing is logged
 pub record MarkerStands (t : Table) (m : Marker) : Type 0 where
   pub previous : MarksObjects t m.tams.previous m.bitmaps.previous
   pub next : MarksObjects t m.tams.next m.bitmaps.next

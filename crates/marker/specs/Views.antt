@@ -1,6 +1,8 @@
 -- What the theory of marking sees of a table, the root words and a marker.
-use Rattle.std.specs.Prelude.{ℕ, ◌*◌, List, [], Option, false, replicate}
+use Rattle.std.specs.Prelude.{ℕ, ◌*◌, Bool, List, [], Option, true, false, replicate}
 use Rattle.heap_words.specs.declared.config.Config.{Config}
+use Rattle.heap_words.specs.declared.config.Format.{Format}
+use Rattle.heap_words.specs.declared.config.Format.TheVariants.{V1, V2, V3}
 use Rattle.heap_model.specs.Heap.{Heap}
 use Rattle.heap_model.specs.Marking.{Marking}
 use Rattle.regions.specs.Table.{Table}
@@ -23,12 +25,18 @@ marking_of t m = marking_in t m.tams m.bitmaps.next m.grey (logged m.logs)
 abbrev pub with_roles_exchanged : Marker → Marker
 with_roles_exchanged m = record m { bitmaps = record { previous = m.bitmaps.next; next = m.bitmaps.previous }; tams = exchanged m.tams }
 
+-- whether grey objects are scanned by rising address: in the first two formats. In the third the one that was found last comes next
+abbrev pub is_by_address : Format → Bool
+is_by_address V1 = true
+is_by_address (V2 card) = true
+is_by_address (V3 card globals registers) = false
+
 -- the marker of a new heap: no marks, all tops at the bottoms, nothing scanned or logged, and marking doesn't run
 unfoldable pub fresh_marker : Config → Marker
 fresh_marker c = record {
   bitmaps = record { previous = replicate (c.regions * c.words) false; next = replicate (c.regions * c.words) false };
   tams = record { previous = bottoms c.regions c.words; next = bottoms c.regions c.words };
-  grey = nothing_scanned (c.regions * c.words);
+  grey = nothing_scanned (c.regions * c.words) (is_by_address c.format);
   logs = replicate c.mutators [];
   running = false;
   scans = record { since = 0; total = 0 };

@@ -5,11 +5,11 @@ ghost use Rattle.heap_words.specs.Configs.{Suits};
 ghost use Rattle.regions.specs.Table.{Table};
 ghost use Rattle.mark_bitmap.specs.Tops.{below_previous};
 ghost use Rattle.marker.specs.Stands.{MarkerStands};
-ghost use Rattle.marker.specs.Views.{fresh_marker};
+ghost use Rattle.marker.specs.Views.{fresh_marker, is_by_address};
 
 use crate::counts::ScanCount;
 use crate::live::LiveWords;
-use heap_words::config::Config;
+use heap_words::config::{Config, Format};
 use mark_bitmap::bitmaps::Bitmaps;
 use mark_bitmap::grey::Grey;
 use mark_bitmap::tams::Tams;
@@ -49,6 +49,16 @@ impl Drop for Marker {
     }
 }
 
+/// Whether grey objects are scanned by rising address. Else the one that was found last comes next, which a processor fetches sooner.
+fn is_by_address(format: Format) -> bool
+    ensures { result ≡ is_by_address format }
+{
+    match format {
+        Format::V1 | Format::V2 { .. } => true,
+        Format::V3 { .. } => false,
+    }
+}
+
 impl Marker {
     /// A marker for a heap of these sizes: it doesn't run, nothing is marked, and every object is kept. No call takes
     /// memory afterwards.
@@ -67,7 +77,7 @@ impl Marker {
         Ok(Marker {
             bitmaps: Bitmaps::new(alloc, count)?,
             tams: Tams::new(alloc, config.regions, config.words)?,
-            grey: Grey::new(alloc, count)?,
+            grey: Grey::new(alloc, count, is_by_address(config.format))?,
             logs: DeletionLogs::new(alloc, config.mutators)?,
             running: false,
             scans: ScanCount::new(),

@@ -120,7 +120,8 @@ impl Marker {
         }
     }
 
-    /// Scans up to `units` grey objects, and says how many: fewer only if none is left. Which ones, no clause says: the lowest first.
+    /// Scans up to `units` grey objects, and says how many: fewer only if none is left. Which ones, no clause says: in the first two
+    /// formats the lowest first, in the third the one that was found last.
     pub fn mark(&mut self, table: &RegionTable, units: u32) -> u32
         requires stands { MarkerStands table.now self.old }
         requires running { self.old.running ≡ true }

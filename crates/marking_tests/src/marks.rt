@@ -123,7 +123,7 @@ fn mark(rt: &impl Abort, marks: &mut Marks, grey: &mut Grey, at: u32)
     grey.add(object);
 }
 
-/// The lowest grey object is this one, and it is scanned.
+/// The grey object that comes next is this one, and it is scanned.
 fn scan(rt: &impl Abort, marks: &Marks, grey: &mut Grey, at: u32)
     requires known { at < length grey.old.scanned }
     requires even { length marks.now ≡ length grey.old.scanned }
@@ -142,7 +142,7 @@ fn scan(rt: &impl Abort, marks: &Marks, grey: &mut Grey, at: u32)
 #[tactic(auto, unfolding(mark_bitmap::specs::Grey::nothing_scanned))]
 fn finds_what_is_below(rt: HostRuntime) -> Result<(), Fail> {
     let mut marks = Marks::new(rt.alloc(), 200)?;
-    let mut grey = Grey::new(rt.alloc(), 200)?;
+    let mut grey = Grey::new(rt.alloc(), 200, true)?;
     mark(&rt, &mut marks, &mut grey, 199);
     mark(&rt, &mut marks, &mut grey, 64);
     scan(&rt, &marks, &mut grey, 64);
@@ -152,6 +152,43 @@ fn finds_what_is_below(rt: HostRuntime) -> Result<(), Fail> {
     assert_eq!(rt; grey.any(&marks), None);
     grey.clear();
     assert!(rt; !grey.is_scanned(Addr::new(64)));
+    Ok(())
+}
+
+/// By the stack the one that was found last comes next, and one that was scanned out of turn doesn't come again.
+#[test]
+#[tactic(auto, unfolding(mark_bitmap::specs::Grey::nothing_scanned))]
+fn comes_back_to_what_was_found_before(rt: HostRuntime) -> Result<(), Fail> {
+    let mut marks = Marks::new(rt.alloc(), 200)?;
+    let mut grey = Grey::new(rt.alloc(), 200, false)?;
+    mark(&rt, &mut marks, &mut grey, 3);
+    mark(&rt, &mut marks, &mut grey, 199);
+    mark(&rt, &mut marks, &mut grey, 64);
+    scan(&rt, &marks, &mut grey, 64);
+    mark(&rt, &mut marks, &mut grey, 5);
+    grey.remove(&marks, Addr::new(199));
+    scan(&rt, &marks, &mut grey, 5);
+    scan(&rt, &marks, &mut grey, 3);
+    assert_eq!(rt; grey.any(&marks), None);
+    Ok(())
+}
+
+/// Where the stack is full the lower of two objects is held, and the other comes by its finger, after the stack.
+#[test]
+#[tactic(auto, unfolding(mark_bitmap::specs::Grey::nothing_scanned))]
+fn fills_the_stack(rt: HostRuntime) -> Result<(), Fail> {
+    let mut marks = Marks::new(rt.alloc(), 200)?;
+    let mut grey = Grey::new(rt.alloc(), 200, false)?;
+    for at in 0..70 {
+        mark(&rt, &mut marks, &mut grey, at);
+    }
+    for from_last in 0..65 {
+        scan(&rt, &marks, &mut grey, 64 - from_last);
+    }
+    for at in 65..70 {
+        scan(&rt, &marks, &mut grey, at);
+    }
+    assert_eq!(rt; grey.any(&marks), None);
     Ok(())
 }
 

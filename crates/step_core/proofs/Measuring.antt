@@ -2,7 +2,7 @@
 use Rattle.std.proofs.Common.{◌≡◌, ℕ, true, false, Option, Some, None, refl, sym, ◌∙◌, ap, arith}
 use Rattle.std.specs.Prelude.{◌↔◌, IsTrue, IsSome, is_some, MatchOption}
 use Rattle.heap_model.specs.Heap.{Stored}
-use Rattle.bit_sets.specs.Bits.{HasNone, IsLowest}
+use Rattle.bit_sets.specs.Bits.{HasNone}
 use Rattle.regions.specs.Table.{object_at, object_words, stored_size}
 use Rattle.mark_bitmap.specs.Grey.{is_grey}
 use Rattle.step_core.specs.Stands.{CoreState, kept_of}
@@ -23,10 +23,11 @@ live_size c a live = let (s, is) = something (kept_of c a) live in ap stored_siz
 
 -- a search finds a grey object where there is one
 pub grey_found : (c : CoreState) (o : Option ℕ) → c.marker.running ≡ true
-    → MatchOption o (HasNone (is_grey c.marker.bitmaps.next c.marker.grey) 0) (IsLowest (is_grey c.marker.bitmaps.next c.marker.grey) 0)
+    → MatchOption o (HasNone (is_grey c.marker.bitmaps.next c.marker.grey) 0)
+    (λ found. is_grey c.marker.bitmaps.next c.marker.grey found ≡ true)
     → IsTrue (is_some o) ↔ HasGrey c
 grey_found c None run none = (
   λ found. absurd (let e : false ≡ true = found in cc),
   λ grey. absurd (let yes = grey.grey in let never = none grey.address (omega arith) in cc),
 )
-grey_found c (Some a) run low = (λ yes. record { running = run; address = a; grey = low.is_in }, λ grey. refl)
+grey_found c (Some a) run grey = (λ yes. record { running = run; address = a; grey = grey }, λ _. refl)

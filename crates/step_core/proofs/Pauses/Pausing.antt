@@ -284,9 +284,13 @@ module _ (k : CoreState) (core : IsCore k) (which : Choice) (budget : ℕ) (chos
       finger = λ run.
           let fingers = core.layers.marker.finger run in
           record {
-            each = λ a lt. elim (fingers.each a lt) [ inl held ↦ inl held | inr none ↦ inr (grey_same run a ∙ none) ];
+            each = λ a lt. elim (fingers.each a lt) [
+              | inl held ↦ inl held
+              | inr (inl on) ↦ inr (inl on)
+              | inr (inr none) ↦ inr (inr (grey_same run a ∙ none))
+            ];
             held = λ a held. grey_same run a ∙ fingers.held a held;
-            lowest = λ a b held less. grey_same run b ∙ fingers.lowest a b held less;
+            lowest = λ by_address a b held less. grey_same run b ∙ fingers.lowest by_address a b held less;
             none = λ a held. grey_same run a ∙ fingers.none a held;
           };
       newer = newer;

@@ -1,15 +1,17 @@
 use Rattle.std.proofs.Common.{rules, arith, ap, ◌∙◌, ◌<◌, length, max}
 use Rattle.mark_bitmap.specs.Marks.{is_marked}
 use Rattle.mark_bitmap.specs.Grey.{Scans, finger_of}
-use Rattle.mark_bitmap.proofs.Held.{more_grey}
+use Rattle.mark_bitmap.proofs.Held.{fingered_grey}
 use Rattle.mark_bitmap.proofs.grey.Grey.add.Goals as goal
 
 pub returns-clause-fingers : goal.returns-clause-fingers
 unfolding finger_of
 returns-clause-fingers c = λ marks even f.
-    let inside : Scans = record { scanned = c.self.inside.scanned; fingers = c.self.inside.fingers; held = c.self.inside.held } in
+    let inside : Scans =
+    record { scanned = c.self.inside.scanned; fingers = c.self.inside.fingers; held = c.self.inside.held; stack = c.self.inside.stack } in
     let room : finger_of (max c.in-Some.held c.args.object) < length c.self.inside.fingers = search rules in
     let unscanned = ap (λ (s : Scans). is_marked s.scanned c.args.object) c.self.view_is ∙ c.requires.unscanned in
-    rw (c.set.ensures, c.max.ensures, c.word-3.ensures, c.word-4.ensures, c.new.ensures, c.min.ensures, c.word.ensures, c.word-2.ensures)
-    (more_grey marks inside c.args.object c.in-Some.held (omega (arith, even, c.requires.known)) unscanned c.in-Some.is
-    (rw c.self.view_is f) room)
+    rw (c.set.ensures, c.max.ensures, c.word-3.ensures, c.word-4.ensures, c.new.ensures, c.min.ensures, c.word.ensures, c.word-2.ensures,
+    c.push.ensures.full c.if-push.false)
+    (fingered_grey marks inside c.args.object (omega (arith, even, c.requires.known)) unscanned (rw c.self.view_is f) c.in-Some.held
+    c.in-Some.is room)

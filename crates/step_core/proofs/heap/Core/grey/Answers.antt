@@ -9,4 +9,4 @@ pub returns : goal.returns
 returns c =
     subst (λ (b : Bool). IsTrue b ↔ HasGrey c.args.self.now) (sym c.is_some.ensures)
     (subst (λ (d : CoreState). IsTrue (is_some c.any.result) ↔ HasGrey d) c.self.view_is
-    (grey_found _ c.any.result (let no = c.if-not-self.false in cc) c.any.ensures.lowest))
+    (grey_found _ c.any.result (let no = c.if-not-self.false in cc) c.any.ensures.grey))

@@ -1,0 +1,44 @@
+-- The mark stack: grey objects that have no finger.
+use Rattle.std.specs.Prelude.{◌≡◌, ◌<◌, ◌++◌, ◌∷◌, ℕ, Bool, true, false, List, [], length, if◌then◌else◌, nat_lt, slice_index, take}
+
+-- objects in the order in which they were put on it, the last one at the end; and how many it has room for
+pub record Stack : Type 0 where
+  pub objects : List ℕ
+  pub room : ℕ
+
+-- an empty stack: it has no room where objects are scanned by rising address
+unfoldable pub empty_stack : Bool → Stack
+empty_stack by_address = record { objects = []; room = if by_address then 0 else 64 }
+
+-- whether it has room for one more
+abbrev pub has_room : Stack → Bool
+has_room stack = nat_lt (length stack.objects) stack.room
+
+-- the stack once an object is put on it
+abbrev pub with_object : Stack → ℕ → Stack
+with_object stack a = record { objects = stack.objects ++ a ∷ []; room = stack.room }
+
+-- an object is on it
+pub record IsOn (stack : Stack) (a : ℕ) : Type 0 where
+  pub place : ℕ
+  pub there : place < length stack.objects
+  pub is : slice_index stack.objects place ≡ a
+
+-- its objects start at some of so many addresses
+abbrev pub AreBelow : Stack → ℕ → Type 0
+AreBelow stack count = (i : ℕ) → i < length stack.objects → slice_index stack.objects i < count
+
+-- all were taken off it, and none passes the test
+pub record TakesAll (test : ℕ → Bool) (old new : Stack) : Type 0 where
+  pub room : new.room ≡ old.room
+  pub none : new.objects ≡ []
+  pub fails : (i : ℕ) → i < length old.objects → test (slice_index old.objects i) ≡ false
+
+-- found was taken off it, the last one that passes the test, and all above it
+pub record TakesLast (test : ℕ → Bool) (old new : Stack) (found : ℕ) : Type 0 where
+  pub room : new.room ≡ old.room
+  pub below : new.objects ≡ take (length new.objects) old.objects
+  pub there : length new.objects < length old.objects
+  pub is : slice_index old.objects (length new.objects) ≡ found
+  pub passes : test found ≡ true
+  pub fails : (i : ℕ) → length new.objects < i → i < length old.objects → test (slice_index old.objects i) ≡ false
