@@ -1,14 +1,14 @@
 -- The held object, the stack and the fingers: what they tell of grey objects as one more is grey, as one is scanned, and with fewer marks.
-use Rattle.std.proofs.Common.{◌≡◌, ◌≢◌, ◌<◌, ◌≤◌, ◌/◌, ◌∙◌, ◌++◌, ◌∷◌, ◌⊎◌, inl, inr}
+use Rattle.std.proofs.Common.{◌≡◌, ◌≢◌, ◌<◌, ◌≤◌, ◌/◌, ◌∙◌, ◌∷◌, ◌⊎◌, inl, inr}
 use Rattle.std.proofs.Common.{ℕ, Bool, true, false, List, [], length, set, sym, ap, arith, refl, Option, Some, None, min, max}
-use Rattle.std.proofs.Common.{get_or-set_same, get_or-set_other, get_or, take, subst, rules}
+use Rattle.std.proofs.Common.{get_or-set_same, get_or-set_other, get_or, subst, rules}
 use Rattle.std.proofs.lemmas.List.{get_or-take, get_or_append_left, get_or_push, length_push}
 use Rattle.std.specs.Prelude.{not, ◌&&◌, MatchOption, if◌then◌else◌}
 use Rattle.std.proofs.lemmas.Bool.{and_parts, and_from, and_right, cases_eq, cases_lt, cases_Bool}
 use Rattle.bit_sets.specs.Bits.{has}
-use Rattle.mark_bitmap.specs.Marks.{is_marked, is_only, HasNone, IsLowest}
+use Rattle.mark_bitmap.specs.Marks.{is_marked, HasNone, IsLowest}
 use Rattle.mark_bitmap.specs.Stack.{Stack, IsOn, TakesAll, TakesLast, has_room, with_object}
-use Rattle.mark_bitmap.specs.Grey.{Scans, HasFingers, HasNoFinger, HoldsNext, IsLowestBeside, finger_of, is_grey, with_grey, OfStack, OfFingers}
+use Rattle.mark_bitmap.specs.Grey.{Scans, HasFingers, HasNoFinger, HoldsNext, IsLowestBeside, OfStack, OfFingers, finger_of, is_grey}
 use Rattle.mark_bitmap.specs.Summary.{HasNoMember}
 use Rattle.mark_bitmap.proofs.Summaries.{has_set_here, has_set_there}
 
@@ -97,7 +97,9 @@ module _ (marks : List Bool) (scans : Scans) (a : ℕ) (known : a < length marks
       each = λ b unset. elim (cases_eq b a) [
         | inl same ↦ inl (ap Some (sym same))
         | inr other ↦ inr (elim (f.each b unset) [
-          | inl is ↦ let e : h ≡ b = (let e = sym held ∙ is in cc) in inl (subst (IsOn (with_object scans.stack h)) e (on_top scans.stack h))
+          | inl is ↦
+              let e : h ≡ b = (let e = sym held ∙ is in cc) in
+              inl (subst (IsOn (with_object scans.stack h)) e (on_top scans.stack h))
           | inr (inl on) ↦ inl (on_still scans.stack h b on)
           | inr (inr none) ↦ inr (grey_there b other ∙ none)
         ])

@@ -1,6 +1,6 @@
 -- Grey objects: marked, and not scanned yet.
-use Rattle.std.specs.Prelude.{◌≡◌, ℕ, ◌/◌, ◌<◌, ◌≤◌, ◌⊎◌, Bool, true, false, List, Option, Some, None, length, max, min, replicate, slice_set}
-use Rattle.std.specs.Prelude.{MatchOption, if◌then◌else◌}
+use Rattle.std.specs.Prelude.{◌≡◌, ℕ, ◌/◌, ◌<◌, ◌≤◌, ◌⊎◌, Bool, true, false, List, Option, Some, None, MatchOption, if◌then◌else◌}
+use Rattle.std.specs.Prelude.{length, max, min, replicate, slice_set}
 use Rattle.std.specs.Int.{div_ceil}
 use Rattle.bit_sets.specs.Bits.{has}
 use Rattle.mark_bitmap.specs.Marks.{is_only}

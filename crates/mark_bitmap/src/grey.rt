@@ -37,7 +37,6 @@ ghost use Rattle.mark_bitmap.specs.Marks.{is_marked, is_only, HasNone, IsLowest}
 ghost use Rattle.mark_bitmap.specs.Summary.{HasMember, HasNoMember};
 ghost use Rattle.mark_bitmap.specs.Grey.{finger_of, is_grey, nothing_scanned, with_grey};
 ghost use Rattle.mark_bitmap.specs.Grey.{HasFingers, HasNoFinger, HoldsNext, IsLowestBeside, Scans};
-ghost use Rattle.mark_bitmap.specs.Stack.{empty_stack};
 
 use crate::finger_set::Fingers;
 use crate::mark_stack::MarkStack;
@@ -174,7 +173,8 @@ impl Grey {
         requires even { length marks.now ≡ length self.now.scanned }
         requires fingers { HasFingers marks.now self.now }
         ensures grey { MatchOption result (HasNone (is_grey marks.now self.now) 0) (λ found. is_grey marks.now self.now found ≡ true) }
-        ensures lowest { self.now.stack.room ≡ 0 → MatchOption result (HasNone (is_grey marks.now self.now) 0) (IsLowest (is_grey marks.now self.now) 0) }
+        ensures lowest { self.now.stack.room ≡ 0
+            → MatchOption result (HasNone (is_grey marks.now self.now) 0) (IsLowest (is_grey marks.now self.now) 0) }
         ensures within { IfSome result (λ found. found < length marks.now) }
     {
         self.held

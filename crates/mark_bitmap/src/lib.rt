@@ -15,10 +15,10 @@
 //!                                        scanned is entered
 //! ```
 //!
-//! `marks` is the set, `bitmaps` the two roles, `tams` the tops at mark start, `grey` the objects that are marked and not scanned, by
-//! fingers (`finger_set`) at the words that have some, with a `summary` above them, and one object beside them. `kept` says what is kept,
-//! and `objects` that marks stand at objects, in words that a heap's invariant can carry, with the laws that each change keeps them.
-//! `live` says what the words of a region's marked objects tell of its kept ones.
+//! `marks` is the set, `bitmaps` the two roles, `tams` the tops at mark start, `grey` the objects that are marked and not scanned: one that
+//! is held, those on the `mark_stack`, and by fingers (`finger_set`) at the words that have some, with a `summary` above them, all others.
+//! `kept` says what is kept, and `objects` that marks stand at objects, in words that a heap's invariant can carry, with the laws that each
+//! change keeps them. `live` says what the words of a region's marked objects tell of its kept ones.
 #![tactic(auto)]
 
 pub mod bitmaps;

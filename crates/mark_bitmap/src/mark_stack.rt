@@ -6,9 +6,9 @@
 //!   16 scanned  held 90   stack | . . . . |        the last one that is grey still
 //! ```
 //!
-//! So marking goes down from an object before it comes to the next one, and knows early which it scans next. An object that doesn't fit gets
-//! a finger, and one that was scanned out of turn stays on the stack and is passed over. Where objects are scanned by rising address the
-//! stack has no room.
+//! So marking goes down from an object before it comes to the next one. Which is scanned next hangs on no comparison of addresses, so a
+//! processor can go ahead. An object that doesn't fit gets a finger, and one that was scanned out of turn stays on the stack and is passed
+//! over. Where objects are scanned by rising address the stack has no room.
 
 ghost use Rattle.std.specs.Prelude.{◌≡◌, [], false, true, length, MatchOption};
 ghost use Rattle.mark_bitmap.specs.Marks.{is_only};

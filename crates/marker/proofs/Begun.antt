@@ -102,8 +102,12 @@ pub started_stands : (t : Table) (m m' : Marker) → MarkerStands t m → m.runn
     → m'.bitmaps.previous ≡ m.bitmaps.previous → m'.bitmaps.next ≡ replicate (length m.bitmaps.next) false
     → m'.tams.previous ≡ m.tams.previous → length m'.tams.next ≡ length m.tams.next
     → ((k : ℕ) → k < length t.regions → get_or m'.tams.next k 0 ≡ top_of t k)
-    → m'.grey ≡ record { scanned = replicate (length m.grey.scanned) false; fingers = replicate (length m.grey.fingers) false; held = None;
-        stack = record { objects = []; room = m.grey.stack.room } }
+    → m'.grey ≡ record {
+      scanned = replicate (length m.grey.scanned) false;
+      fingers = replicate (length m.grey.fingers) false;
+      held = None;
+      stack = record { objects = []; room = m.grey.stack.room };
+    }
     → ((marks : List Bool) → ((a : ℕ) → is_marked marks a ≡ false) → HasFingers marks m'.grey)
     → m'.logs ≡ m.logs → m'.scans ≡ restarted m.scans → m'.live.previous ≡ m.live.previous
     → m'.live.next ≡ replicate (length m.live.next) 0 → MarkerStands t m'

@@ -1,5 +1,5 @@
 -- Fingers, the stack and the held object tell of all grey objects throughout.
-use Rattle.std.proofs.Common.{◌≡◌, length, ℕ, List, Bool}
+use Rattle.std.proofs.Common.{◌≡◌, length, List, Bool}
 use Rattle.mark_bitmap.specs.Grey.{Scans, HasFingers}
 use Rattle.marking_tests.proofs.marks.fills_the_stack.Given as goal
 

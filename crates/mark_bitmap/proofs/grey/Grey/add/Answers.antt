@@ -11,7 +11,16 @@ returns-clause-fingers c = λ marks even f.
     record { scanned = c.self.inside.scanned; fingers = c.self.inside.fingers; held = c.self.inside.held; stack = c.self.inside.stack } in
     let room : finger_of (max c.in-Some.held c.args.object) < length c.self.inside.fingers = search rules in
     let unscanned = ap (λ (s : Scans). is_marked s.scanned c.args.object) c.self.view_is ∙ c.requires.unscanned in
-    rw (c.set.ensures, c.max.ensures, c.word-3.ensures, c.word-4.ensures, c.new.ensures, c.min.ensures, c.word.ensures, c.word-2.ensures,
-    c.push.ensures.full c.if-push.false)
+    rw (
+      c.set.ensures,
+      c.max.ensures,
+      c.word-3.ensures,
+      c.word-4.ensures,
+      c.new.ensures,
+      c.min.ensures,
+      c.word.ensures,
+      c.word-2.ensures,
+      c.push.ensures.full c.if-push.false,
+    )
     (fingered_grey marks inside c.args.object (omega (arith, even, c.requires.known)) unscanned (rw c.self.view_is f) c.in-Some.held
     c.in-Some.is room)

@@ -1,5 +1,5 @@
 use Rattle.std.proofs.Common.{refl, ap, subst}
-use Rattle.mark_bitmap.specs.Grey.{Scans, is_grey, OfStack}
+use Rattle.mark_bitmap.specs.Grey.{Scans, OfStack}
 use Rattle.mark_bitmap.specs.Stack.{Stack, TakesLast}
 use Rattle.mark_bitmap.specs.Marks.{is_only}
 use Rattle.mark_bitmap.proofs.grey.Grey.hold_next.Goals as goal
