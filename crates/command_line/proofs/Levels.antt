@@ -1,5 +1,6 @@
 -- What a parse makes of a subcommand's name, a path, and the words after it.
-use Rattle.std.proofs.Common.{◌≡◌, ◌∙◌, ◌∷◌, ◌++◌, [], ℕ, List, Option, Some, None, Bool, true, false, codes, append_assoc, append-nil, ap, ap₂, refl, sym}
+use Rattle.std.proofs.Common.{◌≡◌, ◌∙◌, ◌∷◌, ◌++◌, [], ℕ, List, Option, Some, None, Bool, true, false, codes, append_assoc, append-nil}
+use Rattle.std.proofs.Common.{ap, ap₂, refl, sym}
 use Rattle.std.specs.Prelude.{◌==◌, find, fold, if◌then◌else◌, is_some, option_and_then, option_map}
 use Rattle.std.specs.Option.{option_map_or}
 use Rattle.std.specs.Str.{bytes_eq}
@@ -10,7 +11,8 @@ use Rattle.clap.specs.Kinds.{Kinds, or_else}
 use Rattle.clap.specs.Lexer.{long_of, short_of}
 use Rattle.clap.specs.Simple.{App, Shape, built, entered, filled, filled_from, help_rule, label_of, names_of, rows_at, with_index}
 use Rattle.clap.specs.Walk.{Held, Names, Row, Rule, Walk, after_step, answers_to, arg_by_id, arg_by_index, finished, idle, nothing_held}
-use Rattle.clap.specs.Walk.{option, option_word, rows_after, settled, stop_after, subcommand_met, subcommand_or_other, walk, walk_from, walked}
+use Rattle.clap.specs.Walk.{option, option_word, rows_after, settled, stop_after, subcommand_met, subcommand_or_other}
+use Rattle.clap.specs.Walk.{walk, walk_from, walked}
 use Rattle.clap.specs.Words.{Text, subcommand_of}
 use Rattle.clap.specs.declared.error.kind.ErrorKind.TheVariants.{MissingRequiredArgument}
 use Rattle.command_line.specs.Asked.{Asked, Asks, asked_in, asked_of, is_path, names_in, names_of as file_of_names}
@@ -195,8 +197,8 @@ module _ (a : App) (named : a.top.no_binary_name ≡ false) (name : Text) (s : S
       ∙ path_fault s enters.path path v options
 
 -- what words ask for that are a subcommand's name, a path, and options
-pub asks : (name : Text) (s : Shape) → Enters (built g1heap) name s → (program path : Text) (options : List Text) (asked : Asked) → is_path path ≡ true
-    → asked_in s.name (finished s.rules (end_of s path options)) ≡ Some asked → faults_from s path options ≡ []
+pub asks : (name : Text) (s : Shape) → Enters (built g1heap) name s → (program path : Text) (options : List Text) (asked : Asked)
+    → is_path path ≡ true → asked_in s.name (finished s.rules (end_of s path options)) ≡ Some asked → faults_from s path options ≡ []
     → Asks (program ∷ name ∷ path ∷ options) asked
 asks name s enters program path options asked h is none =
     let v = is_value path h in
@@ -207,8 +209,8 @@ asks name s enters program path options asked h is none =
     (found, ap₂ (λ (k : Kinds) (o : Option Asked). or_else k (option_map_or (λ asked. []) o (MissingRequiredArgument ∷ []))) kinds found)
 
 -- the file of names that such words name
-pub asks_names : (name : Text) (s : Shape) → Enters (built g1heap) name s → (program path : Text) (options : List Text) → is_path path ≡ true
-    → file_of_names (program ∷ name ∷ path ∷ options) ≡ names_in (finished s.rules (end_of s path options))
+pub asks_names : (name : Text) (s : Shape) → Enters (built g1heap) name s → (program path : Text) (options : List Text)
+    → is_path path ≡ true → file_of_names (program ∷ name ∷ path ∷ options) ≡ names_in (finished s.rules (end_of s path options))
 asks_names name s enters program path options h =
     ap (option_and_then (λ found. names_in found.1)) (rows g1heap refl name s enters program path (is_value path h) options)
 

@@ -7,7 +7,8 @@ use Rattle.clap.specs.Words.{Text}
 use Rattle.command_line.specs.Asked.{Asks, asked_in, is_path, names_in, names_of}
 use Rattle.command_line.specs.Program.{drawn}
 use Rattle.command_line.specs.declared.Task.TheVariants.{Draw, View}
-use Rattle.command_line.proofs.Levels.{asks, asks_names, end_fault, from_path, is_value, leaf, takes_value, to_draw, to_view, value_is_taken}
+use Rattle.command_line.proofs.Levels.{asks, asks_names, end_fault, from_path, is_value, leaf, takes_value, to_draw, to_view}
+use Rattle.command_line.proofs.Levels.{value_is_taken}
 
 pub every : (program path : Text) → is_path path ≡ true
     → Asks (program ∷ codes "draw" ∷ path ∷ codes "--every" ∷ codes "10" ∷ []) (path, Draw 10 false, false)
