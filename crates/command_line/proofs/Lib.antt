@@ -1,5 +1,6 @@
 mod Faults
 mod Numbers
+mod Levels
 mod Explained
 mod Options
 mod Paths

@@ -1,50 +1,49 @@
 -- What words with an option ask for.
-use Rattle.std.proofs.Common.{◌≡◌, ◌∷◌, [], None, Some, false, true, codes, refl}
+use Rattle.std.proofs.Common.{◌≡◌, ◌∷◌, ◌∙◌, [], None, Some, false, true, ap, ap₂, codes, refl}
 use Rattle.clap.proofs.OnLiterals.{clap_on_literals}
+use Rattle.clap.specs.Kinds.{Kinds, or_else}
+use Rattle.clap.specs.Walk.{Held, Walk, finished, walked}
 use Rattle.clap.specs.Words.{Text}
-use Rattle.command_line.specs.Asked.{Asks, is_path, names_of}
+use Rattle.command_line.specs.Asked.{Asks, asked_in, is_path, names_in, names_of}
+use Rattle.command_line.specs.Program.{drawn}
 use Rattle.command_line.specs.declared.Task.TheVariants.{Draw, View}
-use Rattle.command_line.proofs.Paths.{is_value}
+use Rattle.command_line.proofs.Levels.{asks, asks_names, end_fault, from_path, is_value, leaf, takes_value, to_draw, to_view}
+use Rattle.command_line.proofs.Levels.{value_is_taken}
 
 pub every : (program path : Text) → is_path path ≡ true
     → Asks (program ∷ codes "draw" ∷ path ∷ codes "--every" ∷ codes "10" ∷ []) (path, Draw 10 false, false)
 unfolding clap_on_literals
-every program path h =
-    let v = is_value path h in (
-      rw v.no_end (rw v.no_name (rw v.no_letters (refl {a = Some (path, Draw 10 false, false)}))),
-      rw v.no_end (rw v.no_name (rw v.no_letters (refl {a = []}))),
-    )
+every program path h = asks _ _ to_draw program path (codes "--every" ∷ codes "10" ∷ []) _ h refl refl
 
 pub redraw : (program path : Text) → is_path path ≡ true
     → Asks (program ∷ codes "draw" ∷ path ∷ codes "--record" ∷ []) (path, Draw 1 true, false)
 unfolding clap_on_literals
-redraw program path h =
-    let v = is_value path h in (
-      rw v.no_end (rw v.no_name (rw v.no_letters (refl {a = Some (path, Draw 1 true, false)}))),
-      rw v.no_end (rw v.no_name (rw v.no_letters (refl {a = []}))),
-    )
+redraw program path h = asks _ _ to_draw program path (codes "--record" ∷ []) _ h refl refl
+
+-- what is held after `--names`
+abbrev held : Text → Held
+held path = (walked (leaf drawn).rules [] (from_path path) (codes "--names")).held
 
 pub names : (program path file : Text) → is_path path ≡ true → is_path file ≡ true
     → Asks (program ∷ codes "draw" ∷ path ∷ codes "--names" ∷ file ∷ []) (path, Draw 1 false, false)
     × (names_of (program ∷ codes "draw" ∷ path ∷ codes "--names" ∷ file ∷ []) ≡ Some file)
 unfolding clap_on_literals
 names program path file h k =
-    let v = is_value path h in
-    let w = is_value file k in
-    rw (v.no_end, v.no_name, v.no_letters, w.no_end, w.no_name, w.no_letters)
-    ((refl {a = Some (path, Draw 1 false, false)}, refl {a = []}), refl {a = Some file})
+    let s = leaf drawn in
+    let v = is_value file k in
+    let options = codes "--names" ∷ file ∷ [] in
+    let taken = takes_value s (held path) (codes "names") 2 file v in
+    let quiet = value_is_taken s (held path) (codes "names") 2 file v in (
+      asks _ _ to_draw program path options _ h (ap (λ (w : Walk). asked_in s.name (finished s.rules w.held)) taken)
+          (ap₂ (λ (k : Kinds) (w : Walk). or_else (or_else k []) (end_fault s w.held)) quiet taken),
+      asks_names _ _ to_draw program path options h ∙ ap (λ (w : Walk). names_in (finished s.rules w.held)) taken,
+    )
 
 pub no_names : (program path : Text) → is_path path ≡ true → names_of (program ∷ codes "draw" ∷ path ∷ []) ≡ None
 unfolding clap_on_literals
-no_names program path h =
-    let v = is_value path h in
-    rw v.no_end (rw v.no_name (rw v.no_letters (refl {a = None})))
+no_names program path h = asks_names _ _ to_draw program path [] h
 
 pub at : (program path : Text) → is_path path ≡ true
     → Asks (program ∷ codes "view" ∷ path ∷ codes "--at" ∷ codes "9" ∷ []) (path, View false (Some 9) None false, false)
 unfolding clap_on_literals
-at program path h =
-    let v = is_value path h in (
-      rw v.no_end (rw v.no_name (rw v.no_letters (refl {a = Some (path, View false (Some 9) None false, false)}))),
-      rw v.no_end (rw v.no_name (rw v.no_letters (refl {a = []}))),
-    )
+at program path h = asks _ _ to_view program path (codes "--at" ∷ codes "9" ∷ []) _ h refl refl

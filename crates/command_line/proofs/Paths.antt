@@ -1,86 +1,39 @@
 -- What the plainest words ask for.
-use Rattle.std.proofs.Common.{◌≡◌, ◌∷◌, [], None, Some, Bool, true, false, codes, refl}
-use Rattle.std.specs.Prelude.{◌==◌}
-use Rattle.std.specs.Str.{bytes_eq}
+use Rattle.std.proofs.Common.{◌≡◌, ◌∷◌, [], None, true, false, codes, refl}
 use Rattle.clap.proofs.OnLiterals.{clap_on_literals}
-use Rattle.clap.specs.Lexer.{long_of, short_of}
 use Rattle.clap.specs.Words.{Text}
 use Rattle.command_line.specs.Asked.{Asks, is_path}
 use Rattle.command_line.specs.declared.Order.TheVariants.{Concurrent, Drawn, File}
 use Rattle.command_line.specs.declared.Task.TheVariants.{Check, Draw, Script, View}
-
--- a word that a parse takes for a value: not `--`, and no option
-pub record IsValue (word : Text) : Type 0 where
-  pub no_end : bytes_eq word (45 ∷ 45 ∷ []) ≡ false
-  pub no_name : long_of word ≡ None
-  pub no_letters : short_of word ≡ None
-
-pub is_value : (path : Text) → is_path path ≡ true → IsValue path
-is_value [] h = record { no_end = refl; no_name = refl; no_letters = refl }
-is_value (c ∷ []) h = go (c == 45) refl
-  where
-    go : (b : Bool) → (c == 45) ≡ b → IsValue (c ∷ [])
-    go true e = record { no_end = rw e refl; no_name = rw e refl; no_letters = rw e refl }
-    go false e = record { no_end = rw e refl; no_name = rw e refl; no_letters = rw e refl }
-is_value (c ∷ d ∷ rest) h = go (c == 45) refl h
-  where
-    go : (b : Bool) → (c == 45) ≡ b → is_path (c ∷ d ∷ rest) ≡ true → IsValue (c ∷ d ∷ rest)
-    go false e h = record { no_end = rw e refl; no_name = rw e refl; no_letters = rw e refl }
-    go true e h =
-        let bad : false ≡ true = rw e at h in
-        cc
+use Rattle.command_line.proofs.Levels.{asks, to_check, to_draw, to_run, to_sim, to_threads, to_view}
 
 pub run : (program path : Text) → is_path path ≡ true → Asks (program ∷ codes "run" ∷ path ∷ []) (path, Script File, false)
 unfolding clap_on_literals
-run program path h =
-    let v = is_value path h in (
-      rw v.no_end (rw v.no_name (rw v.no_letters (refl {a = Some (path, Script File, false)}))),
-      rw v.no_end (rw v.no_name (rw v.no_letters (refl {a = []}))),
-    )
+run program path h = asks _ _ to_run program path [] _ h refl refl
 
 pub check : (program path : Text) → is_path path ≡ true → Asks (program ∷ codes "check" ∷ path ∷ []) (path, Check false, false)
 unfolding clap_on_literals
-check program path h =
-    let v = is_value path h in (
-      rw v.no_end (rw v.no_name (rw v.no_letters (refl {a = Some (path, Check false, false)}))),
-      rw v.no_end (rw v.no_name (rw v.no_letters (refl {a = []}))),
-    )
+check program path h = asks _ _ to_check program path [] _ h refl refl
 
 pub follow : (program path : Text) → is_path path ≡ true
     → Asks (program ∷ codes "check" ∷ path ∷ codes "--follow" ∷ []) (path, Check true, false)
 unfolding clap_on_literals
-follow program path h =
-    let v = is_value path h in (
-      rw v.no_end (rw v.no_name (rw v.no_letters (refl {a = Some (path, Check true, false)}))),
-      rw v.no_end (rw v.no_name (rw v.no_letters (refl {a = []}))),
-    )
+follow program path h = asks _ _ to_check program path (codes "--follow" ∷ []) _ h refl refl
 
 pub view : (program path : Text) → is_path path ≡ true → Asks (program ∷ codes "view" ∷ path ∷ []) (path, View false None None false, false)
 unfolding clap_on_literals
-view program path h =
-    let v = is_value path h in (
-      rw v.no_end (rw v.no_name (rw v.no_letters (refl {a = Some (path, View false None None false, false)}))),
-      rw v.no_end (rw v.no_name (rw v.no_letters (refl {a = []}))),
-    )
+view program path h = asks _ _ to_view program path [] _ h refl refl
 
 pub sim : (program path : Text) → is_path path ≡ true
     → Asks (program ∷ codes "sim" ∷ path ∷ codes "--schedule" ∷ codes "7" ∷ []) (path, Script (Drawn 7 0 0), false)
 unfolding clap_on_literals
-sim program path h =
-    let v = is_value path h in
-    (rw v.no_end (rw v.no_name (rw v.no_letters refl)), rw v.no_end (rw v.no_name (rw v.no_letters refl)))
+sim program path h = asks _ _ to_sim program path (codes "--schedule" ∷ codes "7" ∷ []) _ h refl refl
 
 pub threads : (program path : Text) → is_path path ≡ true
     → Asks (program ∷ codes "threads" ∷ path ∷ codes "--workers" ∷ codes "2" ∷ []) (path, Script (Concurrent 2 0 0), false)
 unfolding clap_on_literals
-threads program path h =
-    let v = is_value path h in
-    (rw v.no_end (rw v.no_name (rw v.no_letters refl)), rw v.no_end (rw v.no_name (rw v.no_letters refl)))
+threads program path h = asks _ _ to_threads program path (codes "--workers" ∷ codes "2" ∷ []) _ h refl refl
 
 pub draw : (program path : Text) → is_path path ≡ true → Asks (program ∷ codes "draw" ∷ path ∷ []) (path, Draw 1 false, false)
 unfolding clap_on_literals
-draw program path h =
-    let v = is_value path h in (
-      rw v.no_end (rw v.no_name (rw v.no_letters (refl {a = Some (path, Draw 1 false, false)}))),
-      rw v.no_end (rw v.no_name (rw v.no_letters (refl {a = []}))),
-    )
+draw program path h = asks _ _ to_draw program path [] _ h refl refl

@@ -1,9 +1,9 @@
 -- What the graph gives for a step, and what a judge tells of an event.
-use Rattle.std.proofs.Common.{◌≡◌, ◌↔◌, ◌⊎◌, ◌+◌, ◌-◌, ◌<◌, ◌++◌, ◌∷◌, ◌∙◌}
+use Rattle.std.proofs.Common.{◌≡◌, ◌↔◌, ◌⊎◌, ◌+◌, ◌-◌, ◌<◌, ◌≤◌, ◌++◌, ◌∷◌, ◌∙◌}
 use Rattle.std.proofs.Common.{ℕ, Option, Some, None, List, [], take, length, get_or, slice_get, Result, Ok, Err, refl, sym, ap, subst, inl}
 use Rattle.std.proofs.Common.{inr, arith}
 use Rattle.std.specs.Prelude.{nat_lt, ◌==◌, ◌^◌, IfOk}
-use Rattle.std.proofs.lemmas.List.{take_more}
+use Rattle.std.proofs.lemmas.List.{take_all, take_more}
 use Rattle.std.proofs.lemmas.Option.{slice_get-get_or}
 use Rattle.heap_words.specs.Sizes.{size_of}
 use Rattle.heap_words.specs.declared.config.Config.{Config}
@@ -213,6 +213,17 @@ judged_more j es seen i e same lt is taken =
     let there : e ≡ get_or es i e = rw (← same) is in
     let more : take (i + 1) es ≡ take i es ++ e ∷ [] = take_more es i e inside ∙ ap (λ (x : Event). take i es ++ x ∷ []) (sym there) in
     subst (λ (xs : List Event). HasJudged j xs) (sym more) taken
+
+-- what is found where the judge took all events
+pub all_judged : (j : Judging) (config : Config) (es seen : List Event) (i : ℕ) → seen ≡ es → length seen ≤ i → j.config ≡ config
+    → HasJudged j (take i es) → Finds (first_state config) es (findings.Allowed (length seen))
+all_judged j config es seen i same past is taken =
+    let whole : take i es ≡ es = take_all i es (rw (← same) past) in (
+      ap length same,
+      taken.0,
+      subst (λ (k : Config). IsRun (first_state k) es taken.0) is
+          (subst (λ (xs : List Event). IsRun (first_state j.config) xs taken.0) whole taken.1),
+    )
 
 -- what is found where the judge tells of the event after the first i
 pub found_there : (first : State) (es seen : List Event) (i : ℕ) (e : Event) (given : Given) → seen ≡ es → i < length seen

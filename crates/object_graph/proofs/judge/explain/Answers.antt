@@ -1,10 +1,10 @@
-use Rattle.std.proofs.Common.{◌∙◌, subst, take, Option}
+use Rattle.std.proofs.Common.{◌∙◌, arith, subst, take, Option}
 use Rattle.heap_words.specs.declared.config.Config.{Config}
 use Rattle.graph_runs.specs.State.{first_state}
 use Rattle.object_graph.specs.Reasons.{Refuses, JudgesNext}
 use Rattle.object_graph.specs.declared.given.Given.{Given}
 use Rattle.graph_runs.proofs.RunLaws.{event_in, event_there}
-use Rattle.object_graph.proofs.ReasonLaws.{judged_more, found_there}
+use Rattle.object_graph.proofs.ReasonLaws.{all_judged, judged_more, found_there}
 use Rattle.object_graph.proofs.judge.explain.Goals as goal
 
 pub returns-in-Some : goal.returns-in-Some
@@ -32,3 +32,8 @@ loop-index-preserved c =
           (event_there c.events-events.result.now i c.loop-index-test.true) told;
       config = c.in_ok-given.ensures.config ∙ c.loop-index.invariant.config;
     }
+
+pub returns : goal.returns
+returns c =
+    all_judged c.loop-index.judge c.args.history.now.config c.args.history.now.events c.events-events.result.now c.loop-index.index
+    c.events-events.ensures.events (omega (arith, c.loop-index-test.false)) c.loop-index.invariant.config c.loop-index.invariant.judged

@@ -1,0 +1,20 @@
+use Rattle.std.proofs.Common.{codes}
+use Rattle.clap.specs.Words.{with_rule}
+use Rattle.command_line.proofs.Shapes.{adds}
+use Rattle.command_line.proofs.view_command.Goals as goal
+use Rattle.command_line.specs.Program.{count, flag, plain}
+
+pub returns : goal.returns
+returns c =
+    let bare = plain (codes "view") in
+    let recorded = with_rule bare (flag (codes "record")) in
+    let at = with_rule recorded (count (codes "at")) in
+    let region = with_rule at (count (codes "region")) in
+    adds _ c.with_arg-command-3.result c.with_arg.result c.flag.result (flag (codes "summary")) region c.with_arg.ensures
+    c.flag.ensures.rule
+    (adds _ c.with_arg-command-2.result c.with_arg-command-3.result c.count-2.result (count (codes "region")) at
+    c.with_arg-command-3.ensures c.count-2.ensures.rule
+    (adds _ c.with_arg-command.result c.with_arg-command-2.result c.count.result (count (codes "at")) recorded
+    c.with_arg-command-2.ensures c.count.ensures.rule
+    (adds _ c.plain-command.result c.with_arg-command.result c.recorded.result (flag (codes "record")) bare c.with_arg-command.ensures
+    c.recorded.ensures.rule c.plain-command.ensures)))
