@@ -1,6 +1,6 @@
 /* An anchor: marking without proofs, laid out for speed alone, in a heap of some size. It marks a tree of objects of 16 words, in drawn
    order, by a stack, a flag an address and the live words of each region; 16 objects are fetched ahead with their flags, in whatever order
-   they come. g1heap scans the lowest grey object next. Nothing here is proved, and it is no part of the library.
+   they come. g1heap scans the one that it found last. Nothing here is proved, and it is no part of the library.
 
      cc -O2 tools/measuring/least_marking.c -o least_marking
      ./least_marking 30 16000000         a heap of 2^30 words, and so many objects: the processor time of one
