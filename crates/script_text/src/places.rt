@@ -1,6 +1,8 @@
 //! What may be at each word's place in a line, and the first word that doesn't fit its place.
 
 ghost use Rattle.std.specs.Prelude.{◌≡◌, ◌+◌, ◌^◌, ◌<◌, ◌≤◌, ◌++◌, ℕ, List, Some, IfErr, IfOk, IfSome, length, map, option_map, take, drop};
+ghost use Rattle.std.specs.Prelude.{codes, false};
+ghost use Rattle.std.specs.Str.{bytes_eq};
 ghost use Rattle.heap_words.specs.declared.config.Config.{Config};
 ghost use Rattle.heap_steps.specs.Actors.{is_third};
 ghost use Rattle.script_text.specs.declared.places.Place.{Place};
@@ -94,25 +96,17 @@ fn actor_in(kind: TextKind, config: &Config, word: &[u8]) -> Option<Actor>
     }
 }
 
-/// What may be after a mutator's verb. `None`: the word is none.
+/// What may be after a mutator's verb that neither makes an object nor uses a field of pointers. `None`: the word is none of these.
 #[tactic(auto, unfolding(crate::specs::Places::action_form))]
-fn action_form(third: bool, verb: &[u8]) -> Option<&'static [Place]>
-    ensures form { option_map (λ form. form.now) result ≡ action_form third verb.now }
+#[inline(always)]
+fn short_form(third: bool, verb: &[u8]) -> Option<&'static [Place]>
+    ensures form { bytes_eq verb.now (codes "new") ≡ false → bytes_eq verb.now (codes "newweak") ≡ false
+        → bytes_eq verb.now (codes "get") ≡ false → bytes_eq verb.now (codes "getweak") ≡ false
+        → bytes_eq verb.now (codes "put") ≡ false → bytes_eq verb.now (codes "putweak") ≡ false
+        → option_map (λ form. form.now) result ≡ action_form third verb.now }
     ensures short { IfSome result (λ form. length form.now ≤ 8) }
 {
-    if is_word(verb, b"new") {
-        Some(&[Place::Register, Place::Small, Place::Small])
-    } else if is_word(verb, b"newweak") {
-        Some(&[Place::Register, Place::Small, Place::Weaks, Place::Small])
-    } else if is_word(verb, b"get") {
-        Some(&[Place::Register, Place::Register, Place::Small])
-    } else if is_word(verb, b"getweak") {
-        Some(&[Place::Register, Place::Register, Place::Small])
-    } else if is_word(verb, b"put") {
-        Some(&[Place::Register, Place::Small, Place::Value])
-    } else if is_word(verb, b"putweak") {
-        Some(&[Place::Register, Place::Small, Place::Value])
-    } else if is_word(verb, b"read") {
+    if is_word(verb, b"read") {
         Some(&[Place::Register, Place::Small])
     } else if is_word(verb, b"write") {
         Some(&[Place::Register, Place::Small, Place::Large])
@@ -136,6 +130,29 @@ fn action_form(third: bool, verb: &[u8]) -> Option<&'static [Place]>
         }
     } else {
         None
+    }
+}
+
+/// What may be after a mutator's verb. `None`: the word is none.
+#[tactic(auto, unfolding(crate::specs::Places::action_form))]
+fn action_form(third: bool, verb: &[u8]) -> Option<&'static [Place]>
+    ensures form { option_map (λ form. form.now) result ≡ action_form third verb.now }
+    ensures short { IfSome result (λ form. length form.now ≤ 8) }
+{
+    if is_word(verb, b"new") {
+        Some(&[Place::Register, Place::Small, Place::Small])
+    } else if is_word(verb, b"newweak") {
+        Some(&[Place::Register, Place::Small, Place::Weaks, Place::Small])
+    } else if is_word(verb, b"get") {
+        Some(&[Place::Register, Place::Register, Place::Small])
+    } else if is_word(verb, b"getweak") {
+        Some(&[Place::Register, Place::Register, Place::Small])
+    } else if is_word(verb, b"put") {
+        Some(&[Place::Register, Place::Small, Place::Value])
+    } else if is_word(verb, b"putweak") {
+        Some(&[Place::Register, Place::Small, Place::Value])
+    } else {
+        short_form(third, verb)
     }
 }
 

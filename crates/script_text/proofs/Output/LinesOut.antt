@@ -1,5 +1,5 @@
 -- The lines of a record on their way to a writer: one more is put, or the writer refuses.
-use Rattle.std.proofs.Common.{◌≡◌, ◌≢◌, Result, Ok, Err, ℕ, ◌+◌, ◌<◌, List, [], ◌∷◌, ◌++◌, length, take, get_or, refl, sym, ap, subst}
+use Rattle.std.proofs.Common.{◌≡◌, ◌≢◌, Result, Ok, Err, ℕ, ◌+◌, ◌<◌, ◌≤◌, List, [], ◌∷◌, ◌++◌, length, take, get_or, refl, sym, ap, subst}
 use Rattle.std.proofs.Common.{◌∙◌, append_assoc, arith}
 use Rattle.std.specs.Prelude.{OnErr, IfErr}
 use Rattle.std.proofs.lemmas.List.{append-nil, length-append, take_more}
@@ -78,3 +78,7 @@ pub fails_if : {A P : Type 0} (r : Result A WriteFault) (old new : Writer) (text
     → (P → TakesPart old new text) → OnErr r P → IfErr r (λ fault. FailsToTake fault old new text)
 fails_if (Ok x) old new text other f given = tt
 fails_if (Err fault) old new text other f given = fails fault old new text (λ is. other (ap Err is)) (f given)
+
+-- what is no more than what is no more
+pub no_more : {a b c : ℕ} → a ≤ b → b ≤ c → a ≤ c
+no_more first second = omega arith

@@ -3,7 +3,7 @@ use Rattle.std.proofs.lemmas.List.{with_items_is}
 use Rattle.script_text.specs.Records.{event_line}
 use Rattle.script_text.specs.Watched.{Takes, TakesPart}
 use Rattle.script_text.specs.Written.{Lines}
-use Rattle.script_text.proofs.Output.LinesOut.{line_put, lines_stopped}
+use Rattle.script_text.proofs.Output.LinesOut.{line_put, lines_stopped, no_more}
 use Rattle.script_text.proofs.write.record_lines.RecordLines.put.Goals as goal
 
 pub returns-in-Ok-clause-ok : goal.returns-in-Ok-clause-ok
@@ -30,3 +30,12 @@ returns-in-Err-clause-err g c first r more before =
     before (sym c.self.view_is)
     (subst (λ (items : List ℕ). TakesPart c.args.writer.now c.make_room.new.writer (take l.at items)) c.deref.ensures.value
     c.in-Err.ensures.err)
+
+pub invariant_of-self : goal.invariant_of-self
+invariant_of-self g c =
+    let l = c.self.inside in
+    let new = c.put_event-self-inside.new.buffer in
+    let len : length new ≡ l.buffer.len = c.put_event-self-inside.auto.buffer ∙ c.deref_mut.ensures.len in
+    let long : length new ≡ 8192 = c.put_event-self-inside.auto.buffer ∙ ap length c.deref_mut.ensures.value ∙ c.self.invariant.0 in
+    let within = no_more c.put_event-self-inside.ensures.end c.in-Ok.ensures.room in
+    (ap length (with_items_is l.buffer new len) ∙ long, within, c.count_on.ensures)
