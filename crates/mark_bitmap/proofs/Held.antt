@@ -1,13 +1,13 @@
 -- The held object, the stack and the fingers: what they tell of grey objects as one more is grey, as one is scanned, and with fewer marks.
-use Rattle.std.proofs.Common.{◌≡◌, ◌≢◌, ◌<◌, ◌≤◌, ◌/◌, ◌∙◌, ◌∷◌, ◌⊎◌, inl, inr}
-use Rattle.std.proofs.Common.{ℕ, Bool, true, false, List, [], length, set, sym, ap, arith, refl, Option, Some, None, min, max}
-use Rattle.std.proofs.Common.{get_or-set_same, get_or-set_other, get_or, subst, rules}
-use Rattle.std.proofs.lemmas.List.{get_or-take, get_or_append_left, get_or_push, length_push}
+use Rattle.std.proofs.Common.{◌≡◌, ◌≢◌, ◌<◌, ◌≤◌, ◌/◌, ◌∙◌, ◌⊎◌, inl, inr}
+use Rattle.std.proofs.Common.{ℕ, Bool, true, false, List, length, set, sym, ap, arith, refl, Option, Some, None, min, max}
+use Rattle.std.proofs.Common.{get_or-set_same, get_or-set_other, get_or, subst}
+use Rattle.std.proofs.lemmas.List.{get_or-take}
 use Rattle.std.specs.Prelude.{not, ◌&&◌, MatchOption, if◌then◌else◌}
 use Rattle.std.proofs.lemmas.Bool.{and_parts, and_from, and_right, cases_eq, cases_lt, cases_Bool}
 use Rattle.bit_sets.specs.Bits.{has}
 use Rattle.mark_bitmap.specs.Marks.{is_marked, HasNone, IsLowest}
-use Rattle.mark_bitmap.specs.Stack.{Stack, IsOn, TakesAll, TakesLast, has_room, with_object}
+use Rattle.mark_bitmap.specs.Stack.{Stack, IsOn, TakesAll, TakesLast}
 use Rattle.mark_bitmap.specs.Grey.{Scans, HasFingers, HasNoFinger, HoldsNext, IsLowestBeside, OfStack, OfFingers, finger_of, is_grey}
 use Rattle.mark_bitmap.specs.Summary.{HasNoMember}
 use Rattle.mark_bitmap.proofs.Summaries.{has_set_here, has_set_there}
@@ -51,21 +51,6 @@ module _ (marks marks' : List Bool) (scans : Scans) (fewer : (a : ℕ) → is_ma
     none = λ a held. black a (f.none a held);
   }
 
--- what was on a stack still is once one more is put on it, and that one is too
-on_still : (stack : Stack) (h a : ℕ) → IsOn stack a → IsOn (with_object stack h) a
-on_still stack h a on = record {
-  place = on.place;
-  there = omega (arith, on.there, length_push stack.objects h);
-  is = get_or_append_left stack.objects (h ∷ []) 0 on.place on.there ∙ on.is;
-}
-
-on_top : (stack : Stack) (h : ℕ) → IsOn (with_object stack h) h
-on_top stack h = record {
-  place = length stack.objects;
-  there = omega (arith, length_push stack.objects h);
-  is = get_or_push stack.objects h 0 (length stack.objects) refl;
-}
-
 module _ (marks : List Bool) (scans : Scans) (a : ℕ) (known : a < length marks) (unscanned : is_marked scans.scanned a ≡ false)
     (f : HasFingers marks scans) where
   grey_there : (b : ℕ) → b ≢ a → is_grey (set marks a true) scans b ≡ is_grey marks scans b
@@ -76,40 +61,7 @@ module _ (marks : List Bool) (scans : Scans) (a : ℕ) (known : a < length marks
       ∙ and_from (is_marked (set marks a true) a) (not (is_marked scans.scanned a)) (get_or-set_same marks a true false known)
       (ap not unscanned)
 
-  -- nothing was held: the object is
-  pub first_grey : scans.held ≡ None → HasFingers (set marks a true) (record scans { held = Some a })
-  first_grey nothing = record {
-    each = λ b unset. elim (cases_eq b a) [
-      | inl same ↦ inl (ap Some (sym same))
-      | inr other ↦ inr (inr (grey_there b other ∙ f.none b nothing))
-    ];
-    held = λ b is. let same : a ≡ b = cc in grey_here b (sym same);
-    lowest = λ _ b c is less. let same : a ≡ b = cc in
-        grey_there c (λ e. omega (arith, same, less, e)) ∙ f.none c nothing;
-    none = λ b is. absurd (cc);
-  }
-
   module _ (h : ℕ) (held : scans.held ≡ Some h) where
-    -- the one that was held is put on the stack
-    pub stacked_grey : has_room scans.stack ≡ true
-        → HasFingers (set marks a true) (record scans { held = Some a; stack = with_object scans.stack h })
-    stacked_grey room = record {
-      each = λ b unset. elim (cases_eq b a) [
-        | inl same ↦ inl (ap Some (sym same))
-        | inr other ↦ inr (elim (f.each b unset) [
-          | inl is ↦
-              let e : h ≡ b = (let e = sym held ∙ is in cc) in
-              inl (subst (IsOn (with_object scans.stack h)) e (on_top scans.stack h))
-          | inr (inl on) ↦ inl (on_still scans.stack h b on)
-          | inr (inr none) ↦ inr (grey_there b other ∙ none)
-        ])
-      ];
-      held = λ b is. let same : a ≡ b = cc in grey_here b (sym same);
-      lowest = λ by_address b c is less. absurd (let less : length scans.stack.objects < scans.stack.room = search rules in
-          omega (arith, less, by_address));
-      none = λ b is. absurd (cc);
-    }
-
     -- the stack has no room: the lower of the two is held, and the finger of the other is set
     pub fingered_grey : finger_of (max h a) < length scans.fingers → HasFingers (set marks a true)
         (record scans { fingers = set scans.fingers (finger_of (max h a)) true; held = Some (min h a) })

@@ -22,8 +22,8 @@
 //!   a list            add 5: held 5     remove 5: none held                 add 90: held 90 ..    in either order
 //! ```
 //!
-//! The next object is known as soon as one is scanned, before the targets of this one are looked for. So who scans can read its header
-//! early, and the processor fetches it meanwhile.
+//! The held object is known as soon as one is scanned, before the targets of this one are looked for, and comes next unless one of them
+//! takes its place. So who scans can read its header early, and the processor fetches it meanwhile.
 //!
 //! Over a marking cycle: `begin` clears the scanned set and the fingers; each object that is marked is added; `any` and
 //! `remove` take one grey object after another, until none is left. Each of the three costs a few words, however many

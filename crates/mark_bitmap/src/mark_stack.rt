@@ -23,6 +23,7 @@ use std::marker::Model;
 const ROOM: usize = 64;
 
 /// Objects in the order in which they were put on it. Clauses see the list of them, and how many there is room for.
+#[derive(Drop)]
 pub struct MarkStack {
     objects: ArrayVec<u32, ROOM>,
     room: usize,
@@ -37,16 +38,6 @@ impl Model for MarkStack {
     ghost view = { λ s. record { objects = s.objects.items; room = s.room } };
 
     ghost invariant = { λ s. (length s.objects.items ≤ s.room) × (s.room ≤ 64) };
-}
-
-/// Where it is let go there is one call, and not a drop for each of its parts.
-impl Drop for MarkStack {
-    fn drop(self) {
-        let MarkStack {
-            objects: _,
-            room: _,
-        } = self;
-    }
 }
 
 impl MarkStack {

@@ -64,8 +64,8 @@ impl Marker {
         self.live.add(table.region_of(at), size);
     }
 
-    /// Reads the header of the object that is to be scanned next, if it is known, so that the processor fetches it while the targets of the
-    /// one before are marked.
+    /// Reads the header of the object that is held, if one is, so that the processor fetches it while the targets of the one before are
+    /// marked. By rising address it mostly comes next, by the stack after these targets.
     #[inline(always)]
     fn read_next(&mut self, table: &RegionTable)
         requires stands { MarkerStands table.now self.old }
