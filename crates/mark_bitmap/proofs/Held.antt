@@ -3,7 +3,7 @@ use Rattle.std.proofs.Common.{◌≡◌, ◌≢◌, ◌<◌, ◌≤◌, ◌/◌,
 use Rattle.std.proofs.Common.{ℕ, Bool, true, false, List, length, set, sym, ap, arith, refl, Option, Some, None, min, max}
 use Rattle.std.proofs.Common.{get_or-set_same, get_or-set_other, get_or, subst}
 use Rattle.std.proofs.lemmas.List.{get_or-take}
-use Rattle.std.specs.Prelude.{not, ◌&&◌, MatchOption, if◌then◌else◌}
+use Rattle.std.specs.Prelude.{not, ◌&&◌, MatchOption}
 use Rattle.std.proofs.lemmas.Bool.{and_parts, and_from, and_right, cases_eq, cases_lt, cases_Bool}
 use Rattle.bit_sets.specs.Bits.{has}
 use Rattle.mark_bitmap.specs.Marks.{is_marked, HasNone, IsLowest}
