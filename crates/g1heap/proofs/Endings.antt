@@ -9,7 +9,7 @@ use Rattle.heap_steps.specs.Faults.{IsRunFault}
 use Rattle.mutators.specs.Interleavings.{IsRunOf, IsThreadsFault}
 use Rattle.mutators.specs.Draws.{scripted_actors, drawn_by}
 use Rattle.mutators.specs.Rounds.{AreDrawn}
-use Rattle.jobs.proofs.Endings.{Comes}
+use Rattle.job_ends.proofs.Endings.{Comes}
 use Rattle.g1heap.specs.Runs.{AreFew, CanStart, IsDrawnRun, IsThreadedRun, IsCountedFault}
 
 pub within : (k n : ℕ) → (k < n → ⊥) → n ≤ k

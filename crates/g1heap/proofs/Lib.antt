@@ -1,4 +1,3 @@
 mod Endings
-mod OnItsWay
 mod Unread
 mod Asking

@@ -1,12 +1,11 @@
 -- What is told of a file that can't be opened, by task.
 use Rattle.std.proofs.Common.{◌≡◌, Err, ℕ, Bool, List, true, false, inr, refl}
-use Rattle.std.specs.Prelude.{⊤, Result}
 use Rattle.script_text.specs.Watched.{Reader, Writer, FailsToGive, Stays}
 use Rattle.script_text.specs.declared.fault.ReadFault.TheVariants as reads
 use Rattle.jobs.specs.Reasons.{IsReadReason, TellsMore}
-use Rattle.jobs.specs.Runs.{Tells}
+use Rattle.job_ends.specs.Runs.{Tells}
 use Rattle.jobs.specs.Verdicts.{TellsVerdict}
-use Rattle.jobs.specs.declared.faults.JobFault.TheVariants as faults
+use Rattle.job_ends.specs.declared.faults.JobFault.TheVariants as faults
 use Rattle.command_line.specs.declared.Task.{Task}
 use Rattle.command_line.specs.declared.Task.TheVariants.{Script, Check, View, Draw}
 use Rattle.heap_view.specs.declared.glance.Glance.{Glance}

@@ -4,9 +4,9 @@ use Rattle.script_text.specs.Watched.{Reader, Writer, FailsToGive, Stays}
 use Rattle.script_text.specs.declared.fault.ReadFault.{ReadFault}
 use Rattle.script_text.specs.declared.places.TextKind.{TextKind}
 use Rattle.script_text.specs.declared.places.TextKind.TheVariants as texts
-use Rattle.g1heap.specs.Runs.{EndsIn, Performs}
+use Rattle.g1heap.specs.Runs.{EndsIn, Makes, MayFail}
 use Rattle.jobs.specs.Reasons.{IsReadReason, TellsExplained, TellsMore}
-use Rattle.jobs.specs.Runs.{GivesAll}
+use Rattle.job_ends.specs.Runs.{GivesAll, Performs}
 use Rattle.jobs.specs.declared.causes.Counts.{Counts}
 use Rattle.jobs.specs.Verdicts.{PerformsCheck}
 use Rattle.jobs.specs.Explanations.{PerformsExplain}
@@ -16,9 +16,9 @@ use Rattle.heap_view.specs.Views.{PerformsView, Views}
 use Rattle.heap_view.specs.Reviews.{PerformsReview, Reviews}
 use Rattle.heap_life.specs.Drawings.{Draws, PerformsDraw}
 use Rattle.heap_life.specs.Redrawings.{PerformsRedraw, Redraws}
-use Rattle.jobs.specs.FaultLines.{TellsLine}
-use Rattle.jobs.specs.declared.faults.JobFault.{JobFault}
-use Rattle.jobs.specs.declared.faults.JobFault.TheVariants.{Read, Run}
+use Rattle.job_ends.specs.FaultLines.{TellsLine}
+use Rattle.job_ends.specs.declared.faults.JobFault.{JobFault}
+use Rattle.job_ends.specs.declared.faults.JobFault.TheVariants.{Read, Run}
 use Rattle.heap_steps.specs.declared.fault.RunFault.TheVariants.{NoMemory}
 use Rattle.command_line.specs.Asked.{Asked}
 use Rattle.command_line.specs.declared.Order.{Order}
@@ -112,7 +112,8 @@ DoesExplained name names task given left old new err err' status =
 abbrev pub DoesJob : List ℕ → Asked → Reader → Reader → Writer → Writer → Writer → Writer → ℕ → Type 0
 DoesJob names (name, Check followed, explained) given left old new err err' status =
     DoesCheck name explained followed given left old new err err' status
-DoesJob names (name, Script order, false) given left old new err err' status = Performs order given left old new err err' status
+DoesJob names (name, Script order, false) given left old new err err' status =
+    Performs (Makes order) (MayFail order) given left old new err err' status
 DoesJob names (name, View recorded at region summary, false) given left old new err err' status =
     DoesView recorded (glance_of at region summary) given left old new err err' status
 DoesJob names (name, Draw every recorded, false) given left old new err err' status =

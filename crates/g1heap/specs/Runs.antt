@@ -1,4 +1,4 @@
--- A script that is run in an order, and what is told of it.
+-- A script that is run in an order.
 use Rattle.std.specs.Prelude.{◌≡◌, ℕ, ◌<◌, ◌≤◌, ⊤, Result}
 use Rattle.heap_words.specs.declared.config.Config.{Config}
 use Rattle.heap_steps.specs.Actors.{StepList, EventList}
@@ -11,9 +11,9 @@ use Rattle.mutators.specs.Draws.{scripted_actors, drawn_by}
 use Rattle.mutators.specs.Rounds.{AreDrawn}
 use Rattle.command_line.specs.declared.Order.{Order}
 use Rattle.command_line.specs.declared.Order.TheVariants.{File, Drawn, Concurrent}
-use Rattle.jobs.specs.declared.faults.JobFault.{JobFault}
+use Rattle.job_ends.specs.declared.faults.JobFault.{JobFault}
 use Rattle.step_core.specs.Passages.{IsRunInOrder}
-use Rattle.jobs.specs.Runs.{Ends, Tells}
+use Rattle.job_ends.specs.Runs.{Ends}
 
 -- the numbers of background actors are in range
 abbrev pub AreFew : ℕ → ℕ → Type 0
@@ -56,9 +56,3 @@ MayFail (Concurrent workers refiners markers) = IsCountedFault (CanStart workers
 -- How a script's run in such an order ended, by the reader and the writer before and after.
 abbrev pub EndsIn : Order → Reader → Reader → Writer → Writer → Result ⊤ JobFault → Type 0
 EndsIn order = Ends (Makes order) (MayFail order)
-
--- A script was run in an order, and its end was told so. The status is 0 if and only if it ended well.
-pub record Performs (order : Order) (given left : Reader) (old new err err' : Writer) (status : ℕ) : Type 0 where
-  pub outcome : Result ⊤ JobFault
-  pub ends : EndsIn order given left old new outcome
-  pub tells : Tells err err' outcome status

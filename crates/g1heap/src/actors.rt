@@ -3,7 +3,7 @@
 ghost use Rattle.g1heap.specs.Runs.{EndsIn};
 
 use command_line::Order;
-use jobs::{JobFault, answer, read_plan};
+use job_ends::{JobFault, answer, read_plan};
 use mutators::{run_threads, simulate};
 use script_text::{WatchedReader, WatchedWriter};
 use std::alloc::Global;

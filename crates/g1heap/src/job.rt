@@ -7,11 +7,12 @@ ghost use Rattle.g1heap.specs.Jobs.{DoesCheck, DoesDraw, DoesJob, DoesView};
 
 use crate::actors::{simulate_script, thread_script};
 use crate::explained::do_explained;
-use crate::in_order::run_script;
 use command_line::{Job, Order, Task};
 use heap_life::{draw_record, draw_script};
 use heap_view::{Glance, view_record, view_script};
-use jobs::{JobFault, conclude, explain_and_conclude, follow_and_conclude, judge_and_conclude};
+use job_ends::{JobFault, conclude};
+use jobs::{explain_and_conclude, follow_and_conclude, judge_and_conclude};
+use script_runs::run_script;
 use script_text::{WatchedReader, WatchedWriter};
 use std::alloc::Global;
 use std::io::{Read, Write};

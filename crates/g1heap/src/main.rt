@@ -11,13 +11,13 @@
 //!                                                            --> draw_script      the life of the heap, as a page; draw_record of a record
 //! ```
 //!
-//! `program` reads the command line (crate `command_line`), opens the file and calls `do_job`, which does the job and tells its end (crate
-//! `jobs`). The three ways to run a script are here, since one of them needs threads and waiting.
+//! `program` reads the command line (crate `command_line`), opens the file and calls `do_job`, which does the job and tells its end (crates
+//! `job_ends` and `jobs`). `run_script` is `script_runs`', since `g1heap_run` does it too; the two ways that take turns are here, since one
+//! of them needs threads and waiting.
 #![tactic(auto)]
 
 mod actors;
 mod explained;
-mod in_order;
 mod job;
 mod program;
 

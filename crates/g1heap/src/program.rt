@@ -3,7 +3,7 @@
 ghost use Rattle.std.specs.Prelude.{◌≡◌, ◌≢◌, ◌≤◌, ◌⊎◌, ℕ, Bool, List, Some, map, string_bytes};
 ghost use Rattle.clap.specs.Values.{kind_of};
 ghost use Rattle.script_text.specs.Watched.{Reader, Writer, FailsToGive, Stays};
-ghost use Rattle.jobs.specs.FaultLines.{TellsLine};
+ghost use Rattle.job_ends.specs.FaultLines.{TellsLine};
 ghost use Rattle.command_line.specs.Asked.{Asked, Asks, asked_by, names_by, names_of};
 ghost use Rattle.command_line.specs.declared.Task.TheVariants.{Check};
 ghost use Rattle.g1heap.specs.Jobs.{DoesAsked, DoesCheck, DoesJob, DoesNamed, DoesTask, DoesWith};
@@ -13,7 +13,8 @@ use clap::Error;
 use clap::error::ErrorKind;
 use command_line::{Job, Task, misspelt, read_words};
 use heap_steps::RunFault;
-use jobs::{JobFault, conclude, conclude_unread, conclude_verdict};
+use job_ends::{JobFault, conclude};
+use jobs::{conclude_unread, conclude_verdict};
 use script_text::{ReadFault, WatchedReader, WatchedWriter, read_text};
 use std::alloc::Global;
 use std::env::Env;

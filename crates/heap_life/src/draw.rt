@@ -10,7 +10,7 @@ ghost use Rattle.heap_life.specs.Drawings.{Draws, IsPageOfPlan};
 use crate::life::{live, planned};
 use crate::page::page_of;
 use heap_steps::{Plan, Record, RunFault};
-use jobs::{JobFault, read_plan};
+use job_ends::{JobFault, read_plan};
 use script_text::{WatchedReader, WatchedWriter, write_bytes};
 use std::alloc::Global;
 use std::io::{Read, Write};

@@ -6,7 +6,8 @@ ghost use Rattle.heap_life.specs.Redrawings.{Redraws, IsPageOfHistory, IsHistory
 use crate::life::live;
 use crate::page::page_of;
 use heap_steps::{Record, RunFault};
-use jobs::{JobFault, first_other, read_record};
+use job_ends::JobFault;
+use jobs::{first_other, read_record};
 use script_text::{WatchedReader, WatchedWriter, write_bytes};
 use std::alloc::Global;
 use std::io::{Read, Write};

@@ -7,9 +7,9 @@ use Rattle.script_text.specs.declared.fault.WriteFault.TheVariants as writes
 use Rattle.heap_steps.specs.Faults.{IsRunFault}
 use Rattle.step_core.specs.Stands.{CoreState}
 use Rattle.step_core.specs.Passages.{IsRunInOrder, RunsTo}
-use Rattle.jobs.specs.Runs.{GivesAll, Tells}
-use Rattle.jobs.specs.declared.faults.JobFault.{JobFault}
-use Rattle.jobs.specs.declared.faults.JobFault.TheVariants as faults
+use Rattle.job_ends.specs.Runs.{GivesAll, Tells}
+use Rattle.job_ends.specs.declared.faults.JobFault.{JobFault}
+use Rattle.job_ends.specs.declared.faults.JobFault.TheVariants as faults
 use Rattle.heap_view.specs.declared.glance.Glance.{Glance}
 use Rattle.heap_view.specs.Glances.{view_text}
 

@@ -9,7 +9,7 @@ ghost use Rattle.heap_view.specs.Views.{front, IsViewOf, Views};
 
 use crate::glance::{Glance, view_text};
 use heap_steps::{Plan, RunFault};
-use jobs::{JobFault, read_plan};
+use job_ends::{JobFault, read_plan};
 use script_text::{WatchedReader, WatchedWriter, write_bytes};
 use std::alloc::Global;
 use std::io::{Read, Write};

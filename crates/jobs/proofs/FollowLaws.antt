@@ -21,7 +21,7 @@ use Rattle.script_text.proofs.BothWays.Extended.{whole_behind, reads_behind}
 use Rattle.jobs.specs.Verdicts.{verdict_line, IsJudged, IsTextOfRun, TellsVerdict}
 use Rattle.jobs.specs.Explanations.{IsExplained, judged_by}
 use Rattle.jobs.specs.Followed.{BreaksAlready, IsFound, told_text, Follows, PerformsFollow, FollowedYes, FollowedNo}
-use Rattle.jobs.specs.declared.faults.JobFault.{JobFault}
+use Rattle.job_ends.specs.declared.faults.JobFault.{JobFault}
 use Rattle.jobs.proofs.Told.{YesLaw, NoLaw}
 
 -- a yes has no more reason than its events

@@ -25,8 +25,8 @@ use Rattle.script_text.specs.declared.fault.ReadFault.TheVariants as reads
 use Rattle.script_text.proofs.BothWays.Extended.{head_taken, head_wrong, event_taken, event_wrong, whole_of_record, whole_of_none}
 use Rattle.jobs.specs.Explanations.{IsExplained}
 use Rattle.jobs.specs.Followed.{IsWrongAlready, FindsBy}
-use Rattle.jobs.specs.declared.faults.JobFault.TheVariants as faults
-use Rattle.jobs.specs.declared.faults.JudgeFault.TheVariants as judges
+use Rattle.job_ends.specs.declared.faults.JobFault.TheVariants as faults
+use Rattle.job_ends.specs.declared.faults.JudgeFault.TheVariants as judges
 
 abbrev made : Config → List Event → EventList
 made c es = record { config = c; events = es }

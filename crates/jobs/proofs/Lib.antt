@@ -1,4 +1,3 @@
-pub mod Endings
 mod Once
 mod OneByOne
 mod Told

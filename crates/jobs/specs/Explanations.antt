@@ -23,10 +23,10 @@ use Rattle.script_text.specs.declared.fault.LineFault.{LineFault}
 use Rattle.script_text.specs.declared.places.TextKind.TheVariants.{Record}
 use Rattle.script_text.specs.declared.fault.WriteFault.TheVariants as writes
 use Rattle.jobs.specs.Reasons.{TellsMore, IsReadReason}
-use Rattle.jobs.specs.Runs.{GivesAll}
+use Rattle.job_ends.specs.Runs.{GivesAll}
 use Rattle.jobs.specs.Verdicts.{verdict_line, IsUnjudged, TellsVerdict}
-use Rattle.jobs.specs.declared.faults.JobFault.{JobFault}
-use Rattle.jobs.specs.declared.faults.JobFault.TheVariants as faults
+use Rattle.job_ends.specs.declared.faults.JobFault.{JobFault}
+use Rattle.job_ends.specs.declared.faults.JobFault.TheVariants as faults
 
 -- the replies that a step of the collector may have; a capital stands for any number
 abbrev pub form_text : CollectorStep → List ℕ

@@ -10,11 +10,11 @@ use Rattle.script_text.specs.Events.{record_of}
 use Rattle.script_text.specs.Watched.{Reader, Writer, Gives, FailsToGive, Takes, TakesPart, Stays}
 use Rattle.script_text.specs.declared.fault.LineFault.{LineFault}
 use Rattle.script_text.specs.declared.fault.WriteFault.TheVariants as writes
-use Rattle.jobs.specs.Runs.{GivesAll}
+use Rattle.job_ends.specs.Runs.{GivesAll}
 use Rattle.jobs.specs.Verdicts.{verdict_line, IsUnjudged, TellsVerdict, IsTextOfRun, IsTextBrokenAt}
 use Rattle.jobs.specs.Explanations.{IsExplained, finding_text, judged_by}
-use Rattle.jobs.specs.declared.faults.JobFault.{JobFault}
-use Rattle.jobs.specs.declared.faults.JobFault.TheVariants as faults
+use Rattle.job_ends.specs.declared.faults.JobFault.{JobFault}
+use Rattle.job_ends.specs.declared.faults.JobFault.TheVariants as faults
 
 -- the text begins with these lines
 abbrev pub GoesOnBehind : List ℕ → List ℕ → Type 0

@@ -1,5 +1,3 @@
-pub mod FaultLines
-pub mod Runs
 pub mod Verdicts
 pub mod Explanations
 pub mod Followed

@@ -14,10 +14,10 @@ use Rattle.script_text.specs.Faults.{shown}
 use Rattle.script_text.specs.Lines.{heap_line_of}
 use Rattle.script_text.specs.Hints.{line_reason, IsLine, IsFaultReason, IsLineReason}
 use Rattle.script_text.specs.Watched.{Writer, Takes, TakesPart, Stays}
-use Rattle.jobs.specs.FaultLines.{fault_line}
-use Rattle.jobs.specs.declared.faults.JobFault.{JobFault}
-use Rattle.jobs.specs.declared.faults.JobFault.TheVariants as faults
-use Rattle.jobs.specs.declared.faults.JudgeFault.TheVariants as judges
+use Rattle.job_ends.specs.FaultLines.{fault_line}
+use Rattle.job_ends.specs.declared.faults.JobFault.{JobFault}
+use Rattle.job_ends.specs.declared.faults.JobFault.TheVariants as faults
+use Rattle.job_ends.specs.declared.faults.JudgeFault.TheVariants as judges
 use Rattle.jobs.specs.declared.causes.Counts.{Counts}
 
 -- the word of a heap line that a heap can't have, and which it may have in this format

@@ -14,12 +14,12 @@ use Rattle.script_text.specs.Records.{record_text}
 use Rattle.script_text.specs.Events.{record_of}
 use Rattle.script_text.specs.Watched.{Reader, Writer, FailsToGive, Takes, TakesPart, Stays}
 use Rattle.script_text.specs.declared.fault.WriteFault.TheVariants as writes
-use Rattle.jobs.specs.FaultLines.{TellsLine}
-use Rattle.jobs.specs.Runs.{GivesAll}
-use Rattle.jobs.specs.declared.faults.JobFault.{JobFault}
-use Rattle.jobs.specs.declared.faults.JobFault.TheVariants as faults
-use Rattle.jobs.specs.declared.faults.JudgeFault.{JudgeFault}
-use Rattle.jobs.specs.declared.faults.JudgeFault.TheVariants as judges
+use Rattle.job_ends.specs.FaultLines.{TellsLine}
+use Rattle.job_ends.specs.Runs.{GivesAll}
+use Rattle.job_ends.specs.declared.faults.JobFault.{JobFault}
+use Rattle.job_ends.specs.declared.faults.JobFault.TheVariants as faults
+use Rattle.job_ends.specs.declared.faults.JudgeFault.{JudgeFault}
+use Rattle.job_ends.specs.declared.faults.JudgeFault.TheVariants as judges
 
 -- the word before the number
 abbrev pub verdict_word : Verdict → List ℕ

@@ -14,9 +14,9 @@ ghost use Rattle.jobs.specs.Reasons.{sizes_hint, background_text, counts_text, r
 ghost use Rattle.jobs.specs.Reasons.{TellsMore};
 ghost use Rattle.jobs.specs.Reasons.{TellsExplained};
 
-use crate::faults::{JobFault, JudgeFault, ROOM as LINE_ROOM, put_fault_line};
 use heap_steps::RunFault;
 use heap_words::config::{Format, NewFault};
+use job_ends::{JobFault, JudgeFault, put_fault_line};
 use script_text::{
     REASON_ROOM, ReadFault, TextKind, WatchedWriter, WriteFault, put_fault_reason, put_line_reason,
     put_number, put_shown, put_text, sizes_in, write_bytes,

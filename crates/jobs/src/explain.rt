@@ -10,10 +10,10 @@ ghost use Rattle.jobs.specs.Explanations.{form_text, given_text, reason_line, fi
 ghost use Rattle.jobs.specs.Explanations.{Explains, PerformsExplain, TellsFinding};
 
 use crate::causes::conclude_unread;
-use crate::faults::JobFault;
 use crate::finding::find_in;
 use crate::judge::{conclude_verdict, put_verdict};
 use heap_steps::{CollectorStep, Event};
+use job_ends::JobFault;
 use object_graph::{Finding, Given, Verdict};
 use script_text::{
     LineFault, REASON_ROOM, TextKind, WatchedReader, WatchedWriter, WriteFault, put_event_text,

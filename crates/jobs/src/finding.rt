@@ -7,7 +7,7 @@ ghost use Rattle.object_graph.specs.Reasons.{Finds, HasJudged};
 ghost use Rattle.jobs.specs.Verdicts.{IsJudgeFault};
 ghost use Rattle.jobs.specs.Explanations.{FindsIn};
 
-use crate::faults::{JobFault, JudgeFault};
+use job_ends::{JobFault, JudgeFault};
 use object_graph::{Finding, Judge};
 use script_text::RecordEvents;
 use std::alloc::{AllocError, Global};

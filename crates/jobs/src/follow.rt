@@ -14,9 +14,9 @@ ghost use Rattle.jobs.specs.Verdicts.{IsJudged, IsTextOfRun};
 ghost use Rattle.jobs.specs.Followed.{IsFound, FindsBy, told_text, Follows, PerformsFollow, FollowedYes, FollowedNo};
 
 use crate::explain::{judged_by, write_finding};
-use crate::faults::{JobFault, JudgeFault};
 use crate::judge::{conclude_verdict, verdict_law, write_verdict};
 use heap_words::config::Config;
+use job_ends::{JobFault, JudgeFault};
 use object_graph::{Finding, Judge};
 use script_text::{
     Kind, LineBuffer, LineFault, NextFault, ReadFault, WatchedReader, WatchedWriter, WriteFault,

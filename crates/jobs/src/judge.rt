@@ -7,9 +7,9 @@ ghost use Rattle.jobs.specs.Verdicts.{verdict_word, verdict_number, verdict_line
 ghost use Rattle.jobs.specs.Verdicts.{IsTextOfRun, IsTextBrokenAt, ToldYes, ToldNo};
 
 use crate::explain::explained_law;
-use crate::faults::{JobFault, tell};
 use crate::finding::find_in;
 use graph_runs::judged_once;
+use job_ends::{JobFault, tell};
 use object_graph::Verdict;
 use script_text::{
     WatchedReader, WatchedWriter, WriteFault, put_number, put_text, read_record_is_spelled,

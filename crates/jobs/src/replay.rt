@@ -2,10 +2,10 @@
 
 ghost use Rattle.std.specs.Prelude.{◌≡◌, ◌≢◌, ◌<◌, IfSome, None, Some, false, true, length, map, slice_get};
 ghost use Rattle.jobs.specs.Replays.{reply_in, DifferFrom};
-ghost use Rattle.jobs.specs.Runs.{ReadsRecord};
+ghost use Rattle.job_ends.specs.Runs.{ReadsRecord};
 
-use crate::faults::JobFault;
 use heap_steps::{Event, Record, Reply};
+use job_ends::JobFault;
 use script_text::{WatchedReader, parse_record, read_text};
 use std::alloc::Global;
 use std::io::Read;

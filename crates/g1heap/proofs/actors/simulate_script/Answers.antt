@@ -1,4 +1,4 @@
-use Rattle.jobs.proofs.Endings.{ends}
+use Rattle.job_ends.proofs.Endings.{ends}
 use Rattle.g1heap.proofs.Endings.{comes_drawn}
 use Rattle.heap_steps.specs.Faults.{IsRunFault}
 use Rattle.g1heap.specs.Runs.{AreFew, IsDrawnRun, IsCountedFault}

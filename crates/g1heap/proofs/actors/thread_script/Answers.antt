@@ -1,4 +1,4 @@
-use Rattle.jobs.proofs.Endings.{ends}
+use Rattle.job_ends.proofs.Endings.{ends}
 use Rattle.g1heap.proofs.Endings.{comes_threaded}
 use Rattle.mutators.specs.Interleavings.{IsThreadsFault}
 use Rattle.g1heap.specs.Runs.{CanStart, IsThreadedRun, IsCountedFault}

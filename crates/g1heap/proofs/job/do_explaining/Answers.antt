@@ -1,4 +1,4 @@
-use Rattle.std.proofs.Common.{◌≡◌, inl, inr}
+use Rattle.std.proofs.Common.{inl, inr}
 use Rattle.g1heap.proofs.Unread.{as_job}
 use Rattle.g1heap.proofs.job.do_explaining.Goals as goal
 

@@ -1,4 +1,4 @@
-use Rattle.std.proofs.Common.{◌≡◌, inl, inr}
+use Rattle.std.proofs.Common.{inl, inr}
 use Rattle.g1heap.specs.Jobs.{DoesJob}
 use Rattle.g1heap.proofs.Asking.{at_parts}
 use Rattle.g1heap.proofs.program.conclude_unopened.Goals as goal

@@ -4,7 +4,7 @@ use Rattle.heap_words.specs.declared.config.Config.{Config}
 use Rattle.heap_steps.specs.Actors.{StepList, IsStep}
 use Rattle.heap_steps.specs.declared.step.Step.{Step}
 use Rattle.step_core.specs.Passages.{IsRunInOrder, RunsTo}
-use Rattle.jobs.proofs.Endings.{same_plan, memory_alone}
+use Rattle.job_ends.proofs.Endings.{same_plan, memory_alone}
 use Rattle.heap_view.specs.Views.{front, front_of}
 use Rattle.heap_view.proofs.Fronts.{all_front, ok_then}
 use Rattle.heap_view.proofs.view.view_of.Goals as goal

@@ -1,6 +1,6 @@
 use Rattle.std.proofs.Common.{◌≡◌, ◌∙◌, ◌++◌, ◌⊎◌, ℕ, List, ap, refl, subst, take}
 use Rattle.script_text.specs.Watched.{Takes, TakesPart}
-use Rattle.jobs.specs.FaultLines.{fault_line}
+use Rattle.job_ends.specs.FaultLines.{fault_line}
 use Rattle.jobs.proofs.Reasons.{one_way}
 use Rattle.jobs.proofs.causes.conclude_explained.Goals as goal
 

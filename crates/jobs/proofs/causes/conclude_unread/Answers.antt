@@ -1,8 +1,8 @@
 use Rattle.std.proofs.Common.{◌≡◌, ◌∙◌, ◌++◌, ◌∷◌, ◌⊎◌, [], ℕ, List, ap, append_assoc, codes, subst, take}
 use Rattle.script_text.specs.Faults.{shown}
 use Rattle.script_text.specs.Watched.{Takes, TakesPart}
-use Rattle.jobs.specs.FaultLines.{fault_line}
-use Rattle.jobs.specs.declared.faults.JobFault.TheVariants as faults
+use Rattle.job_ends.specs.FaultLines.{fault_line}
+use Rattle.job_ends.specs.declared.faults.JobFault.TheVariants as faults
 use Rattle.jobs.proofs.Reasons.{one_way}
 use Rattle.jobs.proofs.causes.conclude_unread.Goals as goal
 

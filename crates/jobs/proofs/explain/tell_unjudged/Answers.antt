@@ -3,8 +3,8 @@ use Rattle.script_text.specs.Watched.{Writer}
 use Rattle.script_text.specs.declared.fault.ReadFault.{ReadFault}
 use Rattle.jobs.specs.Explanations.{TellsFinding}
 use Rattle.jobs.specs.Verdicts.{TellsVerdict}
-use Rattle.jobs.specs.declared.faults.JobFault.{JobFault}
-use Rattle.jobs.specs.declared.faults.JobFault.TheVariants as faults
+use Rattle.job_ends.specs.declared.faults.JobFault.{JobFault}
+use Rattle.job_ends.specs.declared.faults.JobFault.TheVariants as faults
 use Rattle.jobs.proofs.explain.tell_unjudged.Goals as goal
 
 -- another fault than one of reading

@@ -7,7 +7,7 @@ use Rattle.script_text.specs.declared.read.awaited.NextFault.{NextFault}
 use Rattle.script_text.specs.declared.read.awaited.NextFault.TheVariants as nexts
 use Rattle.script_text.specs.declared.fault.Kind.{Kind}
 use Rattle.jobs.specs.Followed.{FindsBy}
-use Rattle.jobs.specs.declared.faults.JobFault.TheVariants as faults
+use Rattle.job_ends.specs.declared.faults.JobFault.TheVariants as faults
 use Rattle.jobs.proofs.Following.{head_read, head_missing, head_fails}
 use Rattle.jobs.proofs.follow.find.Goals as goal
 

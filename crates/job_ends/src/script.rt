@@ -1,6 +1,6 @@
 //! A script that is read, and the record by which its run is answered.
 
-ghost use Rattle.jobs.specs.Runs.{ReadsPlan, Answers};
+ghost use Rattle.job_ends.specs.Runs.{ReadsPlan, Answers};
 
 use crate::faults::JobFault;
 use heap_steps::{Plan, Record, RunFault};

@@ -9,9 +9,9 @@ use Rattle.script_text.specs.Watched.{Reader, Writer}
 use Rattle.heap_steps.specs.declared.fault.RunFault.{RunFault}
 use Rattle.heap_steps.specs.declared.fault.RunFault.TheVariants as runs
 use Rattle.heap_steps.specs.Faults.{IsRunFault}
-use Rattle.jobs.specs.declared.faults.JobFault.{JobFault}
-use Rattle.jobs.specs.declared.faults.JobFault.TheVariants.{Read, Line, Run, Judge, Write, Differs}
-use Rattle.jobs.specs.Runs.{ReadsPlan, Answers, Ends}
+use Rattle.job_ends.specs.declared.faults.JobFault.{JobFault}
+use Rattle.job_ends.specs.declared.faults.JobFault.TheVariants.{Read, Line, Run, Judge, Write, Differs}
+use Rattle.job_ends.specs.Runs.{ReadsPlan, Answers, Ends}
 
 -- a run's record is one that such a run makes, and its fault one that may come
 abbrev pub Comes : (StepList → EventList → Type 0) → (Config → RunFault → Type 0) → StepList → Result EventList RunFault → Type 0
@@ -51,11 +51,6 @@ pub same_plan : (config : Config) (steps : List Step) (plan : StepList) → conf
 same_plan config steps plan sizes lines =
     subst (λ (c : Config). (record { config = c; steps = steps }) ≡ plan) (sym sizes)
     (subst (λ (ss : List Step). (record { config = plan.config; steps = ss }) ≡ plan) (sym lines) refl)
-
--- what is so at any rate is so at Ok
-pub if_ok : {A E P : Type 0} (r : Result A E) → P → IfOk r (λ x. P)
-if_ok (Ok x) p = p
-if_ok (Err e) p = tt
 
 -- want of memory, where the heap's sizes suit
 pub memory_alone : {A : Type 0} (config : Config) (r : Result A RunFault) → IfErr r (λ fault. fault ≡ runs.NoMemory) → Suits config

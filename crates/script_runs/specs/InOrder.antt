@@ -5,8 +5,8 @@ use Rattle.heap_steps.specs.declared.step.Event.{Event}
 use Rattle.heap_steps.specs.declared.step.Step.{Step}
 use Rattle.heap_steps.specs.declared.fault.RunFault.{RunFault}
 use Rattle.heap_steps.specs.Faults.{IsRunFault}
-use Rattle.jobs.specs.Runs.{Answers}
-use Rattle.jobs.specs.declared.faults.JobFault.{JobFault}
+use Rattle.job_ends.specs.Runs.{Answers}
+use Rattle.job_ends.specs.declared.faults.JobFault.{JobFault}
 use Rattle.script_text.specs.Records.{record_text}
 use Rattle.script_text.specs.Watched.{Writer, TakesPart}
 use Rattle.script_text.specs.Written.{Lines, AreLinesOf, no_events, with_events}

@@ -1,9 +1,9 @@
 use Rattle.std.proofs.Common.{[], Result, Err, ap, subst}
 use Rattle.std.specs.Prelude.{⊤}
 use Rattle.script_text.specs.declared.fault.WriteFault.{WriteFault}
-use Rattle.g1heap.specs.InOrder.{HasDone}
-use Rattle.g1heap.proofs.OnItsWay.{none_done, faulted, stopped_within, finished, stopped_last}
-use Rattle.g1heap.proofs.in_order.run_steps.Goals as goal
+use Rattle.script_runs.specs.InOrder.{HasDone}
+use Rattle.script_runs.proofs.OnItsWay.{none_done, faulted, stopped_within, finished, stopped_last}
+use Rattle.script_runs.proofs.in_order.run_steps.Goals as goal
 
 pub returns-in-Err : goal.returns-in-Err
 returns-in-Err g c =

@@ -1,8 +1,8 @@
 use Rattle.std.proofs.Common.{◌≡◌, ◌+◌, ◌-◌, ◌∷◌, ◌∙◌, List, length, ap, sym, arith}
 use Rattle.std.proofs.lemmas.Result.{on_ok_weaker}
 use Rattle.heap_steps.specs.declared.step.Event.{Event}
-use Rattle.g1heap.proofs.OnItsWay.{told_by_line, one_done}
-use Rattle.g1heap.proofs.in_order.do_steps.Goals as goal
+use Rattle.script_runs.proofs.OnItsWay.{told_by_line, one_done}
+use Rattle.script_runs.proofs.in_order.do_steps.Goals as goal
 
 pub script-preserved : goal.script-preserved
 script-preserved g c =

@@ -2,8 +2,8 @@
 
 ghost use Rattle.std.specs.Prelude.{◌≡◌, ◌≢◌, ◌≤◌, ◌+◌, ◌++◌, OnOk, OnErr, length, take};
 ghost use Rattle.script_text.specs.Watched.{Takes, TakesPart};
-ghost use Rattle.jobs.specs.FaultLines.{sizes_words, run_words, judge_words, write_words, event_words, fault_words, fault_line};
-ghost use Rattle.jobs.specs.Runs.{Tells};
+ghost use Rattle.job_ends.specs.FaultLines.{sizes_words, run_words, judge_words, write_words, event_words, fault_words, fault_line};
+ghost use Rattle.job_ends.specs.Runs.{Tells};
 
 use heap_steps::RunFault;
 use heap_words::config::NewFault;
@@ -42,8 +42,8 @@ pub enum JobFault {
     Differs(u64),
 }
 
-/// The room that a line needs.
-pub(crate) const ROOM: usize = 64;
+/// The bytes that a fault's line needs.
+pub const FAULT_ROOM: usize = 64;
 
 fn sizes_words(fault: NewFault) -> &'static [u8]
     ensures words { result.now ≡ sizes_words fault }
@@ -123,10 +123,10 @@ fn put_words(buffer: &mut [u8], at: usize, fault: JobFault) -> usize
 }
 
 /// Puts a fault's line at a buffer's front, and answers where it ends.
-pub(crate) fn put_fault_line(buffer: &mut [u8], fault: JobFault) -> usize
-    requires { ROOM ≤ length buffer.old }
+pub fn put_fault_line(buffer: &mut [u8], fault: JobFault) -> usize
+    requires { FAULT_ROOM ≤ length buffer.old }
     ensures put { take result buffer.new ≡ fault_line fault }
-    ensures end { result ≤ ROOM }
+    ensures end { result ≤ FAULT_ROOM }
 {
     let at = put_text(buffer, 0, b"g1heap: ");
     let at = put_words(buffer, at, fault);
@@ -139,7 +139,7 @@ pub fn tell<E: Write>(fault: JobFault, err: &mut WatchedWriter<E>) -> Result<(),
     ensures err { OnErr result (TakesPart err.old err.new (fault_line fault)) }
     ensures memory { result ≢ Err WriteFault.NoMemory }
 {
-    let mut buffer = [0u8; ROOM];
+    let mut buffer = [0u8; FAULT_ROOM];
     let at = put_fault_line(&mut buffer, fault);
     write_bytes(err, &buffer[..at])
 }

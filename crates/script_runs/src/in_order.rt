@@ -3,14 +3,15 @@
 ghost use Rattle.std.specs.Prelude.{◌≡◌, ◌≤◌, ◌<◌, ◌+◌, ◌^◌, ◌++◌, ◌∷◌, [], ℕ, List, Ok, OnOk, length};
 ghost use Rattle.heap_steps.specs.declared.step.Event as events;
 ghost use Rattle.heap_steps.specs.Actors.{StepList};
+ghost use Rattle.heap_steps.specs.Faults.{IsRunFault};
 ghost use Rattle.script_text.specs.Records.{IsToldBy};
 ghost use Rattle.script_text.specs.Watched.{Writer};
-ghost use Rattle.g1heap.specs.InOrder.{AnswersInOrder, HasDone, IsOnItsWay};
-ghost use Rattle.g1heap.specs.Runs.{EndsIn};
+ghost use Rattle.step_core.specs.Passages.{IsRunInOrder};
+ghost use Rattle.script_runs.specs.InOrder.{AnswersInOrder, HasDone, IsOnItsWay};
+ghost use Rattle.job_ends.specs.Runs.{Ends};
 
-use command_line::Order;
 use heap_steps::{Reply, RunFault, run_fault};
-use jobs::JobFault;
+use job_ends::JobFault;
 use script_text::{RecordLines, ScriptSteps, WatchedReader, WatchedWriter, WriteFault, read_text};
 use std::alloc::Global;
 use std::io::{Read, Write};
@@ -94,7 +95,7 @@ pub fn run_script<R: Read, W: Write>(
     reader: &mut WatchedReader<R>,
     writer: &mut WatchedWriter<W>,
 ) -> Result<(), JobFault>
-    ensures { EndsIn Order.File reader.old reader.new writer.old writer.new result }
+    ensures { Ends IsRunInOrder IsRunFault reader.old reader.new writer.old writer.new result }
 {
     let text = match read_text(alloc, reader) {
         Ok(text) => text,

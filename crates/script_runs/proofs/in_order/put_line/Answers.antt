@@ -2,9 +2,9 @@ use Rattle.std.proofs.Common.{◌≡◌, ◌+◌, ◌∙◌, ℕ, Result, ap, su
 use Rattle.std.specs.Prelude.{⊤, OnOk}
 use Rattle.std.proofs.lemmas.Result.{on_ok_weaker}
 use Rattle.script_text.specs.declared.fault.WriteFault.{WriteFault}
-use Rattle.g1heap.specs.InOrder.{IsOnItsWay}
-use Rattle.g1heap.proofs.OnItsWay.{one_put, refused_before}
-use Rattle.g1heap.proofs.in_order.put_line.Goals as goal
+use Rattle.script_runs.specs.InOrder.{IsOnItsWay}
+use Rattle.script_runs.proofs.OnItsWay.{one_put, refused_before}
+use Rattle.script_runs.proofs.in_order.put_line.Goals as goal
 
 pub returns-in-Ok-clause-count : goal.returns-in-Ok-clause-count
 returns-in-Ok-clause-count g c n had =

@@ -16,7 +16,7 @@ use Rattle.script_text.proofs.Output.LinesOut.{fails}
 use Rattle.heap_words.specs.declared.config.Config.{Config}
 use Rattle.heap_steps.specs.declared.fault.RunFault.{RunFault}
 use Rattle.heap_steps.specs.Faults.{IsRunFault}
-use Rattle.jobs.specs.declared.faults.JobFault.TheVariants.{Run, Write}
+use Rattle.job_ends.specs.declared.faults.JobFault.TheVariants.{Run, Write}
 use Rattle.graph_runs.specs.State.{first_state}
 use Rattle.step_core.specs.Fresh.{fresh_core}
 use Rattle.script_text.specs.Written.{Lines, AreLinesOf, no_events, with_events}
@@ -26,7 +26,7 @@ use Rattle.step_core.specs.Passages.{RunsTo, IsRunInOrder, actor_in, actor_of}
 use Rattle.step_core.specs.Stands.{CoreState, Stands, IsCore}
 use Rattle.step_core.proofs.Cores.Following.{passage_is_run}
 use Rattle.step_core.proofs.Cores.Running.{runs_none}
-use Rattle.g1heap.specs.InOrder.{AnswersInOrder, HasDone, IsOnItsWay}
+use Rattle.script_runs.specs.InOrder.{AnswersInOrder, HasDone, IsOnItsWay}
 
 -- the record of the plan with these events
 abbrev pub record_by : StepList → List Event → EventList

@@ -9,9 +9,9 @@ use Rattle.script_text.specs.Events.{record_of}
 use Rattle.script_text.specs.Watched.{Reader, Writer, Gives, FailsToGive, Takes, FailsToTake, Stays}
 use Rattle.script_text.specs.declared.fault.WriteFault.{WriteFault}
 use Rattle.heap_steps.specs.declared.fault.RunFault.{RunFault}
-use Rattle.jobs.specs.FaultLines.{TellsLine}
-use Rattle.jobs.specs.declared.faults.JobFault.{JobFault}
-use Rattle.jobs.specs.declared.faults.JobFault.TheVariants.{Read, Line, Run, Judge, Write, Differs}
+use Rattle.job_ends.specs.FaultLines.{TellsLine}
+use Rattle.job_ends.specs.declared.faults.JobFault.{JobFault}
+use Rattle.job_ends.specs.declared.faults.JobFault.TheVariants.{Read, Line, Run, Judge, Write, Differs}
 
 -- Scripts are run in several orders. So what follows is said for any: `Makes plan r`, the record is one that such a run of the plan makes;
 -- `Fails config fault`, such a run on a heap of these sizes may end with the fault.
@@ -74,3 +74,11 @@ Ends Makes Fails given left old new (Err (Write fault)) =
 abbrev pub Tells : Writer → Writer → Result ⊤ JobFault → ℕ → Type 0
 Tells old new (Ok done) status = (status ≡ 0) × Stays old new
 Tells old new (Err fault) status = (status ≡ 1) × TellsLine fault old new
+
+-- A script was run, and its end was told so: what was read, what was written, what standard error took, and the status. It is 0 if and only
+-- if the run ended well.
+pub record Performs (Makes : StepList → EventList → Type 0) (Fails : Config → RunFault → Type 0) (given left : Reader)
+    (old new err err' : Writer) (status : ℕ) : Type 0 where
+  pub outcome : Result ⊤ JobFault
+  pub ends : Ends Makes Fails given left old new outcome
+  pub tells : Tells err err' outcome status

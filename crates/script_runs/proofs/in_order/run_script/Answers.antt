@@ -5,8 +5,8 @@ use Rattle.heap_steps.specs.Faults.{IsRunFault}
 use Rattle.script_text.specs.Lines.{script_of}
 use Rattle.script_text.specs.declared.fault.LineFault.{LineFault}
 use Rattle.step_core.specs.Passages.{IsRunInOrder}
-use Rattle.jobs.proofs.Endings.{ends, comes}
-use Rattle.g1heap.proofs.in_order.run_script.Goals as goal
+use Rattle.job_ends.proofs.Endings.{ends, comes}
+use Rattle.script_runs.proofs.in_order.run_script.Goals as goal
 
 abbrev is_plan : StepList → Result StepList LineFault
 is_plan plan = Ok plan

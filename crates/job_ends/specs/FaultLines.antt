@@ -9,10 +9,10 @@ use Rattle.script_text.specs.declared.fault.WriteFault.{WriteFault}
 use Rattle.script_text.specs.declared.fault.WriteFault.TheVariants as writes
 use Rattle.heap_steps.specs.declared.fault.RunFault.{RunFault}
 use Rattle.heap_steps.specs.declared.fault.RunFault.TheVariants as runs
-use Rattle.jobs.specs.declared.faults.JobFault.{JobFault}
-use Rattle.jobs.specs.declared.faults.JobFault.TheVariants.{Read, Line, Run, Judge, Write, Differs}
-use Rattle.jobs.specs.declared.faults.JudgeFault.{JudgeFault}
-use Rattle.jobs.specs.declared.faults.JudgeFault.TheVariants as judges
+use Rattle.job_ends.specs.declared.faults.JobFault.{JobFault}
+use Rattle.job_ends.specs.declared.faults.JobFault.TheVariants.{Read, Line, Run, Judge, Write, Differs}
+use Rattle.job_ends.specs.declared.faults.JudgeFault.{JudgeFault}
+use Rattle.job_ends.specs.declared.faults.JudgeFault.TheVariants as judges
 
 abbrev pub sizes_words : NewFault → List ℕ
 sizes_words sizes.BadRegions = codes "heap: 1 BadRegions"

@@ -2,8 +2,8 @@ use Rattle.std.proofs.Common.{◌≡◌, ◌≤◌, ◌-◌, length, Ok}
 use Rattle.std.specs.Prelude.{OnOk}
 use Rattle.heap_steps.specs.Actors.{StepList}
 use Rattle.script_text.specs.Watched.{Writer}
-use Rattle.g1heap.specs.InOrder.{HasDone}
-use Rattle.g1heap.proofs.in_order.do_steps.Given as goal
+use Rattle.script_runs.specs.InOrder.{HasDone}
+use Rattle.script_runs.proofs.in_order.do_steps.Given as goal
 
 abbrev pub invariant-script : goal.invariant-script
 invariant-script g l = record {
