@@ -7,6 +7,8 @@ import sys
 from pathlib import Path
 
 TOP = Path(__file__).resolve().parents[2]
+# The words that a program of the repository is run with in its folder once it is built: it has a small script there.
+TRIAL = ["run", "data/first.heap"]
 
 
 def module_of(name, path):
