@@ -18,6 +18,7 @@ use Rattle.step_core.specs.Mutators.{register_of}
 use Rattle.heap_steps.specs.Roots.{IsRegister, IsValue}
 use Rattle.step_core.specs.Words.{AreRefused, Takes, putting, writing}
 use Rattle.step_core.specs.Words as step
+use Rattle.step_core.specs.Near.{ArePut, source}
 use Rattle.heap_calls.specs.Numbers.{counts, register, value}
 use Rattle.heap_calls.specs.Filled.{IsFilled, RunsTo, making, pointing, wording}
 
@@ -135,3 +136,47 @@ counts_here c m r to a p d made e h =
     let same : Some a ≡ Some made.at = h ∙ ap (λ (x : Register). register_of c m x) e ∙ made.held in
     let at : a ≡ made.at = cc in
     subst (λ (x : ℕ). HasCounts c x p d) (sym at) (record { pointers = made.pointers; values = made.values })
+
+-- ---- the first pointers, as the core stores them, and the others
+pub put_runs : (c : CoreState) (m to : ℕ) (from : List ℕ) (n : ℕ) (r : Register) (d : CoreState) → r ≡ register to → ArePut c m r from n d
+    → RunsTo c (pointing m to from) n d
+put_runs c m to from zero r d e h = h
+put_runs c m to from (suc n) r d e (b, (h, t)) =
+    (b, replies.Done, (put_runs c m to from n r b e h,
+    subst (λ (x : Register). Takes b (putting m x n (value (slice_index from n))) replies.Done d) e t))
+
+-- the same, where all are stored
+pub all_put : (c : CoreState) (m to : ℕ) (from : List ℕ) (n : ℕ) (r : Register) (d : CoreState) → r ≡ register to → ArePut c m r from n d
+    → n ≡ length from → RunsTo c (pointing m to from) (length from) d
+all_put c m to from n r d e h all = subst (λ (k : ℕ). RunsTo c (pointing m to from) k d) all (put_runs c m to from n r d e h)
+
+-- from where so many steps led, more lead on
+pub record GoesOn (c : CoreState) (step : ℕ → Step) (a first count : ℕ) (d : CoreState) : Type 0 where
+  pub run : (b : CoreState) → RunsTo b step first c → RunsTo b step count d
+  pub config : d.config ≡ c.config
+  pub roots : d.roots ≡ c.roots
+  pub pointers : length (pointers_at d.table a) ≡ length (pointers_at c.table a)
+  pub values : length (values_at d.table a) ≡ length (values_at c.table a)
+
+pub goes_nowhere : (c : CoreState) (step : ℕ → Step) (a first : ℕ) → GoesOn c step a first first c
+goes_nowhere c step a first = record { run = λ b h. h; config = refl; roots = refl; pointers = refl; values = refl }
+
+pub goes_further : (c b d : CoreState) (step : ℕ → Step) (a first i : ℕ) (taken : Step) (reply : Reply) → GoesOn c step a first i b
+    → taken ≡ step i → Takes b taken reply d → d.config ≡ b.config → d.roots ≡ b.roots
+    → length (pointers_at d.table a) ≡ length (pointers_at b.table a) → length (values_at d.table a) ≡ length (values_at b.table a)
+    → GoesOn c step a first (i + 1) d
+goes_further c b d step a first i taken reply h e t same roots pointers values =
+    let one : i + 1 ≡ suc i = omega arith in
+    record {
+      run = λ k r. subst (λ (n : ℕ). RunsTo k step n d) (sym one)
+          (b, reply, (h.run k r, subst (λ (s : Step). Takes b s reply d) e t));
+      config = same ∙ h.config;
+      roots = roots ∙ h.roots;
+      pointers = pointers ∙ h.pointers;
+      values = values ∙ h.values;
+    }
+
+-- what the first stores ask for: a register or nil for each
+pub sources_there : (k : Config) (m to : ℕ) (from : List ℕ) → ((i : ℕ) → i < length from → IsStep k (pointing m to from i))
+    → (i : ℕ) → i < length from → IsValue (places_of k) (source (slice_index from i))
+sources_there k m to from all i h = let at = (all i h).at in at.roots.1

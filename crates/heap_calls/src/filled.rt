@@ -1,11 +1,12 @@
 //! A new object with its fields, in one call.
 
-ghost use Rattle.std.specs.Prelude.{◌≡◌, ◌≢◌, ℕ, ◌<◌, ◌^◌, List, length, slice_index, IfOk, Some, true, false};
+ghost use Rattle.std.specs.Prelude.{◌≡◌, ◌≢◌, ℕ, ◌<◌, ◌≤◌, ◌^◌, List, length, slice_index, IfOk, Some, true, false};
 ghost use Rattle.regions.specs.Table.{pointers_at, values_at};
 ghost use Rattle.heap_steps.specs.Actors.{IsStep};
 ghost use Rattle.step_core.specs.Answers.{new_reply};
 ghost use Rattle.step_core.specs.Making.{HasMadeStep, NamesObject};
 ghost use Rattle.step_core.specs.Mutators.{register_of};
+ghost use Rattle.step_core.specs.Stands.{CoreState};
 ghost use Rattle.heap_calls.specs.Numbers as spec;
 ghost use Rattle.heap_calls.specs.Steps.{HasRegister};
 ghost use Rattle.heap_calls.specs.Filled.{AreFields, Fills, FillsIt, FillsOrNot, IsFilled, IsSource, RunsTo};
@@ -70,19 +71,21 @@ pub fn has_fields(core: &Core, mutator: u32, to: u32, from: &[u32], words: &[u64
     has_sources(core, to, from)
 }
 
-/// Fills the pointers of the object that starts at an address, which the register holds.
+/// Fills the pointers from one on of the object that starts at an address, which the register holds.
 #[inline(always)]
-fn point(core: &mut Core, mutator: u32, to: u32, at: Addr, from: &[u32])
+fn point_from(core: &mut Core, mutator: u32, to: u32, at: Addr, from: &[u32], first: usize)
     requires few { length from.now < 2 ^ 32 }
+    requires first { first ≤ length from.now }
     requires points { (i : ℕ) → i < length from.now → IsStep core.old.config (pointing mutator to from.now i) }
     requires held { register_of core.old mutator (spec.register to) ≡ Some at }
     requires counts { length (pointers_at core.old.table at) ≡ length from.now }
-    ensures run { RunsTo core.old (pointing mutator to from.now) (length from.now) core.new }
+    ensures run { (c : CoreState) → RunsTo c (pointing mutator to from.now) first core.old
+        → RunsTo c (pointing mutator to from.now) (length from.now) core.new }
     ensures config { core.new.config ≡ core.old.config }
     ensures held { register_of core.new mutator (spec.register to) ≡ Some at }
     ensures values { length (values_at core.new.table at) ≡ length (values_at core.old.table at) }
 {
-    for i in 0..from.len() {
+    for i in first..from.len() {
         core.put_at(mutator, register(to), at, i as u32, value(from[i]));
     }
 }
@@ -101,7 +104,30 @@ fn word(core: &mut Core, mutator: u32, to: u32, at: Addr, words: &[u64])
     }
 }
 
-/// Fills the object that starts at an address, which the register holds. It has as many pointers and data words.
+/// Fills what is left of the object that starts at an address, as a call: its pointers from one on, and its data words.
+#[inline(never)]
+fn fill_rest(
+    core: &mut Core,
+    mutator: u32,
+    to: u32,
+    at: Addr,
+    from: &[u32],
+    words: &[u64],
+    first: usize,
+)
+    requires fields { AreFields core.old.config mutator to from.now words.now }
+    requires first { first ≤ length from.now }
+    requires held { register_of core.old mutator (spec.register to) ≡ Some at }
+    requires counts { length (pointers_at core.old.table at) ≡ length from.now }
+    requires words { length (values_at core.old.table at) ≡ length words.now }
+    ensures { (c : CoreState) → RunsTo c (pointing mutator to from.now) first core.old → IsFilled c mutator to from.now words.now core.new }
+{
+    point_from(core, mutator, to, at, from, first);
+    word(core, mutator, to, at, words);
+}
+
+/// Fills the object that starts at an address, which the register holds. It has as many pointers and data words. The first pointers are
+/// stored as long as that is the table's alone, mostly all of them; else what is left is a call, for which the others save no registers.
 #[inline(always)]
 fn fill_at(core: &mut Core, mutator: u32, to: u32, at: Addr, from: &[u32], words: &[u64])
     requires fields { AreFields core.old.config mutator to from.now words.now }
@@ -109,8 +135,12 @@ fn fill_at(core: &mut Core, mutator: u32, to: u32, at: Addr, from: &[u32], words
     requires held { register_of core.old mutator (spec.register to) ≡ Some at }
     ensures { IsFilled core.old mutator to from.now words.now core.new }
 {
-    point(core, mutator, to, at, from);
-    word(core, mutator, to, at, words);
+    let done = core.put_near_at(mutator, register(to), at, from);
+    if done < from.len() {
+        fill_rest(core, mutator, to, at, from, words, done);
+    } else {
+        word(core, mutator, to, at, words);
+    }
 }
 
 /// Fills the object that a register holds. If it held none, each step would be refused, and none is done.
@@ -182,7 +212,16 @@ fn fill(core: &mut Core, mutator: u32, to: u32, from: &[u32], words: &[u64]) -> 
     answer_of(new_reply(&made))
 }
 
-/// Makes an object and fills it, if the numbers name steps of the heap's.
+/// Makes an object and fills it, as a call.
+#[inline(never)]
+fn fill_apart(core: &mut Core, mutator: u32, to: u32, from: &[u32], words: &[u64]) -> Answer
+    requires { AreFields core.old.config mutator to from.now words.now }
+    ensures { Fills core.old mutator to from.now words.now result (Some core.new) }
+{
+    fill(core, mutator, to, from, words)
+}
+
+/// Makes an object and fills it, if the numbers name steps of the heap's. One that takes no call has code of its own.
 #[inline(always)]
 pub fn make(core: &mut Core, mutator: u32, to: u32, from: &[u32], words: &[u64]) -> Answer
     ensures { FillsOrNot core.old mutator to from.now words.now result (Some core.new) }
@@ -190,5 +229,9 @@ pub fn make(core: &mut Core, mutator: u32, to: u32, from: &[u32], words: &[u64])
     if !has_fields(core, mutator, to, from, words) {
         return no_step();
     }
-    fill(core, mutator, to, from, words)
+    if core.has_room(mutator, counts_of(from, words)) {
+        fill(core, mutator, to, from, words)
+    } else {
+        fill_apart(core, mutator, to, from, words)
+    }
 }

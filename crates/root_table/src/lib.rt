@@ -15,6 +15,7 @@
 //! costs nothing any more. No call but the making takes memory or fails.
 #![tactic(auto)]
 
+mod held;
 pub mod places;
 pub mod table;
 

@@ -48,6 +48,20 @@ impl Core {
         self.made(mutator, to, counts, 0)
     }
 
+    /// Whether `make_at` takes such an object from the mutator's buffer, without a call. No promise hangs on the answer: it is for who keeps
+    /// code of its own for that.
+    ///
+    /// ```rust
+    /// core.step(new);
+    /// assert!(rt; core.has_room(0, counts));
+    /// ```
+    #[inline(always)]
+    pub fn has_room(&self, mutator: u32, counts: Counts) -> bool
+        requires { mutator < self.now.config.mutators }
+    {
+        self.is_small(mutator, counts, 0)
+    }
+
     /// Where the object starts that a mutator's register holds, as an address in words. It is none if the register holds nil, and each
     /// `put` and `write` of its fields is refused then.
     ///

@@ -283,7 +283,35 @@ impl Core {
         ensures after { ActsOn mutator (actions.Put object field value) result self.old self.new }
         ensures leaves { LeavesRegions self.old self.new }
     {
-        let target = self.stored(mutator, value);
+        match self.stored(mutator, value) {
+            None => self.put_word(mutator, object, at, field, value, None),
+            Some(to) => self.put_word(mutator, object, at, field, value, Some(to)),
+        }
+    }
+
+    /// The same of the word that is stored. Nil and an address have code of their own each, so neither is tested again.
+    #[inline(always)]
+    fn put_word(
+        &mut self,
+        mutator: u32,
+        object: Register,
+        at: Addr,
+        field: u32,
+        value: Option<Register>,
+        target: Ptr,
+    ) -> Reply
+        requires mutator { mutator < self.old.config.mutators }
+        requires held { register_of self.old mutator object ≡ Some at }
+        requires rooted { IsRoot (heap_of self.old) at }
+        requires leads { Leads self.old (register_place (places_of self.old.config) mutator object.number) (Some at) }
+        requires target { target ≡ value_of self.old mutator value }
+        requires known { IsRootWord (heap_of self.old) target }
+        requires shows { (g : Graph) → ShowsGraph g self.old → IsShown (heap_of self.old) target (stored g mutator value) }
+        ensures acts { (g : Graph) → ShowsGraph g self.old → Acts g mutator (actions.Put object field value) result self.new }
+        ensures keeps { (s : Graph) → KeepsFrom s self.old → KeepsFrom s self.new }
+        ensures after { ActsOn mutator (actions.Put object field value) result self.old self.new }
+        ensures leaves { LeavesRegions self.old self.new }
+    {
         if field >= self.table.pointer_count(at) {
             return Reply::Refused(Refusal::NoField);
         }
@@ -386,8 +414,7 @@ impl Core {
         ensures after { ActsOn mutator (actions.Move to from) result self.old self.new }
         ensures leaves { LeavesRegions self.old self.new }
     {
-        let value = self.register(mutator, from);
-        self.set_register(mutator, to, value);
+        self.copy_register(mutator, to, from);
         Reply::Done
     }
 
@@ -541,7 +568,7 @@ impl Core {
     /// Whether an object has few fields and no weak slot, and leaves something of the mutator's buffer. No promise hangs on the answer. The
     /// last test is that of `cut`, in the same numbers, so that the compiler leaves that out.
     #[inline(always)]
-    fn is_small(&self, mutator: u32, counts: Counts, weaks: u8) -> bool
+    pub(crate) fn is_small(&self, mutator: u32, counts: Counts, weaks: u8) -> bool
         requires { mutator < self.now.config.mutators }
     {
         let size = counts.size(weaks);

@@ -1,10 +1,10 @@
 use Rattle.std.proofs.Common.{arith}
 use Rattle.heap_steps.specs.declared.step.Reply.TheVariants as replies
-use Rattle.heap_calls.proofs.Filling.{CanPut, as_pointing, can_put, filled_more, none_filled_yet, still_held}
-use Rattle.heap_calls.proofs.filled.point.Goals as goal
+use Rattle.heap_calls.proofs.Filling.{CanPut, as_pointing, can_put, goes_further, still_held}
+use Rattle.heap_calls.proofs.filled.point_from.Goals as goal
 
 can : (c : goal.After-value) → CanPut c.loop-i.core.config c.args.mutator c.register.result c.value.result
-can c = can_put _ _ _ _ _ c.loop-i.i _ _ c.loop-i.invariant.taken.config c.register.ensures c.value.ensures
+can c = can_put _ _ _ _ _ c.loop-i.i _ _ c.loop-i.invariant.config c.register.ensures c.value.ensures
     (c.requires.points c.loop-i.i (omega (arith, c.loop-i.auto)))
 
 pub put_at-requires-clause-mutator : goal.put_at-requires-clause-mutator
@@ -17,7 +17,7 @@ pub put_at-requires-clause-value : goal.put_at-requires-clause-value
 put_at-requires-clause-value c = (can c).value
 
 pub put_at-requires-clause-held : goal.put_at-requires-clause-held
-put_at-requires-clause-held c = let h = c.loop-i.invariant.taken in
+put_at-requires-clause-held c = let h = c.loop-i.invariant in
     still_held c.args.core.now c.loop-i.core _ _ _ _ h.config h.roots c.register.ensures c.requires.held
 
 pub put_at-requires-clause-field : goal.put_at-requires-clause-field
@@ -25,5 +25,5 @@ put_at-requires-clause-field c = let h = c.loop-i.invariant.pointers in omega (a
 
 pub loop-i-preserved : goal.loop-i-preserved
 loop-i-preserved c = let p = c.put_at.ensures in
-    filled_more _ _ _ _ _ c.loop-i.i _ replies.Done c.loop-i.invariant (as_pointing _ _ _ _ _ _ c.register.ensures c.value.ensures)
+    goes_further _ _ _ _ _ _ c.loop-i.i _ replies.Done c.loop-i.invariant (as_pointing _ _ _ _ _ _ c.register.ensures c.value.ensures)
     p.takes p.config p.roots p.pointers p.values
