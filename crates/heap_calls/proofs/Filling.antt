@@ -145,11 +145,6 @@ put_runs c m to from (suc n) r d e (b, (h, t)) =
     (b, replies.Done, (put_runs c m to from n r b e h,
     subst (λ (x : Register). Takes b (putting m x n (value (slice_index from n))) replies.Done d) e t))
 
--- the same, where all are stored
-pub all_put : (c : CoreState) (m to : ℕ) (from : List ℕ) (n : ℕ) (r : Register) (d : CoreState) → r ≡ register to → ArePut c m r from n d
-    → n ≡ length from → RunsTo c (pointing m to from) (length from) d
-all_put c m to from n r d e h all = subst (λ (k : ℕ). RunsTo c (pointing m to from) k d) all (put_runs c m to from n r d e h)
-
 -- from where so many steps led, more lead on
 pub record GoesOn (c : CoreState) (step : ℕ → Step) (a first count : ℕ) (d : CoreState) : Type 0 where
   pub run : (b : CoreState) → RunsTo b step first c → RunsTo b step count d

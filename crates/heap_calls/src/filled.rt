@@ -71,9 +71,9 @@ pub fn has_fields(core: &Core, mutator: u32, to: u32, from: &[u32], words: &[u64
     has_sources(core, to, from)
 }
 
-/// Fills the pointers from one on of the object that starts at an address, which the register holds.
+/// Fills the pointers from one on of the object that starts at an address, which the register holds: mostly there are none.
 #[inline(always)]
-fn point_from(core: &mut Core, mutator: u32, to: u32, at: Addr, from: &[u32], first: usize)
+fn point_from(core: &mut Core, mutator: u32, to: u32, at: Addr, from: &[u32], first: u32)
     requires few { length from.now < 2 ^ 32 }
     requires first { first ≤ length from.now }
     requires points { (i : ℕ) → i < length from.now → IsStep core.old.config (pointing mutator to from.now i) }
@@ -85,8 +85,8 @@ fn point_from(core: &mut Core, mutator: u32, to: u32, at: Addr, from: &[u32], fi
     ensures held { register_of core.new mutator (spec.register to) ≡ Some at }
     ensures values { length (values_at core.new.table at) ≡ length (values_at core.old.table at) }
 {
-    for i in first..from.len() {
-        core.put_at(mutator, register(to), at, i as u32, value(from[i]));
+    for i in first..from.len() as u32 {
+        core.put_apart_at(mutator, register(to), at, i, value(from[i as usize]));
     }
 }
 
@@ -99,35 +99,13 @@ fn word(core: &mut Core, mutator: u32, to: u32, at: Addr, words: &[u64])
     requires counts { length (values_at core.old.table at) ≡ length words.now }
     ensures { RunsTo core.old (wording mutator to words.now) (length words.now) core.new }
 {
-    for i in 0..words.len() {
-        core.write_at(mutator, register(to), at, i as u32, words[i]);
+    for i in 0..words.len() as u32 {
+        core.write_at(mutator, register(to), at, i, words[i as usize]);
     }
 }
 
-/// Fills what is left of the object that starts at an address, as a call: its pointers from one on, and its data words.
-#[inline(never)]
-fn fill_rest(
-    core: &mut Core,
-    mutator: u32,
-    to: u32,
-    at: Addr,
-    from: &[u32],
-    words: &[u64],
-    first: usize,
-)
-    requires fields { AreFields core.old.config mutator to from.now words.now }
-    requires first { first ≤ length from.now }
-    requires held { register_of core.old mutator (spec.register to) ≡ Some at }
-    requires counts { length (pointers_at core.old.table at) ≡ length from.now }
-    requires words { length (values_at core.old.table at) ≡ length words.now }
-    ensures { (c : CoreState) → RunsTo c (pointing mutator to from.now) first core.old → IsFilled c mutator to from.now words.now core.new }
-{
-    point_from(core, mutator, to, at, from, first);
-    word(core, mutator, to, at, words);
-}
-
 /// Fills the object that starts at an address, which the register holds. It has as many pointers and data words. The first pointers are
-/// stored as long as that is the table's alone, mostly all of them; else what is left is a call, for which the others save no registers.
+/// stored as long as that is the table's alone, mostly all of them, and the others by calls.
 #[inline(always)]
 fn fill_at(core: &mut Core, mutator: u32, to: u32, at: Addr, from: &[u32], words: &[u64])
     requires fields { AreFields core.old.config mutator to from.now words.now }
@@ -136,11 +114,8 @@ fn fill_at(core: &mut Core, mutator: u32, to: u32, at: Addr, from: &[u32], words
     ensures { IsFilled core.old mutator to from.now words.now core.new }
 {
     let done = core.put_near_at(mutator, register(to), at, from);
-    if done < from.len() {
-        fill_rest(core, mutator, to, at, from, words, done);
-    } else {
-        word(core, mutator, to, at, words);
-    }
+    point_from(core, mutator, to, at, from, done);
+    word(core, mutator, to, at, words);
 }
 
 /// Fills the object that a register holds. If it held none, each step would be refused, and none is done.
@@ -212,16 +187,7 @@ fn fill(core: &mut Core, mutator: u32, to: u32, from: &[u32], words: &[u64]) -> 
     answer_of(new_reply(&made))
 }
 
-/// Makes an object and fills it, as a call.
-#[inline(never)]
-fn fill_apart(core: &mut Core, mutator: u32, to: u32, from: &[u32], words: &[u64]) -> Answer
-    requires { AreFields core.old.config mutator to from.now words.now }
-    ensures { Fills core.old mutator to from.now words.now result (Some core.new) }
-{
-    fill(core, mutator, to, from, words)
-}
-
-/// Makes an object and fills it, if the numbers name steps of the heap's. One that takes no call has code of its own.
+/// Makes an object and fills it, if the numbers name steps of the heap's.
 #[inline(always)]
 pub fn make(core: &mut Core, mutator: u32, to: u32, from: &[u32], words: &[u64]) -> Answer
     ensures { FillsOrNot core.old mutator to from.now words.now result (Some core.new) }
@@ -229,9 +195,5 @@ pub fn make(core: &mut Core, mutator: u32, to: u32, from: &[u32], words: &[u64])
     if !has_fields(core, mutator, to, from, words) {
         return no_step();
     }
-    if core.has_room(mutator, counts_of(from, words)) {
-        fill(core, mutator, to, from, words)
-    } else {
-        fill_apart(core, mutator, to, from, words)
-    }
+    fill(core, mutator, to, from, words)
 }

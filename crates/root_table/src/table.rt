@@ -123,20 +123,20 @@ impl Roots {
 
     /// Where a mutator's registers begin among all registers: who looks at several of them finds that once.
     #[inline(always)]
-    pub fn row(&self, mutator: u32) -> usize
+    pub fn row(&self, mutator: u32) -> u32
         requires { mutator < self.now.places.mutators }
         ensures { self.now.places.globals + result ≡ register_place self.now.places mutator 0 }
     {
-        (self.places.registers() * mutator) as usize
+        self.places.registers() * mutator
     }
 
     /// What a register holds of a mutator whose registers begin there.
     #[inline(always)]
-    pub fn in_row(&self, row: usize, register: u32) -> Ptr
+    pub fn in_row(&self, row: u32, register: u32) -> Ptr
         requires { self.now.places.globals + (row + register) < length self.now.words }
         ensures { result ≡ slice_index_or self.now.words (self.now.places.globals + (row + register)) None }
     {
-        self.registers[row + register as usize].get()
+        self.registers[(row + register) as usize].get()
     }
 
     /// What a mutator's register holds, as it is kept.

@@ -48,20 +48,6 @@ impl Core {
         self.made(mutator, to, counts, 0)
     }
 
-    /// Whether `make_at` takes such an object from the mutator's buffer, without a call. No promise hangs on the answer: it is for who keeps
-    /// code of its own for that.
-    ///
-    /// ```rust
-    /// core.step(new);
-    /// assert!(rt; core.has_room(0, counts));
-    /// ```
-    #[inline(always)]
-    pub fn has_room(&self, mutator: u32, counts: Counts) -> bool
-        requires { mutator < self.now.config.mutators }
-    {
-        self.is_small(mutator, counts, 0)
-    }
-
     /// Where the object starts that a mutator's register holds, as an address in words. It is none if the register holds nil, and each
     /// `put` and `write` of its fields is refused then.
     ///
@@ -108,6 +94,36 @@ impl Core {
     {
         self.remembers();
         self.put_known(mutator, object, at, field, value);
+    }
+
+    /// The same, as a call that is seldom made: where the first pointers were stored by `put_near_at`.
+    ///
+    /// ```rust
+    /// core.step(new);
+    /// core.put_apart_at(0, r0, Addr::new(0), 0, Some(r0));
+    /// ```
+    #[cold]
+    #[inline(never)]
+    pub fn put_apart_at(
+        &mut self,
+        mutator: u32,
+        object: Register,
+        at: Addr,
+        field: u32,
+        value: Option<Register>,
+    )
+        requires mutator { mutator < self.old.config.mutators }
+        requires object { IsRegister (places_of self.old.config) object }
+        requires value { IsValue (places_of self.old.config) value }
+        requires held { register_of self.old mutator object ≡ Some at }
+        requires field { field < length (pointers_at self.old.table at) }
+        ensures takes { Takes self.old (putting mutator object field value) replies.Done self.new }
+        ensures roots { self.new.roots ≡ self.old.roots }
+        ensures config { self.new.config ≡ self.old.config }
+        ensures pointers { length (pointers_at self.new.table at) ≡ length (pointers_at self.old.table at) }
+        ensures values { length (values_at self.new.table at) ≡ length (values_at self.old.table at) }
+    {
+        self.put_at(mutator, object, at, field, value);
     }
 
     /// Does the step `write` of a mutator, whose register `object` holds the object that starts at an address, for a data word that the

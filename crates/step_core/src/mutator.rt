@@ -568,7 +568,7 @@ impl Core {
     /// Whether an object has few fields and no weak slot, and leaves something of the mutator's buffer. No promise hangs on the answer. The
     /// last test is that of `cut`, in the same numbers, so that the compiler leaves that out.
     #[inline(always)]
-    pub(crate) fn is_small(&self, mutator: u32, counts: Counts, weaks: u8) -> bool
+    fn is_small(&self, mutator: u32, counts: Counts, weaks: u8) -> bool
         requires { mutator < self.now.config.mutators }
     {
         let size = counts.size(weaks);
@@ -629,6 +629,7 @@ impl Core {
     }
 
     /// Makes an object, as a call.
+    #[cold]
     #[inline(never)]
     fn new_apart(
         &mut self,

@@ -48,7 +48,7 @@ impl Core {
 
     /// Where a mutator's registers begin among all registers.
     #[inline(always)]
-    fn row(&self, mutator: u32) -> usize
+    fn row(&self, mutator: u32) -> u32
         requires { mutator < self.now.config.mutators }
         ensures { globals_of self.now.config + result ≡ register_place (places_of self.now.config) mutator 0 }
     {
@@ -57,7 +57,7 @@ impl Core {
 
     /// What a mutator's register holds. Its registers begin at `row`.
     #[inline(always)]
-    fn register_in(&self, row: usize, mutator: u32, register: Register) -> Ptr
+    fn register_in(&self, row: u32, mutator: u32, register: Register) -> Ptr
         requires mutator { mutator < self.now.config.mutators }
         requires register { IsRegister (places_of self.now.config) register }
         requires row { globals_of self.now.config + row ≡ register_place (places_of self.now.config) mutator 0 }
@@ -71,7 +71,7 @@ impl Core {
 
     /// What is stored: nil, or what a register holds. The mutator's registers begin at `row`.
     #[inline(always)]
-    fn stored_in(&self, row: usize, mutator: u32, value: Option<Register>) -> Ptr
+    fn stored_in(&self, row: u32, mutator: u32, value: Option<Register>) -> Ptr
         requires mutator { mutator < self.now.config.mutators }
         requires value { IsValue (places_of self.now.config) value }
         requires row { globals_of self.now.config + row ≡ register_place (places_of self.now.config) mutator 0 }
@@ -123,7 +123,7 @@ impl Core {
     #[inline(always)]
     fn put_near(
         &mut self,
-        row: usize,
+        row: u32,
         mutator: u32,
         object: Register,
         at: Addr,
@@ -163,7 +163,7 @@ impl Core {
     /// assert_eq!(rt; core.put_near_at(0, r0, Addr::new(0), &[0]), 1);
     /// ```
     #[inline(always)]
-    pub fn put_near_at(&mut self, mutator: u32, object: Register, at: Addr, from: &[u32]) -> usize
+    pub fn put_near_at(&mut self, mutator: u32, object: Register, at: Addr, from: &[u32]) -> u32
         requires few { length from.now < 2 ^ 32 }
         requires mutator { mutator < self.old.config.mutators }
         requires object { IsRegister (places_of self.old.config) object }
@@ -181,12 +181,13 @@ impl Core {
             return 0;
         }
         let row = self.row(mutator);
-        for field in 0..from.len() {
-            let value = source_of(from[field]);
-            if !self.put_near(row, mutator, object, at, field as u32, value) {
+        let count = from.len() as u32;
+        for field in 0..count {
+            let value = source_of(from[field as usize]);
+            if !self.put_near(row, mutator, object, at, field, value) {
                 return field;
             }
         }
-        from.len()
+        count
     }
 }
