@@ -77,30 +77,11 @@ can_make k m to from words r e is =
     let at = is.at in
     subst (λ (x : Register). CanMake k m x) (sym e) (record { mutator = at.mutator; to = at.roots })
 
--- what a store of a pointer asks for
-pub record CanPut (k : Config) (m : ℕ) (r : Register) (v : Option Register) : Type 0 where
-  pub mutator : m < k.mutators
-  pub object : IsRegister (places_of k) r
-  pub value : IsValue (places_of k) v
-
-pub can_put : (k l : Config) (m to : ℕ) (from : List ℕ) (i : ℕ) (r : Register) (v : Option Register) → k ≡ l → r ≡ register to
-    → v ≡ value (slice_index from i) → IsStep l (pointing m to from i) → CanPut k m r v
-can_put k l m to from i r v e f g is =
-    let at = is.at in
-    subst (λ (x : Config). CanPut x m r v) (sym e)
-    (subst (λ (x : Register). CanPut l m x v) (sym f)
-    (subst (λ (x : Option Register). CanPut l m (register to) x) (sym g)
-    (record { mutator = at.mutator; object = at.roots.0; value = at.roots.1 })))
-
 -- the steps by the names that the code has
 pub as_making : (m to : ℕ) (from words : List ℕ) (r : Register) (n : Counts) → r ≡ register to → n ≡ counts (length from) (length words)
     → step.making m r n ≡ making m to from words
 as_making m to from words r n e f =
     ap (λ (x : Register). step.making m x n) e ∙ ap (λ (x : Counts). step.making m (register to) x) f
-
-pub as_pointing : (m to : ℕ) (from : List ℕ) (i : ℕ) (r : Register) (v : Option Register) → r ≡ register to
-    → v ≡ value (slice_index from i) → putting m r i v ≡ pointing m to from i
-as_pointing m to from i r v f g = ap (λ (x : Register). putting m x i v) f ∙ ap (λ (x : Option Register). putting m (register to) i x) g
 
 pub as_wording : (m to : ℕ) (words : List ℕ) (i w : ℕ) (r : Register) → r ≡ register to → w ≡ slice_index words i
     → writing m r i w ≡ wording m to words i
@@ -137,7 +118,7 @@ counts_here c m r to a p d made e h =
     let at : a ≡ made.at = cc in
     subst (λ (x : ℕ). HasCounts c x p d) (sym at) (record { pointers = made.pointers; values = made.values })
 
--- ---- the first pointers, as the core stores them, and the others
+-- ---- the pointers, as the core stores them
 pub put_runs : (c : CoreState) (m to : ℕ) (from : List ℕ) (n : ℕ) (r : Register) (d : CoreState) → r ≡ register to → ArePut c m r from n d
     → RunsTo c (pointing m to from) n d
 put_runs c m to from zero r d e h = h
@@ -145,33 +126,7 @@ put_runs c m to from (suc n) r d e (b, (h, t)) =
     (b, replies.Done, (put_runs c m to from n r b e h,
     subst (λ (x : Register). Takes b (putting m x n (value (slice_index from n))) replies.Done d) e t))
 
--- from where so many steps led, more lead on
-pub record GoesOn (c : CoreState) (step : ℕ → Step) (a first count : ℕ) (d : CoreState) : Type 0 where
-  pub run : (b : CoreState) → RunsTo b step first c → RunsTo b step count d
-  pub config : d.config ≡ c.config
-  pub roots : d.roots ≡ c.roots
-  pub pointers : length (pointers_at d.table a) ≡ length (pointers_at c.table a)
-  pub values : length (values_at d.table a) ≡ length (values_at c.table a)
-
-pub goes_nowhere : (c : CoreState) (step : ℕ → Step) (a first : ℕ) → GoesOn c step a first first c
-goes_nowhere c step a first = record { run = λ b h. h; config = refl; roots = refl; pointers = refl; values = refl }
-
-pub goes_further : (c b d : CoreState) (step : ℕ → Step) (a first i : ℕ) (taken : Step) (reply : Reply) → GoesOn c step a first i b
-    → taken ≡ step i → Takes b taken reply d → d.config ≡ b.config → d.roots ≡ b.roots
-    → length (pointers_at d.table a) ≡ length (pointers_at b.table a) → length (values_at d.table a) ≡ length (values_at b.table a)
-    → GoesOn c step a first (i + 1) d
-goes_further c b d step a first i taken reply h e t same roots pointers values =
-    let one : i + 1 ≡ suc i = omega arith in
-    record {
-      run = λ k r. subst (λ (n : ℕ). RunsTo k step n d) (sym one)
-          (b, reply, (h.run k r, subst (λ (s : Step). Takes b s reply d) e t));
-      config = same ∙ h.config;
-      roots = roots ∙ h.roots;
-      pointers = pointers ∙ h.pointers;
-      values = values ∙ h.values;
-    }
-
--- what the first stores ask for: a register or nil for each
+-- what that asks for: a register or nil for each
 pub sources_there : (k : Config) (m to : ℕ) (from : List ℕ) → ((i : ℕ) → i < length from → IsStep k (pointing m to from i))
     → (i : ℕ) → i < length from → IsValue (places_of k) (source (slice_index from i))
 sources_there k m to from all i h = let at = (all i h).at in at.roots.1

@@ -14,7 +14,7 @@ ghost use Rattle.heap_calls.specs.Filled.{making, pointing, wording};
 
 use crate::answer::{Answer, answer_of, no_step};
 use crate::heap::is_known;
-use crate::named::{counts, register, value};
+use crate::named::{counts, register};
 use heap_steps::{Counts, Refusal, Reply};
 use heap_words::addr::Addr;
 use step_core::{Core, NewObject, new_reply};
@@ -71,25 +71,6 @@ pub fn has_fields(core: &Core, mutator: u32, to: u32, from: &[u32], words: &[u64
     has_sources(core, to, from)
 }
 
-/// Fills the pointers from one on of the object that starts at an address, which the register holds: mostly there are none.
-#[inline(always)]
-fn point_from(core: &mut Core, mutator: u32, to: u32, at: Addr, from: &[u32], first: u32)
-    requires few { length from.now < 2 ^ 32 }
-    requires first { first ≤ length from.now }
-    requires points { (i : ℕ) → i < length from.now → IsStep core.old.config (pointing mutator to from.now i) }
-    requires held { register_of core.old mutator (spec.register to) ≡ Some at }
-    requires counts { length (pointers_at core.old.table at) ≡ length from.now }
-    ensures run { (c : CoreState) → RunsTo c (pointing mutator to from.now) first core.old
-        → RunsTo c (pointing mutator to from.now) (length from.now) core.new }
-    ensures config { core.new.config ≡ core.old.config }
-    ensures held { register_of core.new mutator (spec.register to) ≡ Some at }
-    ensures values { length (values_at core.new.table at) ≡ length (values_at core.old.table at) }
-{
-    for i in first..from.len() as u32 {
-        core.put_apart_at(mutator, register(to), at, i, value(from[i as usize]));
-    }
-}
-
 /// Fills the data words of the object that starts at an address, which the register holds.
 #[inline(always)]
 fn word(core: &mut Core, mutator: u32, to: u32, at: Addr, words: &[u64])
@@ -104,8 +85,7 @@ fn word(core: &mut Core, mutator: u32, to: u32, at: Addr, words: &[u64])
     }
 }
 
-/// Fills the object that starts at an address, which the register holds. It has as many pointers and data words. The first pointers are
-/// stored as long as that is the table's alone, mostly all of them, and the others by calls.
+/// Fills the object that starts at an address, which the register holds. It has as many pointers and data words.
 #[inline(always)]
 fn fill_at(core: &mut Core, mutator: u32, to: u32, at: Addr, from: &[u32], words: &[u64])
     requires fields { AreFields core.old.config mutator to from.now words.now }
@@ -113,8 +93,7 @@ fn fill_at(core: &mut Core, mutator: u32, to: u32, at: Addr, from: &[u32], words
     requires held { register_of core.old mutator (spec.register to) ≡ Some at }
     ensures { IsFilled core.old mutator to from.now words.now core.new }
 {
-    let done = core.put_near_at(mutator, register(to), at, from);
-    point_from(core, mutator, to, at, from, done);
+    core.put_all_at(mutator, register(to), at, from);
     word(core, mutator, to, at, words);
 }
 

@@ -4,7 +4,7 @@
 //! ```text
 //!   regions of 16 words, r0 holds 4, r1 holds 8, r2 holds 32
 //!
-//!   put_near_at(0, r0, 4, [1, nil, 2, 1]) = 2     8 and nil are stored; 32 is in another region, so it isn't, nor is the last one
+//!   put_all_at(0, r0, 4, [1, nil, 2])     8 and nil are stored here; 32 is in another region, so its store is a call
 //! ```
 
 ghost use Rattle.std.specs.Prelude.{◌≡◌, ℕ, ◌+◌, ◌<◌, ◌≤◌, ◌^◌, Option, Some, length, slice_index, slice_set, true, false};
@@ -19,7 +19,7 @@ ghost use Rattle.regions.specs.Table.{fields_at, pointers_at, set_pointer, value
 ghost use Rattle.refinement.specs.Remembering.{field_word};
 ghost use Rattle.step_core.specs.Cycle.{LeavesRegions};
 ghost use Rattle.step_core.specs.Mutators.{register_of, value_of};
-ghost use Rattle.step_core.specs.Near.{ArePut, LeadsNear, source};
+ghost use Rattle.step_core.specs.Near.{HasPut, LeadsNear, source};
 ghost use Rattle.step_core.specs.Stands.{IsRootWord, KeepsFrom, ShowsGraph, heap_of, kept_of};
 ghost use Rattle.step_core.specs.Words.{Takes, putting};
 
@@ -119,7 +119,7 @@ impl Core {
         self.table.set_ptr(object, field, target);
     }
 
-    /// Does the step `put` by such a store, if marking doesn't run and the value is near, and tells whether it did.
+    /// Does the step `put` while marking doesn't run: by such a store, or by a call where the value leads further.
     #[inline(always)]
     fn put_near(
         &mut self,
@@ -129,7 +129,7 @@ impl Core {
         at: Addr,
         field: u32,
         value: Option<Register>,
-    ) -> bool
+    )
         requires mutator { mutator < self.old.config.mutators }
         requires object { IsRegister (places_of self.old.config) object }
         requires value { IsValue (places_of self.old.config) value }
@@ -137,8 +137,7 @@ impl Core {
         requires field { field < length (pointers_at self.old.table at) }
         requires row { globals_of self.old.config + row ≡ register_place (places_of self.old.config) mutator 0 }
         requires idle { self.old.marker.running ≡ false }
-        ensures takes { result ≡ true → Takes self.old (putting mutator object field value) replies.Done self.new }
-        ensures stays { result ≡ false → self.new ≡ self.old }
+        ensures takes { Takes self.old (putting mutator object field value) replies.Done self.new }
         ensures roots { self.new.roots ≡ self.old.roots }
         ensures config { self.new.config ≡ self.old.config }
         ensures idle { self.new.marker.running ≡ false }
@@ -147,47 +146,71 @@ impl Core {
     {
         self.remembers();
         let target = self.stored_in(row, mutator, value);
-        if !self.is_near(at, field, &target) {
-            return false;
+        if self.is_near(at, field, &target) {
+            self.store_near(at, field, target);
+        } else {
+            self.put_apart_at(mutator, object, at, field, value);
         }
-        self.store_near(at, field, target);
-        true
     }
 
-    /// Does the step `put` of a mutator, whose register `object` holds the object that starts at an address, for the first pointers that
-    /// the object has, and tells for how many: `from` has their sources' numbers. It is for all, but while marking runs for none, and not
-    /// for the first whose value leads out of its field's region, nor for those after that. The object has as many fields as before.
-    ///
-    /// ```rust
-    /// core.step(new);
-    /// assert_eq!(rt; core.put_near_at(0, r0, Addr::new(0), &[0]), 1);
-    /// ```
+    /// Does the step `put` for each of the first pointers while marking doesn't run.
     #[inline(always)]
-    pub fn put_near_at(&mut self, mutator: u32, object: Register, at: Addr, from: &[u32]) -> u32
+    fn put_idle(&mut self, mutator: u32, object: Register, at: Addr, from: &[u32])
         requires few { length from.now < 2 ^ 32 }
         requires mutator { mutator < self.old.config.mutators }
         requires object { IsRegister (places_of self.old.config) object }
         requires values { (i : ℕ) → i < length from.now → IsValue (places_of self.old.config) (source (slice_index from.now i)) }
         requires held { register_of self.old mutator object ≡ Some at }
         requires fields { length from.now ≤ length (pointers_at self.old.table at) }
-        ensures put { ArePut self.old mutator object from.now result self.new }
-        ensures within { result ≤ length from.now }
-        ensures roots { self.new.roots ≡ self.old.roots }
-        ensures config { self.new.config ≡ self.old.config }
-        ensures pointers { length (pointers_at self.new.table at) ≡ length (pointers_at self.old.table at) }
-        ensures values { length (values_at self.new.table at) ≡ length (values_at self.old.table at) }
+        requires idle { self.old.marker.running ≡ false }
+        ensures { HasPut self.old mutator object from.now at (length from.now) self.new }
+    {
+        let row = self.row(mutator);
+        for field in 0..from.len() as u32 {
+            let value = source_of(from[field as usize]);
+            self.put_near(row, mutator, object, at, field, value);
+        }
+    }
+
+    /// Does it by a call each.
+    #[inline(always)]
+    fn put_apart(&mut self, mutator: u32, object: Register, at: Addr, from: &[u32])
+        requires few { length from.now < 2 ^ 32 }
+        requires mutator { mutator < self.old.config.mutators }
+        requires object { IsRegister (places_of self.old.config) object }
+        requires values { (i : ℕ) → i < length from.now → IsValue (places_of self.old.config) (source (slice_index from.now i)) }
+        requires held { register_of self.old mutator object ≡ Some at }
+        requires fields { length from.now ≤ length (pointers_at self.old.table at) }
+        ensures { HasPut self.old mutator object from.now at (length from.now) self.new }
+    {
+        for field in 0..from.len() as u32 {
+            let value = source_of(from[field as usize]);
+            self.put_apart_at(mutator, object, at, field, value);
+        }
+    }
+
+    /// Does the step `put` of a mutator, whose register `object` holds the object that starts at an address, for its first pointers, one
+    /// after another: `from` has the numbers of their sources, `u32::MAX` for nil and else a register's. The object has as many fields as
+    /// before.
+    ///
+    /// ```rust
+    /// core.step(new);
+    /// core.put_all_at(0, r0, Addr::new(0), &[0]);
+    /// ```
+    #[inline(always)]
+    pub fn put_all_at(&mut self, mutator: u32, object: Register, at: Addr, from: &[u32])
+        requires few { length from.now < 2 ^ 32 }
+        requires mutator { mutator < self.old.config.mutators }
+        requires object { IsRegister (places_of self.old.config) object }
+        requires values { (i : ℕ) → i < length from.now → IsValue (places_of self.old.config) (source (slice_index from.now i)) }
+        requires held { register_of self.old mutator object ≡ Some at }
+        requires fields { length from.now ≤ length (pointers_at self.old.table at) }
+        ensures { HasPut self.old mutator object from.now at (length from.now) self.new }
     {
         if self.marker.running {
-            return 0;
+            self.put_apart(mutator, object, at, from);
+        } else {
+            self.put_idle(mutator, object, at, from);
         }
-        let row = self.row(mutator);
-        let count = from.len() as u32;
-        for field in 0..count {
-            let value = source_of(from[field as usize]);
-            if !self.put_near(row, mutator, object, at, field, value) {
-                return field;
-            }
-        }
-        count
     }
 }

@@ -18,7 +18,7 @@ use Rattle.heap_steps.specs.declared.step.Register.{Register}
 use Rattle.heap_steps.specs.declared.step.Reply.TheVariants as replies
 use Rattle.step_core.specs.Stands.{CoreState, IsCore}
 use Rattle.step_core.specs.Mutators.{HasActed, noted, object_of, pointer_of, register_of, root_of, value_of, with_pointer}
-use Rattle.step_core.specs.Near.{ArePut, LeadsNear, source}
+use Rattle.step_core.specs.Near.{ArePut, HasPut, LeadsNear, source}
 use Rattle.step_core.specs.Words.{Takes, putting}
 use Rattle.step_core.proofs.Cores.Keeping.{placed_in, register_inside, root_within}
 
@@ -77,33 +77,30 @@ near_acted c d m object a i value w held is near idle after =
       marker = idle_overwrites c.marker.running c.table m (pointer_of c (object_of c m object) i) c.marker d.marker idle same;
     }
 
--- ---- what is known between two such steps
-pub record HasPut (c : CoreState) (m : ℕ) (object : Register) (from : List ℕ) (a count : ℕ) (d : CoreState) : Type 0 where
-  pub put : ArePut c m object from count d
-  pub roots : d.roots ≡ c.roots
-  pub config : d.config ≡ c.config
-  pub idle : d.marker.running ≡ false
-  pub pointers : length (pointers_at d.table a) ≡ length (pointers_at c.table a)
-  pub values : length (values_at d.table a) ≡ length (values_at c.table a)
+-- a put leaves marking as it was where it doesn't run
+pub still_idle : (c d : CoreState) (m : ℕ) (object : Register) (i : ℕ) (value : Option Register)
+    → HasActed m (actions.Put object i value) c d → c.marker.running ≡ false → d.marker.running ≡ false
+still_idle c d m object i value h idle =
+    let same : d.marker ≡ c.marker =
+    subst (λ (b : Bool). Overwrites b c.table m (pointer_of c (object_of c m object) i) c.marker d.marker) idle h.marker in
+    ap (λ (k : Marker). k.running) same ∙ idle
 
-pub none_put : (c : CoreState) (m : ℕ) (object : Register) (from : List ℕ) (a : ℕ) → c.marker.running ≡ false
-    → HasPut c m object from a 0 c
-none_put c m object from a idle =
-    record { put = refl; roots = refl; config = refl; idle = idle; pointers = refl; values = refl }
+-- ---- what is known between two such steps
+pub none_put : (c : CoreState) (m : ℕ) (object : Register) (from : List ℕ) (a : ℕ) → HasPut c m object from a 0 c
+none_put c m object from a = record { put = refl; roots = refl; config = refl; pointers = refl; values = refl }
 
 pub one_more_put : (c b d : CoreState) (m : ℕ) (object : Register) (from : List ℕ) (a i : ℕ) (v : Option Register)
     → HasPut c m object from a i b → v ≡ source (slice_index from i)
-    → Takes b (putting m object i v) replies.Done d → d.roots ≡ b.roots → d.config ≡ b.config → d.marker.running ≡ false
+    → Takes b (putting m object i v) replies.Done d → d.roots ≡ b.roots → d.config ≡ b.config
     → length (pointers_at d.table a) ≡ length (pointers_at b.table a) → length (values_at d.table a) ≡ length (values_at b.table a)
     → HasPut c m object from a (i + 1) d
-one_more_put c b d m object from a i v h is taken roots config idle pointers values =
+one_more_put c b d m object from a i v h is taken roots config pointers values =
     let one : i + 1 ≡ suc i = omega arith in
     record {
       put = subst (λ (n : ℕ). ArePut c m object from n d) (sym one)
           (b, (h.put, subst (λ (x : Option Register). Takes b (putting m object i x) replies.Done d) is taken));
       roots = roots ∙ h.roots;
       config = config ∙ h.config;
-      idle = idle;
       pointers = pointers ∙ h.pointers;
       values = values ∙ h.values;
     }

@@ -23,8 +23,8 @@ store_near-requires-clause-rooted c =
     (held_facts _ c.args.mutator c.args.object c.args.at c.remembers.ensures.core c.requires.mutator c.requires.object
     c.requires.held).rooted
 
-pub returns-clause-takes : goal.returns-clause-takes
-returns-clause-takes c e =
+pub returns-then-is_near-clause-takes : goal.returns-then-is_near-clause-takes
+returns-then-is_near-clause-takes c =
     let s = c.store_near.ensures in
     let l = (held_facts _ c.args.mutator c.args.object c.args.at c.remembers.ensures.core c.requires.mutator c.requires.object
     c.requires.held).leads in
@@ -33,15 +33,15 @@ returns-clause-takes c e =
     (c.stored_in-target.ensures.shows g st) s.shows)
     s.keeps
     (near_acted _ _ c.args.mutator c.args.object c.args.at c.args.field c.args.value _ c.requires.held c.stored_in-target.ensures.value
-    (c.is_near.ensures c.if-not-is_near.false) c.requires.idle s.core)
+    (c.is_near.ensures c.if-is_near.true) c.requires.idle s.core)
     s.leaves
 
-pub returns-clause-pointers : goal.returns-clause-pointers
-returns-clause-pointers c =
+pub returns-then-is_near-clause-pointers : goal.returns-then-is_near-clause-pointers
+returns-then-is_near-clause-pointers c =
     (put_counts _ _ c.args.at c.args.field _ (some_words _ c.remembers.ensures.core) c.requires.field
     (ap (λ (d : CoreState). d.table) c.store_near.ensures.core)).pointers
 
-pub returns-clause-values : goal.returns-clause-values
-returns-clause-values c =
+pub returns-then-is_near-clause-values : goal.returns-then-is_near-clause-values
+returns-then-is_near-clause-values c =
     (put_counts _ _ c.args.at c.args.field _ (some_words _ c.remembers.ensures.core) c.requires.field
     (ap (λ (d : CoreState). d.table) c.store_near.ensures.core)).values
