@@ -4,7 +4,7 @@ use Rattle.std.proofs.Common.{arith}
 use Rattle.std.specs.Prelude.{slice_index, slice_index_or}
 use Rattle.heap_words.specs.declared.config.Config.{Config}
 use Rattle.heap_steps.specs.Actors.{IsStep}
-use Rattle.regions.specs.Table.{pointers_at, values_at}
+use Rattle.regions.specs.Table.{pointers_at, values_at, weaks_at}
 use Rattle.graph_runs.specs.State.{register_place, places_of}
 use Rattle.heap_steps.specs.declared.step.Counts.{Counts}
 use Rattle.heap_steps.specs.declared.step.Refusal.TheVariants as refusals
@@ -28,14 +28,15 @@ pub record HasRun (c : CoreState) (step : ℕ → Step) (count : ℕ) (d : CoreS
   pub config : d.config ≡ c.config
   pub roots : d.roots ≡ c.roots
 
--- and the object at an address has as many pointers and data words as before
+-- and the object at an address has as many fields as before
 pub record HasFilled (c : CoreState) (step : ℕ → Step) (a count : ℕ) (d : CoreState) : Type 0 where
   pub taken : HasRun c step count d
   pub pointers : length (pointers_at d.table a) ≡ length (pointers_at c.table a)
+  pub weaks : length (weaks_at d.table a) ≡ length (weaks_at c.table a)
   pub values : length (values_at d.table a) ≡ length (values_at c.table a)
 
 pub none_filled_yet : (c : CoreState) (step : ℕ → Step) (a : ℕ) → HasFilled c step a 0 c
-none_filled_yet c step a = record { taken = record { run = refl; config = refl; roots = refl }; pointers = refl; values = refl }
+none_filled_yet c step a = record { taken = record { run = refl; config = refl; roots = refl }; pointers = refl; weaks = refl; values = refl }
 
 run_more : (c b d : CoreState) (step : ℕ → Step) (i : ℕ) (taken : Step) (reply : Reply) → HasRun c step i b → taken ≡ step i
     → Takes b taken reply d → d.config ≡ b.config → d.roots ≡ b.roots → HasRun c step (i + 1) d
@@ -50,11 +51,12 @@ run_more c b d step i taken reply h e t same roots =
 
 pub filled_more : (c b d : CoreState) (step : ℕ → Step) (a i : ℕ) (taken : Step) (reply : Reply) → HasFilled c step a i b → taken ≡ step i
     → Takes b taken reply d → d.config ≡ b.config → d.roots ≡ b.roots
-    → length (pointers_at d.table a) ≡ length (pointers_at b.table a) → length (values_at d.table a) ≡ length (values_at b.table a)
-    → HasFilled c step a (i + 1) d
-filled_more c b d step a i taken reply h e t same roots pointers values = record {
+    → length (pointers_at d.table a) ≡ length (pointers_at b.table a) → length (weaks_at d.table a) ≡ length (weaks_at b.table a)
+    → length (values_at d.table a) ≡ length (values_at b.table a) → HasFilled c step a (i + 1) d
+filled_more c b d step a i taken reply h e t same roots pointers weaks values = record {
   taken = run_more c b d step i taken reply h.taken e t same roots;
   pointers = pointers ∙ h.pointers;
+  weaks = weaks ∙ h.weaks;
   values = values ∙ h.values;
 }
 
@@ -107,16 +109,17 @@ none_filled c m to from words r e h =
     (c, (none_pointed c m to from all (length from), none_worded c m to words all (length words)))
 
 -- where the register names an object of such counts, what it holds is the object's address
-pub record HasCounts (c : CoreState) (a p d : ℕ) : Type 0 where
+pub record HasCounts (c : CoreState) (a p w d : ℕ) : Type 0 where
   pub pointers : length (pointers_at c.table a) ≡ p
+  pub weaks : length (weaks_at c.table a) ≡ w
   pub values : length (values_at c.table a) ≡ d
 
-pub counts_here : (c : CoreState) (m : ℕ) (r to : Register) (a p d : ℕ) → NamesObject c m to p d → r ≡ to → Some a ≡ register_of c m r
-    → HasCounts c a p d
-counts_here c m r to a p d made e h =
+pub counts_here : (c : CoreState) (m : ℕ) (r to : Register) (a p w d : ℕ) → NamesObject c m to p w d → r ≡ to → Some a ≡ register_of c m r
+    → HasCounts c a p w d
+counts_here c m r to a p w d made e h =
     let same : Some a ≡ Some made.at = h ∙ ap (λ (x : Register). register_of c m x) e ∙ made.held in
     let at : a ≡ made.at = cc in
-    subst (λ (x : ℕ). HasCounts c x p d) (sym at) (record { pointers = made.pointers; values = made.values })
+    subst (λ (x : ℕ). HasCounts c x p w d) (sym at) (record { pointers = made.pointers; weaks = made.weaks; values = made.values })
 
 -- ---- the pointers, as the core stores them
 pub put_runs : (c : CoreState) (m to : ℕ) (from : List ℕ) (n : ℕ) (r : Register) (d : CoreState) → r ≡ register to → ArePut c m r from n d

@@ -13,7 +13,7 @@ ghost use Rattle.graph_runs.specs.Run.{snapshot_after};
 ghost use Rattle.graph_runs.specs.Machine.{stored};
 ghost use Rattle.heap_steps.specs.declared.step.Reply.TheVariants as replies;
 ghost use Rattle.heap_steps.specs.declared.step.Refusal.TheVariants as refusals;
-ghost use Rattle.regions.specs.Table.{new_object, pointers_at, values_at, set_pointer, set_value};
+ghost use Rattle.regions.specs.Table.{new_object, fields_at, pointers_at, values_at, set_pointer, set_value};
 ghost use Rattle.alloc_buffers.specs.Placement.{address_of, place_of, CanHold, CanPlace, IsMadeAt, Placement, made_at};
 ghost use Rattle.step_core.specs.Stands.{ShowsGraph, KeepsFrom, Leads, Stands, heap_of, IsWordOf, IsRootWord};
 ghost use Rattle.step_core.specs.Answers.{Acts, IsFull, IsWithin, Follows, new_reply};
@@ -383,18 +383,20 @@ impl Core {
         Reply::Done
     }
 
-    /// The same of a data word that the object has, whose number isn't tested then.
+    /// The same of a data word that the object has, whose number isn't tested then, and where the object has so many fields.
     #[inline(always)]
     pub(crate) fn write_known(
         &mut self,
         mutator: u32,
         object: Register,
         at: Addr,
+        fields: u32,
         field: u32,
         value: u64,
     )
         requires held { register_of self.old mutator object ≡ Some at }
         requires leads { Leads self.old (register_place (places_of self.old.config) mutator object.number) (Some at) }
+        requires fields { fields ≡ length (fields_at self.old.table at) }
         requires field { field < length (values_at self.old.table at) }
         ensures acts { (g : Graph) → ShowsGraph g self.old → Acts g mutator (actions.Write object field value) replies.Done self.new }
         ensures keeps { (s : Graph) → KeepsFrom s self.old → KeepsFrom s self.new }
@@ -402,7 +404,7 @@ impl Core {
         ensures leaves { LeavesRegions self.old self.new }
         ensures table { self.new.table ≡ set_value self.old.table at field value }
     {
-        self.table.set_value(at, field, value);
+        self.table.set_value_behind(at, fields, field, value);
     }
 
     fn move_register(&mut self, mutator: u32, to: Register, from: Register) -> Reply

@@ -15,7 +15,7 @@ ghost use Rattle.graph_runs.specs.State.{places_of, register_place, root_at};
 ghost use Rattle.graph_runs.specs.Machine.{stored};
 ghost use Rattle.heap_steps.specs.Roots.{IsRegister, IsValue};
 ghost use Rattle.heap_steps.specs.declared.step.Reply.TheVariants as replies;
-ghost use Rattle.regions.specs.Table.{fields_at, pointers_at, set_pointer, values_at};
+ghost use Rattle.regions.specs.Table.{fields_at, pointers_at, weaks_at, set_pointer, values_at};
 ghost use Rattle.refinement.specs.Remembering.{field_word};
 ghost use Rattle.step_core.specs.Cycle.{LeavesRegions};
 ghost use Rattle.step_core.specs.Mutators.{register_of, value_of};
@@ -142,6 +142,7 @@ impl Core {
         ensures config { self.new.config ≡ self.old.config }
         ensures idle { self.new.marker.running ≡ false }
         ensures pointers { length (pointers_at self.new.table at) ≡ length (pointers_at self.old.table at) }
+        ensures weaks { length (weaks_at self.new.table at) ≡ length (weaks_at self.old.table at) }
         ensures values { length (values_at self.new.table at) ≡ length (values_at self.old.table at) }
     {
         self.remembers();

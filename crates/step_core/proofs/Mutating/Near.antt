@@ -8,7 +8,7 @@ use Rattle.heap_words.specs.Configs.{globals_of, registers_of, card_words}
 use Rattle.heap_model.specs.Graph.{Places}
 use Rattle.graph_runs.specs.State.{places_of, register_place}
 use Rattle.cards.specs.Cards.{Cards, dirtied, is_dirty}
-use Rattle.regions.specs.Table.{Table, pointers_at, set_pointer, values_at}
+use Rattle.regions.specs.Table.{Table, pointers_at, set_pointer, values_at, weaks_at}
 use Rattle.refinement.specs.Remembering.{field_word, IsNoted}
 use Rattle.marker.specs.Steps.{Overwrites}
 use Rattle.marker.specs.declared.marker.Marker.{Marker}
@@ -87,14 +87,15 @@ still_idle c d m object i value h idle =
 
 -- ---- what is known between two such steps
 pub none_put : (c : CoreState) (m : ℕ) (object : Register) (from : List ℕ) (a : ℕ) → HasPut c m object from a 0 c
-none_put c m object from a = record { put = refl; roots = refl; config = refl; pointers = refl; values = refl }
+none_put c m object from a = record { put = refl; roots = refl; config = refl; pointers = refl; weaks = refl; values = refl }
 
 pub one_more_put : (c b d : CoreState) (m : ℕ) (object : Register) (from : List ℕ) (a i : ℕ) (v : Option Register)
     → HasPut c m object from a i b → v ≡ source (slice_index from i)
     → Takes b (putting m object i v) replies.Done d → d.roots ≡ b.roots → d.config ≡ b.config
-    → length (pointers_at d.table a) ≡ length (pointers_at b.table a) → length (values_at d.table a) ≡ length (values_at b.table a)
+    → length (pointers_at d.table a) ≡ length (pointers_at b.table a) → length (weaks_at d.table a) ≡ length (weaks_at b.table a)
+    → length (values_at d.table a) ≡ length (values_at b.table a)
     → HasPut c m object from a (i + 1) d
-one_more_put c b d m object from a i v h is taken roots config pointers values =
+one_more_put c b d m object from a i v h is taken roots config pointers weaks values =
     let one : i + 1 ≡ suc i = omega arith in
     record {
       put = subst (λ (n : ℕ). ArePut c m object from n d) (sym one)
@@ -102,6 +103,7 @@ one_more_put c b d m object from a i v h is taken roots config pointers values =
       roots = roots ∙ h.roots;
       config = config ∙ h.config;
       pointers = pointers ∙ h.pointers;
+      weaks = weaks ∙ h.weaks;
       values = values ∙ h.values;
     }
 

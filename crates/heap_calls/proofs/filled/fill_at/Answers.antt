@@ -13,16 +13,26 @@ put_all_at-requires-clause-values c = sources_there _ c.args.mutator c.args.to _
 
 pub put_all_at-requires-clause-fields : goal.put_all_at-requires-clause-fields
 put_all_at-requires-clause-fields c =
-    let count = (counts_here _ _ _ _ c.args.at _ _ c.requires.made refl (sym c.requires.held)).pointers in omega (arith, count)
+    let count = (counts_here _ _ _ _ c.args.at _ _ _ c.requires.made refl (sym c.requires.held)).pointers in omega (arith, count)
 
 pub word-requires-clause-held : goal.word-requires-clause-held
 word-requires-clause-held c =
     let p = c.put_all_at.ensures in
     still_held c.args.core.now c.put_all_at.new.self _ _ _ _ p.config p.roots refl c.requires.held
 
+pub word-requires-clause-pointers : goal.word-requires-clause-pointers
+word-requires-clause-pointers c =
+    let count = (counts_here _ _ _ _ c.args.at _ _ _ c.requires.made refl (sym c.requires.held)).pointers in
+    let same = c.put_all_at.ensures.pointers in
+    omega (arith, count, same)
+
+pub word-requires-clause-weaks : goal.word-requires-clause-weaks
+word-requires-clause-weaks c =
+    c.put_all_at.ensures.weaks ∙ (counts_here _ _ _ _ c.args.at _ _ _ c.requires.made refl (sym c.requires.held)).weaks
+
 pub word-requires-clause-counts : goal.word-requires-clause-counts
 word-requires-clause-counts c =
-    c.put_all_at.ensures.values ∙ (counts_here _ _ _ _ c.args.at _ _ c.requires.made refl (sym c.requires.held)).values
+    c.put_all_at.ensures.values ∙ (counts_here _ _ _ _ c.args.at _ _ _ c.requires.made refl (sym c.requires.held)).values
 
 pub returns : goal.returns
 returns c =

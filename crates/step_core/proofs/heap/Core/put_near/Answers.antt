@@ -41,6 +41,11 @@ returns-then-is_near-clause-pointers c =
     (put_counts _ _ c.args.at c.args.field _ (some_words _ c.remembers.ensures.core) c.requires.field
     (ap (λ (d : CoreState). d.table) c.store_near.ensures.core)).pointers
 
+pub returns-then-is_near-clause-weaks : goal.returns-then-is_near-clause-weaks
+returns-then-is_near-clause-weaks c =
+    (put_counts _ _ c.args.at c.args.field _ (some_words _ c.remembers.ensures.core) c.requires.field
+    (ap (λ (d : CoreState). d.table) c.store_near.ensures.core)).weaks
+
 pub returns-then-is_near-clause-values : goal.returns-then-is_near-clause-values
 returns-then-is_near-clause-values c =
     (put_counts _ _ c.args.at c.args.field _ (some_words _ c.remembers.ensures.core) c.requires.field
