@@ -36,7 +36,12 @@ pub record HasFilled (c : CoreState) (step : ℕ → Step) (a count : ℕ) (d : 
   pub values : length (values_at d.table a) ≡ length (values_at c.table a)
 
 pub none_filled_yet : (c : CoreState) (step : ℕ → Step) (a : ℕ) → HasFilled c step a 0 c
-none_filled_yet c step a = record { taken = record { run = refl; config = refl; roots = refl }; pointers = refl; weaks = refl; values = refl }
+none_filled_yet c step a = record {
+  taken = record { run = refl; config = refl; roots = refl };
+  pointers = refl;
+  weaks = refl;
+  values = refl;
+}
 
 run_more : (c b d : CoreState) (step : ℕ → Step) (i : ℕ) (taken : Step) (reply : Reply) → HasRun c step i b → taken ≡ step i
     → Takes b taken reply d → d.config ≡ b.config → d.roots ≡ b.roots → HasRun c step (i + 1) d
@@ -125,9 +130,14 @@ counts_here c m r to a p w d made e h =
 pub put_runs : (c : CoreState) (m to : ℕ) (from : List ℕ) (n : ℕ) (r : Register) (d : CoreState) → r ≡ register to → ArePut c m r from n d
     → RunsTo c (pointing m to from) n d
 put_runs c m to from zero r d e h = h
-put_runs c m to from (suc n) r d e (b, (h, t)) =
-    (b, replies.Done, (put_runs c m to from n r b e h,
-    subst (λ (x : Register). Takes b (putting m x n (value (slice_index from n))) replies.Done d) e t))
+put_runs c m to from (suc n) r d e (b, (h, t)) = (
+  b,
+  replies.Done,
+  (
+    put_runs c m to from n r b e h,
+    subst (λ (x : Register). Takes b (putting m x n (value (slice_index from n))) replies.Done d) e t,
+  ),
+)
 
 -- what that asks for: a register or nil for each
 pub sources_there : (k : Config) (m to : ℕ) (from : List ℕ) → ((i : ℕ) → i < length from → IsStep k (pointing m to from i))

@@ -12,8 +12,8 @@ ghost use Rattle.heap_calls.specs.Steps.{HasRegister};
 ghost use Rattle.heap_calls.specs.Filled.{AreFields, Fills, FillsIt, FillsOrNot, IsFilled, IsSource, RunsTo};
 ghost use Rattle.heap_calls.specs.Filled.{making, pointing, wording};
 
-use crate::answer::{Answer, answer_of, no_step};
-use crate::heap::is_known;
+use crate::answer::{Answer, answer_of};
+use crate::heap::{is_known, no_step_of};
 use crate::named::{counts, register};
 use heap_steps::{Counts, Refusal, Reply};
 use heap_words::addr::Addr;
@@ -83,14 +83,7 @@ fn word(core: &mut Core, mutator: u32, to: u32, at: Addr, pointers: u32, words: 
     ensures { RunsTo core.old (wording mutator to words.now) (length words.now) core.new }
 {
     for i in 0..words.len() as u32 {
-        core.write_behind_at(
-            mutator,
-            register(to),
-            at,
-            pointers,
-            i,
-            words[i as usize],
-        );
+        core.write_behind_at(mutator, register(to), at, pointers, i, words[i as usize]);
     }
 }
 
@@ -182,7 +175,7 @@ pub fn make(core: &mut Core, mutator: u32, to: u32, from: &[u32], words: &[u64])
     ensures { FillsOrNot core.old mutator to from.now words.now result (Some core.new) }
 {
     if !has_fields(core, mutator, to, from, words) {
-        return no_step();
+        return no_step_of(core, true);
     }
     fill(core, mutator, to, from, words)
 }

@@ -3,9 +3,11 @@
 //! ```text
 //!   new r0 2 1      r0 holds 40          make_at(0, r0, 2 1) = #7, 40, or after a step address_of(0, r0) = 40
 //!   put r0 0 r1     put_at(0, r0, 40, 0, r1)
-//!   put r0 1 nil    put_at(0, r0, 40, 1, nil)         none of these looks at r0
-//!   write r0 0 7    write_at(0, r0, 40, 0, 7)
+//!   put r0 1 nil    put_at(0, r0, 40, 1, nil)               none of these looks at r0
+//!   write r0 0 7    write_behind_at(0, r0, 40, 2, 0, 7)     nor this at the header; write_at(0, r0, 40, 0, 7) does
 //! ```
+//!
+//! `put_all_at` (`near`) stores all pointers, and asks once what each `put_at` asks.
 
 ghost use Rattle.std.specs.Prelude.{◌≡◌, ◌<◌, IfNone, IfOk, Some, length};
 ghost use Rattle.graph_runs.specs.State.{places_of};

@@ -4,7 +4,8 @@ use Rattle.std.specs.Prelude.{slice_index_or, slice_set}
 use Rattle.std.proofs.lemmas.List.{length-replicate, length-set, get_or-set_same}
 use Rattle.heap_words.specs.Configs.{registers_of}
 use Rattle.heap_model.specs.Heap.{Stored}
-use Rattle.regions.specs.Table.{Table, new_object, object_at, object_pointers, object_values, object_weaks, pointers_at, values_at, weaks_at}
+use Rattle.regions.specs.Table.{Table, new_object, object_at, object_pointers, object_values, object_weaks}
+use Rattle.regions.specs.Table.{pointers_at, values_at, weaks_at}
 use Rattle.regions.specs.Table.{set_pointer, set_value}
 use Rattle.regions.proofs.Tiles.Changes.{pointer_put, value_put}
 use Rattle.regions.proofs.Words.Access.{has_pointer}

@@ -1,25 +1,22 @@
 -- A pointer whose value is nil or leads into its own region, stored while marking doesn't run.
-use Rattle.std.proofs.Common.{◌≡◌, ◌+◌, ◌<◌, ◌≤◌, ◌/◌, ◌∙◌, ℕ, suc, Bool, true, false, List, Option, Some, None, length, get_or}
-use Rattle.std.proofs.Common.{refl, sym, ap, subst, arith, inl, inr}
-use Rattle.std.specs.Prelude.{◌==◌, if◌then◌else◌, slice_index, unwrap_or}
+use Rattle.std.proofs.Common.{◌≡◌, ◌+◌, ◌<◌, ◌/◌, ◌∙◌, ℕ, Bool, true, false, Option, Some, None, length}
+use Rattle.std.proofs.Common.{refl, sym, ap, subst, arith, inl}
+use Rattle.std.specs.Prelude.{◌==◌, if◌then◌else◌, unwrap_or}
 use Rattle.std.proofs.lemmas.Grind.{common_steps}
 use Rattle.std.proofs.lemmas.Bool.Decides.{nat_tests}
 use Rattle.heap_words.specs.Configs.{globals_of, registers_of, card_words}
 use Rattle.heap_model.specs.Graph.{Places}
 use Rattle.graph_runs.specs.State.{places_of, register_place}
 use Rattle.cards.specs.Cards.{Cards, dirtied, is_dirty}
-use Rattle.regions.specs.Table.{Table, pointers_at, set_pointer, values_at, weaks_at}
+use Rattle.regions.specs.Table.{Table, set_pointer}
 use Rattle.refinement.specs.Remembering.{field_word, IsNoted}
 use Rattle.marker.specs.Steps.{Overwrites}
 use Rattle.marker.specs.declared.marker.Marker.{Marker}
-use Rattle.heap_words.specs.declared.config.Config.{Config}
 use Rattle.heap_steps.specs.declared.step.Action.TheVariants as actions
 use Rattle.heap_steps.specs.declared.step.Register.{Register}
-use Rattle.heap_steps.specs.declared.step.Reply.TheVariants as replies
 use Rattle.step_core.specs.Stands.{CoreState, IsCore}
-use Rattle.step_core.specs.Mutators.{HasActed, noted, object_of, pointer_of, register_of, root_of, value_of, with_pointer}
-use Rattle.step_core.specs.Near.{ArePut, HasPut, LeadsNear, source}
-use Rattle.step_core.specs.Words.{Takes, putting}
+use Rattle.step_core.specs.Mutators.{HasActed, noted, object_of, pointer_of, register_of, value_of, with_pointer}
+use Rattle.step_core.specs.Near.{LeadsNear}
 use Rattle.step_core.proofs.Cores.Keeping.{placed_in, register_inside, root_within}
 
 -- ---- a register's place, by where its mutator's registers begin
@@ -68,7 +65,8 @@ near_acted c d m object a i value w held is near idle after =
     let there : a ≡ object_of c m object = ap (λ (o : Option ℕ). unwrap_or o 0) (sym held) in
     let same : d.marker ≡ c.marker = ap (λ (x : CoreState). x.marker) after in
     let cards : d ≡ with_pointer c m a i w =
-    after ∙ ap (λ (cs : Cards). record c { table = set_pointer c.table a i w; cards = cs }) (sym (near_cards c m (field_word a i) w near)) in
+    after ∙ ap (λ (cs : Cards). record c { table = set_pointer c.table a i w; cards = cs })
+    (sym (near_cards c m (field_word a i) w near)) in
     let whole : d ≡ with_pointer c m (object_of c m object) i (value_of c m value) =
     cards ∙ ap (λ (b : ℕ). with_pointer c m b i w) there
     ∙ ap (λ (v : Option ℕ). with_pointer c m (object_of c m object) i v) is in
@@ -76,40 +74,3 @@ near_acted c d m object a i value w held is near idle after =
       core = whole ∙ ap (λ (k : Marker). record (with_pointer c m (object_of c m object) i (value_of c m value)) { marker = k }) (sym same);
       marker = idle_overwrites c.marker.running c.table m (pointer_of c (object_of c m object) i) c.marker d.marker idle same;
     }
-
--- a put leaves marking as it was where it doesn't run
-pub still_idle : (c d : CoreState) (m : ℕ) (object : Register) (i : ℕ) (value : Option Register)
-    → HasActed m (actions.Put object i value) c d → c.marker.running ≡ false → d.marker.running ≡ false
-still_idle c d m object i value h idle =
-    let same : d.marker ≡ c.marker =
-    subst (λ (b : Bool). Overwrites b c.table m (pointer_of c (object_of c m object) i) c.marker d.marker) idle h.marker in
-    ap (λ (k : Marker). k.running) same ∙ idle
-
--- ---- what is known between two such steps
-pub none_put : (c : CoreState) (m : ℕ) (object : Register) (from : List ℕ) (a : ℕ) → HasPut c m object from a 0 c
-none_put c m object from a = record { put = refl; roots = refl; config = refl; pointers = refl; weaks = refl; values = refl }
-
-pub one_more_put : (c b d : CoreState) (m : ℕ) (object : Register) (from : List ℕ) (a i : ℕ) (v : Option Register)
-    → HasPut c m object from a i b → v ≡ source (slice_index from i)
-    → Takes b (putting m object i v) replies.Done d → d.roots ≡ b.roots → d.config ≡ b.config
-    → length (pointers_at d.table a) ≡ length (pointers_at b.table a) → length (weaks_at d.table a) ≡ length (weaks_at b.table a)
-    → length (values_at d.table a) ≡ length (values_at b.table a)
-    → HasPut c m object from a (i + 1) d
-one_more_put c b d m object from a i v h is taken roots config pointers weaks values =
-    let one : i + 1 ≡ suc i = omega arith in
-    record {
-      put = subst (λ (n : ℕ). ArePut c m object from n d) (sym one)
-          (b, (h.put, subst (λ (x : Option Register). Takes b (putting m object i x) replies.Done d) is taken));
-      roots = roots ∙ h.roots;
-      config = config ∙ h.config;
-      pointers = pointers ∙ h.pointers;
-      weaks = weaks ∙ h.weaks;
-      values = values ∙ h.values;
-    }
-
--- a register holds what it held where all roots do
-pub held_still : (c d : CoreState) (m : ℕ) (r : Register) (a : ℕ) → d.config ≡ c.config → d.roots ≡ c.roots
-    → register_of c m r ≡ Some a → register_of d m r ≡ Some a
-held_still c d m r a e f h =
-    ap (λ (k : Config). get_or d.roots (register_place (places_of k) m r.number) None) e
-    ∙ ap (λ (rs : List (Option ℕ)). get_or rs (register_place (places_of c.config) m r.number) None) f ∙ h

@@ -35,6 +35,7 @@ word-requires-clause-counts c =
     c.put_all_at.ensures.values ∙ (counts_here _ _ _ _ c.args.at _ _ _ c.requires.made refl (sym c.requires.held)).values
 
 pub returns : goal.returns
-returns c =
-    (c.put_all_at.new.self,
-    (put_runs _ c.args.mutator c.args.to _ _ _ _ c.register.ensures c.put_all_at.ensures.put, c.word.ensures))
+returns c = (
+  c.put_all_at.new.self,
+  (put_runs _ c.args.mutator c.args.to _ _ _ _ c.register.ensures c.put_all_at.ensures.put, c.word.ensures),
+)

@@ -1,5 +1,4 @@
 use Rattle.std.proofs.Common.{ap, arith}
-use Rattle.regions.specs.Table.{Table}
 use Rattle.step_core.specs.Stands.{CoreState}
 use Rattle.heap_steps.specs.declared.step.Reply.TheVariants as replies
 use Rattle.step_core.proofs.Cores.Filling.{held_facts, put_takes}
