@@ -7,9 +7,9 @@ ghost use Rattle.g1heap_c.specs.MadeFilled.{AsksFilled, AsksToFill, AsksToFillOr
 use crate::noted::{Entry, Notes};
 use crate::policy::plain;
 use collection::{Policy, Unwatched, Watch, make};
-use heap_calls::answer::{Answer, answer_of, no_heap, no_step};
+use heap_calls::answer::{Answer, answer_of, no_heap};
 use heap_calls::filled::{fill_made, has_fields};
-use heap_calls::heap::Heap;
+use heap_calls::heap::{Heap, no_step_of};
 use step_core::Core;
 
 /// Makes the object and fills it.
@@ -46,7 +46,7 @@ fn make_in<W: Watch>(
     ensures { AsksToFillOrNot core.old mutator to from.now words.now result (Some core.new) }
 {
     if !has_fields(core, mutator, to, from, words) {
-        return no_step();
+        return no_step_of(core, true);
     }
     make_and_fill(core, policy, mutator, to, from, words, watch)
 }

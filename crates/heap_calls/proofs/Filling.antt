@@ -4,7 +4,7 @@ use Rattle.std.proofs.Common.{arith}
 use Rattle.std.specs.Prelude.{slice_index, slice_index_or}
 use Rattle.heap_words.specs.declared.config.Config.{Config}
 use Rattle.heap_steps.specs.Actors.{IsStep}
-use Rattle.regions.specs.Table.{pointers_at, values_at}
+use Rattle.regions.specs.Table.{pointers_at, values_at, weaks_at}
 use Rattle.graph_runs.specs.State.{register_place, places_of}
 use Rattle.heap_steps.specs.declared.step.Counts.{Counts}
 use Rattle.heap_steps.specs.declared.step.Refusal.TheVariants as refusals
@@ -18,6 +18,7 @@ use Rattle.step_core.specs.Mutators.{register_of}
 use Rattle.heap_steps.specs.Roots.{IsRegister, IsValue}
 use Rattle.step_core.specs.Words.{AreRefused, Takes, putting, writing}
 use Rattle.step_core.specs.Words as step
+use Rattle.step_core.specs.Near.{ArePut, source}
 use Rattle.heap_calls.specs.Numbers.{counts, register, value}
 use Rattle.heap_calls.specs.Filled.{IsFilled, RunsTo, making, pointing, wording}
 
@@ -27,14 +28,20 @@ pub record HasRun (c : CoreState) (step : ℕ → Step) (count : ℕ) (d : CoreS
   pub config : d.config ≡ c.config
   pub roots : d.roots ≡ c.roots
 
--- and the object at an address has as many pointers and data words as before
+-- and the object at an address has as many fields as before
 pub record HasFilled (c : CoreState) (step : ℕ → Step) (a count : ℕ) (d : CoreState) : Type 0 where
   pub taken : HasRun c step count d
   pub pointers : length (pointers_at d.table a) ≡ length (pointers_at c.table a)
+  pub weaks : length (weaks_at d.table a) ≡ length (weaks_at c.table a)
   pub values : length (values_at d.table a) ≡ length (values_at c.table a)
 
 pub none_filled_yet : (c : CoreState) (step : ℕ → Step) (a : ℕ) → HasFilled c step a 0 c
-none_filled_yet c step a = record { taken = record { run = refl; config = refl; roots = refl }; pointers = refl; values = refl }
+none_filled_yet c step a = record {
+  taken = record { run = refl; config = refl; roots = refl };
+  pointers = refl;
+  weaks = refl;
+  values = refl;
+}
 
 run_more : (c b d : CoreState) (step : ℕ → Step) (i : ℕ) (taken : Step) (reply : Reply) → HasRun c step i b → taken ≡ step i
     → Takes b taken reply d → d.config ≡ b.config → d.roots ≡ b.roots → HasRun c step (i + 1) d
@@ -49,11 +56,12 @@ run_more c b d step i taken reply h e t same roots =
 
 pub filled_more : (c b d : CoreState) (step : ℕ → Step) (a i : ℕ) (taken : Step) (reply : Reply) → HasFilled c step a i b → taken ≡ step i
     → Takes b taken reply d → d.config ≡ b.config → d.roots ≡ b.roots
-    → length (pointers_at d.table a) ≡ length (pointers_at b.table a) → length (values_at d.table a) ≡ length (values_at b.table a)
-    → HasFilled c step a (i + 1) d
-filled_more c b d step a i taken reply h e t same roots pointers values = record {
+    → length (pointers_at d.table a) ≡ length (pointers_at b.table a) → length (weaks_at d.table a) ≡ length (weaks_at b.table a)
+    → length (values_at d.table a) ≡ length (values_at b.table a) → HasFilled c step a (i + 1) d
+filled_more c b d step a i taken reply h e t same roots pointers weaks values = record {
   taken = run_more c b d step i taken reply h.taken e t same roots;
   pointers = pointers ∙ h.pointers;
+  weaks = weaks ∙ h.weaks;
   values = values ∙ h.values;
 }
 
@@ -76,30 +84,11 @@ can_make k m to from words r e is =
     let at = is.at in
     subst (λ (x : Register). CanMake k m x) (sym e) (record { mutator = at.mutator; to = at.roots })
 
--- what a store of a pointer asks for
-pub record CanPut (k : Config) (m : ℕ) (r : Register) (v : Option Register) : Type 0 where
-  pub mutator : m < k.mutators
-  pub object : IsRegister (places_of k) r
-  pub value : IsValue (places_of k) v
-
-pub can_put : (k l : Config) (m to : ℕ) (from : List ℕ) (i : ℕ) (r : Register) (v : Option Register) → k ≡ l → r ≡ register to
-    → v ≡ value (slice_index from i) → IsStep l (pointing m to from i) → CanPut k m r v
-can_put k l m to from i r v e f g is =
-    let at = is.at in
-    subst (λ (x : Config). CanPut x m r v) (sym e)
-    (subst (λ (x : Register). CanPut l m x v) (sym f)
-    (subst (λ (x : Option Register). CanPut l m (register to) x) (sym g)
-    (record { mutator = at.mutator; object = at.roots.0; value = at.roots.1 })))
-
 -- the steps by the names that the code has
 pub as_making : (m to : ℕ) (from words : List ℕ) (r : Register) (n : Counts) → r ≡ register to → n ≡ counts (length from) (length words)
     → step.making m r n ≡ making m to from words
 as_making m to from words r n e f =
     ap (λ (x : Register). step.making m x n) e ∙ ap (λ (x : Counts). step.making m (register to) x) f
-
-pub as_pointing : (m to : ℕ) (from : List ℕ) (i : ℕ) (r : Register) (v : Option Register) → r ≡ register to
-    → v ≡ value (slice_index from i) → putting m r i v ≡ pointing m to from i
-as_pointing m to from i r v f g = ap (λ (x : Register). putting m x i v) f ∙ ap (λ (x : Option Register). putting m (register to) i x) g
 
 pub as_wording : (m to : ℕ) (words : List ℕ) (i w : ℕ) (r : Register) → r ≡ register to → w ≡ slice_index words i
     → writing m r i w ≡ wording m to words i
@@ -125,13 +114,32 @@ none_filled c m to from words r e h =
     (c, (none_pointed c m to from all (length from), none_worded c m to words all (length words)))
 
 -- where the register names an object of such counts, what it holds is the object's address
-pub record HasCounts (c : CoreState) (a p d : ℕ) : Type 0 where
+pub record HasCounts (c : CoreState) (a p w d : ℕ) : Type 0 where
   pub pointers : length (pointers_at c.table a) ≡ p
+  pub weaks : length (weaks_at c.table a) ≡ w
   pub values : length (values_at c.table a) ≡ d
 
-pub counts_here : (c : CoreState) (m : ℕ) (r to : Register) (a p d : ℕ) → NamesObject c m to p d → r ≡ to → Some a ≡ register_of c m r
-    → HasCounts c a p d
-counts_here c m r to a p d made e h =
+pub counts_here : (c : CoreState) (m : ℕ) (r to : Register) (a p w d : ℕ) → NamesObject c m to p w d → r ≡ to → Some a ≡ register_of c m r
+    → HasCounts c a p w d
+counts_here c m r to a p w d made e h =
     let same : Some a ≡ Some made.at = h ∙ ap (λ (x : Register). register_of c m x) e ∙ made.held in
     let at : a ≡ made.at = cc in
-    subst (λ (x : ℕ). HasCounts c x p d) (sym at) (record { pointers = made.pointers; values = made.values })
+    subst (λ (x : ℕ). HasCounts c x p w d) (sym at) (record { pointers = made.pointers; weaks = made.weaks; values = made.values })
+
+-- ---- the pointers, as the core stores them
+pub put_runs : (c : CoreState) (m to : ℕ) (from : List ℕ) (n : ℕ) (r : Register) (d : CoreState) → r ≡ register to → ArePut c m r from n d
+    → RunsTo c (pointing m to from) n d
+put_runs c m to from zero r d e h = h
+put_runs c m to from (suc n) r d e (b, (h, t)) = (
+  b,
+  replies.Done,
+  (
+    put_runs c m to from n r b e h,
+    subst (λ (x : Register). Takes b (putting m x n (value (slice_index from n))) replies.Done d) e t,
+  ),
+)
+
+-- what that asks for: a register or nil for each
+pub sources_there : (k : Config) (m to : ℕ) (from : List ℕ) → ((i : ℕ) → i < length from → IsStep k (pointing m to from i))
+    → (i : ℕ) → i < length from → IsValue (places_of k) (source (slice_index from i))
+sources_there k m to from all i h = let at = (all i h).at in at.roots.1

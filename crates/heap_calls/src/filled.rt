@@ -1,19 +1,20 @@
 //! A new object with its fields, in one call.
 
-ghost use Rattle.std.specs.Prelude.{◌≡◌, ◌≢◌, ℕ, ◌<◌, ◌^◌, List, length, slice_index, IfOk, Some, true, false};
-ghost use Rattle.regions.specs.Table.{pointers_at, values_at};
+ghost use Rattle.std.specs.Prelude.{◌≡◌, ◌≢◌, ℕ, ◌<◌, ◌≤◌, ◌^◌, List, length, slice_index, IfOk, Some, true, false};
+ghost use Rattle.regions.specs.Table.{pointers_at, weaks_at, values_at};
 ghost use Rattle.heap_steps.specs.Actors.{IsStep};
 ghost use Rattle.step_core.specs.Answers.{new_reply};
 ghost use Rattle.step_core.specs.Making.{HasMadeStep, NamesObject};
 ghost use Rattle.step_core.specs.Mutators.{register_of};
+ghost use Rattle.step_core.specs.Stands.{CoreState};
 ghost use Rattle.heap_calls.specs.Numbers as spec;
 ghost use Rattle.heap_calls.specs.Steps.{HasRegister};
 ghost use Rattle.heap_calls.specs.Filled.{AreFields, Fills, FillsIt, FillsOrNot, IsFilled, IsSource, RunsTo};
 ghost use Rattle.heap_calls.specs.Filled.{making, pointing, wording};
 
-use crate::answer::{Answer, answer_of, no_step};
-use crate::heap::is_known;
-use crate::named::{counts, register, value};
+use crate::answer::{Answer, answer_of};
+use crate::heap::{is_known, no_step_of};
+use crate::named::{counts, register};
 use heap_steps::{Counts, Refusal, Reply};
 use heap_words::addr::Addr;
 use step_core::{Core, NewObject, new_reply};
@@ -70,54 +71,40 @@ pub fn has_fields(core: &Core, mutator: u32, to: u32, from: &[u32], words: &[u64
     has_sources(core, to, from)
 }
 
-/// Fills the pointers of the object that starts at an address, which the register holds.
+/// Fills the data words of the object that starts at an address, which the register holds. It has so many pointers and no weak slot.
 #[inline(always)]
-fn point(core: &mut Core, mutator: u32, to: u32, at: Addr, from: &[u32])
-    requires few { length from.now < 2 ^ 32 }
-    requires points { (i : ℕ) → i < length from.now → IsStep core.old.config (pointing mutator to from.now i) }
-    requires held { register_of core.old mutator (spec.register to) ≡ Some at }
-    requires counts { length (pointers_at core.old.table at) ≡ length from.now }
-    ensures run { RunsTo core.old (pointing mutator to from.now) (length from.now) core.new }
-    ensures config { core.new.config ≡ core.old.config }
-    ensures held { register_of core.new mutator (spec.register to) ≡ Some at }
-    ensures values { length (values_at core.new.table at) ≡ length (values_at core.old.table at) }
-{
-    for i in 0..from.len() {
-        core.put_at(mutator, register(to), at, i as u32, value(from[i]));
-    }
-}
-
-/// Fills the data words of the object that starts at an address, which the register holds.
-#[inline(always)]
-fn word(core: &mut Core, mutator: u32, to: u32, at: Addr, words: &[u64])
+fn word(core: &mut Core, mutator: u32, to: u32, at: Addr, pointers: u32, words: &[u64])
     requires few { length words.now < 2 ^ 32 }
     requires known { HasRegister core.old mutator to }
     requires held { register_of core.old mutator (spec.register to) ≡ Some at }
+    requires pointers { length (pointers_at core.old.table at) ≡ pointers }
+    requires weaks { length (weaks_at core.old.table at) ≡ 0 }
     requires counts { length (values_at core.old.table at) ≡ length words.now }
     ensures { RunsTo core.old (wording mutator to words.now) (length words.now) core.new }
 {
-    for i in 0..words.len() {
-        core.write_at(mutator, register(to), at, i as u32, words[i]);
+    for i in 0..words.len() as u32 {
+        core.write_behind_at(mutator, register(to), at, pointers, i, words[i as usize]);
     }
 }
 
-/// Fills the object that starts at an address, which the register holds. It has as many pointers and data words.
+/// Fills the object that starts at an address, which the register holds. It has as many pointers and data words, and no weak
+/// slot.
 #[inline(always)]
 fn fill_at(core: &mut Core, mutator: u32, to: u32, at: Addr, from: &[u32], words: &[u64])
     requires fields { AreFields core.old.config mutator to from.now words.now }
-    requires made { NamesObject core.old mutator (spec.register to) (length from.now) (length words.now) }
+    requires made { NamesObject core.old mutator (spec.register to) (length from.now) 0 (length words.now) }
     requires held { register_of core.old mutator (spec.register to) ≡ Some at }
     ensures { IsFilled core.old mutator to from.now words.now core.new }
 {
-    point(core, mutator, to, at, from);
-    word(core, mutator, to, at, words);
+    core.put_all_at(mutator, register(to), at, from);
+    word(core, mutator, to, at, from.len() as u32, words);
 }
 
 /// Fills the object that a register holds. If it held none, each step would be refused, and none is done.
 #[inline(always)]
 fn fill_object(core: &mut Core, mutator: u32, to: u32, from: &[u32], words: &[u64])
     requires fields { AreFields core.old.config mutator to from.now words.now }
-    requires made { NamesObject core.old mutator (spec.register to) (length from.now) (length words.now) }
+    requires made { NamesObject core.old mutator (spec.register to) (length from.now) 0 (length words.now) }
     ensures { IsFilled core.old mutator to from.now words.now core.new }
 {
     let Some(at) = core.address_of(mutator, register(to)) else {
@@ -188,7 +175,7 @@ pub fn make(core: &mut Core, mutator: u32, to: u32, from: &[u32], words: &[u64])
     ensures { FillsOrNot core.old mutator to from.now words.now result (Some core.new) }
 {
     if !has_fields(core, mutator, to, from, words) {
-        return no_step();
+        return no_step_of(core, true);
     }
     fill(core, mutator, to, from, words)
 }

@@ -105,7 +105,7 @@ fn no_step_code(core: &Core) -> u32
 /// The answer where numbers name no step. A call's number isn't made before the tests that lead here, where each step would pay for it. But
 /// where the step makes a call too, one more costs more than that.
 #[inline(always)]
-pub(crate) fn no_step_of(core: &Core, apart: bool) -> Answer
+pub fn no_step_of(core: &Core, apart: bool) -> Answer
     ensures { result ≡ no_step }
 {
     if apart {

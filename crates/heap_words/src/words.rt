@@ -271,6 +271,17 @@ impl Words {
         self.items[at] = value;
     }
 
+    /// The same of an object that has so many fields: its header isn't looked at.
+    pub fn set_value_behind(&mut self, object: Addr, fields: u32, field: u32, value: u64)
+        requires fields { fields ≡ field_count_at self.old.all object }
+        requires within { field_word object (field_count_at self.old.all object) + field < self.old.written }
+        ensures all { self.new.all ≡ slice_set self.old.all (field_word object (field_count_at self.old.all object) + field) value }
+        ensures written { self.new.written ≡ self.old.written }
+    {
+        let at = object.field(fields) + field as usize;
+        self.items[at] = value;
+    }
+
     /// Copies data words of the object at an address, counted from 0, from one on: as many as there is room for.
     pub fn values(&self, object: Addr, from: u32, out: &mut [u64])
         requires at { object < self.now.written }

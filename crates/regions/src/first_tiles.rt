@@ -267,9 +267,62 @@ impl FirstTiles {
         write_entries(&mut self.starts, shift, at, at + size, at);
     }
 
-    /// An object takes the front of a filler, whose entries stand, and what is left is a filler or nothing.
+    /// An object takes the front of a filler, whose entries stand, and what is left is a filler or nothing. Where that is an entry or two
+    /// it is part of the caller, and else one call: so the former saves nothing that a call would need.
     #[inline(always)]
     pub(crate) fn cut_front(&mut self, at: u32, size: u32, filler: u32)
+        requires room { size ≤ filler }
+        requires within { at + filler ≤ length self.old.starts * self.old.card_words }
+        requires small { at + filler ≤ max_words }
+        ensures card_words { self.new.card_words ≡ self.old.card_words }
+        ensures len { length self.new.starts ≡ length self.old.starts }
+        ensures entries { (c : ℕ) → slice_index self.new.starts c
+            ≡ (if is_between (at + size) (at + filler) (c * self.old.card_words)
+            && (c * self.old.card_words == last_card self.old.card_words (at + filler)) then at + size
+            else (if is_between at (at + size) (c * self.old.card_words) then at else slice_index self.old.starts c)) }
+    {
+        if self.is_cut_here(at, size, filler) {
+            self.cut_here(at, size, filler);
+        } else {
+            self.cut_apart(at, size, filler);
+        }
+    }
+
+    /// Whether the entries are written and at most one card begins in the object. No promise hangs on the answer. The tests are those of
+    /// `cut_here`, in the same numbers, so that the compiler leaves them out there.
+    #[inline(always)]
+    fn is_cut_here(&self, at: u32, size: u32, filler: u32) -> bool
+        requires room { size ≤ filler }
+        requires within { at + filler ≤ length self.now.starts * self.now.card_words }
+        requires small { at + filler ≤ max_words }
+    {
+        let shift = self.shift;
+        if self.starts.len() < card_from(shift, at + filler) as usize {
+            return false;
+        }
+        card_from(shift, at).wrapping_add(1) >= card_from(shift, at + size)
+    }
+
+    /// The same as `cut_front`, as a call.
+    #[cold]
+    #[inline(never)]
+    fn cut_apart(&mut self, at: u32, size: u32, filler: u32)
+        requires room { size ≤ filler }
+        requires within { at + filler ≤ length self.old.starts * self.old.card_words }
+        requires small { at + filler ≤ max_words }
+        ensures card_words { self.new.card_words ≡ self.old.card_words }
+        ensures len { length self.new.starts ≡ length self.old.starts }
+        ensures entries { (c : ℕ) → slice_index self.new.starts c
+            ≡ (if is_between (at + size) (at + filler) (c * self.old.card_words)
+            && (c * self.old.card_words == last_card self.old.card_words (at + filler)) then at + size
+            else (if is_between at (at + size) (c * self.old.card_words) then at else slice_index self.old.starts c)) }
+    {
+        self.cut_here(at, size, filler);
+    }
+
+    /// The same, as part of the caller.
+    #[inline(always)]
+    fn cut_here(&mut self, at: u32, size: u32, filler: u32)
         requires room { size ≤ filler }
         requires within { at + filler ≤ length self.old.starts * self.old.card_words }
         requires small { at + filler ≤ max_words }

@@ -185,6 +185,15 @@ impl RegionTable {
         self.words.set_value(object, field, value);
     }
 
+    /// The same in an object that has so many fields: its header isn't looked at.
+    pub fn set_value_behind(&mut self, object: Addr, fields: u32, field: u32, value: u64)
+        requires fields { fields ≡ length (fields_at self.old object) }
+        requires field { field < length (values_at self.old object) }
+        ensures { self.new ≡ set_value self.old object field value }
+    {
+        self.words.set_value_behind(object, fields, field, value);
+    }
+
     /// Copies data words of the object at an address, from one on: as many as there is room for.
     pub fn get_values(&self, object: Addr, from: u32, out: &mut [u64])
         requires object { IsSome (object_at self.now object) }

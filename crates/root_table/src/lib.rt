@@ -13,8 +13,11 @@
 //! The globals and each mutator's registers are a row, and for each row a bound is kept above which all its roots are nil. It goes up when
 //! a root above it is set, and down when a frame is left. So a look at all roots costs those below the bounds, and a frame that was left
 //! costs nothing any more. No call but the making takes memory or fails.
+//!
+//! `held` is what a place holds, `places` where places are, `table` the table.
 #![tactic(auto)]
 
+mod held;
 pub mod places;
 pub mod table;
 

@@ -5,6 +5,7 @@ ghost use Rattle.std.specs.Prelude.{None, IfOk, IfSome, IsSome, length, MatchOpt
 ghost use Rattle.heap_model.specs.Graph.{register_place, root_places, with_nils};
 ghost use Rattle.root_table.specs.Roots.{AreNil, IsNextNamed};
 
+use crate::held::Held;
 use crate::places::Places;
 use heap_words::addr::Ptr;
 use std::alloc::{AllocError, Global};
@@ -15,8 +16,8 @@ use std::marker::Model;
 /// pointer is followed to one.
 pub struct Roots {
     places: Places,
-    globals: Vec<Ptr>,
-    registers: Vec<Ptr>,
+    globals: Vec<Held>,
+    registers: Vec<Held>,
     /// From this number on a row's roots are nil: row 0 is the globals, and the row of a mutator's registers is its number and one.
     used: [u32; 65],
 }
@@ -46,12 +47,12 @@ impl Drop for Roots {
 }
 
 /// So many places from `first` on hold nil.
-fn fill_nil(words: &mut [Ptr], first: usize, count: usize)
+fn fill_nil(words: &mut [Held], first: usize, count: usize)
     requires { first + count ≤ length words.old }
     ensures { words.new ≡ with_nils words.old first count }
 {
     for index in 0..count {
-        words[first + index] = None;
+        words[first + index] = Held::nil();
     }
 }
 
@@ -74,8 +75,8 @@ impl Roots {
         let globals = places.globals() as usize;
         Ok(Roots {
             places,
-            globals: vec![in alloc; None; globals]?,
-            registers: vec![in alloc; None; count - globals]?,
+            globals: vec![in alloc; Held::nil(); globals]?,
+            registers: vec![in alloc; Held::nil(); count - globals]?,
             used: none_used(),
         })
     }
@@ -104,9 +105,9 @@ impl Roots {
     {
         let globals = self.globals.len();
         if place < globals {
-            self.globals[place]
+            self.globals[place].get()
         } else {
-            self.registers[place - globals]
+            self.registers[place - globals].get()
         }
     }
 
@@ -120,9 +121,27 @@ impl Roots {
         (self.places.registers() * mutator + register) as usize
     }
 
-    /// What a mutator's register holds.
+    /// Where a mutator's registers begin among all registers: who looks at several of them finds that once.
     #[inline(always)]
-    pub fn register(&self, mutator: u32, register: u32) -> Ptr
+    pub fn row(&self, mutator: u32) -> u32
+        requires { mutator < self.now.places.mutators }
+        ensures { self.now.places.globals + result ≡ register_place self.now.places mutator 0 }
+    {
+        self.places.registers() * mutator
+    }
+
+    /// What a register holds of a mutator whose registers begin there.
+    #[inline(always)]
+    pub fn in_row(&self, row: u32, register: u32) -> Ptr
+        requires { self.now.places.globals + (row + register) < length self.now.words }
+        ensures { result ≡ slice_index_or self.now.words (self.now.places.globals + (row + register)) None }
+    {
+        self.registers[(row + register) as usize].get()
+    }
+
+    /// What a mutator's register holds, as it is kept.
+    #[inline(always)]
+    fn held(&self, mutator: u32, register: u32) -> Held
         requires mutator { mutator < self.now.places.mutators }
         requires register { register < self.now.places.registers }
         ensures { result ≡ slice_index_or self.now.words (register_place self.now.places mutator register) None }
@@ -130,9 +149,44 @@ impl Roots {
         self.registers[self.among_registers(mutator, register)]
     }
 
+    /// What a mutator's register holds.
+    #[inline(always)]
+    pub fn register(&self, mutator: u32, register: u32) -> Ptr
+        requires mutator { mutator < self.now.places.mutators }
+        requires register { register < self.now.places.registers }
+        ensures { result ≡ slice_index_or self.now.words (register_place self.now.places mutator register) None }
+    {
+        self.held(mutator, register).get()
+    }
+
     /// A mutator's register takes a value.
     #[inline(always)]
     pub fn set_register(&mut self, mutator: u32, register: u32, value: Ptr)
+        requires mutator { mutator < self.old.places.mutators }
+        requires register { register < self.old.places.registers }
+        ensures { self.new ≡ record self.old { words = slice_set self.old.words (register_place self.old.places mutator register) value } }
+    {
+        self.keep(mutator, register, Held::of(value));
+    }
+
+    /// A mutator's register takes what another one of its holds, which isn't looked at.
+    #[inline(always)]
+    pub fn copy_register(&mut self, mutator: u32, to: u32, from: u32)
+        requires mutator { mutator < self.old.places.mutators }
+        requires to { to < self.old.places.registers }
+        requires from { from < self.old.places.registers }
+        ensures { self.new ≡ record self.old {
+          words = slice_set self.old.words (register_place self.old.places mutator to)
+              (slice_index_or self.old.words (register_place self.old.places mutator from) None);
+        } }
+    {
+        let held = self.held(mutator, from);
+        self.keep(mutator, to, held);
+    }
+
+    /// A mutator's register takes what is held, and its row's bound is above it.
+    #[inline(always)]
+    fn keep(&mut self, mutator: u32, register: u32, value: Held)
         requires mutator { mutator < self.old.places.mutators }
         requires register { register < self.old.places.registers }
         ensures { self.new ≡ record self.old { words = slice_set self.old.words (register_place self.old.places mutator register) value } }
@@ -149,7 +203,8 @@ impl Roots {
         requires { global < self.old.places.globals }
         ensures { self.new ≡ record self.old { words = slice_set self.old.words global value } }
     {
-        self.globals[global as usize] = value;
+        let held = Held::of(value);
+        self.globals[global as usize] = held;
         if self.used[0] <= global {
             self.used[0] = global + 1;
         }
@@ -160,11 +215,12 @@ impl Roots {
         requires { IsSome (slice_index_or self.old.words place None) }
         ensures { self.new ≡ record self.old { words = slice_set self.old.words place value } }
     {
+        let held = Held::of(value);
         let globals = self.globals.len();
         if place < globals {
-            self.globals[place] = value;
+            self.globals[place] = held;
         } else {
-            self.registers[place - globals] = value;
+            self.registers[place - globals] = held;
         }
     }
 

@@ -12,3 +12,4 @@ pub mod Creating
 pub mod Made
 pub mod WeakStoring
 pub mod Touching
+pub mod Near

@@ -12,3 +12,4 @@ pub mod Cycle
 pub mod Cleaning
 pub mod Passages
 pub mod Words
+pub mod Near

@@ -2,7 +2,7 @@
 use Rattle.std.specs.Prelude.{◌≡◌, ◌≢◌, ◌⊎◌, ℕ, ⊤, Option, Some, length}
 use Rattle.heap_words.specs.Sizes.{size_of}
 use Rattle.heap_model.specs.Graph.{Graph}
-use Rattle.regions.specs.Table.{pointers_at, values_at}
+use Rattle.regions.specs.Table.{pointers_at, weaks_at, values_at}
 use Rattle.heap_steps.specs.declared.step.Action.{Action}
 use Rattle.heap_steps.specs.declared.step.Action.TheVariants as actions
 use Rattle.heap_steps.specs.declared.step.Counts.{Counts}
@@ -16,17 +16,18 @@ use Rattle.step_core.specs.Cycle.{LeavesRegions}
 use Rattle.step_core.specs.Mutators.{ActsOn, register_of}
 use Rattle.step_core.specs.Stands.{CoreState, ShowsGraph, KeepsFrom}
 
--- mutator m's register names an object of so many pointers and data words
-pub record NamesObject (c : CoreState) (m : ℕ) (to : Register) (p d : ℕ) : Type 0 where
+-- mutator m's register names an object of so many pointers, weak slots and data words
+pub record NamesObject (c : CoreState) (m : ℕ) (to : Register) (p w d : ℕ) : Type 0 where
   pub at : ℕ
   pub held : register_of c m to ≡ Some at
   pub pointers : length (pointers_at c.table at) ≡ p
+  pub weaks : length (weaks_at c.table at) ≡ w
   pub values : length (values_at c.table at) ≡ d
 
--- where an action made an object, and so replied a name, the register names one of so many pointers and data words
+-- where an action made an object, and so replied a name, the register names one of so many pointers, weak slots and data words
 abbrev pub HasMade : ℕ → Action → Reply → CoreState → Type 0
-HasMade m (actions.New to counts) (replies.Named name) c = NamesObject c m to counts.pointers counts.values
-HasMade m (actions.NewWeak to counts weaks) (replies.Named name) c = NamesObject c m to counts.pointers counts.values
+HasMade m (actions.New to counts) (replies.Named name) c = NamesObject c m to counts.pointers 0 counts.values
+HasMade m (actions.NewWeak to counts weaks) (replies.Named name) c = NamesObject c m to counts.pointers weaks counts.values
 HasMade m _ _ c = ⊤
 
 -- the same of a step: the collector makes no object

@@ -3,15 +3,17 @@
 //! ```text
 //!   new r0 2 1      r0 holds 40          make_at(0, r0, 2 1) = #7, 40, or after a step address_of(0, r0) = 40
 //!   put r0 0 r1     put_at(0, r0, 40, 0, r1)
-//!   put r0 1 nil    put_at(0, r0, 40, 1, nil)         none of these looks at r0
-//!   write r0 0 7    write_at(0, r0, 40, 0, 7)
+//!   put r0 1 nil    put_at(0, r0, 40, 1, nil)               none of these looks at r0
+//!   write r0 0 7    write_behind_at(0, r0, 40, 2, 0, 7)     nor this at the header; write_at(0, r0, 40, 0, 7) does
 //! ```
+//!
+//! `put_all_at` (`near`) stores all pointers, and asks once what each `put_at` asks.
 
 ghost use Rattle.std.specs.Prelude.{◌≡◌, ◌<◌, IfNone, IfOk, Some, length};
 ghost use Rattle.graph_runs.specs.State.{places_of};
 ghost use Rattle.heap_steps.specs.Roots.{IsRegister, IsValue};
 ghost use Rattle.heap_steps.specs.declared.step.Reply.TheVariants as replies;
-ghost use Rattle.regions.specs.Table.{pointers_at, values_at};
+ghost use Rattle.regions.specs.Table.{pointers_at, weaks_at, values_at};
 ghost use Rattle.step_core.specs.Mutators.{register_of};
 ghost use Rattle.step_core.specs.Answers.{new_reply};
 ghost use Rattle.step_core.specs.Making.{HasMade};
@@ -90,10 +92,42 @@ impl Core {
         ensures roots { self.new.roots ≡ self.old.roots }
         ensures config { self.new.config ≡ self.old.config }
         ensures pointers { length (pointers_at self.new.table at) ≡ length (pointers_at self.old.table at) }
+        ensures weaks { length (weaks_at self.new.table at) ≡ length (weaks_at self.old.table at) }
         ensures values { length (values_at self.new.table at) ≡ length (values_at self.old.table at) }
     {
         self.remembers();
         self.put_known(mutator, object, at, field, value);
+    }
+
+    /// The same, as a call that is seldom made: where the first pointers were stored by `put_near_at`.
+    ///
+    /// ```rust
+    /// core.step(new);
+    /// core.put_apart_at(0, r0, Addr::new(0), 0, Some(r0));
+    /// ```
+    #[cold]
+    #[inline(never)]
+    pub fn put_apart_at(
+        &mut self,
+        mutator: u32,
+        object: Register,
+        at: Addr,
+        field: u32,
+        value: Option<Register>,
+    )
+        requires mutator { mutator < self.old.config.mutators }
+        requires object { IsRegister (places_of self.old.config) object }
+        requires value { IsValue (places_of self.old.config) value }
+        requires held { register_of self.old mutator object ≡ Some at }
+        requires field { field < length (pointers_at self.old.table at) }
+        ensures takes { Takes self.old (putting mutator object field value) replies.Done self.new }
+        ensures roots { self.new.roots ≡ self.old.roots }
+        ensures config { self.new.config ≡ self.old.config }
+        ensures pointers { length (pointers_at self.new.table at) ≡ length (pointers_at self.old.table at) }
+        ensures weaks { length (weaks_at self.new.table at) ≡ length (weaks_at self.old.table at) }
+        ensures values { length (values_at self.new.table at) ≡ length (values_at self.old.table at) }
+    {
+        self.put_at(mutator, object, at, field, value);
     }
 
     /// Does the step `write` of a mutator, whose register `object` holds the object that starts at an address, for a data word that the
@@ -113,9 +147,44 @@ impl Core {
         ensures roots { self.new.roots ≡ self.old.roots }
         ensures config { self.new.config ≡ self.old.config }
         ensures pointers { length (pointers_at self.new.table at) ≡ length (pointers_at self.old.table at) }
+        ensures weaks { length (weaks_at self.new.table at) ≡ length (weaks_at self.old.table at) }
         ensures values { length (values_at self.new.table at) ≡ length (values_at self.old.table at) }
     {
         self.remembers();
-        self.write_known(mutator, object, at, field, value);
+        let fields = self.table.field_count(at);
+        self.write_known(mutator, object, at, fields, field, value);
+    }
+
+    /// The same of an object that has so many pointers and no weak slot: its header isn't looked at.
+    ///
+    /// ```rust
+    /// core.step(new);
+    /// core.write_behind_at(0, r0, Addr::new(0), 1, 0, 7);
+    /// ```
+    #[inline(always)]
+    pub fn write_behind_at(
+        &mut self,
+        mutator: u32,
+        object: Register,
+        at: Addr,
+        pointers: u32,
+        field: u32,
+        value: u64,
+    )
+        requires mutator { mutator < self.old.config.mutators }
+        requires object { IsRegister (places_of self.old.config) object }
+        requires held { register_of self.old mutator object ≡ Some at }
+        requires pointers { length (pointers_at self.old.table at) ≡ pointers }
+        requires weaks { length (weaks_at self.old.table at) ≡ 0 }
+        requires field { field < length (values_at self.old.table at) }
+        ensures takes { Takes self.old (writing mutator object field value) replies.Done self.new }
+        ensures roots { self.new.roots ≡ self.old.roots }
+        ensures config { self.new.config ≡ self.old.config }
+        ensures pointers { length (pointers_at self.new.table at) ≡ length (pointers_at self.old.table at) }
+        ensures weaks { length (weaks_at self.new.table at) ≡ length (weaks_at self.old.table at) }
+        ensures values { length (values_at self.new.table at) ≡ length (values_at self.old.table at) }
+    {
+        self.remembers();
+        self.write_known(mutator, object, at, pointers, field, value);
     }
 }

@@ -277,6 +277,23 @@ impl Core {
         self.roots.set_register(mutator, register.number, value);
     }
 
+    /// A mutator's register takes what another one of its holds, which isn't looked at.
+    #[inline(always)]
+    pub(crate) fn copy_register(&mut self, mutator: u32, to: Register, from: Register)
+        requires mutator { mutator < self.old.config.mutators }
+        requires to { IsRegister (places_of self.old.config) to }
+        requires from { IsRegister (places_of self.old.config) from }
+        ensures shows { (g : Graph) → ShowsGraph g self.old
+            → ShowsGraph (with_root g (register_place g.places mutator to.number) (root_at g (register_place g.places mutator from.number)))
+            self.new }
+        ensures keeps { (s : Graph) → KeepsFrom s self.old → KeepsFrom s self.new }
+        ensures after { self.new ≡ with_root_word self.old (register_place (places_of self.old.config) mutator to.number)
+            (register_of self.old mutator from) }
+        ensures leaves { LeavesRegions self.old self.new }
+    {
+        self.roots.copy_register(mutator, to.number, from.number);
+    }
+
     /// A mutator's registers from one on are nil.
     pub(crate) fn leave(&mut self, mutator: u32, from: Register)
         requires mutator { mutator < self.old.config.mutators }

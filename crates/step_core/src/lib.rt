@@ -25,8 +25,8 @@
 //! `mutator` has the mutator's steps, `barrier` what a store and a weak read do beside, `cycle` the steps of marking, `cleanup` the
 //! reclaiming, `refine` refinement, `candidates` the choice of what a pause evacuates, `highest` of what a compaction does, `pause` both of
 //! them, `step` any step, `runs` a list of them, `words` several data words at once, `filling` fields of an object whose address is known,
-//! `readers` what is read of a core from outside, `names` which object starts at an address, `measures` what a policy of collection asks of
-//! it, `layers` the parts that a new core is made of.
+//! `near` its pointers one after another, `readers` what is read of a core from outside, `names` which object starts at an address,
+//! `measures` what a policy of collection asks of it, `layers` the parts that a new core is made of.
 //!
 //! A field is read or written in constant time: no step tests or walks its region to see that an address is an object.
 //!
@@ -58,6 +58,7 @@ mod layers;
 mod measures;
 mod mutator;
 mod names;
+mod near;
 mod pause;
 mod readers;
 mod refine;
@@ -69,4 +70,5 @@ pub use candidates::Choice;
 pub use heap::Core;
 pub use mutator::{NewObject, new_reply};
 pub use names::object_name;
+pub use near::source_of;
 pub use runs::{run, run_to_core};

@@ -13,7 +13,7 @@ ghost use Rattle.graph_runs.specs.Run.{snapshot_after};
 ghost use Rattle.graph_runs.specs.Machine.{stored};
 ghost use Rattle.heap_steps.specs.declared.step.Reply.TheVariants as replies;
 ghost use Rattle.heap_steps.specs.declared.step.Refusal.TheVariants as refusals;
-ghost use Rattle.regions.specs.Table.{new_object, pointers_at, values_at, set_pointer, set_value};
+ghost use Rattle.regions.specs.Table.{new_object, fields_at, pointers_at, values_at, set_pointer, set_value};
 ghost use Rattle.alloc_buffers.specs.Placement.{address_of, place_of, CanHold, CanPlace, IsMadeAt, Placement, made_at};
 ghost use Rattle.step_core.specs.Stands.{ShowsGraph, KeepsFrom, Leads, Stands, heap_of, IsWordOf, IsRootWord};
 ghost use Rattle.step_core.specs.Answers.{Acts, IsFull, IsWithin, Follows, new_reply};
@@ -283,7 +283,35 @@ impl Core {
         ensures after { ActsOn mutator (actions.Put object field value) result self.old self.new }
         ensures leaves { LeavesRegions self.old self.new }
     {
-        let target = self.stored(mutator, value);
+        match self.stored(mutator, value) {
+            None => self.put_word(mutator, object, at, field, value, None),
+            Some(to) => self.put_word(mutator, object, at, field, value, Some(to)),
+        }
+    }
+
+    /// The same of the word that is stored. Nil and an address have code of their own each, so neither is tested again.
+    #[inline(always)]
+    fn put_word(
+        &mut self,
+        mutator: u32,
+        object: Register,
+        at: Addr,
+        field: u32,
+        value: Option<Register>,
+        target: Ptr,
+    ) -> Reply
+        requires mutator { mutator < self.old.config.mutators }
+        requires held { register_of self.old mutator object ≡ Some at }
+        requires rooted { IsRoot (heap_of self.old) at }
+        requires leads { Leads self.old (register_place (places_of self.old.config) mutator object.number) (Some at) }
+        requires target { target ≡ value_of self.old mutator value }
+        requires known { IsRootWord (heap_of self.old) target }
+        requires shows { (g : Graph) → ShowsGraph g self.old → IsShown (heap_of self.old) target (stored g mutator value) }
+        ensures acts { (g : Graph) → ShowsGraph g self.old → Acts g mutator (actions.Put object field value) result self.new }
+        ensures keeps { (s : Graph) → KeepsFrom s self.old → KeepsFrom s self.new }
+        ensures after { ActsOn mutator (actions.Put object field value) result self.old self.new }
+        ensures leaves { LeavesRegions self.old self.new }
+    {
         if field >= self.table.pointer_count(at) {
             return Reply::Refused(Refusal::NoField);
         }
@@ -355,18 +383,20 @@ impl Core {
         Reply::Done
     }
 
-    /// The same of a data word that the object has, whose number isn't tested then.
+    /// The same of a data word that the object has, whose number isn't tested then, and where the object has so many fields.
     #[inline(always)]
     pub(crate) fn write_known(
         &mut self,
         mutator: u32,
         object: Register,
         at: Addr,
+        fields: u32,
         field: u32,
         value: u64,
     )
         requires held { register_of self.old mutator object ≡ Some at }
         requires leads { Leads self.old (register_place (places_of self.old.config) mutator object.number) (Some at) }
+        requires fields { fields ≡ length (fields_at self.old.table at) }
         requires field { field < length (values_at self.old.table at) }
         ensures acts { (g : Graph) → ShowsGraph g self.old → Acts g mutator (actions.Write object field value) replies.Done self.new }
         ensures keeps { (s : Graph) → KeepsFrom s self.old → KeepsFrom s self.new }
@@ -374,7 +404,7 @@ impl Core {
         ensures leaves { LeavesRegions self.old self.new }
         ensures table { self.new.table ≡ set_value self.old.table at field value }
     {
-        self.table.set_value(at, field, value);
+        self.table.set_value_behind(at, fields, field, value);
     }
 
     fn move_register(&mut self, mutator: u32, to: Register, from: Register) -> Reply
@@ -386,8 +416,7 @@ impl Core {
         ensures after { ActsOn mutator (actions.Move to from) result self.old self.new }
         ensures leaves { LeavesRegions self.old self.new }
     {
-        let value = self.register(mutator, from);
-        self.set_register(mutator, to, value);
+        self.copy_register(mutator, to, from);
         Reply::Done
     }
 
@@ -602,6 +631,7 @@ impl Core {
     }
 
     /// Makes an object, as a call.
+    #[cold]
     #[inline(never)]
     fn new_apart(
         &mut self,

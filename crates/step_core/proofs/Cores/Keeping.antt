@@ -1,12 +1,12 @@
 -- What each part of a step keeps: k is the core by its fields, c the same by its value.
-use Rattle.std.proofs.Common.{◌≡◌, ℕ, ◌+◌, ◌<◌, Option, Some, None, List, length, get_or, refl, sym, ◌∙◌, ap, subst, arith}
+use Rattle.std.proofs.Common.{◌≡◌, ℕ, ◌+◌, ◌<◌, Option, Some, None, List, length, get_or, inl, refl, sym, ◌∙◌, ap, subst, arith}
 use Rattle.std.specs.Prelude.{slice_get, slice_set, IsSome, IfSome}
 use Rattle.std.proofs.lemmas.List.{length-set}
 use Rattle.heap_words.specs.declared.config.Config.{Config}
 use Rattle.heap_words.specs.Configs.{globals_of, registers_of}
 use Rattle.root_table.proofs.Rows.{register_within}
 use Rattle.heap_model.specs.Graph.{Graph, Object, Places, IsSound}
-use Rattle.heap_model.specs.Heap.{Stored, IsShown, IsRoot, IsHeld, ObjectSet}
+use Rattle.heap_model.specs.Heap.{Heap, Stored, IsShown, IsRoot, IsHeld, ObjectSet}
 use Rattle.heap_model.specs.Weak.{KeepsUnreached}
 use Rattle.heap_model.proofs.Unreached.{unreached_root, unreached_written}
 use Rattle.regions.specs.Table.{Table, object_at, pointers_at, weaks_at, values_at, set_value}
@@ -101,6 +101,11 @@ pub register_shown : (c : CoreState) (m r : ℕ) (w : Option ℕ) → RootFacts 
     → (g : Graph) → ShowsGraph g c → IsShown (heap_of c) w (root_at g (register_place g.places m r))
 register_shown c m r w facts g s =
     subst (λ (p : Places). IsShown (heap_of c) w (root_at g (register_place p m r))) (sym s.places) (facts.shows g s)
+
+-- what a root holds may be stored
+pub root_held : (h : Heap) (w : Option ℕ) → IsRootWord h w → IsHeld h w
+root_held h None r = tt
+root_held h (Some a) r = inl r
 
 -- a root word is set
 module _ (k c : CoreState) (place : ℕ) (w : Option ℕ) (e : k ≡ c) where

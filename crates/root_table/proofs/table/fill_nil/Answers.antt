@@ -7,7 +7,8 @@ loop-index-init c = refl
 
 pub loop-index-preserved : goal.loop-index-preserved
 loop-index-preserved c =
-    ap (λ (ws : List (Option ℕ)). set ws (c.args.first + c.loop-index.index) None) c.loop-index.invariant
+    ap (λ (nil : Option ℕ). set c.loop-index.words (c.args.first + c.loop-index.index) nil) c.nil.ensures
+    ∙ ap (λ (ws : List (Option ℕ)). set ws (c.args.first + c.loop-index.index) None) c.loop-index.invariant
     ∙ ap (λ (n : ℕ). with_nils c.args.words.now c.args.first n) {x = suc c.loop-index.index} {y = c.loop-index.index + 1} (omega arith)
 
 pub returns : goal.returns

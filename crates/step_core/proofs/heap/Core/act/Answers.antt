@@ -18,7 +18,7 @@ pub returns-in-New-clause-after : goal.returns-in-New-clause-after
 returns-in-New-clause-after c = acts_as _ _ _ _ _ _ _ _ c.in-New.is c.weaks_of.ensures c.new_object.ensures.after
 
 pub returns-in-New-clause-made : goal.returns-in-New-clause-made
-returns-in-New-clause-made c = made_as _ _ _ _ c.weaks_of.result _ _ c.in-New.is c.new_object.ensures.made
+returns-in-New-clause-made c = made_as _ _ _ _ c.weaks_of.result _ _ c.in-New.is c.weaks_of.ensures c.new_object.ensures.made
 
 get : (c : goal.After-get) → Acted c.args.op c.get.result c.args.self.now c.get.new.self
 get c = acted_plain c.args.op _ _ _ _ c.in-Get.is refl (λ g f. f) c.get.ensures.acts c.get.ensures.keeps c.get.ensures.after

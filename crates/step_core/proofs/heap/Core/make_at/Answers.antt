@@ -8,5 +8,5 @@ pub returns-clause-takes : goal.returns-clause-takes
 returns-clause-takes c = new_takes _ _ c.args.mutator c.args.to c.args.counts _ c.made.ensures.makes
 
 pub returns-clause-made : goal.returns-clause-made
-returns-clause-made c = made_as c.args.mutator (actions.New c.args.to c.args.counts) c.args.to c.args.counts 0 _ _ (inl refl)
+returns-clause-made c = made_as c.args.mutator (actions.New c.args.to c.args.counts) c.args.to c.args.counts 0 _ _ (inl refl) refl
     c.made.ensures.makes.made

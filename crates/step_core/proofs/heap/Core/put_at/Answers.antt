@@ -29,6 +29,10 @@ pub returns-clause-pointers : goal.returns-clause-pointers
 returns-clause-pointers c =
     (put_counts _ _ c.args.at c.args.field _ (some_words _ c.remembers.ensures.core) c.requires.field c.put_known.ensures.table).pointers
 
+pub returns-clause-weaks : goal.returns-clause-weaks
+returns-clause-weaks c =
+    (put_counts _ _ c.args.at c.args.field _ (some_words _ c.remembers.ensures.core) c.requires.field c.put_known.ensures.table).weaks
+
 pub returns-clause-values : goal.returns-clause-values
 returns-clause-values c =
     (put_counts _ _ c.args.at c.args.field _ (some_words _ c.remembers.ensures.core) c.requires.field c.put_known.ensures.table).values

@@ -2,12 +2,18 @@ use Rattle.std.proofs.Common.{refl}
 use Rattle.heap_steps.specs.declared.step.Action.TheVariants as actions
 use Rattle.heap_steps.specs.declared.step.Reply.TheVariants as replies
 use Rattle.step_core.proofs.Cores.Filling.{held_facts, roots_stay, write_takes}
+use Rattle.step_core.proofs.Cores.Keeping.{object_led}
 use Rattle.step_core.proofs.Cores.Sizes.{some_words}
 use Rattle.step_core.proofs.Mutating.Made.{write_counts}
 use Rattle.step_core.proofs.heap.Core.write_at.Goals as goal
 
 pub write_known-requires-clause-leads : goal.write_known-requires-clause-leads
 write_known-requires-clause-leads c =
+    (held_facts _ c.args.mutator c.args.object c.args.at c.remembers.ensures.core c.requires.mutator c.requires.object
+    c.requires.held).leads
+
+pub field_count-fields-requires : goal.field_count-fields-requires
+field_count-fields-requires c = object_led _ _ _ _ c.self.view_is c.self.invariant
     (held_facts _ c.args.mutator c.args.object c.args.at c.remembers.ensures.core c.requires.mutator c.requires.object
     c.requires.held).leads
 
@@ -24,6 +30,10 @@ pub returns-clause-pointers : goal.returns-clause-pointers
 returns-clause-pointers c =
     (write_counts _ _ c.args.at c.args.field _ (some_words _ c.remembers.ensures.core) c.requires.field
     c.write_known.ensures.table).pointers
+
+pub returns-clause-weaks : goal.returns-clause-weaks
+returns-clause-weaks c =
+    (write_counts _ _ c.args.at c.args.field _ (some_words _ c.remembers.ensures.core) c.requires.field c.write_known.ensures.table).weaks
 
 pub returns-clause-values : goal.returns-clause-values
 returns-clause-values c =

@@ -1,6 +1,6 @@
 use Rattle.root_table.proofs.Apart.{place_in, mutator_in, register_in, register_set_in, registers_set}
 use Rattle.root_table.proofs.Apart.{register_raised, register_within_bound}
-use Rattle.root_table.proofs.table.Roots.set_register.Goals as goal
+use Rattle.root_table.proofs.table.Roots.keep.Goals as goal
 
 pub invariant_of-self : goal.invariant_of-self
 invariant_of-self c = register_raised _ _ _ _ c.args.mutator c.args.register _ c.args.value c.self.invariant

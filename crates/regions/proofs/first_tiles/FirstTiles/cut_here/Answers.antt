@@ -5,7 +5,7 @@ use Rattle.bit_sets.specs.Bits.{is_between}
 use Rattle.regions.specs.FirstTiles.{last_card}
 use Rattle.regions.proofs.Cards.FirstTiles.{cards_fit}
 use Rattle.regions.proofs.Cards.Written.{entry_is, end_written, entry_is, entry_lent, length_all}
-use Rattle.regions.proofs.first_tiles.FirstTiles.cut_front.Goals as goal
+use Rattle.regions.proofs.first_tiles.FirstTiles.cut_here.Goals as goal
 
 pub reach-requires-clause-within : goal.reach-requires-clause-within
 reach-requires-clause-within c =
