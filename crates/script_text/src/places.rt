@@ -17,7 +17,7 @@ use heap_steps::{Actor, is_third};
 use heap_words::config::{Config, Format};
 
 /// What a text is read as.
-#[derive(Clone, Copy, Debug, PartialEq, Eq)]
+#[derive(Clone, Copy)]
 pub enum TextKind {
     Script,
     Record,
