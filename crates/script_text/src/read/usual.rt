@@ -52,13 +52,14 @@ macro_rules! return_action_of {
         $(
             if let Some(past) = after_verb($text, $at, $verb) {
                 $(
-                    let found = some!($next($text, past));
-                    let $word = found.value;
-                    let past = found.past;
+                    let Some(Found { value: $word, past }) = $next($text, past) else {
+                        return None;
+                    };
                 )*
-                let found = some!($last($text, past, $more));
-                let $last_word = found.value;
-                return last_action($config, $action, found.past);
+                let Some(Found { value: $last_word, past }) = $last($text, past, $more) else {
+                    return None;
+                };
+                return last_action($config, $action, past);
             }
         )*
     };
