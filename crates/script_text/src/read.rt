@@ -1,7 +1,7 @@
 //! Texts to values.
 
-/// What is there; where nothing is, the function returns None. It is `?` without the two functions that `?` calls, which make each of these
-/// many proofs about twice as long.
+/// What is there; where nothing is, the function returns None. It is `?` without the two functions that `?` calls, which make a proof about
+/// a fourth longer.
 macro_rules! some {
     ($found:expr) => {
         match $found {

@@ -173,7 +173,7 @@ pub(crate) fn usual_step<const CALLER: usize>(config: &Config, text: &[u8]) -> O
     let Found {
         value: action,
         past,
-    } = some!(usual_action::<CALLER>(config, text, mutator.past, false));
+    } = usual_action::<CALLER>(config, text, mutator.past, false)?;
     if past > LONGEST_LINE {
         return None;
     }

@@ -19,7 +19,7 @@ use heap_words::config::{Config, Format};
 /// The room that a line needs: no line of a record is longer, nor one that a script's line of 120 bytes would tell.
 pub(crate) const LINE_ROOM: usize = 192;
 
-/// A text, and a number.
+/// A text that ends in a space, and a number.
 #[inline(always)]
 fn put_count(buffer: &mut [u8], at: usize, word: &[u8], count: u32) -> usize
     requires { at + length word.now + 10 ≤ length buffer.old }
@@ -88,8 +88,14 @@ fn put_actor(buffer: &mut [u8], at: usize, actor: Actor) -> usize
     match actor {
         Actor::Mutator(mutator) => put_small(buffer, at, mutator),
         Actor::Collector => put_literal(buffer, at, b"gc"),
-        Actor::Marker(number) => put_count(buffer, at, b"m", number as u32),
-        Actor::Refiner(number) => put_count(buffer, at, b"f", number as u32),
+        Actor::Marker(number) => {
+            let at = put_byte(buffer, at, b'm');
+            put_small(buffer, at, number as u32)
+        }
+        Actor::Refiner(number) => {
+            let at = put_byte(buffer, at, b'f');
+            put_small(buffer, at, number as u32)
+        }
     }
 }
 
@@ -298,12 +304,24 @@ fn put_collection(buffer: &mut [u8], at: usize, collection: CollectorStep) -> us
 {
     match collection {
         CollectorStep::Begin => put_literal(buffer, at, b"begin"),
-        CollectorStep::Mark(units) => put_count(buffer, at, b"mark ", units),
+        CollectorStep::Mark(units) => {
+            let at = put_literal(buffer, at, b"mark ");
+            put_small(buffer, at, units)
+        }
         CollectorStep::Remark => put_literal(buffer, at, b"remark"),
         CollectorStep::Cleanup => put_literal(buffer, at, b"cleanup"),
-        CollectorStep::Refine(cards) => put_count(buffer, at, b"refine ", cards),
-        CollectorStep::Pause(budget) => put_count(buffer, at, b"pause ", budget),
-        CollectorStep::Compact(budget) => put_count(buffer, at, b"compact ", budget),
+        CollectorStep::Refine(cards) => {
+            let at = put_literal(buffer, at, b"refine ");
+            put_small(buffer, at, cards)
+        }
+        CollectorStep::Pause(budget) => {
+            let at = put_literal(buffer, at, b"pause ");
+            put_small(buffer, at, budget)
+        }
+        CollectorStep::Compact(budget) => {
+            let at = put_literal(buffer, at, b"compact ");
+            put_small(buffer, at, budget)
+        }
     }
 }
 

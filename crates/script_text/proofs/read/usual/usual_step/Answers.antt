@@ -15,10 +15,10 @@ pub returns-clause-step : goal.returns-clause-step
 returns-clause-step g c =
     let text = c.args.text.now in
     let mutator = c.in-Some.mutator in
-    let last = c.in-Some-usual_action.value in
-    let ends = c.in-Some-usual_action.ensures in
+    let last = c.in_ok-action.field-0 in
+    let ends = c.in_ok-action.ensures in
     let long : length (line_of text) ≡ end_of text = length-take-le (end_of text) text (omega (arith, c.requires.ended)) in
-    let short : length (line_of text) ≤ 120 = omega (arith, c.if-past-gt-LONGEST_LINE.false, ends.ends) in
+    let short : length (line_of text) ≤ 120 = omega (arith, c.if-past-gt-LONGEST_LINE.false, ends.ends, c.in_ok-action.past-is) in
     let words : words_of (line_of text) ≡ decimal mutator.value ∷ action_words last.value =
     c.in-Some.ensures.0.words
     ∙ ap (λ (ws : List (List ℕ)). decimal mutator.value ∷ ws) (ends.words ∙ append-nil (action_words last.value)) in
