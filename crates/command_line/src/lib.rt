@@ -35,7 +35,7 @@ use clap::{Arg, ArgAction, ArgMatches, Command, Error, value_parser};
 use std::alloc::{AllocError, Global};
 
 /// In which order the steps of a script are done.
-#[derive(Clone, Copy, Debug, PartialEq, Eq)]
+#[derive(Clone, Copy)]
 pub enum Order {
     /// That of the file.
     File,
@@ -54,7 +54,7 @@ pub enum Order {
 }
 
 /// What is done with the file.
-#[derive(Clone, Copy, Debug, PartialEq, Eq)]
+#[derive(Clone, Copy)]
 pub enum Task {
     /// A script is run, and its record written.
     Script(Order),
@@ -78,7 +78,7 @@ pub enum Task {
 }
 
 /// What a command line asks for.
-#[derive(Debug, Drop)]
+#[derive(Drop)]
 pub struct Job<'a> {
     file: &'a str,
     names: Option<&'a str>,

@@ -14,7 +14,6 @@ use std::alloc::{AllocError, Global};
 use std::marker::Model;
 
 /// The graph of objects by name, as a heap would be from which nothing is ever freed or moved.
-#[derive(Debug)]
 pub struct Graph {
     room: u64,
     first_name: u64,

@@ -20,7 +20,7 @@ use std::marker::Model;
 const LIMIT: u64 = 1 << 56;
 
 /// Where an object's words start, and how many pointers, weak slots and data words they are.
-#[derive(Clone, Copy, Debug)]
+#[derive(Clone, Copy)]
 pub(crate) struct Entry {
     /// The place in the low 56 bits, above it the count of weak slots, so that an entry takes two words.
     packed: u64,
@@ -60,7 +60,6 @@ impl Entry {
 }
 
 /// Objects, each with its pointers, its weak slots and its data words. None is ever taken away.
-#[derive(Debug)]
 pub(crate) struct Objects {
     words: Vec<u64>,
     entries: Vec<Entry>,

@@ -6,7 +6,7 @@ ghost use Rattle.object_graph.specs.Fields.{pointer_of};
 use std::marker::Model;
 
 /// A pointer in one word: nil, or an object's name.
-#[derive(Clone, Copy, Debug)]
+#[derive(Clone, Copy)]
 pub(crate) struct Pointer {
     word: u64,
 }

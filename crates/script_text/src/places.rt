@@ -7,7 +7,7 @@ ghost use Rattle.heap_words.specs.declared.config.Config.{Config};
 ghost use Rattle.heap_steps.specs.Actors.{is_third};
 ghost use Rattle.script_text.specs.declared.places.Place.{Place};
 ghost use Rattle.script_text.specs.Places.{actor_in, action_form, collection_form, verb_place, form_at, heap_form, fits_word, fits};
-ghost use Rattle.script_text.specs.Places.{actor_place, step_places, first_misfit, stop_in, no_sizes, heap_stop_in};
+ghost use Rattle.script_text.specs.Places.{actor_place, verb_places, step_places, first_misfit, stop_in, no_sizes, heap_stop_in};
 
 use crate::read::events::actor;
 use crate::read::replies::reply;
@@ -17,7 +17,7 @@ use heap_steps::{Actor, is_third};
 use heap_words::config::{Config, Format};
 
 /// What a text is read as.
-#[derive(Clone, Copy, Debug, PartialEq, Eq)]
+#[derive(Clone, Copy)]
 pub enum TextKind {
     Script,
     Record,
@@ -378,6 +378,56 @@ fn actor_place(kind: TextKind) -> Place
     }
 }
 
+/// The first of a line's last places at which the words that are left don't fit.
+fn last_stop(config: &Config, from: u64, end: &[Place], words: &[&[u8]]) -> Option<Stop>
+    requires { from + length end.now < 2 ^ 64 }
+    ensures { result ≡ first_misfit config.now from end.now (map (λ w. w.now) words.now) }
+{
+    match first_misfit(config, from, end, words) {
+        Err(stop) => Some(stop),
+        Ok(_) => None,
+    }
+}
+
+/// The first of the places of a verb's form, and of the line's last places after these, at which the words don't fit.
+fn form_stop(
+    config: &Config,
+    from: u64,
+    form: &[Place],
+    end: &[Place],
+    words: &[&[u8]],
+) -> Option<Stop>
+    requires { from + length form.now + length end.now < 2 ^ 64 }
+    ensures { result ≡ first_misfit config.now from (form.now ++ end.now) (map (λ w. w.now) words.now) }
+{
+    match first_misfit(config, from, form, words) {
+        Err(stop) => Some(stop),
+        Ok(left) => last_stop(config, from + form.len() as u64, end, left),
+    }
+}
+
+/// Where reading a step of an actor stops, from its verb on, after which the line has to go on so.
+fn verb_stop(
+    config: &Config,
+    actor: Actor,
+    from: u64,
+    words: &[&[u8]],
+    end: &[Place],
+) -> Option<Stop>
+    requires { from + 9 + length end.now < 2 ^ 64 }
+    ensures { result ≡ first_misfit config.now from (verb_places config.now (Some actor) (map (λ w. w.now) words.now) end.now)
+        (map (λ w. w.now) words.now) }
+{
+    let place = verb_place(actor);
+    let [verb, rest @ ..] = words else {
+        return Some(Stop { word: from, place });
+    };
+    let Some(form) = form_at(is_third(config.format), place, verb) else {
+        return Some(Stop { word: from, place });
+    };
+    form_stop(config, from + 1, form, end, rest)
+}
+
 /// Where reading a step stops, from its actor's word on, after which the line has to go on so.
 fn step_stop(
     kind: TextKind,
@@ -390,46 +440,14 @@ fn step_stop(
     ensures { result ≡ first_misfit config.now from (step_places kind config.now (map (λ w. w.now) words.now) end.now)
         (map (λ w. w.now) words.now) }
 {
+    let place = actor_place(kind);
     let [word, rest @ ..] = words else {
-        return Some(Stop {
-            word: from,
-            place: actor_place(kind),
-        });
+        return Some(Stop { word: from, place });
     };
     let Some(actor) = actor_in(kind, config, word) else {
-        return Some(Stop {
-            word: from,
-            place: actor_place(kind),
-        });
+        return Some(Stop { word: from, place });
     };
-    let place = verb_place(actor);
-    let [verb, rest @ ..] = rest else {
-        return Some(Stop {
-            word: from + 1,
-            place,
-        });
-    };
-    let Some(form) = form_at(is_third(config.format), place, verb) else {
-        return Some(Stop {
-            word: from + 1,
-            place,
-        });
-    };
-    match first_misfit(config, from + 2, form, rest) {
-        Err(stop) => Some(stop),
-        Ok(left) => last_stop(config, from + 2 + form.len() as u64, end, left),
-    }
-}
-
-/// The first of a line's last places at which the words that are left don't fit.
-fn last_stop(config: &Config, from: u64, end: &[Place], words: &[&[u8]]) -> Option<Stop>
-    requires { from + length end.now < 2 ^ 64 }
-    ensures { result ≡ first_misfit config.now from end.now (map (λ w. w.now) words.now) }
-{
-    match first_misfit(config, from, end, words) {
-        Err(stop) => Some(stop),
-        Ok(_) => None,
-    }
+    verb_stop(config, actor, from + 1, rest, end)
 }
 
 /// Where reading the line of a step, or of the event of this count, stops, whose first twelve words these are.
@@ -480,8 +498,5 @@ pub(crate) fn heap_stop_in(words: &[&[u8]]) -> Option<Stop>
             place: Place::Heap,
         });
     };
-    match first_misfit(&config, 2, form, rest) {
-        Err(stop) => Some(stop),
-        Ok(left) => last_stop(&config, 2 + form.len() as u64, &[Place::End], left),
-    }
+    form_stop(&config, 2, form, &[Place::End], rest)
 }

@@ -1,5 +1,16 @@
 //! Texts to values.
 
+/// What is there; where nothing is, the function returns None. It is `?` without the two functions that `?` calls, which make a proof about
+/// a fourth longer.
+macro_rules! some {
+    ($found:expr) => {
+        match $found {
+            Some(value) => value,
+            None => return None,
+        }
+    };
+}
+
 pub(crate) mod awaited;
 pub(crate) mod callers;
 pub(crate) mod events;

@@ -192,6 +192,30 @@ impl LineBuffer {
         }
     }
 
+    /// Reads once after what waits, and answers how many bytes that were.
+    fn read_more<R: Read>(&mut self, reader: &mut WatchedReader<R>) -> Result<usize, ReadFault>
+        requires { length self.old ≤ 120 }
+        ensures more { IfOk result (λ count. (more : List ℕ) × Gives reader.old reader.new more ×
+            (self.new ≡ self.old ++ more) × (length more ≡ count) × (count ≡ 0 → IsAtEnd reader.new.left)) }
+        ensures fails { IfErr result (λ fault. FailsToGive fault reader.old reader.new) }
+    {
+        let waiting = self.len();
+        match read_behind(reader, &mut self.bytes, self.start, self.end) {
+            Ok(end) => {
+                self.start = 0;
+                self.whole = whole_end(&self.bytes[..end]);
+                self.end = end;
+                Ok(end - waiting)
+            }
+            Err(fault) => {
+                self.start = 0;
+                self.whole = 0;
+                self.end = 0;
+                Err(fault)
+            }
+        }
+    }
+
     /// Reads more after what waits, where that is no whole line and no longer than one may be. Answers whether there was more.
     fn read_on<R: Read>(&mut self, reader: &mut WatchedReader<R>) -> Result<bool, NextFault>
         ensures more { result ≡ Ok true → (more : List ℕ) ×
@@ -201,23 +225,12 @@ impl LineBuffer {
             Gives reader.old reader.new [] × (self.new ≡ self.old) × (120 < length self.old) × (k ≡ Kind.LongLine) }
         ensures fails { (f : ReadFault) → result ≡ Err (NextFault.Read f) → FailsToGive f reader.old reader.new }
     {
-        let waiting = self.len();
-        if waiting > LONGEST_LINE {
+        if self.len() > LONGEST_LINE {
             return Err(NextFault::Line(Kind::LongLine));
         }
-        match read_behind(reader, &mut self.bytes, self.start, self.end) {
-            Ok(end) => {
-                self.start = 0;
-                self.whole = whole_end(&self.bytes[..end]);
-                self.end = end;
-                Ok(end > waiting)
-            }
-            Err(fault) => {
-                self.start = 0;
-                self.whole = 0;
-                self.end = 0;
-                Err(NextFault::Read(fault))
-            }
+        match self.read_more(reader) {
+            Ok(count) => Ok(count > 0),
+            Err(fault) => Err(NextFault::Read(fault)),
         }
     }
 

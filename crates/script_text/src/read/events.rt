@@ -21,10 +21,10 @@ fn background(word: &[u8]) -> Option<Actor>
         return None;
     };
     if *first == b'm' {
-        let number = number(digits, 7)?;
+        let number = some!(number(digits, 7));
         Some(Actor::Marker(number as u8))
     } else if *first == b'f' {
-        let number = number(digits, 7)?;
+        let number = some!(number(digits, 7));
         Some(Actor::Refiner(number as u8))
     } else {
         None
@@ -75,15 +75,15 @@ fn taken(config: &Config, actor: Actor, words: &[&[u8]]) -> Option<Step>
 {
     match actor {
         Actor::Mutator(mutator) => {
-            let action = allowed::<EVENT_WORDS>(config, words)?;
+            let action = some!(allowed::<EVENT_WORDS>(config, words));
             Some(Step::Mutator(Op { mutator, action }))
         }
         Actor::Collector => {
-            let collection = collection(config.format, words)?;
+            let collection = some!(collection(config.format, words));
             Some(Step::Collector(collection))
         }
-        Actor::Marker(_) => marker_step(collection(config.format, words)?),
-        Actor::Refiner(_) => refiner_step(collection(config.format, words)?),
+        Actor::Marker(_) => marker_step(some!(collection(config.format, words))),
+        Actor::Refiner(_) => refiner_step(some!(collection(config.format, words))),
     }
 }
 

@@ -99,7 +99,7 @@ pub(crate) fn next_number(text: &[u8], at: usize) -> Option<Found<u32>>
     requires within { at ≤ end_of text.now }
     ensures { IfSome result (λ w. IsNext text.now at (decimal w.value) w.past × (w.value ≤ small)) }
 {
-    let word = number_at(text, at)?;
+    let word = some!(number_at(text, at));
     if text[word.past] != b' ' {
         return None;
     }
@@ -116,7 +116,7 @@ pub(crate) fn last_number(text: &[u8], at: usize, more: bool) -> Option<Found<u3
     requires within { at ≤ end_of text.now }
     ensures { IfSome result (λ w. IsLast text.now at (decimal w.value) w.past more × (w.value ≤ small)) }
 {
-    let word = number_at(text, at)?;
+    let word = some!(number_at(text, at));
     if !ends_word(text, word.past, more) {
         return None;
     }
@@ -146,7 +146,7 @@ pub(crate) fn next_lettered(text: &[u8], at: usize, letter: u8) -> Option<Found<
     requires letter { 32 < letter }
     ensures { IfSome result (λ w. IsNext text.now at (letter ∷ decimal w.value) w.past × (w.value ≤ small)) }
 {
-    let word = lettered_at(text, at, letter)?;
+    let word = some!(lettered_at(text, at, letter));
     if text[word.past] != b' ' {
         return None;
     }
@@ -164,7 +164,7 @@ pub(crate) fn last_lettered(text: &[u8], at: usize, letter: u8, more: bool) -> O
     requires letter { 32 < letter }
     ensures { IfSome result (λ w. IsLast text.now at (letter ∷ decimal w.value) w.past more × (w.value ≤ small)) }
 {
-    let word = lettered_at(text, at, letter)?;
+    let word = some!(lettered_at(text, at, letter));
     if !ends_word(text, word.past, more) {
         return None;
     }
@@ -178,7 +178,7 @@ pub(crate) fn next_byte(text: &[u8], at: usize) -> Option<Found<u8>>
     requires within { at ≤ end_of text.now }
     ensures { IfSome result (λ w. IsNext text.now at (decimal w.value) w.past × (w.value ≤ most_weaks)) }
 {
-    let word = next_number(text, at)?;
+    let word = some!(next_number(text, at));
     if word.value > 255 {
         return None;
     }
@@ -195,7 +195,7 @@ pub(crate) fn next_register(text: &[u8], at: usize) -> Option<Found<Register>>
     requires within { at ≤ end_of text.now }
     ensures { IfSome result (λ w. IsNext text.now at (register_word w.value) w.past × RegisterFits w.value) }
 {
-    let word = next_lettered(text, at, b'r')?;
+    let word = some!(next_lettered(text, at, b'r'));
     let value = Register { number: word.value };
     Some(Found {
         value,
@@ -210,7 +210,7 @@ pub(crate) fn last_register(text: &[u8], at: usize, more: bool) -> Option<Found<
     requires within { at ≤ end_of text.now }
     ensures { IfSome result (λ w. IsLast text.now at (register_word w.value) w.past more × RegisterFits w.value) }
 {
-    let word = last_lettered(text, at, b'r', more)?;
+    let word = some!(last_lettered(text, at, b'r', more));
     let value = Register { number: word.value };
     Some(Found {
         value,
@@ -225,7 +225,7 @@ pub(crate) fn next_global(text: &[u8], at: usize) -> Option<Found<GlobalRoot>>
     requires within { at ≤ end_of text.now }
     ensures { IfSome result (λ w. IsNext text.now at (global_word w.value) w.past × GlobalFits w.value) }
 {
-    let word = next_lettered(text, at, b'g')?;
+    let word = some!(next_lettered(text, at, b'g'));
     let value = GlobalRoot { number: word.value };
     Some(Found {
         value,
@@ -240,7 +240,7 @@ pub(crate) fn last_global(text: &[u8], at: usize, more: bool) -> Option<Found<Gl
     requires within { at ≤ end_of text.now }
     ensures { IfSome result (λ w. IsLast text.now at (global_word w.value) w.past more × GlobalFits w.value) }
 {
-    let word = last_lettered(text, at, b'g', more)?;
+    let word = some!(last_lettered(text, at, b'g', more));
     let value = GlobalRoot { number: word.value };
     Some(Found {
         value,
@@ -273,7 +273,7 @@ pub(crate) fn last_literal(text: &[u8], at: usize, word: &[u8], more: bool) -> O
     requires letters { All (λ b. 32 < b) word.now }
     ensures { IfSome result (λ past. IsLast text.now at word.now past more) }
 {
-    let past = word_end(text, at, word)?;
+    let past = some!(word_end(text, at, word));
     if !ends_word(text, past, more) {
         return None;
     }
@@ -288,7 +288,7 @@ pub(crate) fn after_verb(text: &[u8], at: usize, verb: &[u8]) -> Option<usize>
     requires letters { All (λ b. 32 < b) verb.now }
     ensures { IfSome result (IsNext text.now at verb.now) }
 {
-    let past = word_end(text, at, verb)?;
+    let past = some!(word_end(text, at, verb));
     if text[past] != b' ' {
         return None;
     }
@@ -305,7 +305,7 @@ pub(crate) fn number_after(text: &[u8], at: usize, verb: &[u8], more: bool) -> O
     ensures fits { IfSome result (λ w. w.value ≤ small) }
     ensures ends { IfSome result (λ w. EndsAt text.now w.past more) }
 {
-    let next = after_verb(text, at, verb)?;
+    let next = some!(after_verb(text, at, verb));
     last_number(text, next, more)
 }
 
@@ -317,12 +317,12 @@ pub(crate) fn last_value(text: &[u8], at: usize, more: bool) -> Option<Found<Opt
     ensures { IfSome result (λ v. IsLast text.now at (value_word v.value) v.past more × ValueFits v.value) }
 {
     if text[at] == b'r' {
-        let word = last_register(text, at, more)?;
+        let word = some!(last_register(text, at, more));
         return Some(Found {
             value: Some(word.value),
             past: word.past,
         });
     }
-    let past = last_literal(text, at, b"nil", more)?;
+    let past = some!(last_literal(text, at, b"nil", more));
     Some(Found { value: None, past })
 }

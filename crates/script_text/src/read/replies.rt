@@ -47,10 +47,10 @@ fn name_or_word(word: &[u8]) -> Option<Reply>
         return None;
     };
     if *first == b'#' {
-        let name = number(digits, u64::MAX)?;
+        let name = some!(number(digits, u64::MAX));
         return Some(Reply::Named(Some(name)));
     }
-    let value = number(word, u64::MAX)?;
+    let value = some!(number(word, u64::MAX));
     Some(Reply::Word(value))
 }
 
@@ -74,17 +74,17 @@ fn pair_reply(a: &[u8], b: &[u8]) -> Option<Reply>
     ensures { result ≡ pair_reply_of a.now b.now }
 {
     if is_word(a, b"marked") {
-        let objects = small_number(b)?;
+        let objects = some!(small_number(b));
         Some(Reply::Marked(objects))
     } else if is_word(a, b"reclaimed") {
-        let regions = small_number(b)?;
+        let regions = some!(small_number(b));
         Some(Reply::Reclaimed(regions))
     } else if is_word(a, b"refined") {
-        let cards = small_number(b)?;
+        let cards = some!(small_number(b));
         Some(Reply::Refined(cards))
     } else {
-        let pointers = small_number(a)?;
-        let values = small_number(b)?;
+        let pointers = some!(small_number(a));
+        let values = some!(small_number(b));
         Some(Reply::Shape { pointers, values })
     }
 }
@@ -95,11 +95,11 @@ fn long_reply(a: &[u8], b: &[u8], c: &[u8]) -> Option<Reply>
     ensures { result ≡ long_reply_of a.now b.now c.now }
 {
     if is_word(a, b"moved") {
-        let regions = small_number(b)?;
-        let words = small_number(c)?;
+        let regions = some!(small_number(b));
+        let words = some!(small_number(c));
         Some(Reply::Moved { regions, words })
     } else if is_word(a, b"refused") {
-        let why = refusal(b, c)?;
+        let why = some!(refusal(b, c));
         Some(Reply::Refused(why))
     } else {
         None

@@ -46,11 +46,11 @@ fn sizes(
 ) -> Option<Config>
     ensures { result ≡ sizes_in format regions.now size.now buffer.now mutators.now first_name.now }
 {
-    let regions = small_number(regions)?;
-    let words = small_number(size)?;
-    let buffer = small_number(buffer)?;
-    let mutators = small_number(mutators)?;
-    let first_name = number(first_name, u64::MAX)?;
+    let regions = some!(small_number(regions));
+    let words = some!(small_number(size));
+    let buffer = some!(small_number(buffer));
+    let mutators = some!(small_number(mutators));
+    let first_name = some!(number(first_name, u64::MAX));
     Some(Config {
         format,
         regions,
@@ -66,9 +66,9 @@ fn sizes(
 fn third(card: &[u8], globals: &[u8], registers: &[u8]) -> Option<Format>
     ensures { result ≡ third_of card.now globals.now registers.now }
 {
-    let card = small_number(card)?;
-    let globals = small_number(globals)?;
-    let registers = small_number(registers)?;
+    let card = some!(small_number(card));
+    let globals = some!(small_number(globals));
+    let registers = some!(small_number(registers));
     Some(Format::V3 {
         card,
         globals,
@@ -93,7 +93,7 @@ fn format(verb: &[u8], rest: &[&[u8]]) -> Option<Format>
         }
         [card] => {
             if is_word(verb, b"heap2") {
-                let card = small_number(card)?;
+                let card = some!(small_number(card));
                 Some(Format::V2 { card })
             } else {
                 None
@@ -118,7 +118,7 @@ fn heap(words: &[&[u8]]) -> Option<Config>
     let [verb, regions, size, buffer, mutators, first_name, rest @ ..] = words else {
         return None;
     };
-    let format = format(verb, rest)?;
+    let format = some!(format(verb, rest));
     sizes(format, regions, size, buffer, mutators, first_name)
 }
 

@@ -32,9 +32,9 @@ fn within(config: &Config, action: Action) -> Option<Action>
 fn new_action(config: &Config, to: &[u8], pointers: &[u8], values: &[u8]) -> Option<Action>
     ensures { result ≡ allowed_in config.now (new_of to.now pointers.now values.now) }
 {
-    let to = register(to)?;
-    let pointers = small_number(pointers)?;
-    let values = small_number(values)?;
+    let to = some!(register(to));
+    let pointers = some!(small_number(pointers));
+    let values = some!(small_number(values));
     let counts = Counts { pointers, values };
     within(config, Action::New { to, counts })
 }
@@ -44,9 +44,9 @@ fn new_action(config: &Config, to: &[u8], pointers: &[u8], values: &[u8]) -> Opt
 fn get_action(config: &Config, to: &[u8], object: &[u8], field: &[u8]) -> Option<Action>
     ensures { result ≡ allowed_in config.now (get_of to.now object.now field.now) }
 {
-    let to = register(to)?;
-    let object = register(object)?;
-    let field = small_number(field)?;
+    let to = some!(register(to));
+    let object = some!(register(object));
+    let field = some!(small_number(field));
     within(config, Action::Get { to, object, field })
 }
 
@@ -55,9 +55,9 @@ fn get_action(config: &Config, to: &[u8], object: &[u8], field: &[u8]) -> Option
 fn put_action(config: &Config, object: &[u8], field: &[u8], stored: &[u8]) -> Option<Action>
     ensures { result ≡ allowed_in config.now (put_of object.now field.now stored.now) }
 {
-    let object = register(object)?;
-    let field = small_number(field)?;
-    let value = value(stored)?;
+    let object = some!(register(object));
+    let field = some!(small_number(field));
+    let value = some!(value(stored));
     within(
         config,
         Action::Put {
@@ -73,9 +73,9 @@ fn put_action(config: &Config, object: &[u8], field: &[u8], stored: &[u8]) -> Op
 fn write_action(config: &Config, object: &[u8], field: &[u8], word: &[u8]) -> Option<Action>
     ensures { result ≡ allowed_in config.now (write_of object.now field.now word.now) }
 {
-    let object = register(object)?;
-    let field = small_number(field)?;
-    let value = number(word, u64::MAX)?;
+    let object = some!(register(object));
+    let field = some!(small_number(field));
+    let value = some!(number(word, u64::MAX));
     within(
         config,
         Action::Write {
@@ -91,8 +91,8 @@ fn write_action(config: &Config, object: &[u8], field: &[u8], word: &[u8]) -> Op
 fn read_action(config: &Config, object: &[u8], field: &[u8]) -> Option<Action>
     ensures { result ≡ allowed_in config.now (read_of object.now field.now) }
 {
-    let object = register(object)?;
-    let field = small_number(field)?;
+    let object = some!(register(object));
+    let field = some!(small_number(field));
     within(config, Action::Read { object, field })
 }
 
@@ -101,8 +101,8 @@ fn read_action(config: &Config, object: &[u8], field: &[u8]) -> Option<Action>
 fn move_action(config: &Config, to: &[u8], from: &[u8]) -> Option<Action>
     ensures { result ≡ allowed_in config.now (move_of to.now from.now) }
 {
-    let to = register(to)?;
-    let from = register(from)?;
+    let to = some!(register(to));
+    let from = some!(register(from));
     within(config, Action::Move { to, from })
 }
 
@@ -111,7 +111,7 @@ fn move_action(config: &Config, to: &[u8], from: &[u8]) -> Option<Action>
 fn drop_action(config: &Config, word: &[u8]) -> Option<Action>
     ensures { result ≡ allowed_in config.now (drop_of word.now) }
 {
-    let register = register(word)?;
+    let register = some!(register(word));
     within(config, Action::Drop { register })
 }
 
@@ -120,8 +120,8 @@ fn drop_action(config: &Config, word: &[u8]) -> Option<Action>
 fn load_action(config: &Config, to: &[u8], from: &[u8]) -> Option<Action>
     ensures { result ≡ allowed_in config.now (load_of to.now from.now) }
 {
-    let to = register(to)?;
-    let from = global(from)?;
+    let to = some!(register(to));
+    let from = some!(global(from));
     within(config, Action::Load { to, from })
 }
 
@@ -130,8 +130,8 @@ fn load_action(config: &Config, to: &[u8], from: &[u8]) -> Option<Action>
 fn save_action(config: &Config, to: &[u8], from: &[u8]) -> Option<Action>
     ensures { result ≡ allowed_in config.now (save_of to.now from.now) }
 {
-    let to = global(to)?;
-    let from = register(from)?;
+    let to = some!(global(to));
+    let from = some!(register(from));
     within(config, Action::Save { to, from })
 }
 
@@ -140,7 +140,7 @@ fn save_action(config: &Config, to: &[u8], from: &[u8]) -> Option<Action>
 fn shape_action(config: &Config, word: &[u8]) -> Option<Action>
     ensures { result ≡ allowed_in config.now (shape_of word.now) }
 {
-    let object = register(word)?;
+    let object = some!(register(word));
     within(config, Action::Shape { object })
 }
 
@@ -155,10 +155,10 @@ fn new_weak_action(
 ) -> Option<Action>
     ensures { result ≡ allowed_in config.now (new_weak_of to.now pointers.now weaks.now values.now) }
 {
-    let to = register(to)?;
-    let pointers = small_number(pointers)?;
-    let weaks = number(weaks, 255)?;
-    let values = small_number(values)?;
+    let to = some!(register(to));
+    let pointers = some!(small_number(pointers));
+    let weaks = some!(number(weaks, 255));
+    let values = some!(small_number(values));
     let counts = Counts { pointers, values };
     within(
         config,
@@ -175,9 +175,9 @@ fn new_weak_action(
 fn get_weak_action(config: &Config, to: &[u8], object: &[u8], slot: &[u8]) -> Option<Action>
     ensures { result ≡ allowed_in config.now (get_weak_of to.now object.now slot.now) }
 {
-    let to = register(to)?;
-    let object = register(object)?;
-    let slot = small_number(slot)?;
+    let to = some!(register(to));
+    let object = some!(register(object));
+    let slot = some!(small_number(slot));
     within(config, Action::GetWeak { to, object, slot })
 }
 
@@ -186,9 +186,9 @@ fn get_weak_action(config: &Config, to: &[u8], object: &[u8], slot: &[u8]) -> Op
 fn put_weak_action(config: &Config, object: &[u8], slot: &[u8], stored: &[u8]) -> Option<Action>
     ensures { result ≡ allowed_in config.now (put_weak_of object.now slot.now stored.now) }
 {
-    let object = register(object)?;
-    let slot = small_number(slot)?;
-    let value = value(stored)?;
+    let object = some!(register(object));
+    let slot = some!(small_number(slot));
+    let value = some!(value(stored));
     within(
         config,
         Action::PutWeak {
@@ -204,7 +204,7 @@ fn put_weak_action(config: &Config, object: &[u8], slot: &[u8], stored: &[u8]) -
 fn weaks_action(config: &Config, word: &[u8]) -> Option<Action>
     ensures { result ≡ allowed_in config.now (weaks_of word.now) }
 {
-    let object = register(word)?;
+    let object = some!(register(word));
     within(config, Action::Weaks { object })
 }
 
@@ -213,7 +213,7 @@ fn weaks_action(config: &Config, word: &[u8]) -> Option<Action>
 fn scope_action(config: &Config, word: &[u8]) -> Option<Action>
     ensures { result ≡ allowed_in config.now (scope_of word.now) }
 {
-    let from = register(word)?;
+    let from = some!(register(word));
     within(config, Action::Scope { from })
 }
 
@@ -340,19 +340,19 @@ fn pair_collection(format: Format, verb: &[u8], a: &[u8]) -> Option<CollectorSte
     ensures { result ≡ collection_of format (verb.now ∷ a.now ∷ []) }
 {
     if is_word(verb, b"mark") {
-        let units = small_number(a)?;
+        let units = some!(small_number(a));
         Some(CollectorStep::Mark(units))
     } else if is_word(verb, b"refine") {
-        let cards = small_number(a)?;
+        let cards = some!(small_number(a));
         Some(CollectorStep::Refine(cards))
     } else if is_word(verb, b"pause") {
-        let budget = small_number(a)?;
+        let budget = some!(small_number(a));
         Some(CollectorStep::Pause(budget))
     } else if is_word(verb, b"compact") {
         if !is_third(format) {
             return None;
         }
-        let budget = small_number(a)?;
+        let budget = some!(small_number(a));
         Some(CollectorStep::Compact(budget))
     } else {
         None

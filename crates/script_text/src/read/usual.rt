@@ -52,21 +52,45 @@ macro_rules! return_action_of {
         $(
             if let Some(past) = after_verb($text, $at, $verb) {
                 $(
-                    let found = $next($text, past)?;
-                    let $word = found.value;
-                    let past = found.past;
+                    let Some(Found { value: $word, past }) = $next($text, past) else {
+                        return None;
+                    };
                 )*
-                let found = $last($text, past, $more)?;
-                let $last_word = found.value;
-                return last_action($config, $action, found.past);
+                let Some(Found { value: $last_word, past }) = $last($text, past, $more) else {
+                    return None;
+                };
+                return last_action($config, $action, past);
             }
         )*
     };
 }
 
-/// The action of one of the rarer verbs in a line from a place on.
+/// The action in a line from a place on, where its verb is of weak slots.
 #[inline(always)]
-fn rarer_action<const CALLER: usize>(
+fn weak_action<const CALLER: usize>(
+    config: &Config,
+    text: &[u8],
+    at: usize,
+    more: bool,
+) -> Option<Found<Action>>
+    requires ended { end_of text.now < length text.now }
+    requires within { at ≤ end_of text.now }
+    ensures { IfSome result (λ a. IsAction config.now text.now (words_from text.now at) a.value a.past more) }
+{
+    return_action_of! {
+        config, text, at, more;
+        b"getweak" [to: next_register, object: next_register] slot: last_number => Action::GetWeak { to, object, slot };
+        b"putweak" [object: next_register, slot: next_number] value: last_value => Action::PutWeak { object, slot, value };
+        b"newweak" [to: next_register, pointers: next_number, weaks: next_byte] values: last_number
+            => Action::NewWeak { to, counts: Counts { pointers, values }, weaks };
+        b"weaks" [] object: last_register => Action::Weaks { object };
+    }
+    None
+}
+
+/// The same, where its verb is of globals, a shape or a scope, or else as `weak_action`.
+#[inline(always)]
+fn root_action<const CALLER: usize>(
     config: &Config,
     text: &[u8],
     at: usize,
@@ -81,18 +105,35 @@ fn rarer_action<const CALLER: usize>(
         b"load" [to: next_register] from: last_global => Action::Load { to, from };
         b"save" [to: next_global] from: last_register => Action::Save { to, from };
         b"shape" [] object: last_register => Action::Shape { object };
-        b"getweak" [to: next_register, object: next_register] slot: last_number => Action::GetWeak { to, object, slot };
-        b"putweak" [object: next_register, slot: next_number] value: last_value => Action::PutWeak { object, slot, value };
-        b"newweak" [to: next_register, pointers: next_number, weaks: next_byte] values: last_number
-            => Action::NewWeak { to, counts: Counts { pointers, values }, weaks };
-        b"weaks" [] object: last_register => Action::Weaks { object };
         b"scope" [] from: last_register => Action::Scope { from };
     }
-    None
+    weak_action::<CALLER>(config, text, at, more)
 }
 
-/// The action in a line from a place on. The verbs that are used most are tried first. A caller gives a number of its own (`callers`), and
-/// so gets a copy of its own, which is a part of it.
+/// The same, where its verb writes a register and reads no field, or else as `root_action`.
+#[inline(always)]
+fn register_action<const CALLER: usize>(
+    config: &Config,
+    text: &[u8],
+    at: usize,
+    more: bool,
+) -> Option<Found<Action>>
+    requires ended { end_of text.now < length text.now }
+    requires within { at ≤ end_of text.now }
+    ensures { IfSome result (λ a. IsAction config.now text.now (words_from text.now at) a.value a.past more) }
+{
+    return_action_of! {
+        config, text, at, more;
+        b"new" [to: next_register, pointers: next_number] values: last_number
+            => Action::New { to, counts: Counts { pointers, values } };
+        b"move" [to: next_register] from: last_register => Action::Move { to, from };
+        b"drop" [] register: last_register => Action::Drop { register };
+    }
+    root_action::<CALLER>(config, text, at, more)
+}
+
+/// The action in a line from a place on. The verbs that are used most are tried first: those of fields. A caller gives a number of its own
+/// (`callers`), and so gets a copy of its own, which is a part of it.
 #[inline(always)]
 pub(crate) fn usual_action<const CALLER: usize>(
     config: &Config,
@@ -111,12 +152,8 @@ pub(crate) fn usual_action<const CALLER: usize>(
         b"read" [object: next_register] field: last_number => Action::Read { object, field };
         b"write" [object: next_register, field: next_number] word: last_number
             => Action::Write { object, field, value: u64::from(word) };
-        b"new" [to: next_register, pointers: next_number] values: last_number
-            => Action::New { to, counts: Counts { pointers, values } };
-        b"move" [to: next_register] from: last_register => Action::Move { to, from };
-        b"drop" [] register: last_register => Action::Drop { register };
     }
-    rarer_action::<CALLER>(config, text, at, more)
+    register_action::<CALLER>(config, text, at, more)
 }
 
 /// The step of the line at a text's front, where it is one of the usual ones.

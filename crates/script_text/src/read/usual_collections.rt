@@ -43,7 +43,7 @@ fn numbered_collection(text: &[u8], at: usize, more: bool) -> Option<Found<Colle
             past: units.past,
         });
     }
-    let budget = number_after(text, at, b"pause", more)?;
+    let budget = some!(number_after(text, at, b"pause", more));
     Some(Found {
         value: CollectorStep::Pause(budget.value),
         past: budget.past,
@@ -72,7 +72,7 @@ fn usual_collection(text: &[u8], at: usize, more: bool) -> Option<Found<Collecto
             past,
         });
     }
-    let past = last_literal(text, at, b"cleanup", more)?;
+    let past = some!(last_literal(text, at, b"cleanup", more));
     Some(Found {
         value: CollectorStep::Cleanup,
         past,
@@ -87,11 +87,11 @@ pub(crate) fn collection_line(text: &[u8]) -> Option<StepLine>
     ensures step { IfSome result (λ l. (c : Config) → step_line_of c (line_of text.now) ≡ Ok l.step) }
     ensures known { IfSome result (λ l. (c : Config) → IsStep c l.step) }
 {
-    let at = after_verb(text, 0, b"gc")?;
+    let at = some!(after_verb(text, 0, b"gc"));
     let Found {
         value: collection,
         past,
-    } = usual_collection(text, at, false)?;
+    } = some!(usual_collection(text, at, false));
     if past > LONGEST_LINE {
         return None;
     }
@@ -116,11 +116,11 @@ fn scripted_collection(text: &[u8], at: usize) -> Option<OwnCollection>
     requires within { at ≤ end_of text.now }
     ensures { IfSome result (λ o. IsOwnCollection text.now at o.actor o.collection o.past) }
 {
-    let next = after_verb(text, at, b"gc")?;
+    let next = some!(after_verb(text, at, b"gc"));
     let Found {
         value: collection,
         past,
-    } = usual_collection(text, next, true)?;
+    } = some!(usual_collection(text, next, true));
     Some(OwnCollection {
         actor: Actor::Collector,
         collection,
@@ -135,11 +135,11 @@ fn marker_collection(text: &[u8], at: usize) -> Option<OwnCollection>
     requires within { at ≤ end_of text.now }
     ensures { IfSome result (λ o. IsOwnCollection text.now at o.actor o.collection o.past) }
 {
-    let marker = next_lettered(text, at, b'm')?;
+    let marker = some!(next_lettered(text, at, b'm'));
     if marker.value > 7 {
         return None;
     }
-    let units = number_after(text, marker.past, b"mark", true)?;
+    let units = some!(number_after(text, marker.past, b"mark", true));
     Some(OwnCollection {
         actor: Actor::Marker(marker.value as u8),
         collection: CollectorStep::Mark(units.value),
@@ -154,11 +154,11 @@ fn refiner_collection(text: &[u8], at: usize) -> Option<OwnCollection>
     requires within { at ≤ end_of text.now }
     ensures { IfSome result (λ o. IsOwnCollection text.now at o.actor o.collection o.past) }
 {
-    let refiner = next_lettered(text, at, b'f')?;
+    let refiner = some!(next_lettered(text, at, b'f'));
     if refiner.value > 7 {
         return None;
     }
-    let cards = number_after(text, refiner.past, b"refine", true)?;
+    let cards = some!(number_after(text, refiner.past, b"refine", true));
     Some(OwnCollection {
         actor: Actor::Refiner(refiner.value as u8),
         collection: CollectorStep::Refine(cards.value),
@@ -192,9 +192,9 @@ fn moved_reply(text: &[u8], at: usize) -> Option<Found<Reply>>
     ensures fits { IfSome result (λ r. ReplyFits r.value) }
     ensures ends { IfSome result (λ r. r.past ≡ end_of text.now) }
 {
-    let next = after_verb(text, at, b"moved")?;
-    let regions = next_number(text, next)?;
-    let words = last_number(text, regions.past, false)?;
+    let next = some!(after_verb(text, at, b"moved"));
+    let regions = some!(next_number(text, next));
+    let words = some!(last_number(text, regions.past, false));
     Some(Found {
         value: Reply::Moved {
             regions: regions.value,
@@ -213,16 +213,16 @@ fn refused_reply(text: &[u8], at: usize) -> Option<Found<Reply>>
     ensures fits { IfSome result (λ r. ReplyFits r.value) }
     ensures ends { IfSome result (λ r. r.past ≡ end_of text.now) }
 {
-    let number = after_verb(text, at, b"refused")?;
+    let number = some!(after_verb(text, at, b"refused"));
     if let Some(name) = after_verb(text, number, b"7") {
-        let past = last_literal(text, name, b"NotMarking", false)?;
+        let past = some!(last_literal(text, name, b"NotMarking", false));
         return Some(Found {
             value: Reply::Refused(Refusal::NotMarking),
             past,
         });
     }
-    let name = after_verb(text, number, b"6")?;
-    let past = last_literal(text, name, b"MarkRunning", false)?;
+    let name = some!(after_verb(text, number, b"6"));
+    let past = some!(last_literal(text, name, b"MarkRunning", false));
     Some(Found {
         value: Reply::Refused(Refusal::MarkRunning),
         past,
@@ -280,12 +280,12 @@ fn event_apart(text: &[u8], at: usize) -> Option<EventLine>
         actor,
         collection,
         past,
-    } = own_collection(text, at)?;
-    let next = after_verb(text, past + 1, b"=")?;
+    } = some!(own_collection(text, at));
+    let next = some!(after_verb(text, past + 1, b"="));
     let Found {
         value: reply,
         past: length,
-    } = collection_reply(text, next)?;
+    } = some!(collection_reply(text, next));
     if length > LONGEST_LINE {
         return None;
     }
@@ -304,6 +304,6 @@ pub(crate) fn collection_event(text: &[u8], at: usize) -> Option<EventLine>
     requires within { at ≤ end_of text.now }
     ensures { IfSome result (λ l. IsCollectionEvent text.now at l.event l.length) }
 {
-    let EventLine { event, length } = event_apart(text, at)?;
+    let EventLine { event, length } = some!(event_apart(text, at));
     Some(EventLine { event, length })
 }

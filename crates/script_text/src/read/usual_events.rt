@@ -40,7 +40,7 @@ fn named_reply(text: &[u8], at: usize) -> Option<Found<Reply>>
     ensures fits { IfSome result (λ r. ReplyFits r.value) }
     ensures ends { IfSome result (λ r. r.past ≡ end_of text.now) }
 {
-    let word = last_lettered(text, at, b'#', false)?;
+    let word = some!(last_lettered(text, at, b'#', false));
     Some(Found {
         value: Reply::Named(Some(u64::from(word.value))),
         past: word.past,
@@ -61,20 +61,20 @@ fn usual_reply(text: &[u8], at: usize) -> Option<Found<Reply>>
         return named_reply(text, at);
     }
     if first == b'o' {
-        let past = last_literal(text, at, b"ok", false)?;
+        let past = some!(last_literal(text, at, b"ok", false));
         return Some(Found {
             value: Reply::Done,
             past,
         });
     }
     if first == b'n' {
-        let past = last_literal(text, at, b"nil", false)?;
+        let past = some!(last_literal(text, at, b"nil", false));
         return Some(Found {
             value: Reply::Named(None),
             past,
         });
     }
-    let word = last_number(text, at, false)?;
+    let word = some!(last_number(text, at, false));
     Some(Found {
         value: Reply::Word(u64::from(word.value)),
         past: word.past,
@@ -93,7 +93,7 @@ pub(crate) fn usual_event<const CALLER: usize>(
     ensures event { IfSome result (λ l. event_line_of count config.now (line_of text.now) ≡ Ok l.event) }
     ensures known { IfSome result (λ l. IsEvent config.now l.event) }
 {
-    let number = next_number(text, 0)?;
+    let number = some!(next_number(text, 0));
     if u64::from(number.value) != count {
         return None;
     }
@@ -106,12 +106,12 @@ pub(crate) fn usual_event<const CALLER: usize>(
     let Found {
         value: action,
         past,
-    } = usual_action::<CALLER>(config, text, mutator.past, true)?;
-    let at = after_verb(text, past + 1, b"=")?;
+    } = some!(usual_action::<CALLER>(config, text, mutator.past, true));
+    let at = some!(after_verb(text, past + 1, b"="));
     let Found {
         value: reply,
         past: length,
-    } = usual_reply(text, at)?;
+    } = some!(usual_reply(text, at));
     if length > LONGEST_LINE {
         return None;
     }

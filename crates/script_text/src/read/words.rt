@@ -171,7 +171,7 @@ pub(crate) fn small_number(word: &[u8]) -> Option<u32>
             return Some(value);
         }
     }
-    let value = number(word, 0xffff_ffff)?;
+    let value = some!(number(word, 0xffff_ffff));
     Some(value as u32)
 }
 
@@ -196,7 +196,7 @@ fn number_behind(letter: u8, word: &[u8]) -> Option<u32>
 pub(crate) fn register(word: &[u8]) -> Option<Register>
     ensures { result ≡ register_of word.now }
 {
-    let number = number_behind(b'r', word)?;
+    let number = some!(number_behind(b'r', word));
     Some(Register { number })
 }
 
@@ -206,7 +206,7 @@ pub(crate) fn register(word: &[u8]) -> Option<Register>
 pub(crate) fn global(word: &[u8]) -> Option<GlobalRoot>
     ensures { result ≡ global_of word.now }
 {
-    let number = number_behind(b'g', word)?;
+    let number = some!(number_behind(b'g', word));
     Some(GlobalRoot { number })
 }
 
@@ -219,6 +219,6 @@ pub(crate) fn value(word: &[u8]) -> Option<Option<Register>>
     if is_word(word, b"nil") {
         return Some(None);
     }
-    let register = register(word)?;
+    let register = some!(register(word));
     Some(Some(register))
 }

@@ -5,7 +5,7 @@ use Rattle.script_text.proofs.read.line_words.last_literal.Goals as goal
 
 pub returns : goal.returns
 returns c =
-    let past = c.in_ok-past.past in
+    let past = c.in-Some.value in
     let stop : get_or c.args.text.now past 0 ≡ cond c.args.more 32 10 = c.ends_word.ensures c.if-not-ends_word.false in
-    subst (λ w. IsLast c.args.text.now c.args.at w past c.args.more) c.in_ok-past.ensures.word
-    (last_word c.args.text.now c.args.at past c.args.more c.requires.ended c.in_ok-past.ensures.clear stop)
+    subst (λ w. IsLast c.args.text.now c.args.at w past c.args.more) c.in-Some.ensures.word
+    (last_word c.args.text.now c.args.at past c.args.more c.requires.ended c.in-Some.ensures.clear stop)

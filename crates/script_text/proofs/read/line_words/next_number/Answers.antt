@@ -5,9 +5,9 @@ use Rattle.script_text.proofs.read.line_words.next_number.Goals as goal
 
 pub returns : goal.returns
 returns c =
-    let word = c.in_ok-word.word in
+    let word = c.in-Some.value in
     let space : get_or c.args.text.now word.past 0 ≡ 32 = c.if-text-word-ne32.false in (
-      subst (λ w. IsNext c.args.text.now c.args.at w (word.past + 1)) c.in_ok-word.ensures.number.0
-          (next_word c.args.text.now c.args.at word.past c.requires.ended c.in_ok-word.ensures.clear space),
-      c.in_ok-word.ensures.number.1,
+      subst (λ w. IsNext c.args.text.now c.args.at w (word.past + 1)) c.in-Some.ensures.number.0
+          (next_word c.args.text.now c.args.at word.past c.requires.ended c.in-Some.ensures.clear space),
+      c.in-Some.ensures.number.1,
     )

@@ -10,14 +10,14 @@ use Rattle.script_text.proofs.read.usual_collections.collection_line.Goals as go
 pub returns-clause-step : goal.returns-clause-step
 returns-clause-step c = λ config.
     let text = c.args.text.now in
-    let last = c.in_ok-collection.field-0 in
-    let ends = c.in_ok-collection.ensures in
+    let last = c.in-Some-usual_collection.value in
+    let ends = c.in-Some-usual_collection.ensures in
     let long : length (line_of text) ≡ end_of text = length-take-le (end_of text) text (omega (arith, c.requires.ended)) in
     let short : length (line_of text) ≤ 120 = omega (arith, c.if-past-gt-LONGEST_LINE.false, ends.ends) in
     let words : words_of (line_of text) ≡ codes "gc" ∷ collection_words last.value =
-    c.in_ok-at.ensures.words
+    c.in-Some.ensures.words
     ∙ ap (λ (ws : List (List ℕ)). codes "gc" ∷ ws) (ends.words ∙ append-nil (collection_words last.value)) in
     gc_line_again config (line_of text) last.value short words (ends.known config.format) ends.fits
 
 pub returns-clause-known : goal.returns-clause-known
-returns-clause-known c = λ config. c.in_ok-collection.ensures.known config.format
+returns-clause-known c = λ config. c.in-Some-usual_collection.ensures.known config.format

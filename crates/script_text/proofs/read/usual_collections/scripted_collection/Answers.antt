@@ -4,9 +4,9 @@ use Rattle.script_text.proofs.read.usual_collections.scripted_collection.Goals a
 
 pub returns : goal.returns
 returns c =
-    let read = c.in_ok-collection.ensures in
+    let read = c.in-Some-usual_collection.ensures in
     record {
-      words = c.in_ok-next.ensures.words ∙ ap (λ (ws : List (List ℕ)). codes "gc" ∷ ws) read.words;
+      words = c.in-Some.ensures.words ∙ ap (λ (ws : List (List ℕ)). codes "gc" ∷ ws) read.words;
       fits = read.fits;
       owned = λ config. read.known config.format;
       within = read.ends;
