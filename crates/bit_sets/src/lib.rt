@@ -12,4 +12,5 @@
 pub mod bits;
 pub mod bounded;
 mod groups;
+mod pages;
 pub mod small_bits;

@@ -13,7 +13,7 @@ ghost use Rattle.std.specs.Prelude.{◌≡◌, ◌+◌, ◌*◌, ◌^◌, ◌<�
 ghost use Rattle.std.specs.Prelude.{false, true, IfOk, IfSome, length, MatchOption, replicate, slice_set};
 ghost use Rattle.bit_sets.specs.Bits.{has, HasNone, HasNoneBelow, IsLowest};
 
-use crate::groups::fill_all;
+use crate::pages::fill_all;
 use std::alloc::{AllocError, Global};
 use std::marker::Model;
 
