@@ -93,8 +93,9 @@ module _ (members initial ws : List ℕ) (from to i before other after : ℕ) (r
   joined_more a = ⊎_elim (λ e. here a e) (λ ne. elsewhere a ne) (cases_eq (a / 64) i)
 
 -- where nothing of a word comes
-pub joined_same : (members initial ws : List ℕ) (from to i before other mask : ℕ) → before ≡ slice_index ws i → other ≡ slice_index members i
-    → i < length ws → IsMask i from to mask → bit_and other mask ≡ 0 → IsJoinedUpTo members initial ws from (min to (64 * i))
+pub joined_same : (members initial ws : List ℕ) (from to i before other mask : ℕ) → before ≡ slice_index ws i
+    → other ≡ slice_index members i → i < length ws → IsMask i from to mask → bit_and other mask ≡ 0
+    → IsJoinedUpTo members initial ws from (min to (64 * i))
     → IsJoinedUpTo members initial ws from (min to (64 * (i + 1)))
 joined_same members initial ws from to i before other mask read named inside is none done =
     let same : set ws i (bit_or before (bit_and other mask)) ≡ ws =

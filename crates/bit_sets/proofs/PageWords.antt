@@ -89,7 +89,13 @@ taken_more (suc p ∷ places) left (suc page) v h free some =
 pub page_has_room : (places pool : List ℕ) (len page : ℕ) → ArePages places pool len → 512 * page < len → slice_index places page ≡ 0
     → length pool + page_size len page ≤ len
 page_has_room places pool len page pages known free =
-    omega (arith, pages.no_more, taken_within (set places page 1) len, taken_more places len page 1 (omega (arith, pages.all)) free (omega arith))
+    omega (
+      arith,
+      pages.no_more,
+      taken_within (set places page 1) len,
+      taken_more places len page 1 (omega (arith, pages.all)) free
+          (omega arith),
+    )
 
 -- ---- a page is taken
 pub page_taken : (places pool pool' : List ℕ) (len page : ℕ) → ArePages places pool len → 512 * page < len → slice_index places page ≡ 0
@@ -118,7 +124,8 @@ page_taken places pool pool' len page pages known free more =
               (omega (arith, other p ne, other q nf)) (omega (arith, other p ne, other q nf))
         ]
       ];
-      no_more = more ∙ sym (taken_more places len page place there free (omega arith) ∙ ap (λ (n : ℕ). n + page_size len page) (sym pages.no_more));
+      no_more = more ∙ sym (taken_more places len page place there free (omega arith) ∙ ap (λ (n : ℕ). n + page_size len page)
+          (sym pages.no_more));
     }
 
 pub taken_same : (places pool pool' : List ℕ) (len page g : ℕ) → ArePages places pool len → 512 * page < len → slice_index places page ≡ 0
@@ -225,7 +232,8 @@ other_page from to g page ne = elim (cases_lt g from) [
   ]
 ]
 
-moved_along : (from to start index g : ℕ) → from ≤ to → index + from ≡ start + g → is_between start (start + (to - from)) index ≡ is_between from to g
+moved_along : (from to start index g : ℕ) → from ≤ to → index + from ≡ start + g
+    → is_between start (start + (to - from)) index ≡ is_between from to g
 moved_along from to start index g h e = elim (cases_lt g from) [
   | inl k ↦ between_no_below start (start + (to - from)) index (omega arith) ∙ sym (between_no_below from to g k)
   | inr k ↦ elim (cases_lt g to) [
@@ -263,7 +271,8 @@ module _ (places pool pool' : List ℕ) (len from to value start : ℕ) (pages :
         let no : is_between from to g ≡ false = other_page from to g page ne in
         let same : paged_word places pool' g ≡ paged_word places pool g = elim (cases_lt 0 (slice_index places (g / 512))) [
           | inl taken ↦ word_there places pool' g taken ∙ each _
-              ∙ ap (λ (b : Bool). if b then value else slice_index pool (slice_index places (g / 512) - 1 + g % 512)) (elsewhere g h ne taken)
+              ∙ ap (λ (b : Bool). if b then value else slice_index pool (slice_index places (g / 512) - 1 + g % 512))
+              (elsewhere g h ne taken)
               ∙ sym (word_there places pool g taken)
           | inr none ↦ word_none places pool' g (omega arith) ∙ sym (word_none places pool g (omega arith))
         ] in
@@ -344,7 +353,8 @@ module _ (places pool : List ℕ) (p low begin : ℕ) (part : List ℕ) (size : 
   ]
 
 -- ---- no page is taken
-pub pages_none : (places pool : List ℕ) (n k : ℕ) → n ≤ 2 ^ 26 → n ≤ 512 * k → places ≡ replicate k 0 → length pool ≡ 0 → ArePages places pool n
+pub pages_none : (places pool : List ℕ) (n k : ℕ) → n ≤ 2 ^ 26 → n ≤ 512 * k → places ≡ replicate k 0 → length pool ≡ 0
+    → ArePages places pool n
 pages_none places pool n k small all e none =
     let zero_there : (p : ℕ) → slice_index places p ≡ 0 = λ p. ap (λ (l : List ℕ). slice_index l p) e ∙ all_zeros k p in
     record {

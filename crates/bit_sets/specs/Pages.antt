@@ -1,4 +1,4 @@
--- Words in pages of 512. A page's words are taken from the end of one pool when one of them is first written; the words of a page that isn't
+-- Words in pages of 512. A page's words are taken from the end of one pool when one of them is first written; those of a page that isn't
 -- taken are 0. A place says of a page where its words begin in the pool, and one more: 0 where it isn't taken.
 use Rattle.std.specs.Prelude.{◌≡◌, ℕ, ◌+◌, ◌-◌, ◌*◌, ◌/◌, ◌%◌, ◌^◌, ◌<◌, ◌≤◌, ◌==◌, if◌then◌else◌}
 use Rattle.std.specs.Prelude.{min, zero, suc, List, [], ◌∷◌, length, map, slice_index}
@@ -28,6 +28,7 @@ pub record ArePages (places pool : List ℕ) (len : ℕ) : Type 0 where
   pub small : len ≤ 2 ^ 26
   pub all : len ≤ 512 * length places
   pub inside : (p : ℕ) → 0 < slice_index places p → slice_index places p + page_size len p ≤ length pool + 1
-  pub apart : (p q : ℕ) → 0 < slice_index places p → 0 < slice_index places q → slice_index places p < slice_index places q + page_size len q
+  pub apart : (p q : ℕ) → 0 < slice_index places p → 0 < slice_index places q
+      → slice_index places p < slice_index places q + page_size len q
       → slice_index places q < slice_index places p + page_size len p → p ≡ q
   pub no_more : length pool ≡ taken_words places len

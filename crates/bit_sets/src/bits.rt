@@ -8,10 +8,10 @@
 //!                                            next_below(64, 128): none, without a look at word 2
 //! ```
 //!
-//! A set takes one bit a number. Room for all is reserved when it is made, and none of it touched: a word is written when the first
-//! number of its group, or of one above it, comes (`groups`), so of a large set costs what is used. To clear a range of it touches the
-//! range's words and not each number, to clear it whole none, and to go over its members costs the members and the words between them.
-//! A set of few numbers, which isn't to pay for tests of what is written, is a `SmallBits`.
+//! A set takes one bit a number. Room for all is reserved when it is made, and none of it touched: the words are in pages of 512, which are
+//! written when the first number of theirs comes (`pages`), so of a large set costs what is used, wherever that is. To clear a range of it
+//! touches the range's words and not each number, to clear it whole none, and to go over its members costs the members, the words of the
+//! pages that have some, and a look at each other page. A set of few numbers, which isn't to pay for that look, is a `SmallBits`.
 
 ghost use Rattle.std.specs.Prelude.{◌≡◌, ◌+◌, ◌*◌, ◌/◌, ◌^◌, ◌<◌, ◌≤◌, ◌||◌, ◌&&◌, if◌then◌else◌};
 ghost use Rattle.std.specs.Prelude.{ℕ, false, true, IfOk, IfSome, length, MatchOption, not, replicate, slice_set};
@@ -23,7 +23,6 @@ use std::alloc::{AllocError, Global};
 use std::marker::Model;
 
 /// A set of numbers below a length that is given when it is made. Clauses see a flag for each number.
-#[derive(Drop)]
 pub struct Bits {
     /// The words of the groups, in pages that are taken as they are reached.
     words: PagedWords,
@@ -39,6 +38,13 @@ impl Model for Bits {
     ghost view = { λ s. flags_of s.words s.len };
 
     ghost invariant = { λ s. s.len ≤ 64 * length s.words };
+}
+
+/// Where it is let go there is one call, and not a drop for each of its parts.
+impl Drop for Bits {
+    fn drop(self) {
+        let Bits { words: _, len: _ } = self;
+    }
 }
 
 impl Bits {

@@ -28,7 +28,6 @@ use std::marker::Model;
 const PAGE: u32 = 512;
 
 /// Words, as many as are given when they are made, each 0 at first.
-#[derive(Drop)]
 pub(crate) struct PagedWords {
     /// For each page 0, or where its words begin in the pool, and one more.
     places: Vec<u32>,
@@ -46,6 +45,17 @@ impl Model for PagedWords {
     ghost view = { λ s. words_of s.places.items s.pool.items s.len };
 
     ghost invariant = { λ s. ArePages s.places.items s.pool.items s.len × (s.len ≤ vec_capacity s.pool) };
+}
+
+/// Where they are let go there is one call, and not a drop for each part.
+impl Drop for PagedWords {
+    fn drop(self) {
+        let PagedWords {
+            places: _,
+            pool: _,
+            len: _,
+        } = self;
+    }
 }
 
 /// All of these words hold this value.

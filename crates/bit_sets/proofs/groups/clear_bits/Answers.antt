@@ -17,7 +17,8 @@ loop-index-preserved c =
       len = ap length c.keep.ensures ∙ length-set {A = ℕ} ws c.loop-index.index _ ∙ c.loop-index.invariant.len;
       bits = rw c.keep.ensures (put_more false c.args.words.now ws c.args.from c.args.to c.loop-index.index
           (slice_index ws c.loop-index.index) _ refl inside
-          (put_by_and c.loop-index.index c.args.from c.args.to (slice_index ws c.loop-index.index) c.mask_of.result c.mask_of.type_inv c.mask_of.ensures)
+          (put_by_and c.loop-index.index c.args.from c.args.to (slice_index ws c.loop-index.index) c.mask_of.result c.mask_of.type_inv
+          c.mask_of.ensures)
           c.loop-index.invariant.bits);
     }
 

@@ -22,5 +22,6 @@ returns-clause-each c = λ g h.
     let each = rw c.deref_mut.ensures.value at c.fill_words.ensures.each in
     ap (λ (l : List ℕ). paged_word place l g) written
     ∙ page_filled place pool c.fill_words.new.words c.args.len c.args.from c.args.to c.args.value c.reach-start.result
-    c.reach-start.ensures.pages c.requires.some c.requires.known c.requires.page c.reach-start.ensures.taken c.reach-start.ensures.place each g h
+    c.reach-start.ensures.pages c.requires.some c.requires.known c.requires.page c.reach-start.ensures.taken c.reach-start.ensures.place
+    each g h
     ∙ ap (λ (w : ℕ). if is_between c.args.from c.args.to g then c.args.value else w) (c.reach-start.ensures.same g)

@@ -32,4 +32,5 @@ loop-page-preserved c = λ g h k l.
     let size : ℕ = c.min-high.result - c.max-low.result in
     part_searched c.args.places.now c.args.pool.now c.loop-page.page c.max-low.result begin _ size (omega arith) (omega arith)
     (omega arith) (omega arith) (λ i b. slice_read c.args.pool.now begin (begin + size) i (omega arith)) c.args.from c.args.past
-    c.first_written.result c.max-low.ensures (omega (arith, rw length-take at c.first_written.ensures.within)) c.loop-page.invariant c.first_written.ensures.none g h (omega arith) l
+    c.first_written.result c.max-low.ensures (omega (arith, rw length-take at c.first_written.ensures.within)) c.loop-page.invariant
+    c.first_written.ensures.none g h (omega arith) l

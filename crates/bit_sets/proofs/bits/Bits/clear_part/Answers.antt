@@ -4,7 +4,13 @@ use Rattle.bit_sets.proofs.BitRanges.{flags_put}
 use Rattle.bit_sets.proofs.bits.Bits.clear_part.Goals as goal
 
 pub clear_bits-requires : goal.clear_bits-requires
-clear_bits-requires c = omega (arith, c.requires, c.self.invariant, length-flags_of c.self.inside.words c.self.inside.len, ap length c.self.view_is)
+clear_bits-requires c = omega (
+  arith,
+  c.requires,
+  c.self.invariant,
+  length-flags_of c.self.inside.words c.self.inside.len,
+  ap length c.self.view_is,
+)
 
 pub returns-clause-len : goal.returns-clause-len
 returns-clause-len c = rw (← c.self.view_is) (length-flags_of _ _ ∙ sym (length-flags_of _ _))

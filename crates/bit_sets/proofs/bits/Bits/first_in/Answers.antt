@@ -9,7 +9,13 @@ use Rattle.bit_sets.proofs.bits.Bits.first_in.Goals as goal
 
 pub get_some-word-requires : goal.get_some-word-requires
 get_some-word-requires c = record {
-  known = omega (arith, c.requires.known, c.self.invariant, length-flags_of c.self.inside.words c.self.inside.len, ap length c.self.view_is);
+  known = omega (
+    arith,
+    c.requires.known,
+    c.self.invariant,
+    length-flags_of c.self.inside.words c.self.inside.len,
+    ap length c.self.view_is,
+  );
   some = group_some (has c.args.self.now) c.self.inside.words _ c.args.group (bits_agree _ _ _ c.self.view_is) c.requires.some;
 }
 

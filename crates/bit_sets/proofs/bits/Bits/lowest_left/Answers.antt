@@ -6,7 +6,13 @@ use Rattle.bit_sets.proofs.LowestBits.{none_in_word, none_left, found_past, foun
 use Rattle.bit_sets.proofs.bits.Bits.lowest_left.Goals as goal
 
 pub get-requires : goal.get-requires
-get-requires c = omega (arith, c.requires.known, c.self.invariant, length-flags_of c.self.inside.words c.self.inside.len, ap length c.self.view_is)
+get-requires c = omega (
+  arith,
+  c.requires.known,
+  c.self.invariant,
+  length-flags_of c.self.inside.words c.self.inside.len,
+  ap length c.self.view_is,
+)
 
 pub get_some-requires : goal.get_some-requires
 get_some-requires c = record {

@@ -59,7 +59,13 @@ returns-then-found-end c =
       lowest = found_inside _ _ c.self.inside.len _ _ _ (only_agree _ _ _ _ _ _ c.self.view_is c.other.view_is even) w
           before (omega arith) (omega (arith, c.if-found-end.true, c.min-end.ensures));
       below = omega (arith, c.if-found-end.true, c.min-end.ensures);
-      within = omega (arith, c.if-found-end.true, c.min-end.ensures, length-flags_of c.self.inside.words c.self.inside.len, ap length c.self.view_is);
+      within = omega (
+        arith,
+        c.if-found-end.true,
+        c.min-end.ensures,
+        length-flags_of c.self.inside.words c.self.inside.len,
+        ap length c.self.view_is,
+      );
     }
 
 pub returns-else-found-end : goal.returns-else-found-end

@@ -2,12 +2,14 @@ use Rattle.std.proofs.Common.{ℕ, ◌+◌, ◌*◌, ◌/◌, ◌%◌, arith, bi
 use Rattle.bit_sets.specs.Bits.{HasNoneBelow}
 use Rattle.bit_sets.specs.BitWords.{bit_of}
 use Rattle.bit_sets.proofs.BitWords.{high_mask, length-flags_of}
-use Rattle.bit_sets.proofs.LowestBits.{IsWord, bits_word, later_word, bits_agree, none_in_word, none_left, none_passed, found_past, found_inside}
+use Rattle.bit_sets.proofs.LowestBits.{IsWord, bits_word, later_word, bits_agree, none_in_word, none_left, none_passed}
+use Rattle.bit_sets.proofs.LowestBits.{found_past, found_inside}
 use Rattle.bit_sets.proofs.bits.Bits.search_below.Goals as goal
 
 pub returns-then-end-from : goal.returns-then-end-from
 returns-then-end-from c = record {
-  lowest = none_left _ _ c.self.inside.len c.args.from c.args.to c.args.from (bits_agree _ _ _ c.self.view_is) (λ a h k. absurd (omega arith))
+  lowest = none_left _ _ c.self.inside.len c.args.from c.args.to c.args.from (bits_agree _ _ _ c.self.view_is)
+      (λ a h k. absurd (omega arith))
       (omega (arith, c.min-end.ensures));
   below = tt;
   within = tt;
@@ -101,7 +103,8 @@ returns c =
     let before = none_passed (bit_of c.self.inside.words) c.self.inside.words c.args.from (c.args.from / 64 + 1) c.next_written-next.result
     (λ a none. none) c.next_written-next.ensures.none (none_in_word _ _ _ _ w first (omega (arith, c.if-word-ne0.false))) in
     record {
-      lowest = none_left _ _ c.self.inside.len _ c.args.to _ (bits_agree _ _ _ c.self.view_is) before (omega (arith, c.min-end.ensures, c.if-next-past.false, c.div_ceil-past.ensures));
+      lowest = none_left _ _ c.self.inside.len _ c.args.to _ (bits_agree _ _ _ c.self.view_is) before
+          (omega (arith, c.min-end.ensures, c.if-next-past.false, c.div_ceil-past.ensures));
       below = tt;
       within = tt;
     }

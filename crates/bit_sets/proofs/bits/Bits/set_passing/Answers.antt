@@ -10,11 +10,23 @@ use Rattle.bit_sets.proofs.bits.Bits.set_passing.Goals as goal
 
 pub get-requires : goal.get-requires
 get-requires c =
-    omega (arith, c.requires.first, c.filter.invariant, length-flags_of c.filter.inside.words c.filter.inside.len, ap length c.filter.view_is)
+    omega (
+      arith,
+      c.requires.first,
+      c.filter.invariant,
+      length-flags_of c.filter.inside.words c.filter.inside.len,
+      ap length c.filter.view_is,
+    )
 
 pub get-requires-2 : goal.get-requires-2
 get-requires-2 c =
-    omega (arith, c.requires.second, c.filter.invariant, length-flags_of c.filter.inside.words c.filter.inside.len, ap length c.filter.view_is)
+    omega (
+      arith,
+      c.requires.second,
+      c.filter.invariant,
+      length-flags_of c.filter.inside.words c.filter.inside.len,
+      ap length c.filter.view_is,
+    )
 
 pub get-requires-3 : goal.get-requires-3
 get-requires-3 c =

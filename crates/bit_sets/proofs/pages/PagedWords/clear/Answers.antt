@@ -8,7 +8,13 @@ pub invariant_of-self : goal.invariant_of-self
 invariant_of-self c =
     let places = c.self.inside.places in
     let same = all_written places.len c.forget_all.new.places places.items (omega (arith, places.ok.0))
-    (omega (arith, ap length c.forget_all.ensures, length-replicate {A = ℕ} (length c.deref_mut.result.now) 0, c.deref_mut.ensures.len, places.ok.0)) in (
+    (omega (
+      arith,
+      ap length c.forget_all.ensures,
+      length-replicate {A = ℕ} (length c.deref_mut.result.now) 0,
+      c.deref_mut.ensures.len,
+      places.ok.0,
+    )) in (
       pages_none _ _ _ _ c.self.invariant.0.small (omega (arith, c.self.invariant.0.all, c.deref_mut.ensures.len, places.ok.0))
           (same ∙ c.forget_all.ensures) (ap length c.clear.ensures.items),
       omega (arith, c.self.invariant.1, c.clear.ensures.capacity),
@@ -18,6 +24,12 @@ pub returns : goal.returns
 returns c =
     let places = c.self.inside.places in
     let same = all_written places.len c.forget_all.new.places places.items (omega (arith, places.ok.0))
-    (omega (arith, ap length c.forget_all.ensures, length-replicate {A = ℕ} (length c.deref_mut.result.now) 0, c.deref_mut.ensures.len, places.ok.0)) in
+    (omega (
+      arith,
+      ap length c.forget_all.ensures,
+      length-replicate {A = ℕ} (length c.deref_mut.result.now) 0,
+      c.deref_mut.ensures.len,
+      places.ok.0,
+    )) in
     words_none _ _ _ _ (same ∙ c.forget_all.ensures)
     ∙ ap (λ (n : ℕ). replicate n 0) (sym (length-words_of _ _ _) ∙ ap length c.self.view_is)

@@ -1,4 +1,5 @@
-use Rattle.std.proofs.Common.{◌≡◌, ℕ, ◌*◌, ◌/◌, ◌%◌, ◌^◌, ◌∙◌, arith, ap, sym, length-set, slice_index, set, refl, bit_or, bit_and, eqb, not}
+use Rattle.std.proofs.Common.{◌≡◌, ℕ, ◌*◌, ◌/◌, ◌%◌, ◌^◌, ◌∙◌, arith, ap, sym, length-set, slice_index, set, refl}
+use Rattle.std.proofs.Common.{bit_or, bit_and, eqb, not}
 use Rattle.std.proofs.lemmas.List.{get_or_read}
 use Rattle.bit_sets.proofs.PageWords.{group_known, words_same, pages_kept, here_read, here_written}
 use Rattle.std.specs.Int.{bit_at}

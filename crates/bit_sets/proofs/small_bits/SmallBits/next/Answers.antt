@@ -16,7 +16,8 @@ loop-index-preserved c =
     omega (arith, c.self.invariant, c.self.inside.words.ok.0, c.div_ceil-index-end.ensures) in
     let w : IsWord (bit_of c.self.inside.words.items) c.args.from c.loop-index.index (bit_and c.index.result.now (high_mask low)) =
     bits_word c.self.inside.words.items c.args.from c.loop-index.index low c.index.result.now
-    (get_or_read c.self.inside.words.items _ _ inside c.index.ensures 0) (omega (arith, c.saturating_sub-low.ensures)) (omega (arith, c.saturating_sub-low.ensures)) in
+    (get_or_read c.self.inside.words.items _ _ inside c.index.ensures 0) (omega (arith, c.saturating_sub-low.ensures))
+    (omega (arith, c.saturating_sub-low.ensures)) in
     none_in_word _ _ _ _ w c.loop-index.invariant c.if-word-ne0.false
 
 pub returns-then-found-self : goal.returns-then-found-self
@@ -26,7 +27,8 @@ returns-then-found-self c =
     omega (arith, c.self.invariant, c.self.inside.words.ok.0, c.div_ceil-index-end.ensures) in
     let w : IsWord (bit_of c.self.inside.words.items) c.args.from c.loop-index.index (bit_and c.index.result.now (high_mask low)) =
     bits_word c.self.inside.words.items c.args.from c.loop-index.index low c.index.result.now
-    (get_or_read c.self.inside.words.items _ _ inside c.index.ensures 0) (omega (arith, c.saturating_sub-low.ensures)) (omega (arith, c.saturating_sub-low.ensures)) in
+    (get_or_read c.self.inside.words.items _ _ inside c.index.ensures 0) (omega (arith, c.saturating_sub-low.ensures))
+    (omega (arith, c.saturating_sub-low.ensures)) in
     record {
       lowest = found_inside _ _ c.self.inside.len _ _ _ (bits_agree _ _ _ c.self.view_is) w c.loop-index.invariant (omega arith)
           (omega (arith, c.if-found-self.true));
@@ -40,7 +42,8 @@ returns-else-found-self c =
     omega (arith, c.self.invariant, c.self.inside.words.ok.0, c.div_ceil-index-end.ensures) in
     let w : IsWord (bit_of c.self.inside.words.items) c.args.from c.loop-index.index (bit_and c.index.result.now (high_mask low)) =
     bits_word c.self.inside.words.items c.args.from c.loop-index.index low c.index.result.now
-    (get_or_read c.self.inside.words.items _ _ inside c.index.ensures 0) (omega (arith, c.saturating_sub-low.ensures)) (omega (arith, c.saturating_sub-low.ensures)) in
+    (get_or_read c.self.inside.words.items _ _ inside c.index.ensures 0) (omega (arith, c.saturating_sub-low.ensures))
+    (omega (arith, c.saturating_sub-low.ensures)) in
     record {
       lowest = none_at_all c.args.self.now c.args.from c.self.inside.len None
           (omega (arith, length-flags_of c.self.inside.words.items c.self.inside.len, ap length c.self.view_is))
