@@ -7,10 +7,9 @@ use Rattle.std.specs.Prelude.{if◌then◌else◌, ◌&&◌}
 use Rattle.std.specs.Int.{bit_at, div_ceil}
 use Rattle.std.proofs.lemmas.Nat.Bits.{bit_at-lt, bit_at_and, bit_at_or, bit_at_not}
 use Rattle.bit_sets.specs.Bits.{is_between, has}
-use Rattle.bit_sets.specs.BitWords.{bit_of, flags_of, AreSame}
+use Rattle.bit_sets.specs.BitWords.{bit_of, flags_of}
 use Rattle.bit_sets.proofs.BitWords.{and-false, middle_mask, bit_at-middle_mask, bit_at-middle_mask_outside, bit_of-set_here}
 use Rattle.bit_sets.proofs.BitWords.{bit_of-set_there, length-flags_of, has-flags_of, has_past, div_ceil_reaches}
-use Rattle.bit_sets.proofs.Written.{bit_past, bit_same}
 
 pub between_yes : (from to a : ℕ) → from ≤ a → a < to → is_between from to a ≡ true
 between_yes from to a h k = rw (le-leb from a h, lt-ltb a to k) refl
@@ -75,12 +74,11 @@ put_by_and index from to w mask fits is j h =
 abbrev pub IsPutUpTo : Bool → List ℕ → List ℕ → ℕ → ℕ → Type 0
 IsPutUpTo value initial ws from upto = (a : ℕ) → bit_of ws a ≡ (if is_between from upto a then value else bit_of initial a)
 
-pub put_none : (value : Bool) (initial ws : List ℕ) (from upto : ℕ) → upto ≤ from → AreSame ws initial
-    → IsPutUpTo value initial ws from upto
-put_none value initial ws from upto h same a =
+pub put_none : (value : Bool) (initial : List ℕ) (from upto : ℕ) → upto ≤ from → IsPutUpTo value initial initial from upto
+put_none value initial from upto h a =
     let no : is_between from upto a ≡ false =
     ⊎_elim (λ b. between_no_below from upto a b) (λ b. between_no_above from upto a (omega arith)) (cases_lt a from) in
-    bit_same ws initial a same ∙ sym (ap (λ (b : Bool). if b then value else bit_of initial a) no)
+    sym (ap (λ (b : Bool). if b then value else bit_of initial a) no)
 
 module _ (value : Bool) (initial ws : List ℕ) (from to i before after : ℕ) (read : before ≡ slice_index ws i) (inside : i < length ws)
     (put : IsPut value i from to before after) (done : IsPutUpTo value initial ws from (min to (64 * i))) where
@@ -115,26 +113,6 @@ put_done value initial ws from to i end e h done a =
     ∙ ap (λ (b : Bool). if b then value else bit_of initial a)
     (between_same from (min to (64 * i)) to a (λ b. omega arith) (λ b. omega (arith, div_ceil_reaches to)))
 
--- where each word is done that is written: the others have none of the range to be cleared
-pub cleared_done : (initial ws : List ℕ) (from to i past : ℕ) → past ≡ min (div_ceil to 64) (length ws) → past ≤ i
-    → IsPutUpTo false initial ws from (min to (64 * i)) → (a : ℕ) → bit_of ws a ≡ (if is_between from to a then false else bit_of initial a)
-cleared_done initial ws from to i past e h done a =
-    let pick : (b c : Bool) → b ≡ c → (if b then false else bit_of initial a) ≡ (if c then false else bit_of initial a) =
-    λ (b c : Bool) (q : b ≡ c). ap (λ (x : Bool). if x then false else bit_of initial a) q in
-    let upto : ℕ = min to (64 * i) in
-    elim (cases_lt a from) [
-      | inl p ↦ done a ∙ pick _ _ (between_no_below from upto a p ∙ sym (between_no_below from to a p))
-      | inr p ↦ elim (cases_lt a to) [
-        | inl q ↦ elim (cases_lt (a / 64) (length ws)) [
-          | inl r ↦
-              done a
-              ∙ pick _ _ (between_yes from upto a p (omega (arith, div_ceil_reaches to)) ∙ sym (between_yes from to a p q))
-          | inr r ↦ bit_past ws a r ∙ sym (pick _ _ (between_yes from to a p q))
-        ]
-        | inr q ↦ done a ∙ pick _ _ (between_no_above from upto a (omega arith) ∙ sym (between_no_above from to a q))
-      ]
-    ]
-
 -- the flags of what is put, by its bits
 pub flags_put : (value : Bool) (flags : List Bool) (initial ws : List ℕ) (n from to : ℕ) → flags_of initial n ≡ flags → to ≤ n
     → ((a : ℕ) → bit_of ws a ≡ (if is_between from to a then value else bit_of initial a))
@@ -148,23 +126,6 @@ flags_put value flags initial ws n from to view short done a =
     ∙ sym (ap (λ (b : Bool). if b then value else has flags a) (between_no_above from to a (omega arith))
     ∙ has_past flags a (omega (arith, length-flags_of initial n, ap length view))) in
     ⊎_elim inside past (cases_lt a n)
-
--- the groups of a range that are written
-pub between_written : (first past len i : ℕ) → first ≤ past → i < len
-    → is_between (min first (min past len)) (min past len) i ≡ is_between first past i
-between_written first past len i h k =
-    let end : ℕ = min past len in
-    let start : ℕ = min first end in
-    elim (cases_lt i first) [
-      | inl b ↦ elim (cases_lt i end) [
-        | inl d ↦ between_no_below start end i (omega arith) ∙ sym (between_no_below first past i b)
-        | inr d ↦ between_no_above start end i d ∙ sym (between_no_below first past i b)
-      ]
-      | inr b ↦ elim (cases_lt i past) [
-        | inl d ↦ between_yes start end i (omega arith) (omega arith) ∙ sym (between_yes first past i b d)
-        | inr d ↦ between_no_above start end i (omega arith) ∙ sym (between_no_above first past i d)
-      ]
-    ]
 
 -- ---- a range in three parts, the middle of whole words
 -- the word whose bits all have a value

@@ -1,17 +1,18 @@
 -- The members of a range of another set that come into a set, word by word.
 use Rattle.std.proofs.Common.{◌≡◌, ◌≢◌, ◌+◌, ◌*◌, ◌/◌, ◌%◌, ◌<◌, ◌≤◌, ◌∙◌}
 use Rattle.std.proofs.Common.{min, max, ℕ, Bool, true, false, List, length, set, eqb, bit_or, bit_and}
-use Rattle.std.proofs.Common.{slice_index, inl, inr, refl, sym, ap, ap₂, arith, ⊎_elim}
+use Rattle.std.proofs.Common.{slice_index, inl, inr, refl, sym, subst, ap, ap₂, arith, ⊎_elim}
 use Rattle.std.proofs.lemmas.Bool.{cases_lt, cases_eq}
 use Rattle.std.specs.Prelude.{if◌then◌else◌, ◌&&◌, ◌||◌}
 use Rattle.std.specs.Int.{bit_at, div_ceil}
+use Rattle.std.specs.Int.Bits.{or_zero_r}
+use Rattle.std.proofs.lemmas.List.{set-get_or}
 use Rattle.std.proofs.lemmas.Nat.Bits.{bit_at-lt, bit_at_and, bit_at_or}
 use Rattle.bit_sets.specs.Bits.{is_between, has}
-use Rattle.bit_sets.specs.BitWords.{bit_of, flags_of, AreSame}
+use Rattle.bit_sets.specs.BitWords.{bit_of, flags_of}
 use Rattle.bit_sets.specs.Bounded.{AreWithin}
 use Rattle.bit_sets.proofs.BitWords.{and-false, bit_of-set_here, bit_of-set_there, length-flags_of, has-flags_of, has_past}
 use Rattle.bit_sets.proofs.BitWords.{div_ceil_reaches}
-use Rattle.bit_sets.proofs.Written.{bit_past, bit_same}
 use Rattle.bit_sets.proofs.BitRanges.{IsMask, between_yes, between_no_below, between_no_above, between_same}
 use Rattle.bit_sets.proofs.LowestBits.{one_or_zero}
 use Rattle.bit_sets.proofs.Bounds.{AreWide, still}
@@ -55,13 +56,11 @@ put_by_join index from to w other mask is j h = join_bit (is_between from to (64
 abbrev pub IsJoinedUpTo : List ℕ → List ℕ → List ℕ → ℕ → ℕ → Type 0
 IsJoinedUpTo members initial ws from upto = (a : ℕ) → bit_of ws a ≡ (bit_of initial a || (is_between from upto a && bit_of members a))
 
-pub joined_none : (members initial ws : List ℕ) (from upto : ℕ) → upto ≤ from → AreSame ws initial
-    → IsJoinedUpTo members initial ws from upto
-joined_none members initial ws from upto h same a =
+pub joined_none : (members initial : List ℕ) (from upto : ℕ) → upto ≤ from → IsJoinedUpTo members initial initial from upto
+joined_none members initial from upto h a =
     let no : is_between from upto a ≡ false =
     ⊎_elim (λ b. between_no_below from upto a b) (λ b. between_no_above from upto a (omega arith)) (cases_lt a from) in
-    bit_same ws initial a same ∙ or_none (bit_of initial a)
-    ∙ sym (ap (λ (b : Bool). bit_of initial a || (b && bit_of members a)) no)
+    or_none (bit_of initial a) ∙ sym (ap (λ (b : Bool). bit_of initial a || (b && bit_of members a)) no)
 
 module _ (members initial ws : List ℕ) (from to i before other after : ℕ) (read : before ≡ slice_index ws i)
     (named : other ≡ slice_index members i) (inside : i < length ws) (join : IsJoin i from to before other after)
@@ -93,19 +92,25 @@ module _ (members initial ws : List ℕ) (from to i before other after : ℕ) (r
   pub joined_more : IsJoinedUpTo members initial (set ws i after) from (min to (64 * (i + 1)))
   joined_more a = ⊎_elim (λ e. here a e) (λ ne. elsewhere a ne) (cases_eq (a / 64) i)
 
--- where each word of the range is done that is written in the other set
-pub joined_done : (members initial ws : List ℕ) (from to i past : ℕ) → past ≡ min (div_ceil to 64) (length members) → past ≤ i
+-- where nothing of a word comes
+pub joined_same : (members initial ws : List ℕ) (from to i before other mask : ℕ) → before ≡ slice_index ws i
+    → other ≡ slice_index members i → i < length ws → IsMask i from to mask → bit_and other mask ≡ 0
+    → IsJoinedUpTo members initial ws from (min to (64 * i))
+    → IsJoinedUpTo members initial ws from (min to (64 * (i + 1)))
+joined_same members initial ws from to i before other mask read named inside is none done =
+    let same : set ws i (bit_or before (bit_and other mask)) ≡ ws =
+    ap (λ (m : ℕ). set ws i (bit_or before m)) none ∙ ap (set ws i) (or_zero_r before ∙ read) ∙ set-get_or ws i 0 in
+    subst (λ (l : List ℕ). IsJoinedUpTo members initial l from (min to (64 * (i + 1)))) same
+    (joined_more members initial ws from to i before other (bit_or before (bit_and other mask)) read named inside
+    (put_by_join i from to before other mask is) done)
+
+-- where each word of the range is done
+pub joined_done : (members initial ws : List ℕ) (from to i end : ℕ) → end ≡ div_ceil to 64 → end ≤ i
     → IsJoinedUpTo members initial ws from (min to (64 * i))
     → (a : ℕ) → bit_of ws a ≡ (bit_of initial a || (is_between from to a && bit_of members a))
-joined_done members initial ws from to i past e h done a =
-    let upto : ℕ = min to (64 * i) in
-    done a ∙ (elim (cases_lt (a / 64) (length members)) [
-      | inl r ↦ ap (λ (b : Bool). bit_of initial a || (b && bit_of members a))
-          (between_same from upto to a (λ b. omega arith) (λ b. omega (arith, div_ceil_reaches to)))
-      | inr r ↦ ap (λ (b : Bool). bit_of initial a || (is_between from upto a && b)) (bit_past members a r)
-          ∙ ap (λ (b : Bool). bit_of initial a || b) (and-false (is_between from upto a) ∙ sym (and-false (is_between from to a)))
-          ∙ sym (ap (λ (b : Bool). bit_of initial a || (is_between from to a && b)) (bit_past members a r))
-    ])
+joined_done members initial ws from to i end e h done a =
+    done a ∙ ap (λ (b : Bool). bit_of initial a || (b && bit_of members a))
+    (between_same from (min to (64 * i)) to a (λ b. omega arith) (λ b. omega (arith, div_ceil_reaches to)))
 
 -- the flags of what came, by its bits
 pub flags_joined : (flags others : List Bool) (members initial ws : List ℕ) (n m from to : ℕ) → flags_of initial n ≡ flags

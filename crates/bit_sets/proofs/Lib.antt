@@ -5,3 +5,4 @@ pub mod BitRanges
 pub mod Bounds
 pub mod BitUnions
 pub mod BitFilters
+pub mod PageWords

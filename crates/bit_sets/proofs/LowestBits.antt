@@ -1,17 +1,15 @@
 -- The lowest number of a set, word by word.
 use Rattle.std.proofs.Common.{◌≡◌, ◌+◌, ◌-◌, ◌*◌, ◌/◌, ◌%◌, ◌^◌, ◌<◌, ◌≤◌, ◌⊎◌, ◌∙◌}
-use Rattle.std.proofs.Common.{ℕ, Bool, true, false, List, length, slice_index, get_or, eqb, min, bit_and}
+use Rattle.std.proofs.Common.{ℕ, Bool, true, false, List, length, slice_index, eqb, min, bit_and}
 use Rattle.std.proofs.Common.{w64, not, inl, inr, refl, sym, ap, ⊎_elim, arith}
 use Rattle.std.specs.Prelude.{◌&&◌, Option, Some, None, MatchOption}
-use Rattle.std.specs.Int.{bit_at, trailing_zeros, div_ceil}
+use Rattle.std.specs.Int.{bit_at, trailing_zeros}
 use Rattle.std.proofs.lemmas.Bool.{cases_lt, eqb-true, eqb-false, ne_eqb}
-use Rattle.std.proofs.lemmas.List.{get_or_read}
 use Rattle.std.proofs.lemmas.Nat.Bits.{bit_at-zero, bit_at-lt, bit_at_and, bit_at_not, bit_at-trailing_zeros}
 use Rattle.bit_sets.specs.Bits.{has, has_alone, HasNone, HasNoneBelow, IsLowest}
 use Rattle.bit_sets.specs.BitWords.{bit_of, flags_of}
 use Rattle.bit_sets.proofs.BitWords.{high_mask, bit_at-high_part, bit_at-high_part_below, part_fits}
-use Rattle.bit_sets.proofs.BitWords.{has-flags_of, length-flags_of, has_past, div_ceil_reaches}
-use Rattle.bit_sets.proofs.Written.{bit_past}
+use Rattle.bit_sets.proofs.BitWords.{has-flags_of, length-flags_of, has_past}
 
 -- m has the numbers of word i from `from` on, the word's first `low` ones lying below that
 pub record IsWord (has : ℕ → Bool) (from i m : ℕ) : Type 0 where
@@ -83,20 +81,29 @@ none_at_all flags from n None e none = λ a h. ⊎_elim (λ b. none a h (omega a
 none_at_all flags from n (Some found) e lowest = lowest
 
 -- ---- one set of bits
-pub bits_word : (ws : List ℕ) (from i low w : ℕ) → i < length ws → w ≡ get_or ws i w → low ≡ from - 64 * i → low < 64
+pub bits_word : (ws : List ℕ) (from i low w : ℕ) → w ≡ slice_index ws i → low ≡ from - 64 * i → low < 64
     → IsWord (bit_of ws) from i (bit_and w (high_mask low))
-bits_word ws from i low w inside read start near =
-    let word : w ≡ slice_index ws i = get_or_read ws i w inside read 0 in
-    record {
-      low = low;
-      start = start;
-      near = near;
-      fits = part_fits w low;
-      same = λ a h e.
-          ap (λ q. eqb (bit_at (slice_index ws q) (a % 64)) 1) e ∙ ap (λ v. eqb (bit_at v (a % 64)) 1) (sym word)
-          ∙ ap (λ b. eqb b 1) (sym (bit_at-high_part w low (a % 64) (omega arith) (omega arith)));
-      below = λ j h. bit_at-high_part_below w low j h near;
-    }
+bits_word ws from i low w word start near = record {
+  low = low;
+  start = start;
+  near = near;
+  fits = part_fits w low;
+  same = λ a h e.
+      ap (λ q. eqb (bit_at (slice_index ws q) (a % 64)) 1) e ∙ ap (λ v. eqb (bit_at v (a % 64)) 1) (sym word)
+      ∙ ap (λ b. eqb b 1) (sym (bit_at-high_part w low (a % 64) (omega arith) (omega arith)));
+  below = λ j h. bit_at-high_part_below w low j h near;
+}
+
+-- a whole word above the first one
+pub later_word : (ws : List ℕ) (from i w : ℕ) → from ≤ 64 * i → w ≡ slice_index ws i → w < 2 ^ 64 → IsWord (bit_of ws) from i w
+later_word ws from i w above read fits = record {
+  low = 0;
+  start = omega arith;
+  near = omega arith;
+  fits = fits;
+  same = λ a h e. ap (λ q. eqb (bit_at (slice_index ws q) (a % 64)) 1) e ∙ ap (λ v. eqb (bit_at v (a % 64)) 1) (sym read);
+  below = λ j h. absurd (omega arith);
+}
 
 pub bits_agree : (flags : List Bool) (ws : List ℕ) (n : ℕ) → flags_of ws n ≡ flags → Agree (has flags) (bit_of ws) n
 bits_agree flags ws n view = record {
@@ -104,11 +111,13 @@ bits_agree flags ws n view = record {
   past = λ a h. has_past flags a (omega (arith, length-flags_of ws n, ap length view));
 }
 
--- where no word is left that is written, it is looked through to the end
-pub none_written : (is_in : ℕ → Bool) (ws : List ℕ) (from past i end : ℕ) → ((a : ℕ) → bit_of ws a ≡ false → is_in a ≡ false)
-    → past ≡ min (div_ceil end 64) (length ws) → past ≤ i → HasNoneBelow is_in from (64 * i) → HasNoneBelow is_in from end
-none_written is_in ws from past i end unset e h none a k l =
-    ⊎_elim (λ b. none a k b) (λ b. unset a (bit_past ws a (omega (arith, e, h, div_ceil_reaches end)))) (cases_lt a (64 * i))
+-- words that are 0 are passed
+pub none_passed : (is_in : ℕ → Bool) (ws : List ℕ) (from i n : ℕ) → ((a : ℕ) → bit_of ws a ≡ false → is_in a ≡ false)
+    → ((g : ℕ) → i ≤ g → g < n → slice_index ws g ≡ 0) → HasNoneBelow is_in from (64 * i) → HasNoneBelow is_in from (64 * n)
+none_passed is_in ws from i n unset zeros before a h k = ⊎_elim (λ b. before a h b)
+    (λ b. unset a (ap (λ (w : ℕ). eqb (bit_at w (a % 64)) 1) (zeros (a / 64) (omega arith) (omega arith))
+    ∙ ap (λ (v : ℕ). eqb v 1) (bit_at-zero (a % 64))))
+    (cases_lt a (64 * i))
 
 -- ---- the difference of two sets of bits
 abbrev pub only : List ℕ → List ℕ → ℕ → Bool
@@ -144,18 +153,16 @@ only_in_word ws vs from i low w v read other fits start near a h e =
     ∙ ap (λ x. min (bit_at w j) x) (bit_at_not w64 v j fits (omega arith)) in
     rw (ws_bit, vs_bit) (sym (and_not_bits (bit_at w j) (bit_at v j) (bit_at (left_part w v low) j) (bit_at-lt w j) (bit_at-lt v j) part))
 
-pub left_word : (ws vs : List ℕ) (from i low w v : ℕ) → i < length ws → w ≡ get_or ws i w → v ≡ slice_index vs i → v < 2 ^ 64
+pub left_word : (ws vs : List ℕ) (from i low w v : ℕ) → w ≡ slice_index ws i → v ≡ slice_index vs i → v < 2 ^ 64
     → low ≡ from - 64 * i → low < 64 → IsWord (only ws vs) from i (left_part w v low)
-left_word ws vs from i low w v inside read other_word v_fits start near =
-    let word : w ≡ slice_index ws i = get_or_read ws i w inside read 0 in
-    record {
-      low = low;
-      start = start;
-      near = near;
-      fits = part_fits (bit_and w (2 ^ 64 - 1 - v)) low;
-      same = λ a h e. only_in_word ws vs from i low w v word other_word v_fits start near a h e;
-      below = λ j h. bit_at-high_part_below (bit_and w (2 ^ 64 - 1 - v)) low j h near;
-    }
+left_word ws vs from i low w v word other_word v_fits start near = record {
+  low = low;
+  start = start;
+  near = near;
+  fits = part_fits (bit_and w (2 ^ 64 - 1 - v)) low;
+  same = λ a h e. only_in_word ws vs from i low w v word other_word v_fits start near a h e;
+  below = λ j h. bit_at-high_part_below (bit_and w (2 ^ 64 - 1 - v)) low j h near;
+}
 
 pub only_agree : (flags others : List Bool) (ws vs : List ℕ) (n k : ℕ) → flags_of ws n ≡ flags → flags_of vs k ≡ others → k ≡ n
     → Agree (has_alone flags others) (only ws vs) n
@@ -229,21 +236,25 @@ lowest_of_some is_in has n i m g w some =
     found_inside is_in has n (64 * i) i m g w (none_yet has (64 * i)) (some_word is_in has n i m g w some)
     (some_inside is_in has n i m g w some)
 
--- a group that has one of the set is written
-pub group_written : (is_in : ℕ → Bool) (ws : List ℕ) (n i : ℕ) → Agree is_in (bit_of ws) n
-    → (HasNoneBelow is_in (64 * i) (64 * i + 64) → ⊥) → i < length ws
-group_written is_in ws n i g some =
-    ⊎_elim (λ (h : i < length ws). h)
-    (λ (h : length ws ≤ i). absurd (some (λ a k l.
-    ⊎_elim (λ b. g.inside a b ∙ bit_past ws a (omega arith)) (λ b. g.past a b) (cases_lt a n))))
-    (cases_lt i (length ws))
+-- where the group has one of the set, its word isn't 0
+pub group_some : (is_in : ℕ → Bool) (ws : List ℕ) (n i : ℕ) → Agree is_in (bit_of ws) n
+    → (HasNoneBelow is_in (64 * i) (64 * i + 64) → ⊥) → 0 < slice_index ws i
+group_some is_in ws n i g some =
+    ⊎_elim (λ (h : 0 < slice_index ws i). h)
+    (λ (h : slice_index ws i ≤ 0). absurd (some (none_left is_in (bit_of ws) n (64 * i) (64 * i + 64) (64 * (i + 1)) g
+    (none_in_word (bit_of ws) (64 * i) i 0 (group_word ws i 0 (omega arith) (omega arith)) (none_yet (bit_of ws) (64 * i)) refl)
+    (omega arith))))
+    (cases_lt 0 (slice_index ws i))
 
-pub number_written : (flags : List Bool) (ws : List ℕ) (n a : ℕ) → flags_of ws n ≡ flags → a < length flags → has flags a ≡ true
-    → a / 64 < length ws
-number_written flags ws n a view h e =
-    ⊎_elim (λ (b : a / 64 < length ws). b)
-    (λ (b : length ws ≤ a / 64).
+-- where a number is in the set, its word isn't 0
+pub some_there : (flags : List Bool) (ws : List ℕ) (n a : ℕ) → flags_of ws n ≡ flags → a < length flags → has flags a ≡ true
+    → 0 < slice_index ws (a / 64)
+some_there flags ws n a view h e =
+    ⊎_elim (λ (b : 0 < slice_index ws (a / 64)). b)
+    (λ (b : slice_index ws (a / 64) ≤ 0).
     let same = ap (λ (l : List Bool). has l a) (sym view) ∙ has-flags_of ws n a (omega (arith, h, length-flags_of ws n, ap length view)) in
-    let none = bit_past ws a b in
+    let nothing : slice_index ws (a / 64) ≡ 0 = omega arith in
+    let none : bit_of ws a ≡ false =
+    ap (λ (w : ℕ). eqb (bit_at w (a % 64)) 1) nothing ∙ ap (λ (v : ℕ). eqb v 1) (bit_at-zero (a % 64)) in
     absurd cc)
-    (cases_lt (a / 64) (length ws))
+    (cases_lt 0 (slice_index ws (a / 64)))

@@ -1,3 +1,4 @@
 pub mod Bits
 pub mod BitWords
 pub mod Bounded
+pub mod Pages

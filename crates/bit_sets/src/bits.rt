@@ -8,39 +8,43 @@
 //!                                            next_below(64, 128): none, without a look at word 2
 //! ```
 //!
-//! A set takes one bit a number. Room for all is reserved when it is made, and none of it touched: a word is written when the first
-//! number of its group, or of one above it, comes (`groups`), so of a large set costs what is used. To clear a range of it touches the
-//! range's words and not each number, to clear it whole none, and to go over its members costs the members and the words between them.
-//! A set of few numbers, which isn't to pay for tests of what is written, is a `SmallBits`.
+//! A set takes one bit a number. Room for all is reserved when it is made, and none of it touched: the words are in pages of 512, which are
+//! written when the first number of theirs comes (`pages`), so of a large set costs what is used, wherever that is. To clear a range of it
+//! touches the range's words and not each number, to clear it whole none, and to go over its members costs the members, the words of the
+//! pages that have some, and a look at each other page. A set of few numbers, which isn't to pay for that look, is a `SmallBits`.
 
 ghost use Rattle.std.specs.Prelude.{◌≡◌, ◌+◌, ◌*◌, ◌/◌, ◌^◌, ◌<◌, ◌≤◌, ◌||◌, ◌&&◌, if◌then◌else◌};
 ghost use Rattle.std.specs.Prelude.{ℕ, false, true, IfOk, IfSome, length, MatchOption, not, replicate, slice_set};
 ghost use Rattle.bit_sets.specs.Bits.{has, has_alone, is_between, is_passing, HasNone, HasNoneBelow, IsLowest};
 
-use crate::groups::{
-    clear_bits, fill_groups, join_bits, reach, reach_group, set_bits, whole_word, word_at,
-    word_without, written_below,
-};
+use crate::groups::{clear_bits, join_bits, set_bits, whole_word};
+use crate::pages::PagedWords;
 use std::alloc::{AllocError, Global};
 use std::marker::Model;
 
 /// A set of numbers below a length that is given when it is made. Clauses see a flag for each number.
-#[derive(Drop)]
 pub struct Bits {
-    /// The words that are written. There is room for all.
-    words: Vec<u64>,
+    /// The words of the groups, in pages that are taken as they are reached.
+    words: PagedWords,
     len: u32,
 }
 
 impl Model for Bits {
-    ghost use Rattle.std.specs.Prelude.{List, Bool, ◌≤◌, ◌*◌, vec_capacity};
+    ghost use Rattle.std.specs.Prelude.{List, Bool, ◌≤◌, ◌*◌, length};
     ghost use Rattle.bit_sets.specs.BitWords.{flags_of};
 
     ghost Value = { List Bool };
 
-    ghost view = { λ s. flags_of s.words.items s.len };
+    ghost view = { λ s. flags_of s.words s.len };
 
-    ghost invariant = { λ s. s.len ≤ 64 * vec_capacity s.words };
+    ghost invariant = { λ s. s.len ≤ 64 * length s.words };
+}
+
+/// Where it is let go there is one call, and not a drop for each of its parts.
+impl Drop for Bits {
+    fn drop(self) {
+        let Bits { words: _, len: _ } = self;
+    }
 }
 
 impl Bits {
@@ -48,7 +52,7 @@ impl Bits {
     pub fn new(alloc: Global, count: u32) -> Result<Bits, AllocError>
         ensures { IfOk result (λ bits. bits ≡ replicate count false) }
     {
-        let words = Vec::with_capacity(alloc, count.div_ceil(64) as usize)?;
+        let words = PagedWords::new(alloc, count.div_ceil(64))?;
         Ok(Bits { words, len: count })
     }
 
@@ -72,8 +76,7 @@ impl Bits {
         requires { number < length self.now }
         ensures { result ≡ has self.now number }
     {
-        let group = number as usize / 64;
-        group < self.words.len() && self.words[group] >> (number % 64) & 1 == 1
+        self.words.get(number / 64) >> (number % 64) & 1 == 1
     }
 
     /// A number is in the set.
@@ -82,8 +85,7 @@ impl Bits {
         requires { number < length self.old }
         ensures { self.new ≡ slice_set self.old number true }
     {
-        reach_group(&mut self.words, number / 64);
-        self.words[number as usize / 64] |= 1 << (number % 64);
+        self.words.join(number / 64, 1 << (number % 64));
     }
 
     /// A number comes into the set. Whether it wasn't there.
@@ -94,13 +96,7 @@ impl Bits {
         ensures same { result ≡ false → self.new ≡ self.old }
         ensures set { self.new ≡ slice_set self.old number true }
     {
-        reach_group(&mut self.words, number / 64);
-        let word = self.words[number as usize / 64];
-        if word >> (number % 64) & 1 == 1 {
-            return false;
-        }
-        self.words[number as usize / 64] = word | 1 << (number % 64);
-        true
+        self.words.insert(number / 64, number % 64)
     }
 
     /// A number is not in the set.
@@ -108,14 +104,10 @@ impl Bits {
         requires { number < length self.old }
         ensures { self.new ≡ slice_set self.old number false }
     {
-        let group = number as usize / 64;
-        if self.words.len() <= group {
-            return;
-        }
-        self.words[group] &= !(1 << (number % 64));
+        self.words.keep(number / 64, !(1 << (number % 64)));
     }
 
-    /// The set is empty: none of its words counts as written any more, and none is touched.
+    /// The set is empty: none of the pages of its words counts as taken any more, and none of its words is touched.
     pub fn clear(&mut self)
         ensures { self.new ≡ replicate (length self.old) false }
     {
@@ -124,13 +116,12 @@ impl Bits {
 
     /// The numbers of whole groups, from one up to another, which is not one of them, are in the set, or they aren't.
     fn put_groups(&mut self, first: u32, past: u32, value: bool)
-        requires order { first ≤ past }
+        requires order { first < past }
         requires within { 64 * past ≤ length self.old }
         ensures len { length self.new ≡ length self.old }
         ensures flags { (a : ℕ) → has self.new a ≡ (if is_between (64 * first) (64 * past) a then value else has self.old a) }
     {
-        let word = whole_word(value);
-        fill_groups(&mut self.words, first, past, word);
+        self.words.fill(first, past, whole_word(value));
     }
 
     /// The numbers from `from` up to `to`, which is not one of them, are in the set: word by word, by the bits of each.
@@ -189,10 +180,11 @@ impl Bits {
         ensures flags { (a : ℕ) → has self.new a ≡ (has self.old a || (is_between (64 * group) (64 * group + 64) a
             && (has members.now a && is_passing filter.now first second a))) }
     {
-        let passing = word_at(&filter.words, first) & word_at(&filter.words, second);
-        let more = word_at(&members.words, group) & passing;
-        reach(&mut self.words, group + 1);
-        self.words[group as usize] |= more;
+        let passing = filter.words.get(first) & filter.words.get(second);
+        let more = members.words.get(group) & passing;
+        if more != 0 {
+            self.words.join(group, more);
+        }
     }
 
     /// The numbers from `from` up to `to`, which is not one of them, are not in the set: word by word, by the bits of each.
@@ -254,18 +246,20 @@ impl Bits {
         ensures within { IfSome result (λ found. found < length self.now) }
     {
         let end = to.min(self.len);
-        let past = written_below(&self.words, end);
-        for index in from / 64..past {
-            let all = self.words[index as usize];
-            if all == 0 {
-                continue;
-            }
-            let low = from.saturating_sub(64 * index);
-            let word = all & u64::MAX << low;
-            if word != 0 {
-                let found = 64 * index + word.trailing_zeros();
-                return if found < end { Some(found) } else { None };
-            }
+        if end <= from {
+            return None;
+        }
+        let group = from / 64;
+        let word = self.words.get(group) & u64::MAX << (from % 64);
+        if word != 0 {
+            let found = 64 * group + word.trailing_zeros();
+            return if found < end { Some(found) } else { None };
+        }
+        let past = end.div_ceil(64);
+        let next = self.words.next_written(group + 1, past);
+        if next < past {
+            let found = 64 * next + self.words.get_some(next).trailing_zeros();
+            return if found < end { Some(found) } else { None };
         }
         None
     }
@@ -279,7 +273,7 @@ impl Bits {
         ensures within { IfSome result (λ found. found < length self.now) }
     {
         self.law();
-        let word = word_at(&self.words, group);
+        let word = self.words.get(group);
         if word == 0 {
             return None;
         }
@@ -287,7 +281,7 @@ impl Bits {
         if found < self.len { Some(found) } else { None }
     }
 
-    /// The lowest number of the set in a group that has one. It looks at one word, and tests nothing: that word is written.
+    /// The lowest number of the set in a group that has one. It looks at one word, and tests nothing: that word's page is taken.
     #[inline(always)]
     pub fn first_in(&self, group: u32) -> u32
         requires known { 64 * group < length self.now }
@@ -297,12 +291,12 @@ impl Bits {
         ensures within { result < length self.now }
     {
         self.law();
-        let word = self.words[group as usize];
+        let word = self.words.get_some(group);
         64 * group + word.trailing_zeros()
     }
 
-    /// The lowest number of the group of `number` that is in this set and not in `other`, which has `number`: so that one's word is
-    /// written.
+    /// The lowest number of the group of `number` that is in this set and not in `other`, which has `number`: so the page of
+    /// that one's word is taken.
     #[inline(always)]
     pub fn lowest_left(&self, other: &Bits, number: u32) -> Option<u32>
         requires known { number < length self.now }
@@ -316,7 +310,7 @@ impl Bits {
     {
         self.law();
         let group = number / 64;
-        let word = word_at(&self.words, group) & !other.words[group as usize];
+        let word = self.words.get(group) & !other.words.get_some(group);
         if word == 0 {
             return None;
         }
@@ -335,7 +329,7 @@ impl Bits {
         ensures within { IfSome result (λ found. found < length self.now) }
     {
         self.law();
-        let word = word_without(word_at(&self.words, group), &other.words, group);
+        let word = self.words.get(group) & !other.words.get(group);
         if word == 0 {
             return None;
         }
@@ -354,13 +348,18 @@ impl Bits {
         ensures within { IfSome result (λ found. found < length self.now) }
     {
         let end = to.min(self.len);
-        let past = written_below(&self.words, end);
-        for index in from / 64..past {
-            let low = from.saturating_sub(64 * index);
-            let word = self.words[index as usize] & !word_at(&other.words, index) & u64::MAX << low;
-            if word != 0 {
-                let found = 64 * index + word.trailing_zeros();
-                return if found < end { Some(found) } else { None };
+        let past = end.div_ceil(64);
+        let mut index = from / 64;
+        while index < past {
+            index = self.words.next_written(index, past);
+            if index < past {
+                let low = from.saturating_sub(64 * index);
+                let word = self.words.get_some(index) & !other.words.get(index) & u64::MAX << low;
+                if word != 0 {
+                    let found = 64 * index + word.trailing_zeros();
+                    return if found < end { Some(found) } else { None };
+                }
+                index += 1;
             }
         }
         None

@@ -6,14 +6,14 @@
 //!             word 0         | word 1: none  | word 2
 //! ```
 //!
-//! So no access tests whether a word is written, as it does in a set that may be large (`bits`). Who asks for the lowest number of
+//! So no access looks for the page of a word, as it does in a set that may be large (`bits`). Who asks for the lowest number of
 //! a group looks at one word, and to clear a set touches each.
 
 ghost use Rattle.std.specs.Prelude.{◌≡◌, ◌+◌, ◌*◌, ◌^◌, ◌<◌};
 ghost use Rattle.std.specs.Prelude.{false, true, IfOk, IfSome, length, MatchOption, replicate, slice_set};
 ghost use Rattle.bit_sets.specs.Bits.{has, HasNone, HasNoneBelow, IsLowest};
 
-use crate::groups::fill_all;
+use crate::pages::fill_all;
 use std::alloc::{AllocError, Global};
 use std::marker::Model;
 

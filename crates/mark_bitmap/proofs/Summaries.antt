@@ -138,3 +138,13 @@ has_some test group m none =
     let f = none m.number (omega arith) (omega arith) in
     let e = m.is_in in
     cc
+
+pub levels_new : (members groups blocks : List Bool) (n k m : ℕ) → members ≡ replicate n false → groups ≡ replicate k false
+    → blocks ≡ replicate m false → k ≡ div_ceil n 64 → m ≡ div_ceil k 64 → AreLevels members groups blocks
+levels_new members groups blocks n k m e f g count above =
+    rw (e, f, g) (record {
+      group_count = length-replicate k false ∙ count ∙ ap (λ (x : ℕ). div_ceil x 64) (sym (length-replicate n false));
+      block_count = length-replicate m false ∙ above ∙ ap (λ (x : ℕ). div_ceil x 64) (sym (length-replicate k false));
+      group_summary = empty_summary n k;
+      block_summary = empty_summary k m;
+    })

@@ -8,8 +8,8 @@
 //! ```
 //!
 //! Over a marking cycle a set is cleared, then grows as objects are marked, and then stays, but that a region that
-//! is released loses its part of it. It is kept as bits, one an address, of which those up to the highest marked one are written:
-//! so a heap of which little is in use pays for that little.
+//! is released loses its part of it. It is kept as bits, one an address, in pages that are written as marks come to them: so a heap of
+//! which little is in use pays for that little, wherever it is.
 
 ghost use Rattle.std.specs.Prelude.{◌≡◌, ◌+◌, ◌*◌, ◌/◌, ◌^◌, ◌<◌, ◌≤◌, if◌then◌else◌};
 ghost use Rattle.std.specs.Prelude.{ℕ, List, Bool, false, true, IfOk, IfSome, length, MatchOption, not, replicate, slice_set};

@@ -7,7 +7,12 @@ use std::test::Fail;
 
 /// The set of these numbers, all below 200.
 fn set_of(alloc: Global, members: &[u32]) -> Result<Bits, AllocError> {
-    let mut bits = Bits::new(alloc, 200)?;
+    set_below(alloc, 200, members)
+}
+
+/// The set of these numbers, all below another.
+fn set_below(alloc: Global, count: u32, members: &[u32]) -> Result<Bits, AllocError> {
+    let mut bits = Bits::new(alloc, count)?;
     for member in members {
         if *member < bits.len() {
             bits.set(*member);
@@ -157,5 +162,59 @@ fn sets_ranges(rt: HostRuntime) -> Result<(), Fail> {
         }
         assert!(rt; are(&bits, members), "from {from} to {to}");
     }
+    Ok(())
+}
+
+/// Five pages of words, 32,768 numbers each and the last one fewer, which are taken in any order: a search passes those that aren't.
+#[test]
+fn searches_pages_in_any_order(rt: HostRuntime) -> Result<(), Fail> {
+    let members = [149_999, 40_000, 3, 98_304, 32_767];
+    let bits = set_below(rt.alloc(), 150_000, &members)?;
+    assert!(rt; are(&bits, &[3, 32_767, 40_000, 98_304, 149_999]));
+    for (from, to, found) in [
+        (40_001, 98_304, None),
+        (40_001, 98_305, Some(98_304)),
+        (65_536, 98_304, None),
+        (98_305, 131_072, None),
+        (98_305, 150_000, Some(149_999)),
+    ] {
+        assert_eq!(rt; bits.next_below(from, to), found, "from {from} to {to}");
+    }
+    let other = set_below(rt.alloc(), 150_000, &[32_767, 65_536, 98_304])?;
+    assert!(rt; bits.len() == 150_000 && other.len() == 150_000);
+    for (from, to, found) in [
+        (4, 40_000, None),
+        (4, 40_001, Some(40_000)),
+        (40_001, 149_999, None),
+        (40_001, 150_000, Some(149_999)),
+    ] {
+        assert_eq!(rt;
+            bits.next_without(&other, from, to),
+            found,
+            "from {from} to {to}"
+        );
+    }
+    Ok(())
+}
+
+/// Ranges over pages that are taken and others are set and cleared. A page that is taken after the set was cleared has none of what the
+/// set had.
+#[test]
+fn changes_pages(rt: HostRuntime) -> Result<(), Fail> {
+    let mut bits = set_below(rt.alloc(), 150_000, &[140_000, 3, 131_072])?;
+    assert!(rt; bits.len() == 150_000);
+    bits.clear_range(2, 131_073);
+    assert!(rt; bits.len() == 150_000 && are(&bits, &[140_000]));
+    bits.set_range(32_766, 98_305);
+    assert!(rt; bits.len() == 150_000 && bits.next(0) == Some(32_766));
+    bits.clear_range(32_767, 98_304);
+    assert!(rt; bits.len() == 150_000 && are(&bits, &[32_766, 98_304, 140_000]));
+    bits.remove(65_536);
+    assert!(rt; bits.len() == 150_000 && are(&bits, &[32_766, 98_304, 140_000]));
+    bits.clear();
+    assert!(rt; bits.len() == 150_000 && are(&bits, &[]));
+    assert!(rt; bits.insert(40_000));
+    assert!(rt; bits.len() == 150_000 && are(&bits, &[40_000]));
+    assert!(rt; !bits.insert(40_000));
     Ok(())
 }

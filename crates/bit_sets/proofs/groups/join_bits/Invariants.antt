@@ -1,10 +1,9 @@
-use Rattle.std.proofs.Common.{◌≤◌, ◌*◌, min, vec_len, vec_capacity}
+use Rattle.std.proofs.Common.{◌≡◌, ◌*◌, min, length}
 use Rattle.bit_sets.proofs.BitUnions.{IsJoinedUpTo}
 use Rattle.bit_sets.proofs.groups.join_bits.Given as goal
 
 abbrev pub invariant-loop-index : goal.invariant-loop-index
 invariant-loop-index l = record {
-  written : l.past ≤ vec_len l.words;
-  room : vec_capacity l.fn.words ≤ vec_capacity l.words;
-  bits : IsJoinedUpTo l.members.items l.fn.words.items l.words.items l.from (min l.to (64 * l.index));
+  len : length l.words ≡ length l.initial.words;
+  bits : IsJoinedUpTo l.members l.initial.words l.words l.from (min l.to (64 * l.index));
 }

@@ -1,30 +1,27 @@
-use Rattle.std.proofs.Common.{◌<◌, ◌*◌, ◌/◌, min, length, arith, true}
-use Rattle.std.proofs.lemmas.List.{get_or_read}
+use Rattle.std.proofs.Common.{◌<◌, ◌*◌, ◌/◌, ◌∙◌, ℕ, min, length, length-set, slice_index, refl, ap, arith, true}
 use Rattle.bit_sets.proofs.BitRanges.{put_by_or, put_none, put_more, put_done}
 use Rattle.bit_sets.proofs.groups.set_bits.Goals as goal
 
 pub loop-index-init : goal.loop-index-init
 loop-index-init c = record {
-  written = c.reach.ensures.written;
-  room = c.reach.ensures.room;
-  bits = put_none true c.args.words.now.items c.reach.new.words.items c.args.from (min c.args.to (64 * (c.args.from / 64))) (omega arith)
-      c.reach.ensures.same;
+  len = refl;
+  bits = put_none true c.args.words.now c.args.from (min c.args.to (64 * (c.args.from / 64))) (omega arith);
 }
 
 pub loop-index-preserved : goal.loop-index-preserved
 loop-index-preserved c =
     let ws = c.loop-index.words in
-    let inside : c.loop-index.index < length ws.items = omega (arith, c.loop-index.invariant.written, ws.ok.0) in
+    let inside : c.loop-index.index < length ws =
+    omega (arith, c.requires, c.div_ceil-index-end.ensures, c.loop-index.invariant.len) in
     record {
-      written = c.loop-index.invariant.written;
-      room = c.loop-index.invariant.room;
-      bits = put_more true c.args.words.now.items ws.items c.args.from c.args.to c.loop-index.index c.index_mut.result.now _
-          (get_or_read ws.items _ _ inside c.index_mut.ensures.value 0) inside
-          (put_by_or c.loop-index.index c.args.from c.args.to c.index_mut.result.now c.mask_of.result c.mask_of.ensures)
-          c.loop-index.invariant.bits;
+      len = ap length c.join.ensures ∙ length-set {A = ℕ} ws c.loop-index.index _ ∙ c.loop-index.invariant.len;
+      bits = rw c.join.ensures (put_more true c.args.words.now ws c.args.from c.args.to c.loop-index.index
+          (slice_index ws c.loop-index.index) _ refl inside
+          (put_by_or c.loop-index.index c.args.from c.args.to (slice_index ws c.loop-index.index) c.mask_of.result c.mask_of.ensures)
+          c.loop-index.invariant.bits);
     }
 
 pub returns-clause-bits : goal.returns-clause-bits
 returns-clause-bits c =
-    put_done true c.args.words.now.items c.loop-index.words.items c.args.from c.args.to c.loop-index.index c.div_ceil-past.result
-    (omega (arith, c.div_ceil-past.ensures)) c.loop-index-test.false c.loop-index.invariant.bits
+    put_done true c.args.words.now c.loop-index.words c.args.from c.args.to c.loop-index.index c.div_ceil-index-end.result
+    c.div_ceil-index-end.ensures c.loop-index-test.false c.loop-index.invariant.bits

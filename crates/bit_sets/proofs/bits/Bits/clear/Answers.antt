@@ -2,4 +2,4 @@ use Rattle.bit_sets.proofs.BitWords.{length-flags_of, flags_of_zeros}
 use Rattle.bit_sets.proofs.bits.Bits.clear.Goals as goal
 
 pub returns : goal.returns
-returns c = rw (← c.self.view_is, length-flags_of) (flags_of_zeros _ _ 0 c.clear.ensures.items)
+returns c = rw (← c.self.view_is, length-flags_of) (flags_of_zeros _ _ _ c.clear.ensures)

@@ -3,12 +3,21 @@ use Rattle.bit_sets.proofs.BitWords.{length-flags_of}
 use Rattle.bit_sets.proofs.BitRanges.{flags_put}
 use Rattle.bit_sets.proofs.bits.Bits.clear_part.Goals as goal
 
+pub clear_bits-requires : goal.clear_bits-requires
+clear_bits-requires c = omega (
+  arith,
+  c.requires,
+  c.self.invariant,
+  length-flags_of c.self.inside.words c.self.inside.len,
+  ap length c.self.view_is,
+)
+
 pub returns-clause-len : goal.returns-clause-len
 returns-clause-len c = rw (← c.self.view_is) (length-flags_of _ _ ∙ sym (length-flags_of _ _))
 
 pub returns-clause-flags : goal.returns-clause-flags
 returns-clause-flags c =
     let short : c.args.to ≤ c.self.inside.len =
-    omega (arith, c.requires, length-flags_of c.self.inside.words.items c.self.inside.len, ap length c.self.view_is) in
-    flags_put false c.args.self.now c.self.inside.words.items _ c.self.inside.len c.args.from c.args.to c.self.view_is short
+    omega (arith, c.requires, length-flags_of c.self.inside.words c.self.inside.len, ap length c.self.view_is) in
+    flags_put false c.args.self.now c.self.inside.words _ c.self.inside.len c.args.from c.args.to c.self.view_is short
     c.clear_bits.ensures.bits

@@ -1,51 +1,29 @@
-use Rattle.std.proofs.Common.{◌≡◌, ◌<◌, ◌/◌, ◌∙◌, ℕ, List, Bool, true, false, not, length, set, eqb, sym, ap, arith}
-use Rattle.std.proofs.lemmas.Bool.{ne_eqb}
-use Rattle.std.proofs.lemmas.List.{get_or_read}
-use Rattle.bit_sets.specs.BitWords.{bit_of}
-use Rattle.bit_sets.proofs.BitWords.{number_inside, bit_read, flags_of-set}
-use Rattle.bit_sets.proofs.Written.{flags_same, has_written, same_set}
+use Rattle.std.proofs.Common.{◌∙◌, ℕ, List, Bool, true, not, set, sym, ap, arith, refl}
+use Rattle.bit_sets.specs.Bits.{has}
+use Rattle.bit_sets.specs.BitWords.{flags_of}
+use Rattle.bit_sets.proofs.BitWords.{number_inside, flags_of-set, has-flags_of}
+use Rattle.bit_sets.proofs.Written.{same_set, either_way, not_false}
 use Rattle.bit_sets.proofs.bits.Bits.insert.Goals as goal
 
-pub reach_group-requires-clause-room : goal.reach_group-requires-clause-room
-reach_group-requires-clause-room c =
-    let inside : c.args.number < length c.args.self.now = c.requires in
-    omega (arith, number_inside _ _ _ c.args.number c.self.view_is inside, c.self.invariant)
-
-pub returns-then-word-number-eq1-clause-came : goal.returns-then-word-number-eq1-clause-came
-returns-then-word-number-eq1-clause-came c =
-    let ws = c.reach_group.new.words in
-    let word : c.args.number / 64 < length ws.items = omega (arith, c.reach_group.ensures.written, ws.ok.0) in
-    let n = number_inside _ _ _ c.args.number c.self.view_is c.requires in
-    let bit = bit_read ws.items _ c.args.number (get_or_read ws.items _ _ word c.index-word.ensures 0) in
-    let there : bit_of ws.items c.args.number ≡ true = sym bit ∙ ap (λ (x : ℕ). eqb x 1) c.if-word-number-eq1.true in
-    sym (ap not (has_written _ ws.items _ _ c.args.number c.reach_group.ensures.same c.self.view_is n ∙ there))
-
-pub returns-then-word-number-eq1-clause-set : goal.returns-then-word-number-eq1-clause-set
-returns-then-word-number-eq1-clause-set c =
-    let ws = c.reach_group.new.words in
-    let word : c.args.number / 64 < length ws.items = omega (arith, c.reach_group.ensures.written, ws.ok.0) in
-    let n = number_inside _ _ _ c.args.number c.self.view_is c.requires in
-    let bit = bit_read ws.items _ c.args.number (get_or_read ws.items _ _ word c.index-word.ensures 0) in
-    let there : bit_of ws.items c.args.number ≡ true = sym bit ∙ ap (λ (x : ℕ). eqb x 1) c.if-word-number-eq1.true in
-    same_set ws.items _ _ n there
-    ∙ ap (λ (flags : List Bool). set flags c.args.number true) (flags_same ws.items _ _ c.reach_group.ensures.same ∙ c.self.view_is)
+pub insert-requires-clause-known : goal.insert-requires-clause-known
+insert-requires-clause-known c = omega (arith, number_inside _ _ _ c.args.number c.self.view_is c.requires, c.self.invariant)
 
 pub returns-clause-came : goal.returns-clause-came
 returns-clause-came c =
-    let ws = c.reach_group.new.words in
-    let word : c.args.number / 64 < length ws.items = omega (arith, c.reach_group.ensures.written, ws.ok.0) in
     let n = number_inside _ _ _ c.args.number c.self.view_is c.requires in
-    let bit = bit_read ws.items _ c.args.number (get_or_read ws.items _ _ word c.index-word.ensures 0) in
-    let none : bit_of ws.items c.args.number ≡ false = sym bit ∙ ne_eqb _ 1 c.if-word-number-eq1.false in
-    sym (ap not (has_written _ ws.items _ _ c.args.number c.reach_group.ensures.same c.self.view_is n ∙ none))
+    c.insert.ensures.came
+    ∙ sym (ap not (ap (λ (l : List Bool). has l c.args.number) (sym c.self.view_is) ∙ has-flags_of _ _ c.args.number n))
+
+pub returns-clause-same : goal.returns-clause-same
+returns-clause-same c = λ e. ap (λ (ws : List ℕ). flags_of ws c.self.inside.len) (c.insert.ensures.same e) ∙ c.self.view_is
 
 pub returns-clause-set : goal.returns-clause-set
 returns-clause-set c =
-    let ws = c.reach_group.new.words in
-    let word : c.args.number / 64 < length ws.items = omega (arith, c.reach_group.ensures.written, ws.ok.0) in
-    flags_of-set ws.items _ _ _ (number_inside _ _ _ c.args.number c.self.view_is c.requires) word
-    (get_or_read ws.items _ _ word c.index-word.ensures 0)
-    ∙ ap (λ (flags : List Bool). set flags c.args.number true) (flags_same ws.items _ _ c.reach_group.ensures.same ∙ c.self.view_is)
-
-pub returns-then-word-number-eq1-clause-same : goal.returns-then-word-number-eq1-clause-same
-returns-then-word-number-eq1-clause-same c = λ _. flags_same c.reach_group.new.words.items _ _ c.reach_group.ensures.same ∙ c.self.view_is
+    let n = number_inside _ _ _ c.args.number c.self.view_is c.requires in
+    either_way c.insert.result
+    (λ e. ap (λ (ws : List ℕ). flags_of ws c.self.inside.len) (c.insert.ensures.set e)
+    ∙ flags_of-set c.self.inside.words _ _ c.args.number n (omega (arith, n, c.self.invariant)) refl
+    ∙ ap (λ (flags : List Bool). set flags c.args.number true) c.self.view_is)
+    (λ e. ap (λ (ws : List ℕ). flags_of ws c.self.inside.len) (c.insert.ensures.same e)
+    ∙ same_set c.self.inside.words _ c.args.number n (not_false _ (sym e ∙ c.insert.ensures.came))
+    ∙ ap (λ (flags : List Bool). set flags c.args.number true) c.self.view_is)

@@ -5,4 +5,4 @@ use Rattle.bit_sets.proofs.bits.Bits.next.Goals as goal
 
 pub returns-clause-lowest : goal.returns-clause-lowest
 returns-clause-lowest c = none_at_all c.args.self.now c.args.from c.self.inside.len c.next_below.result
-    (omega (arith, length-flags_of c.self.inside.words.items c.self.inside.len, ap length c.self.view_is)) c.next_below.ensures.lowest
+    (omega (arith, length-flags_of c.self.inside.words c.self.inside.len, ap length c.self.view_is)) c.next_below.ensures.lowest

@@ -7,6 +7,6 @@ get-requires c = omega (
   arith,
   c.if-from-end.true,
   c.min-end.ensures,
-  length-flags_of c.self.inside.words.items c.self.inside.len,
+  length-flags_of c.self.inside.words c.self.inside.len,
   ap length c.self.view_is,
 )

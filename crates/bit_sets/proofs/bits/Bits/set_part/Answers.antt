@@ -9,7 +9,7 @@ set_bits-requires c =
       arith,
       c.requires,
       c.self.invariant,
-      length-flags_of c.self.inside.words.items c.self.inside.len,
+      length-flags_of c.self.inside.words c.self.inside.len,
       ap length c.self.view_is,
     )
 
@@ -19,6 +19,6 @@ returns-clause-len c = rw (← c.self.view_is) (length-flags_of _ _ ∙ sym (len
 pub returns-clause-flags : goal.returns-clause-flags
 returns-clause-flags c =
     let short : c.args.to ≤ c.self.inside.len =
-    omega (arith, c.requires, length-flags_of c.self.inside.words.items c.self.inside.len, ap length c.self.view_is) in
-    flags_put true c.args.self.now c.self.inside.words.items _ c.self.inside.len c.args.from c.args.to c.self.view_is short
+    omega (arith, c.requires, length-flags_of c.self.inside.words c.self.inside.len, ap length c.self.view_is) in
+    flags_put true c.args.self.now c.self.inside.words _ c.self.inside.len c.args.from c.args.to c.self.view_is short
     c.set_bits.ensures.bits

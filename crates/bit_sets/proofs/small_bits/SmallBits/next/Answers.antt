@@ -3,6 +3,7 @@ use Rattle.std.specs.Prelude.{None}
 use Rattle.bit_sets.specs.BitWords.{bit_of}
 use Rattle.bit_sets.proofs.BitWords.{high_mask, div_ceil_reaches, length-flags_of}
 use Rattle.bit_sets.proofs.LowestBits.{IsWord, bits_word, bits_agree, none_in_word, none_left, none_at_all, found_past, found_inside}
+use Rattle.std.proofs.lemmas.List.{get_or_read}
 use Rattle.bit_sets.proofs.small_bits.SmallBits.next.Goals as goal
 
 pub loop-index-init : goal.loop-index-init
@@ -14,8 +15,9 @@ loop-index-preserved c =
     let inside : c.loop-index.index < length c.self.inside.words.items =
     omega (arith, c.self.invariant, c.self.inside.words.ok.0, c.div_ceil-index-end.ensures) in
     let w : IsWord (bit_of c.self.inside.words.items) c.args.from c.loop-index.index (bit_and c.index.result.now (high_mask low)) =
-    bits_word c.self.inside.words.items c.args.from c.loop-index.index low c.index.result.now inside
-    c.index.ensures (omega (arith, c.saturating_sub-low.ensures)) (omega (arith, c.saturating_sub-low.ensures)) in
+    bits_word c.self.inside.words.items c.args.from c.loop-index.index low c.index.result.now
+    (get_or_read c.self.inside.words.items _ _ inside c.index.ensures 0) (omega (arith, c.saturating_sub-low.ensures))
+    (omega (arith, c.saturating_sub-low.ensures)) in
     none_in_word _ _ _ _ w c.loop-index.invariant c.if-word-ne0.false
 
 pub returns-then-found-self : goal.returns-then-found-self
@@ -24,8 +26,9 @@ returns-then-found-self c =
     let inside : c.loop-index.index < length c.self.inside.words.items =
     omega (arith, c.self.invariant, c.self.inside.words.ok.0, c.div_ceil-index-end.ensures) in
     let w : IsWord (bit_of c.self.inside.words.items) c.args.from c.loop-index.index (bit_and c.index.result.now (high_mask low)) =
-    bits_word c.self.inside.words.items c.args.from c.loop-index.index low c.index.result.now inside
-    c.index.ensures (omega (arith, c.saturating_sub-low.ensures)) (omega (arith, c.saturating_sub-low.ensures)) in
+    bits_word c.self.inside.words.items c.args.from c.loop-index.index low c.index.result.now
+    (get_or_read c.self.inside.words.items _ _ inside c.index.ensures 0) (omega (arith, c.saturating_sub-low.ensures))
+    (omega (arith, c.saturating_sub-low.ensures)) in
     record {
       lowest = found_inside _ _ c.self.inside.len _ _ _ (bits_agree _ _ _ c.self.view_is) w c.loop-index.invariant (omega arith)
           (omega (arith, c.if-found-self.true));
@@ -38,8 +41,9 @@ returns-else-found-self c =
     let inside : c.loop-index.index < length c.self.inside.words.items =
     omega (arith, c.self.invariant, c.self.inside.words.ok.0, c.div_ceil-index-end.ensures) in
     let w : IsWord (bit_of c.self.inside.words.items) c.args.from c.loop-index.index (bit_and c.index.result.now (high_mask low)) =
-    bits_word c.self.inside.words.items c.args.from c.loop-index.index low c.index.result.now inside
-    c.index.ensures (omega (arith, c.saturating_sub-low.ensures)) (omega (arith, c.saturating_sub-low.ensures)) in
+    bits_word c.self.inside.words.items c.args.from c.loop-index.index low c.index.result.now
+    (get_or_read c.self.inside.words.items _ _ inside c.index.ensures 0) (omega (arith, c.saturating_sub-low.ensures))
+    (omega (arith, c.saturating_sub-low.ensures)) in
     record {
       lowest = none_at_all c.args.self.now c.args.from c.self.inside.len None
           (omega (arith, length-flags_of c.self.inside.words.items c.self.inside.len, ap length c.self.view_is))

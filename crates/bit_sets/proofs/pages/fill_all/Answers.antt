@@ -1,6 +1,6 @@
 use Rattle.std.proofs.Common.{ℕ, length, replicate, sym, ◌∙◌, arith}
 use Rattle.std.proofs.lemmas.List.{ext_get_or, get_or-replicate, length-replicate}
-use Rattle.bit_sets.proofs.groups.fill_all.Goals as goal
+use Rattle.bit_sets.proofs.pages.fill_all.Goals as goal
 
 pub returns : goal.returns
 returns c =
