@@ -112,8 +112,9 @@ impl Core {
     }
 
     /// The same, as a call.
+    #[cold]
     #[inline(never)]
-    fn store_apart(&mut self, mutator: u32, object: Addr, field: u32, target: Ptr)
+    pub(crate) fn store_apart(&mut self, mutator: u32, object: Addr, field: u32, target: Ptr)
         requires known { mutator < self.old.config.mutators }
         requires rooted { IsRoot (heap_of self.old) object }
         requires field { field < length (pointers_at self.old.table object) }

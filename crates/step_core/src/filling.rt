@@ -99,14 +99,13 @@ impl Core {
         self.put_known(mutator, object, at, field, value);
     }
 
-    /// The same, as a call that is seldom made: where the first pointers were stored by `put_near_at`.
+    /// The same, where the store itself is a call: it is seldom made.
     ///
     /// ```rust
     /// core.step(new);
     /// core.put_apart_at(0, r0, Addr::new(0), 0, Some(r0));
     /// ```
-    #[cold]
-    #[inline(never)]
+    #[inline(always)]
     pub fn put_apart_at(
         &mut self,
         mutator: u32,
@@ -127,7 +126,8 @@ impl Core {
         ensures weaks { length (weaks_at self.new.table at) ≡ length (weaks_at self.old.table at) }
         ensures values { length (values_at self.new.table at) ≡ length (values_at self.old.table at) }
     {
-        self.put_at(mutator, object, at, field, value);
+        self.remembers();
+        self.put_known_apart(mutator, object, at, field, value);
     }
 
     /// Does the step `write` of a mutator, whose register `object` holds the object that starts at an address, for a data word that the

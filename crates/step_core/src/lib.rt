@@ -70,5 +70,4 @@ pub use candidates::Choice;
 pub use heap::Core;
 pub use mutator::{NewObject, new_reply};
 pub use names::object_name;
-pub use near::source_of;
 pub use runs::{run, run_to_core};

@@ -28,13 +28,8 @@ use heap_steps::Register;
 use heap_words::addr::{Addr, Ptr};
 
 /// What a number names as a pointer's source: the largest one nil, any other one a register.
-///
-/// ```rust
-/// assert_eq!(rt; source_of(0), Some(r0));
-/// assert_eq!(rt; source_of(u32::MAX), None);
-/// ```
 #[inline(always)]
-pub fn source_of(number: u32) -> Option<Register>
+fn source_of(number: u32) -> Option<Register>
     ensures { result ≡ source number }
 {
     if number == u32::MAX {
