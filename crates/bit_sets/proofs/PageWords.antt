@@ -54,6 +54,15 @@ words_none places pool n k e =
     (λ g h. get_or-replicate n g 0 0 h
     ∙ sym (word_none places pool g (ap (λ (l : List ℕ). slice_index l (g / 512)) e ∙ all_zeros k (g / 512))))
 
+pub words_empty : (places pool : List ℕ) (n : ℕ) → ArePages places pool n → length pool ≡ 0 → words_of places pool n ≡ replicate n 0
+words_empty places pool n pages e =
+    words_are places pool n (replicate n 0) (length-replicate n 0)
+    (λ g h. get_or-replicate n g 0 0 h
+    ∙ sym (word_none places pool g (elim (cases_lt 0 (slice_index places (g / 512))) [
+      | inl there ↦ absurd (omega (arith, pages.inside (g / 512) there, e))
+      | inr none ↦ omega arith
+    ])))
+
 pub group_known : (ws places pool : List ℕ) (n g : ℕ) → words_of places pool n ≡ ws → g < length ws → g < n
 group_known ws places pool n g view h = omega (arith, length-words_of places pool n, ap length view)
 

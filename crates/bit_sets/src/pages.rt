@@ -323,10 +323,13 @@ impl PagedWords {
         );
     }
 
-    /// Each word is 0. It touches the places of the pages, and none of the words.
+    /// Each word is 0. It touches the places of the pages, where one is taken, and none of the words.
     pub(crate) fn clear(&mut self)
         ensures { self.new ≡ replicate (length self.old) 0 }
     {
+        if self.pool.is_empty() {
+            return;
+        }
         forget_all(&mut self.places);
         self.pool.clear();
     }

@@ -1,5 +1,5 @@
-use Rattle.std.proofs.Common.{ℕ, ◌∙◌, arith, ap, sym, length, replicate}
-use Rattle.bit_sets.proofs.PageWords.{words_none, length-words_of}
+use Rattle.std.proofs.Common.{◌≡◌, ℕ, ◌∙◌, arith, rules, ap, sym, length, replicate}
+use Rattle.bit_sets.proofs.PageWords.{words_none, words_empty, length-words_of}
 use Rattle.std.proofs.lemmas.List.{length-replicate}
 use Rattle.bit_sets.proofs.PageWords.{pages_none, all_written}
 use Rattle.bit_sets.proofs.pages.PagedWords.clear.Goals as goal
@@ -32,4 +32,10 @@ returns c =
       places.ok.0,
     )) in
     words_none _ _ _ _ (same ∙ c.forget_all.ensures)
+    ∙ ap (λ (n : ℕ). replicate n 0) (sym (length-words_of _ _ _) ∙ ap length c.self.view_is)
+
+pub returns-then-is_empty : goal.returns-then-is_empty
+returns-then-is_empty c =
+    let none : length c.self.inside.pool.items ≡ 0 = search rules in
+    sym c.self.view_is ∙ words_empty _ _ _ c.self.invariant.0 none
     ∙ ap (λ (n : ℕ). replicate n 0) (sym (length-words_of _ _ _) ∙ ap length c.self.view_is)
