@@ -3,7 +3,7 @@
 //! ```text
 //!   group     0 .. 511   512 .. 1023   1024 .. 1535   1536 .. 1700
 //!   page      0          1             2              3, the last one, has what is left
-//!   places    513        0             0              1
+//!   places    166        0             0              1
 //!                 \__________________________________/
 //!                               \   /
 //!   pool      words of page 3: 165 | words of page 0: 512 | room for the others, not touched
