@@ -94,23 +94,6 @@ impl Core {
         }
     }
 
-    /// Stores a pointer into a new object. It is part of the caller where marking doesn't run and the store is within a region, and else
-    /// a call: so a loop that fills an object has few registers to save.
-    #[inline(always)]
-    pub(crate) fn store_new(&mut self, mutator: u32, object: Addr, field: u32, target: Ptr)
-        requires known { mutator < self.old.config.mutators }
-        requires rooted { IsRoot (heap_of self.old) object }
-        requires field { field < length (pointers_at self.old.table object) }
-        requires held { IsHeld (heap_of self.old) target }
-        ensures { StoresPointer mutator object field target self.old self.new }
-    {
-        if self.marker.running {
-            self.store_apart(mutator, object, field, target);
-        } else {
-            self.store(mutator, object, field, target);
-        }
-    }
-
     /// The same, as a call.
     #[cold]
     #[inline(never)]

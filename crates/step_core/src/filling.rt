@@ -4,7 +4,7 @@
 //!   new r0 2 1      r0 holds 40          make_at(0, r0, 2 1) = #7, 40, or after a step address_of(0, r0) = 40
 //!   put r0 0 r1     put_at(0, r0, 40, 0, r1)
 //!   put r0 1 nil    put_at(0, r0, 40, 1, nil)               none of these looks at r0
-//!   write r0 0 7    write_behind_at(0, r0, 40, 2, 0, 7)     nor this at the header; write_at(0, r0, 40, 0, 7) does
+//!   write r0 0 7    write_behind_at(0, r0, 40, 2, 0, 7)     nor at the header
 //! ```
 //!
 //! `put_all_at` (`near`) stores all pointers, and asks once what each `put_at` asks.
@@ -68,7 +68,7 @@ impl Core {
     }
 
     /// Does the step `put` of a mutator, whose register `object` holds the object that starts at an address, for a field that the object
-    /// has: its header isn't looked at. The object has as many fields as before.
+    /// has: its header isn't looked at. The object has as many fields as before. The store itself is a call: `put_all_at` seldom needs it.
     ///
     /// ```rust
     /// core.step(new);
@@ -99,63 +99,8 @@ impl Core {
         self.put_known(mutator, object, at, field, value);
     }
 
-    /// The same, where the store itself is a call: it is seldom made.
-    ///
-    /// ```rust
-    /// core.step(new);
-    /// core.put_apart_at(0, r0, Addr::new(0), 0, Some(r0));
-    /// ```
-    #[inline(always)]
-    pub fn put_apart_at(
-        &mut self,
-        mutator: u32,
-        object: Register,
-        at: Addr,
-        field: u32,
-        value: Option<Register>,
-    )
-        requires mutator { mutator < self.old.config.mutators }
-        requires object { IsRegister (places_of self.old.config) object }
-        requires value { IsValue (places_of self.old.config) value }
-        requires held { register_of self.old mutator object ≡ Some at }
-        requires field { field < length (pointers_at self.old.table at) }
-        ensures takes { Takes self.old (putting mutator object field value) replies.Done self.new }
-        ensures roots { self.new.roots ≡ self.old.roots }
-        ensures config { self.new.config ≡ self.old.config }
-        ensures pointers { length (pointers_at self.new.table at) ≡ length (pointers_at self.old.table at) }
-        ensures weaks { length (weaks_at self.new.table at) ≡ length (weaks_at self.old.table at) }
-        ensures values { length (values_at self.new.table at) ≡ length (values_at self.old.table at) }
-    {
-        self.remembers();
-        self.put_known_apart(mutator, object, at, field, value);
-    }
-
     /// Does the step `write` of a mutator, whose register `object` holds the object that starts at an address, for a data word that the
-    /// object has. The object has as many fields as before.
-    ///
-    /// ```rust
-    /// core.step(new);
-    /// core.write_at(0, r0, Addr::new(0), 0, 7);
-    /// ```
-    #[inline(always)]
-    pub fn write_at(&mut self, mutator: u32, object: Register, at: Addr, field: u32, value: u64)
-        requires mutator { mutator < self.old.config.mutators }
-        requires object { IsRegister (places_of self.old.config) object }
-        requires held { register_of self.old mutator object ≡ Some at }
-        requires field { field < length (values_at self.old.table at) }
-        ensures takes { Takes self.old (writing mutator object field value) replies.Done self.new }
-        ensures roots { self.new.roots ≡ self.old.roots }
-        ensures config { self.new.config ≡ self.old.config }
-        ensures pointers { length (pointers_at self.new.table at) ≡ length (pointers_at self.old.table at) }
-        ensures weaks { length (weaks_at self.new.table at) ≡ length (weaks_at self.old.table at) }
-        ensures values { length (values_at self.new.table at) ≡ length (values_at self.old.table at) }
-    {
-        self.remembers();
-        let fields = self.table.field_count(at);
-        self.write_known(mutator, object, at, fields, field, value);
-    }
-
-    /// The same of an object that has so many pointers and no weak slot: its header isn't looked at.
+    /// object has. The object has so many pointers and no weak slot: its header isn't looked at. It has as many fields as before.
     ///
     /// ```rust
     /// core.step(new);

@@ -319,35 +319,9 @@ impl Core {
         Reply::Done
     }
 
-    /// The same of a field that the object has, whose header isn't looked at then.
+    /// The same of a field that the object has, whose header isn't looked at then. The store itself is a call.
     #[inline(always)]
     pub(crate) fn put_known(
-        &mut self,
-        mutator: u32,
-        object: Register,
-        at: Addr,
-        field: u32,
-        value: Option<Register>,
-    )
-        requires mutator { mutator < self.old.config.mutators }
-        requires value { IsValue (places_of self.old.config) value }
-        requires held { register_of self.old mutator object ≡ Some at }
-        requires rooted { IsRoot (heap_of self.old) at }
-        requires leads { Leads self.old (register_place (places_of self.old.config) mutator object.number) (Some at) }
-        requires field { field < length (pointers_at self.old.table at) }
-        ensures acts { (g : Graph) → ShowsGraph g self.old → Acts g mutator (actions.Put object field value) replies.Done self.new }
-        ensures keeps { (s : Graph) → KeepsFrom s self.old → KeepsFrom s self.new }
-        ensures after { ActsOn mutator (actions.Put object field value) replies.Done self.old self.new }
-        ensures leaves { LeavesRegions self.old self.new }
-        ensures table { self.new.table ≡ set_pointer self.old.table at field (value_of self.old mutator value) }
-    {
-        let target = self.stored(mutator, value);
-        self.store_new(mutator, at, field, target);
-    }
-
-    /// The same, where the store itself is a call.
-    #[inline(always)]
-    pub(crate) fn put_known_apart(
         &mut self,
         mutator: u32,
         object: Register,

@@ -145,7 +145,7 @@ impl Core {
         if self.is_near(at, field, &target) {
             self.store_near(at, field, target);
         } else {
-            self.put_apart_at(mutator, object, at, field, value);
+            self.put_at(mutator, object, at, field, value);
         }
     }
 
@@ -181,7 +181,7 @@ impl Core {
     {
         for field in 0..from.len() as u32 {
             let value = source_of(from[field as usize]);
-            self.put_apart_at(mutator, object, at, field, value);
+            self.put_at(mutator, object, at, field, value);
         }
     }
 

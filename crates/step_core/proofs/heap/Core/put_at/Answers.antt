@@ -27,7 +27,8 @@ returns-clause-roots c =
 
 pub returns-clause-pointers : goal.returns-clause-pointers
 returns-clause-pointers c =
-    (put_counts _ _ c.args.at c.args.field _ (some_words _ c.remembers.ensures.core) c.requires.field c.put_known.ensures.table).pointers
+    (put_counts _ _ c.args.at c.args.field _ (some_words _ c.remembers.ensures.core) c.requires.field
+    c.put_known.ensures.table).pointers
 
 pub returns-clause-weaks : goal.returns-clause-weaks
 returns-clause-weaks c =
@@ -35,4 +36,5 @@ returns-clause-weaks c =
 
 pub returns-clause-values : goal.returns-clause-values
 returns-clause-values c =
-    (put_counts _ _ c.args.at c.args.field _ (some_words _ c.remembers.ensures.core) c.requires.field c.put_known.ensures.table).values
+    (put_counts _ _ c.args.at c.args.field _ (some_words _ c.remembers.ensures.core) c.requires.field
+    c.put_known.ensures.table).values
