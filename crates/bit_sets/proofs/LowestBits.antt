@@ -236,16 +236,6 @@ lowest_of_some is_in has n i m g w some =
     found_inside is_in has n (64 * i) i m g w (none_yet has (64 * i)) (some_word is_in has n i m g w some)
     (some_inside is_in has n i m g w some)
 
--- where the group has one of the set, its word isn't 0
-pub group_some : (is_in : ℕ → Bool) (ws : List ℕ) (n i : ℕ) → Agree is_in (bit_of ws) n
-    → (HasNoneBelow is_in (64 * i) (64 * i + 64) → ⊥) → 0 < slice_index ws i
-group_some is_in ws n i g some =
-    ⊎_elim (λ (h : 0 < slice_index ws i). h)
-    (λ (h : slice_index ws i ≤ 0). absurd (some (none_left is_in (bit_of ws) n (64 * i) (64 * i + 64) (64 * (i + 1)) g
-    (none_in_word (bit_of ws) (64 * i) i 0 (group_word ws i 0 (omega arith) (omega arith)) (none_yet (bit_of ws) (64 * i)) refl)
-    (omega arith))))
-    (cases_lt 0 (slice_index ws i))
-
 -- where a number is in the set, its word isn't 0
 pub some_there : (flags : List Bool) (ws : List ℕ) (n a : ℕ) → flags_of ws n ≡ flags → a < length flags → has flags a ≡ true
     → 0 < slice_index ws (a / 64)

@@ -1,5 +1,5 @@
 -- Words in pages: what a page that is taken, and a word that is written, make of them.
-use Rattle.std.proofs.Common.{◌≡◌, ◌≢◌, ◌+◌, ◌-◌, ◌*◌, ◌/◌, ◌%◌, ◌^◌, ◌<◌, ◌≤◌, ◌⊎◌, ◌∙◌, ◌++◌}
+use Rattle.std.proofs.Common.{◌≡◌, ◌≢◌, ◌+◌, ◌-◌, ◌*◌, ◌/◌, ◌^◌, ◌<◌, ◌≤◌, ◌⊎◌, ◌∙◌, ◌++◌}
 use Rattle.std.proofs.Common.{max, zero, suc, [], ◌∷◌, ℕ, Bool, true, false, List, length, slice_index, set, replicate, eqb, bit_and}
 use Rattle.std.proofs.Common.{inl, inr, refl, sym, ap, arith, get_or-set_other, get_or-set_same, length-set}
 use Rattle.std.proofs.lemmas.Bool.{cases_lt, cases_eq, ne_eqb}
@@ -11,7 +11,7 @@ use Rattle.std.specs.Int.Bits.{and_zero_l}
 use Rattle.std.proofs.lemmas.List.FromFn.{fill_by_all, length-map-range_with_len, get_or-map-range_with_len}
 use Rattle.bit_sets.specs.Bits.{is_between}
 use Rattle.bit_sets.specs.BitWords.{AreSame}
-use Rattle.bit_sets.specs.Pages.{page_size, paged_word, words_of, taken_words, ArePages}
+use Rattle.bit_sets.specs.Pages.{index_of, page_size, paged_word, words_of, taken_words, ArePages}
 use Rattle.bit_sets.proofs.BitWords.{all_zeros}
 use Rattle.bit_sets.proofs.BitRanges.{between_yes, between_no_below, between_no_above}
 
@@ -19,13 +19,13 @@ use Rattle.bit_sets.proofs.BitRanges.{between_yes, between_no_below, between_no_
 pub word_none : (places pool : List ℕ) (g : ℕ) → slice_index places (g / 512) ≡ 0 → paged_word places pool g ≡ 0
 unfolding paged_word
 word_none places pool g e =
-    ap (λ (b : Bool). if b then 0 else slice_index pool (slice_index places (g / 512) - 1 + g % 512)) (ap (λ (p : ℕ). eqb p 0) e)
+    ap (λ (b : Bool). if b then 0 else slice_index pool (index_of places g)) (ap (λ (p : ℕ). eqb p 0) e)
 
 pub word_there : (places pool : List ℕ) (g : ℕ) → 0 < slice_index places (g / 512)
-    → paged_word places pool g ≡ slice_index pool (slice_index places (g / 512) - 1 + g % 512)
+    → paged_word places pool g ≡ slice_index pool (index_of places g)
 unfolding paged_word
 word_there places pool g h =
-    ap (λ (b : Bool). if b then 0 else slice_index pool (slice_index places (g / 512) - 1 + g % 512))
+    ap (λ (b : Bool). if b then 0 else slice_index pool (index_of places g))
     (ne_eqb (slice_index places (g / 512)) 0 (omega arith))
 
 -- ---- all words
@@ -59,7 +59,7 @@ words_empty places pool n pages e =
     words_are places pool n (replicate n 0) (length-replicate n 0)
     (λ g h. get_or-replicate n g 0 0 h
     ∙ sym (word_none places pool g (elim (cases_lt 0 (slice_index places (g / 512))) [
-      | inl there ↦ absurd (omega (arith, pages.inside (g / 512) there, e))
+      | inl there ↦ absurd (omega (arith, pages.inside (g / 512) there, e, h))
       | inr none ↦ omega arith
     ])))
 
@@ -108,9 +108,9 @@ page_has_room places pool len page pages known free =
 
 -- ---- a page is taken
 pub page_taken : (places pool pool' : List ℕ) (len page : ℕ) → ArePages places pool len → 512 * page < len → slice_index places page ≡ 0
-    → length pool' ≡ length pool + page_size len page → ArePages (set places page (length pool + 1)) pool' len
+    → length pool' ≡ length pool + page_size len page → ArePages (set places page (length pool + 2 ^ 26 - 512 * page)) pool' len
 page_taken places pool pool' len page pages known free more =
-    let place : ℕ = length pool + 1 in
+    let place : ℕ = length pool + 2 ^ 26 - 512 * page in
     let there : page < length places = omega (arith, pages.all) in
     let here : slice_index (set places page place) page ≡ place = get_or-set_same places page place 0 there in
     let other : (p : ℕ) → p ≢ page → slice_index (set places page place) p ≡ slice_index places p = λ p ne.
@@ -138,9 +138,9 @@ page_taken places pool pool' len page pages known free more =
     }
 
 pub taken_same : (places pool pool' : List ℕ) (len page g : ℕ) → ArePages places pool len → 512 * page < len → slice_index places page ≡ 0
-    → AreSame pool' pool → paged_word (set places page (length pool + 1)) pool' g ≡ paged_word places pool g
+    → AreSame pool' pool → paged_word (set places page (length pool + 2 ^ 26 - 512 * page)) pool' g ≡ paged_word places pool g
 taken_same places pool pool' len page g pages known free same =
-    let place : ℕ = length pool + 1 in
+    let place : ℕ = length pool + 2 ^ 26 - 512 * page in
     let there : page < length places = omega (arith, pages.all) in
     elim (cases_eq (g / 512) page) [
       | inl e ↦
@@ -152,7 +152,7 @@ taken_same places pool pool' len page g pages known free same =
           get_or-set_other places page (g / 512) place 0 ne in
           elim (cases_lt 0 (slice_index places (g / 512))) [
             | inl h ↦ word_there (set places page place) pool' g (omega (arith, other)) ∙ same _
-                ∙ ap (λ (p : ℕ). slice_index pool (p - 1 + g % 512)) other ∙ sym (word_there places pool g h)
+                ∙ ap (λ (p : ℕ). slice_index pool (p + g - 2 ^ 26)) other ∙ sym (word_there places pool g h)
             | inr h ↦ word_none (set places page place) pool' g (omega (arith, other)) ∙ sym (word_none places pool g (omega arith))
           ]
     ]
@@ -168,13 +168,17 @@ pages_kept places pool pool' len pages e = record {
 }
 
 pub place_inside : (places pool : List ℕ) (len g : ℕ) → ArePages places pool len → g < len → 0 < slice_index places (g / 512)
-    → slice_index places (g / 512) - 1 + g % 512 < length pool
+    → index_of places g < length pool
 place_inside places pool len g pages h there = omega (arith, pages.inside (g / 512) there)
 
+pub place_high : (places pool : List ℕ) (len g : ℕ) → ArePages places pool len → 0 < slice_index places (g / 512)
+    → 2 ^ 26 ≤ slice_index places (g / 512) + g
+place_high places pool len g pages there = omega (arith, (pages.inside (g / 512) there).0)
+
 pub word_written : (places pool : List ℕ) (len g v : ℕ) → ArePages places pool len → g < len → 0 < slice_index places (g / 512)
-    → words_of places (set pool (slice_index places (g / 512) - 1 + g % 512) v) len ≡ set (words_of places pool len) g v
+    → words_of places (set pool (index_of places g) v) len ≡ set (words_of places pool len) g v
 word_written places pool len g v pages h there =
-    let at : ℕ = slice_index places (g / 512) - 1 + g % 512 in
+    let at : ℕ = index_of places g in
     let inside : at < length pool = place_inside places pool len g pages h there in
     words_are places (set pool at v) len (set (words_of places pool len) g v)
     (length-set {A = ℕ} (words_of places pool len) g v ∙ length-words_of places pool len)
@@ -185,7 +189,7 @@ word_written places pool len g v pages h there =
       | inr ne ↦ get_or-set_other (words_of places pool len) g k v 0 ne ∙ word_of places pool len k below
           ∙ (elim (cases_lt 0 (slice_index places (k / 512))) [
             | inl some ↦
-                let index : ℕ = slice_index places (k / 512) - 1 + k % 512 in
+                let index : ℕ = index_of places k in
                 let differs : index ≢ at = λ e.
                 let same : k / 512 ≡ g / 512 = pages.apart (k / 512) (g / 512) some there (omega arith) (omega arith) in
                 ne (omega (arith, same, e, ap (slice_index places) same)) in
@@ -196,12 +200,12 @@ word_written places pool len g v pages h there =
     ])
 
 pub here_read : (ws places pool : List ℕ) (n g at : ℕ) → words_of places pool n ≡ ws → g < n → 0 < slice_index places (g / 512)
-    → at ≡ slice_index places (g / 512) - 1 + g % 512 → slice_index pool at ≡ slice_index ws g
+    → at ≡ index_of places g → slice_index pool at ≡ slice_index ws g
 here_read ws places pool n g at view h there e =
     ap (slice_index pool) e ∙ sym (word_read ws places pool n g view h ∙ word_there places pool g there)
 
 pub here_written : (ws places pool : List ℕ) (n g at v : ℕ) → ArePages places pool n → words_of places pool n ≡ ws → g < n
-    → 0 < slice_index places (g / 512) → at ≡ slice_index places (g / 512) - 1 + g % 512 → words_of places (set pool at v) n ≡ set ws g v
+    → 0 < slice_index places (g / 512) → at ≡ index_of places g → words_of places (set pool at v) n ≡ set ws g v
 here_written ws places pool n g at v pages view h there e =
     ap (λ (i : ℕ). words_of places (set pool i v) n) e ∙ word_written places pool n g v pages h there ∙ ap (λ (l : List ℕ). set l g v) view
 
@@ -253,12 +257,12 @@ moved_along from to start index g h e = elim (cases_lt g from) [
 
 module _ (places pool pool' : List ℕ) (len from to value start : ℕ) (pages : ArePages places pool len) (some : from < to) (known : to ≤ len)
     (page : to ≤ 512 * (from / 512) + 512) (there : 0 < slice_index places (from / 512))
-    (begin : start ≡ slice_index places (from / 512) - 1 + from % 512)
+    (begin : start ≡ index_of places from)
     (each : (i : ℕ) → slice_index pool' i ≡ (if is_between start (start + (to - from)) i then value else slice_index pool i)) where
   elsewhere : (g : ℕ) → g < len → g / 512 ≢ from / 512 → 0 < slice_index places (g / 512)
-      → is_between start (start + (to - from)) (slice_index places (g / 512) - 1 + g % 512) ≡ false
+      → is_between start (start + (to - from)) (index_of places g) ≡ false
   elsewhere g h ne taken =
-      let index : ℕ = slice_index places (g / 512) - 1 + g % 512 in
+      let index : ℕ = index_of places g in
       elim (cases_lt index start) [
         | inl k ↦ between_no_below start (start + (to - from)) index k
         | inr k ↦ elim (cases_lt index (start + (to - from))) [
@@ -271,7 +275,7 @@ module _ (places pool pool' : List ℕ) (len from to value start : ℕ) (pages :
   page_filled g h = elim (cases_eq (g / 512) (from / 512)) [
     | inl e ↦
         let taken : 0 < slice_index places (g / 512) = rw e there in
-        let index : ℕ = slice_index places (g / 512) - 1 + g % 512 in
+        let index : ℕ = index_of places g in
         let along : index + from ≡ start + g = omega (arith, e, ap (slice_index places) e) in
         word_there places pool' g taken ∙ each index
         ∙ ap (λ (b : Bool). if b then value else slice_index pool index) (moved_along from to start index g (omega arith) along)
@@ -280,7 +284,7 @@ module _ (places pool pool' : List ℕ) (len from to value start : ℕ) (pages :
         let no : is_between from to g ≡ false = other_page from to g page ne in
         let same : paged_word places pool' g ≡ paged_word places pool g = elim (cases_lt 0 (slice_index places (g / 512))) [
           | inl taken ↦ word_there places pool' g taken ∙ each _
-              ∙ ap (λ (b : Bool). if b then value else slice_index pool (slice_index places (g / 512) - 1 + g % 512))
+              ∙ ap (λ (b : Bool). if b then value else slice_index pool (index_of places g))
               (elsewhere g h ne taken)
               ∙ sym (word_there places pool g taken)
           | inr none ↦ word_none places pool' g (omega arith) ∙ sym (word_none places pool g (omega arith))
@@ -340,14 +344,15 @@ page_passed places pool from past p none before g h k l = elim (cases_lt g (512 
 ]
 
 -- what a slice of the pool, which has the words of a page from `low` on, says of them
-module _ (places pool : List ℕ) (p low begin : ℕ) (part : List ℕ) (size : ℕ) (above : 512 * p ≤ low) (ends : low + size ≤ 512 * p + 512)
-    (there : 0 < slice_index places p) (start : begin ≡ slice_index places p - 1 + low % 512)
+module _ (places pool : List ℕ) (len p low begin : ℕ) (part : List ℕ) (size : ℕ) (pages : ArePages places pool len) (above : 512 * p ≤ low) (ends : low + size ≤ 512 * p + 512)
+    (there : 0 < slice_index places p) (start : begin ≡ slice_index places p + low - 2 ^ 26)
     (read : (i : ℕ) → i < size → slice_index part i ≡ slice_index pool (begin + i)) where
   pub part_word : (i : ℕ) → i < size → paged_word places pool (low + i) ≡ slice_index part i
   part_word i h =
       let here : (low + i) / 512 ≡ p = omega arith in
       let place : slice_index places ((low + i) / 512) ≡ slice_index places p = ap (slice_index places) here in
-      let index : slice_index places ((low + i) / 512) - 1 + (low + i) % 512 ≡ begin + i = omega (arith, place, here, start) in
+      let index : index_of places (low + i) ≡ begin + i =
+      omega (arith, place, start, (pages.inside p there).0) in
       word_there places pool (low + i) (omega (arith, place)) ∙ ap (slice_index pool) index ∙ sym (read i h)
 
   pub part_searched : (from past count : ℕ) → low ≡ max from (512 * p) → count ≤ size

@@ -1,6 +1,7 @@
 -- Words in pages of 512. A page's words are taken from the end of one pool when one of them is first written; those of a page that isn't
--- taken are 0. A place says of a page where its words begin in the pool, and one more: 0 where it isn't taken.
-use Rattle.std.specs.Prelude.{◌≡◌, ℕ, ◌+◌, ◌-◌, ◌*◌, ◌/◌, ◌%◌, ◌^◌, ◌<◌, ◌≤◌, ◌==◌, if◌then◌else◌}
+-- taken are 0. A page's place is 0 where it isn't taken. Else the word of a group is in the pool at the group and the place together, less
+-- 2 to the 26th: so the place is that number, and where the page begins in the pool, less the page's first group.
+use Rattle.std.specs.Prelude.{◌≡◌, ℕ, ◌+◌, ◌-◌, ◌*◌, ◌/◌, ◌^◌, ◌<◌, ◌≤◌, ◌==◌, if◌then◌else◌}
 use Rattle.std.specs.Prelude.{min, zero, suc, List, [], ◌∷◌, length, map, slice_index}
 use Rattle.std.specs.List.{range_with_len}
 
@@ -8,10 +9,18 @@ use Rattle.std.specs.List.{range_with_len}
 abbrev pub page_size : ℕ → ℕ → ℕ
 page_size len page = min 512 (len - 512 * page)
 
+-- where the word of a group is in the pool, if its page is taken
+abbrev pub index_of : List ℕ → ℕ → ℕ
+index_of places group = slice_index places (group / 512) + group - 2 ^ 26
+
+-- where the words of a page begin in the pool, if it is taken, and 2 to the 26th more
+abbrev pub begin_of : List ℕ → ℕ → ℕ
+begin_of places page = slice_index places page + 512 * page
+
 -- the word of a group
 unfoldable pub paged_word : List ℕ → List ℕ → ℕ → ℕ
 paged_word places pool group =
-    if slice_index places (group / 512) == 0 then 0 else slice_index pool (slice_index places (group / 512) - 1 + group % 512)
+    if slice_index places (group / 512) == 0 then 0 else slice_index pool (index_of places group)
 
 -- the words of the first so many groups
 unfoldable pub words_of : List ℕ → List ℕ → ℕ → List ℕ
@@ -27,8 +36,9 @@ taken_words (suc place ∷ places) left = min 512 left + taken_words places (lef
 pub record ArePages (places pool : List ℕ) (len : ℕ) : Type 0 where
   pub small : len ≤ 2 ^ 26
   pub all : len ≤ 512 * length places
-  pub inside : (p : ℕ) → 0 < slice_index places p → slice_index places p + page_size len p ≤ length pool + 1
+  pub inside : (p : ℕ) → 0 < slice_index places p
+      → (2 ^ 26 ≤ begin_of places p) × (begin_of places p + page_size len p ≤ length pool + 2 ^ 26)
   pub apart : (p q : ℕ) → 0 < slice_index places p → 0 < slice_index places q
-      → slice_index places p < slice_index places q + page_size len q
-      → slice_index places q < slice_index places p + page_size len p → p ≡ q
+      → begin_of places p < begin_of places q + page_size len q
+      → begin_of places q < begin_of places p + page_size len p → p ≡ q
   pub no_more : length pool ≡ taken_words places len

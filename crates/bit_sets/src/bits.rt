@@ -264,37 +264,6 @@ impl Bits {
         None
     }
 
-    /// The lowest number of the set in a group: group g has the 64 numbers from 64 g on. It looks at one word.
-    pub fn lowest_in(&self, group: u32) -> Option<u32>
-        requires { 64 * group < length self.now }
-        ensures lowest { MatchOption result (HasNoneBelow (has self.now) (64 * group) (64 * group + 64))
-            (IsLowest (has self.now) (64 * group)) }
-        ensures below { IfSome result (λ found. found < 64 * group + 64) }
-        ensures within { IfSome result (λ found. found < length self.now) }
-    {
-        self.law();
-        let word = self.words.get(group);
-        if word == 0 {
-            return None;
-        }
-        let found = 64 * group + word.trailing_zeros();
-        if found < self.len { Some(found) } else { None }
-    }
-
-    /// The lowest number of the set in a group that has one. It looks at one word, and tests nothing: that word's page is taken.
-    #[inline(always)]
-    pub fn first_in(&self, group: u32) -> u32
-        requires known { 64 * group < length self.now }
-        requires some { HasNoneBelow (has self.now) (64 * group) (64 * group + 64) → ⊥ }
-        ensures lowest { IsLowest (has self.now) (64 * group) result }
-        ensures below { result < 64 * group + 64 }
-        ensures within { result < length self.now }
-    {
-        self.law();
-        let word = self.words.get_some(group);
-        64 * group + word.trailing_zeros()
-    }
-
     /// The lowest number of the group of `number` that is in this set and not in `other`, which has `number`: so the page of
     /// that one's word is taken.
     #[inline(always)]

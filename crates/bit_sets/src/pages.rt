@@ -3,7 +3,7 @@
 //! ```text
 //!   group     0 .. 511   512 .. 1023   1024 .. 1535   1536 .. 1700
 //!   page      0          1             2              3, the last one, has what is left
-//!   places    166        0             0              1
+//!   begins    165        not taken     not taken      0
 //!                 \__________________________________/
 //!                               \   /
 //!   pool      words of page 3: 165 | words of page 0: 512 | room for the others, not touched
@@ -19,7 +19,7 @@ ghost use Rattle.std.specs.Prelude.{vec_capacity, vec_len};
 ghost use Rattle.std.specs.Int.{bit_at};
 ghost use Rattle.bit_sets.specs.Bits.{is_between};
 ghost use Rattle.bit_sets.specs.BitWords.{AreSame};
-ghost use Rattle.bit_sets.specs.Pages.{paged_word, ArePages};
+ghost use Rattle.bit_sets.specs.Pages.{index_of, paged_word, ArePages};
 
 use std::alloc::{AllocError, Global};
 use std::marker::Model;
@@ -27,9 +27,13 @@ use std::marker::Model;
 /// How many words a page has. The last one may have fewer.
 const PAGE: u32 = 512;
 
+/// More than the first group of any page. Of a page that is taken the place is this, and where the page begins in the pool, less its first
+/// group: so a word is found by one addition, and no place of such a page is 0.
+const ABOVE: u32 = 1 << 26;
+
 /// Words, as many as are given when they are made, each 0 at first.
 pub(crate) struct PagedWords {
-    /// For each page 0, or where its words begin in the pool, and one more.
+    /// For each page its place: 0, or the number by which the index of a group's word in the pool is above the group, and `ABOVE` more.
     places: Vec<u32>,
     /// The words of the pages that are taken. There is room for all.
     pool: Vec<u64>,
@@ -111,6 +115,15 @@ fn write_zeros(words: &mut Vec<u64>, count: usize)
     words.resize(count, 0).unwrap();
 }
 
+/// Where a group's word is in the pool, by its page's place.
+#[inline(always)]
+fn index_in(place: u32, group: u32) -> usize
+    requires { 2 ^ 26 ≤ place + group }
+    ensures { result ≡ place + group - 2 ^ 26 }
+{
+    place as usize + group as usize - ABOVE as usize
+}
+
 /// A page is taken, its words as 0. Answers its place.
 #[cold]
 #[inline(never)]
@@ -128,7 +141,7 @@ fn take_page(places: &mut Vec<u32>, pool: &mut Vec<u64>, len: u32, page: u32) ->
     let size = PAGE.min(len - PAGE * page);
     let begin = pool.len();
     write_zeros(pool, begin + size as usize);
-    let place = begin as u32 + 1;
+    let place = begin as u32 + ABOVE - PAGE * page;
     places[page as usize] = place;
     place
 }
@@ -143,7 +156,7 @@ fn reach(places: &mut Vec<u32>, pool: &mut Vec<u64>, len: u32, group: u32) -> us
     ensures room { len ≤ vec_capacity pool.new }
     ensures same { (g : ℕ) → paged_word places.new.items pool.new.items g ≡ paged_word places.old.items pool.old.items g }
     ensures taken { 0 < slice_index places.new.items (group / 512) }
-    ensures place { result ≡ slice_index places.new.items (group / 512) - 1 + group % 512 }
+    ensures place { result ≡ index_of places.new.items group }
     ensures inside { result < vec_len pool.new }
 {
     let page = group / PAGE;
@@ -151,7 +164,7 @@ fn reach(places: &mut Vec<u32>, pool: &mut Vec<u64>, len: u32, group: u32) -> us
     if place == 0 {
         place = take_page(places, pool, len, page);
     }
-    place as usize - 1 + group as usize % 512
+    index_in(place, group)
 }
 
 /// The words of one page, from one up to another, which is not one of them, hold this value. Where that is 0, no page is taken for it.
@@ -218,7 +231,7 @@ fn next_written(places: &[u32], pool: &[u64], len: u32, from: u32, past: u32) ->
         }
         let low = from.max(PAGE * page);
         let high = past.min(PAGE * page + PAGE);
-        let begin = place as usize - 1 + low as usize % 512;
+        let begin = index_in(place, low);
         let found = low + first_written(&pool[begin..begin + (high - low) as usize]) as u32;
         if found < high {
             return found;
@@ -252,7 +265,7 @@ impl PagedWords {
         if place == 0 {
             return 0;
         }
-        self.pool[place as usize - 1 + group as usize % 512]
+        self.pool[index_in(place, group)]
     }
 
     /// A group's word, where that isn't 0: its page is taken, and nothing is tested.
@@ -263,7 +276,7 @@ impl PagedWords {
         ensures { result ≡ slice_index self.now group }
     {
         let place = self.places[group as usize / 512];
-        self.pool[place as usize - 1 + group as usize % 512]
+        self.pool[index_in(place, group)]
     }
 
     /// A bit of a group's word is 1. Whether it wasn't.
@@ -302,7 +315,7 @@ impl PagedWords {
     {
         let place = self.places[group as usize / 512];
         if place != 0 {
-            self.pool[place as usize - 1 + group as usize % 512] &= bits;
+            self.pool[index_in(place, group)] &= bits;
         }
     }
 

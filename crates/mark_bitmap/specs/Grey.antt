@@ -1,10 +1,10 @@
 -- Grey objects: marked, and not scanned yet.
-use Rattle.std.specs.Prelude.{◌≡◌, ℕ, ◌/◌, ◌<◌, ◌≤◌, ◌⊎◌, Bool, true, false, List, Option, Some, None, MatchOption, if◌then◌else◌}
-use Rattle.std.specs.Prelude.{length, max, min, replicate, slice_set}
+use Rattle.std.specs.Prelude.{◌≡◌, ◌≢◌, ℕ, ◌/◌, ◌<◌, ◌≤◌, ◌⊎◌, Bool, true, false, List, [], Option, Some, None, MatchOption}
+use Rattle.std.specs.Prelude.{if◌then◌else◌, length, max, min, replicate, slice_set}
 use Rattle.std.specs.Int.{div_ceil}
 use Rattle.bit_sets.specs.Bits.{has}
 use Rattle.mark_bitmap.specs.Marks.{is_only}
-use Rattle.mark_bitmap.specs.Stack.{Stack, AreBelow, IsOn, TakesAll, TakesLast, empty_stack, has_room, with_object}
+use Rattle.mark_bitmap.specs.Stack.{Stack, AreApart, AreBelow, IsOn, empty_stack, has_room, with_object}
 
 -- the finger of an address: a bit of a summary, one for each 64 addresses
 unfoldable pub finger_of : ℕ → ℕ
@@ -38,12 +38,16 @@ nothing_scanned count by_address = record {
 abbrev pub is_grey : List Bool → Scans → ℕ → Bool
 is_grey marks scans = is_only marks scans.scanned
 
--- the held object is grey, and the lowest grey one if the stack has no room; nothing is held if and only if none is grey; and no grey
--- object starts at an address whose finger isn't set, but the held one and those on the stack. What is on the stack may have been scanned
+-- the held object is grey, and the lowest grey one if the stack has no room; nothing is held if and only if none is grey; what is on the
+-- stack is grey, each object once, and none of it is held; and no grey object starts at an address whose finger isn't set, but the held one
+-- and those on the stack
 pub record HasFingers (marks : List Bool) (scans : Scans) : Type 0 where
   pub each : (a : ℕ) → has scans.fingers (finger_of a) ≡ false
       → (scans.held ≡ Some a) ⊎ (IsOn scans.stack a ⊎ (is_grey marks scans a ≡ false))
   pub held : (a : ℕ) → scans.held ≡ Some a → is_grey marks scans a ≡ true
+  pub stacked : (a : ℕ) → IsOn scans.stack a → is_grey marks scans a ≡ true
+  pub apart : AreApart scans.stack
+  pub beside : (a : ℕ) → IsOn scans.stack a → scans.held ≢ Some a
   pub lowest : scans.stack.room ≡ 0 → (a b : ℕ) → scans.held ≡ Some a → b < a → is_grey marks scans b ≡ false
   pub none : (a : ℕ) → scans.held ≡ None → is_grey marks scans a ≡ false
 
@@ -56,11 +60,11 @@ abbrev pub IsLowestBeside : List Bool → List Bool → List Bool → ℕ → Ty
 IsLowestBeside marks scanned fingers x = (is_only marks scanned x ≡ true)
     × ((a : ℕ) → a < x → has fingers (finger_of a) ≡ true → is_only marks scanned a ≡ false)
 
--- what is held after the object that was held is scanned: the last grey one of the stack; where none is grey there, the lowest of those
--- with a finger, if there is one
+-- what is held after the object that was held is scanned: the last one of the stack; where that is empty, the lowest of those with a finger,
+-- if there is one
 pub data HoldsNext (marks : List Bool) (old new : Scans) : Type 0 where
-  OfStack : (found : ℕ) → new.held ≡ Some found → TakesLast (is_grey marks new) old.stack new.stack found → HoldsNext marks old new
-  OfFingers : TakesAll (is_grey marks new) old.stack new.stack
+  OfStack : (found : ℕ) → new.held ≡ Some found → old.stack ≡ with_object new.stack found → HoldsNext marks old new
+  OfFingers : old.stack.objects ≡ [] → new.stack ≡ old.stack
       → MatchOption new.held (HasNoFinger marks new.scanned new.fingers) (IsLowestBeside marks new.scanned new.fingers)
       → HoldsNext marks old new
 

@@ -1,5 +1,5 @@
 -- The mark stack: grey objects that have no finger.
-use Rattle.std.specs.Prelude.{◌≡◌, ◌<◌, ◌++◌, ◌∷◌, ℕ, Bool, true, false, List, [], length, if◌then◌else◌, nat_lt, slice_index, take}
+use Rattle.std.specs.Prelude.{◌≡◌, ◌≢◌, ◌<◌, ◌++◌, ◌∷◌, ℕ, Bool, List, [], length, if◌then◌else◌, nat_lt, slice_index}
 
 -- objects in the order in which they were put on it, the last one at the end; and how many it has room for
 pub record Stack : Type 0 where
@@ -24,21 +24,10 @@ pub record IsOn (stack : Stack) (a : ℕ) : Type 0 where
   pub there : place < length stack.objects
   pub is : slice_index stack.objects place ≡ a
 
+-- each object is on it once
+abbrev pub AreApart : Stack → Type 0
+AreApart stack = (i j : ℕ) → i < j → j < length stack.objects → slice_index stack.objects i ≢ slice_index stack.objects j
+
 -- its objects start at some of so many addresses
 abbrev pub AreBelow : Stack → ℕ → Type 0
 AreBelow stack count = (i : ℕ) → i < length stack.objects → slice_index stack.objects i < count
-
--- all were taken off it, and none passes the test
-pub record TakesAll (test : ℕ → Bool) (old new : Stack) : Type 0 where
-  pub room : new.room ≡ old.room
-  pub none : new.objects ≡ []
-  pub fails : (i : ℕ) → i < length old.objects → test (slice_index old.objects i) ≡ false
-
--- found was taken off it, the last one that passes the test, and all above it
-pub record TakesLast (test : ℕ → Bool) (old new : Stack) (found : ℕ) : Type 0 where
-  pub room : new.room ≡ old.room
-  pub below : new.objects ≡ take (length new.objects) old.objects
-  pub there : length new.objects < length old.objects
-  pub is : slice_index old.objects (length new.objects) ≡ found
-  pub passes : test found ≡ true
-  pub fails : (i : ℕ) → length new.objects < i → i < length old.objects → test (slice_index old.objects i) ≡ false

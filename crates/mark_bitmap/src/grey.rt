@@ -22,12 +22,9 @@
 //!   a list            add 5: held 5     remove 5: none held                 add 90: held 90 ..    in either order
 //! ```
 //!
-//! The held object is known as soon as one is scanned, before the targets of this one are looked for, and comes next unless one of them
-//! takes its place. So who scans can read its header early, and the processor fetches it meanwhile.
-//!
 //! Over a marking cycle: `begin` clears the scanned set and the fingers; each object that is marked is added; `any` and
 //! `remove` take one grey object after another, until none is left. Each of the three costs a few words, however many
-//! objects there are and wherever they lie.
+//! objects there are and wherever they lie. Nothing but the held object is scanned, so the stack needs no search.
 
 ghost use Rattle.std.specs.Prelude.{◌≡◌, ◌≢◌, ℕ, ◌<◌, List, Bool, true, false, Some, None, IfOk, IfSome, length, MatchOption, replicate};
 ghost use Rattle.std.specs.Prelude.{slice_set, []};
@@ -37,6 +34,7 @@ ghost use Rattle.mark_bitmap.specs.Marks.{is_marked, is_only, HasNone, IsLowest}
 ghost use Rattle.mark_bitmap.specs.Summary.{HasMember, HasNoMember};
 ghost use Rattle.mark_bitmap.specs.Grey.{finger_of, is_grey, nothing_scanned, with_grey};
 ghost use Rattle.mark_bitmap.specs.Grey.{HasFingers, HasNoFinger, HoldsNext, IsLowestBeside, Scans};
+ghost use Rattle.mark_bitmap.specs.Stack.{IsOn};
 
 use crate::finger_set::Fingers;
 use crate::mark_stack::MarkStack;
@@ -51,9 +49,6 @@ pub struct Grey {
     fingers: Fingers,
     held: Ptr,
     stack: MarkStack,
-    /// What was read last of an object that comes soon. It is read so that the processor fetches that object, and written here so that the
-    /// compiler keeps the reading. Nobody looks at it.
-    ahead: u32,
 }
 
 impl Model for Grey {
@@ -74,20 +69,7 @@ impl Drop for Grey {
             fingers: _,
             held: _,
             stack: _,
-            ahead: _,
         } = self;
-    }
-}
-
-/// Whether an object is the one that is held.
-#[inline(always)]
-fn holds(held: Ptr, object: Addr) -> bool
-    ensures held { result ≡ true → held ≡ Some object }
-    ensures not { result ≡ false → held ≢ Some object }
-{
-    match held {
-        Some(found) => found.word() == object.word(),
-        None => false,
     }
 }
 
@@ -123,7 +105,6 @@ impl Grey {
             fingers: Fingers::new(alloc, count.div_ceil(64))?,
             held: None,
             stack: MarkStack::new(by_address),
-            ahead: 0,
         })
     }
 
@@ -143,7 +124,7 @@ impl Grey {
         self.held = None;
     }
 
-    /// An object is marked that wasn't scanned, which makes it grey. It is held, and the one that was held is put on the stack. Where that
+    /// An object is marked that was neither marked nor scanned, which makes it grey. It is held, and the one that was held is put on the stack. Where that
     /// has no room, the lower of the two is held, and the finger of the other is set.
     #[inline(always)]
     #[tactic(auto, unfolding(crate::specs::Grey::finger_of))]
@@ -152,8 +133,8 @@ impl Grey {
         requires unscanned { is_marked self.old.scanned object ≡ false }
         ensures added { self.new ≡ with_grey self.old.held self.old object }
         ensures scanned { self.new.scanned ≡ self.old.scanned }
-        ensures fingers { (marks : List Bool) → length marks ≡ length self.old.scanned → HasFingers marks self.old
-            → HasFingers (slice_set marks object true) self.new }
+        ensures fingers { (marks : List Bool) → length marks ≡ length self.old.scanned → is_marked marks object ≡ false
+            → HasFingers marks self.old → HasFingers (slice_set marks object true) self.new }
     {
         let Some(held) = self.held else {
             self.held = Some(object);
@@ -172,6 +153,7 @@ impl Grey {
     pub fn any(&self, marks: &Marks) -> Option<Addr>
         requires even { length marks.now ≡ length self.now.scanned }
         requires fingers { HasFingers marks.now self.now }
+        ensures held { result ≡ self.now.held }
         ensures grey { MatchOption result (HasNone (is_grey marks.now self.now) 0) (λ found. is_grey marks.now self.now found ≡ true) }
         ensures lowest { self.now.stack.room ≡ 0
             → MatchOption result (HasNone (is_grey marks.now self.now) 0) (IsLowest (is_grey marks.now self.now) 0) }
@@ -203,7 +185,7 @@ impl Grey {
         }
     }
 
-    /// The last grey object of the stack is held, or where none is grey there the lowest of those with a finger.
+    /// The last object of the stack is held, or where that is empty the lowest of those with a finger.
     #[inline(always)]
     #[tactic(auto, unfolding(crate::specs::Grey::finger_of))]
     fn hold_next(&mut self, marks: &Marks)
@@ -212,40 +194,29 @@ impl Grey {
         ensures scanned { self.new.scanned ≡ self.old.scanned }
         ensures fingers { self.new.fingers ≡ self.old.fingers }
     {
-        if let Some(found) = self.stack.take(marks, &self.scanned) {
+        if let Some(found) = self.stack.pop() {
             self.held = Some(found);
             return;
         }
         self.held = lowest_beside(marks, &self.scanned, &self.fingers);
     }
 
-    /// An object is scanned: it is no longer grey. Its finger is still set only if a grey object is left at one of the
-    /// finger's addresses. If it was held, the next one is held.
+    /// The object that is held is scanned: it is no longer grey, and the next one is held. Its finger is still set only if a grey object is
+    /// left at one of the finger's addresses.
+    #[inline(always)]
     #[tactic(auto, unfolding(crate::specs::Grey::finger_of))]
     pub fn remove(&mut self, marks: &Marks, object: Addr)
         requires even { length marks.now ≡ length self.old.scanned }
-        requires known { object < length self.old.scanned }
+        requires held { self.old.held ≡ Some object }
         ensures scanned { self.new.scanned ≡ slice_set self.old.scanned object true }
         ensures left { has self.new.fingers (finger_of object) ≡ true → HasMember (is_grey marks.now self.new) (finger_of object) }
         ensures others { (i : ℕ) → i ≢ finger_of object → has self.new.fingers i ≡ has self.old.fingers i }
-        ensures held { self.old.held ≢ Some object → self.new.held ≡ self.old.held }
-        ensures stack { self.old.held ≢ Some object → self.new.stack ≡ self.old.stack }
-        ensures next { self.old.held ≡ Some object → HoldsNext marks.now self.old self.new }
+        ensures next { HoldsNext marks.now self.old self.new }
         ensures fingers { HasFingers marks.now self.old → HasFingers marks.now self.new }
     {
         self.scanned.set(object);
         self.drop_finger(marks, object);
-        if holds(self.held, object) {
-            self.hold_next(marks);
-        }
-    }
-
-    /// Takes what was read of an object that comes soon, for the reading's sake.
-    #[inline(always)]
-    pub fn read_ahead(&mut self, word: u32)
-        ensures { self.new ≡ self.old }
-    {
-        self.ahead = word;
+        self.hold_next(marks);
     }
 
     /// Whether an object is scanned.
@@ -257,15 +228,16 @@ impl Grey {
     }
 }
 
-/// What grey is: marked, and not scanned. With fewer marks, of which the held object keeps its own, the fingers are right still. Where
-/// none is left, each marked object is scanned.
+/// What grey is: marked, and not scanned. With fewer marks, of which the held object and those on the stack keep their own, the fingers are
+/// right still. Where none is left, each marked object is scanned.
 pub fn grey_law()
     ensures grey { (marks : List Bool) (scans : Scans) (a : ℕ) → is_marked marks a ≡ true → is_marked scans.scanned a ≡ false
         → is_grey marks scans a ≡ true }
     ensures marked { (marks : List Bool) (scans : Scans) (a : ℕ) → is_grey marks scans a ≡ true → is_marked marks a ≡ true }
     ensures unscanned { (marks : List Bool) (scans : Scans) (a : ℕ) → is_grey marks scans a ≡ true → is_marked scans.scanned a ≡ false }
     ensures fewer { (marks marks' : List Bool) (scans : Scans) → ((a : ℕ) → is_marked marks' a ≡ true → is_marked marks a ≡ true)
-        → ((a : ℕ) → scans.held ≡ Some a → is_marked marks' a ≡ true) → HasFingers marks scans → HasFingers marks' scans }
+        → ((a : ℕ) → scans.held ≡ Some a → is_marked marks' a ≡ true) → ((a : ℕ) → IsOn scans.stack a → is_marked marks' a ≡ true)
+        → HasFingers marks scans → HasFingers marks' scans }
     ensures done { (marks : List Bool) (scans : Scans) → HasNone (is_grey marks scans) 0 → (a : ℕ) → is_marked marks a ≡ true
         → is_marked scans.scanned a ≡ true }
 {}

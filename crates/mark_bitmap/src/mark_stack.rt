@@ -3,18 +3,15 @@
 //! ```text
 //!   hold 90     held 90   stack | . . . . |        the object that is held is scanned next
 //!   hold 16     held 16   stack | 90 . . . |       it is the one that was found last
-//!   16 scanned  held 90   stack | . . . . |        the last one that is grey still
+//!   16 scanned  held 90   stack | . . . . |        the last one of the stack
 //! ```
 //!
 //! So marking goes down from an object before it comes to the next one. Which is scanned next hangs on no comparison of addresses, so a
-//! processor can go ahead. An object that doesn't fit gets a finger, and one that was scanned out of turn stays on the stack and is passed
-//! over. Where objects are scanned by rising address the stack has no room.
+//! processor can go ahead. An object that doesn't fit gets a finger. Where objects are scanned by rising address the stack has no room.
 
-ghost use Rattle.std.specs.Prelude.{◌≡◌, [], false, true, length, MatchOption};
-ghost use Rattle.mark_bitmap.specs.Marks.{is_only};
-ghost use Rattle.mark_bitmap.specs.Stack.{empty_stack, has_room, with_object, AreBelow, TakesAll, TakesLast};
+ghost use Rattle.std.specs.Prelude.{◌≡◌, [], false, true, None, IfSome};
+ghost use Rattle.mark_bitmap.specs.Stack.{empty_stack, has_room, with_object};
 
-use crate::marks::Marks;
 use arrayvec::ArrayVec;
 use heap_words::addr::Addr;
 use std::marker::Model;
@@ -66,21 +63,14 @@ impl MarkStack {
         true
     }
 
-    /// Takes the last object off that is marked and not scanned, and all above it; all where there is none.
+    /// Takes the last object off, if there is one.
     #[inline(always)]
-    pub fn take(&mut self, marks: &Marks, scanned: &Marks) -> Option<Addr>
-        requires even { length marks.now ≡ length scanned.now }
-        requires below { AreBelow self.old (length scanned.now) }
-        ensures { MatchOption result (TakesAll (is_only marks.now scanned.now) self.old self.new)
-            (TakesLast (is_only marks.now scanned.now) self.old self.new) }
+    pub fn pop(&mut self) -> Option<Addr>
+        ensures none { result ≡ None → (self.old.objects ≡ []) × (self.new ≡ self.old) }
+        ensures last { IfSome result (λ object. self.old ≡ with_object self.new object) }
     {
-        while let Some(word) = self.objects.pop() {
-            let object = Addr::new(word);
-            if marks.get(object) && !scanned.get(object) {
-                return Some(object);
-            }
-        }
-        None
+        let word = self.objects.pop()?;
+        Some(Addr::new(word))
     }
 
     /// Nothing is on it.

@@ -64,26 +64,13 @@ impl Marker {
         self.live.add(table.region_of(at), size);
     }
 
-    /// Reads the header of the object that is held, if one is, so that the processor fetches it while the targets of the one before are
-    /// marked. By rising address it mostly comes next, by the stack after these targets.
+    /// The grey object that is held enters the scanned ones, and the next one is held. The object's targets are still to be marked.
     #[inline(always)]
-    fn read_next(&mut self, table: &RegionTable)
-        requires stands { MarkerStands table.now self.old }
-        requires running { self.old.running ≡ true }
-        ensures { self.new ≡ self.old }
-    {
-        let Some(next) = self.grey.any(&self.bitmaps.next) else {
-            return;
-        };
-        let count = table.pointer_count(next);
-        self.grey.read_ahead(count);
-    }
-
-    /// A grey object enters the scanned ones, and the next one is looked at. The object's targets are still to be marked.
     fn enter(&mut self, table: &RegionTable, object: Addr)
         requires stands { MarkerStands table.now self.old }
         requires running { self.old.running ≡ true }
         requires grey { is_grey self.old.bitmaps.next self.old.grey object ≡ true }
+        requires held { self.old.grey.held ≡ Some object }
         ensures stands { MarkerStands table.now self.new }
         ensures next { self.new.bitmaps.next ≡ self.old.bitmaps.next }
         ensures scanned { self.new.grey.scanned ≡ slice_set self.old.grey.scanned object true }
@@ -94,14 +81,15 @@ impl Marker {
         table.law();
         self.grey.remove(&self.bitmaps.next, object);
         self.scans.add();
-        self.read_next(table);
     }
 
-    /// Scans a grey object: each of its targets that was there when marking began is marked.
-    pub fn scan(&mut self, table: &RegionTable, object: Addr)
+    /// Scans the grey object that is held: each of its targets that was there when marking began is marked.
+    #[inline(always)]
+    fn scan(&mut self, table: &RegionTable, object: Addr)
         requires stands { MarkerStands table.now self.old }
         requires running { self.old.running ≡ true }
         requires grey { is_grey self.old.bitmaps.next self.old.grey object ≡ true }
+        requires held { self.old.grey.held ≡ Some object }
         ensures stands { MarkerStands table.now self.new }
         ensures snapshots { KeepsSnapshots table.now self.old self.new }
         ensures marks { MarksWanted table.now (IsAmong (pointers_at table.now object) (length (pointers_at table.now object))) self.old

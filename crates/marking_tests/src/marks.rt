@@ -108,7 +108,7 @@ fn lives_over_a_cycle(rt: HostRuntime) -> Result<(), Fail> {
     Ok(())
 }
 
-/// An object that wasn't scanned is marked, and so it is grey.
+/// An object that was neither marked nor scanned is marked, and so it is grey.
 fn mark(rt: &impl Abort, marks: &mut Marks, grey: &mut Grey, at: u32)
     requires known { at < length marks.old }
     requires even { length marks.old ≡ length grey.old.scanned }
@@ -118,7 +118,7 @@ fn mark(rt: &impl Abort, marks: &mut Marks, grey: &mut Grey, at: u32)
     ensures fingers { HasFingers marks.new grey.new }
 {
     let object = Addr::new(at);
-    assert!(rt; !grey.is_scanned(object));
+    assert!(rt; !marks.get(object) && !grey.is_scanned(object));
     marks.set(object);
     grey.add(object);
 }
@@ -155,7 +155,7 @@ fn finds_what_is_below(rt: HostRuntime) -> Result<(), Fail> {
     Ok(())
 }
 
-/// By the stack the one that was found last comes next, and one that was scanned out of turn doesn't come again.
+/// By the stack the one that was found last comes next, and then those that were found before it.
 #[test]
 #[tactic(auto, unfolding(mark_bitmap::specs::Grey::nothing_scanned))]
 fn comes_back_to_what_was_found_before(rt: HostRuntime) -> Result<(), Fail> {
@@ -166,8 +166,8 @@ fn comes_back_to_what_was_found_before(rt: HostRuntime) -> Result<(), Fail> {
     mark(&rt, &mut marks, &mut grey, 64);
     scan(&rt, &marks, &mut grey, 64);
     mark(&rt, &mut marks, &mut grey, 5);
-    grey.remove(&marks, Addr::new(199));
     scan(&rt, &marks, &mut grey, 5);
+    scan(&rt, &marks, &mut grey, 199);
     scan(&rt, &marks, &mut grey, 3);
     assert_eq!(rt; grey.any(&marks), None);
     Ok(())

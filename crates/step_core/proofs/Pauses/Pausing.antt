@@ -290,6 +290,9 @@ module _ (k : CoreState) (core : IsCore k) (which : Choice) (budget : ℕ) (chos
               | inr (inr none) ↦ inr (inr (grey_same run a ∙ none))
             ];
             held = λ a held. grey_same run a ∙ fingers.held a held;
+            stacked = λ a on. grey_same run a ∙ fingers.stacked a on;
+            apart = fingers.apart;
+            beside = fingers.beside;
             lowest = λ by_address a b held less. grey_same run b ∙ fingers.lowest by_address a b held less;
             none = λ a held. grey_same run a ∙ fingers.none a held;
           };

@@ -42,7 +42,7 @@ pub returns-clause-stands : goal.returns-clause-stands
 returns-clause-stands c =
     let unmarked = was_unmarked c.args.self.now.bitmaps.next c.args.at c.insert.result c.insert.ensures.came (let came =
     c.if-not-insert.false in cc) in
-    let finger = c.add.ensures.fingers c.args.self.now.bitmaps.next (sym c.requires.stands.scanned)
+    let finger = c.add.ensures.fingers c.args.self.now.bitmaps.next (sym c.requires.stands.scanned) unmarked
     (c.requires.stands.finger c.requires.running) in
     set_stands c.args.table.now c.args.self.now c.args.at c.insert.new.self c.add.new.self c.add-2.new.self c.region_of.result
     c.object_size-size.result c.law.ensures.positive c.requires.stands c.requires.running c.requires.below
