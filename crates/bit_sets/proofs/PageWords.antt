@@ -344,7 +344,8 @@ page_passed places pool from past p none before g h k l = elim (cases_lt g (512 
 ]
 
 -- what a slice of the pool, which has the words of a page from `low` on, says of them
-module _ (places pool : List ℕ) (len p low begin : ℕ) (part : List ℕ) (size : ℕ) (pages : ArePages places pool len) (above : 512 * p ≤ low) (ends : low + size ≤ 512 * p + 512)
+module _ (places pool : List ℕ) (len p low begin : ℕ) (part : List ℕ) (size : ℕ)
+    (pages : ArePages places pool len) (above : 512 * p ≤ low) (ends : low + size ≤ 512 * p + 512)
     (there : 0 < slice_index places p) (start : begin ≡ slice_index places p + low - 2 ^ 26)
     (read : (i : ℕ) → i < size → slice_index part i ≡ slice_index pool (begin + i)) where
   pub part_word : (i : ℕ) → i < size → paged_word places pool (low + i) ≡ slice_index part i

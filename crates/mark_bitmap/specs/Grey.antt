@@ -60,8 +60,8 @@ abbrev pub IsLowestBeside : List Bool → List Bool → List Bool → ℕ → Ty
 IsLowestBeside marks scanned fingers x = (is_only marks scanned x ≡ true)
     × ((a : ℕ) → a < x → has fingers (finger_of a) ≡ true → is_only marks scanned a ≡ false)
 
--- what is held after the object that was held is scanned: the last one of the stack; where that is empty, the lowest of those with a finger,
--- if there is one
+-- what is held after the object that was held is scanned: the last one of the stack; where that is empty, the lowest of those with a
+-- finger, if there is one
 pub data HoldsNext (marks : List Bool) (old new : Scans) : Type 0 where
   OfStack : (found : ℕ) → new.held ≡ Some found → old.stack ≡ with_object new.stack found → HoldsNext marks old new
   OfFingers : old.stack.objects ≡ [] → new.stack ≡ old.stack

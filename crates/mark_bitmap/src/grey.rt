@@ -124,8 +124,8 @@ impl Grey {
         self.held = None;
     }
 
-    /// An object is marked that was neither marked nor scanned, which makes it grey. It is held, and the one that was held is put on the stack. Where that
-    /// has no room, the lower of the two is held, and the finger of the other is set.
+    /// An object is marked that was neither marked nor scanned, which makes it grey. It is held, and the one that was held is put on the
+    /// stack. Where that has no room, the lower of the two is held, and the finger of the other is set.
     #[inline(always)]
     #[tactic(auto, unfolding(crate::specs::Grey::finger_of))]
     pub fn add(&mut self, object: Addr)
