@@ -3,4 +3,5 @@ pub mod Rows
 pub mod Tiles
 pub mod LongRuns
 pub mod Walks
+pub mod Blocks
 pub mod Cards

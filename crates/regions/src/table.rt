@@ -159,12 +159,12 @@ impl RegionTable {
     }
 
     /// Whether an address lies in another region than a word does. So a field that stands in the word and names the address leads
-    /// out of its region.
+    /// out of its region. The two differ in no bit above those of a region's words if they lie in the same: so no shift is needed.
     pub fn leads_out(&self, word: u32, target: Addr) -> bool
         ensures out { result ≡ true → target / self.now.words_per_region ≢ word / self.now.words_per_region }
         ensures within { result ≡ false → target / self.now.words_per_region ≡ word / self.now.words_per_region }
     {
-        target.word() >> self.shift != word >> self.shift
+        (target.word() ^ word) >= self.words_per_region
     }
 
     /// How many regions there are.

@@ -199,12 +199,35 @@ impl Roots {
     }
 
     /// A global takes a value.
+    #[inline(always)]
     pub fn set_global(&mut self, global: u32, value: Ptr)
         requires { global < self.old.places.globals }
         ensures { self.new ≡ record self.old { words = slice_set self.old.words global value } }
     {
-        let held = Held::of(value);
-        self.globals[global as usize] = held;
+        self.keep_global(global, Held::of(value));
+    }
+
+    /// A global takes what a mutator's register holds, which isn't looked at.
+    #[inline(always)]
+    pub fn copy_to_global(&mut self, global: u32, mutator: u32, from: u32)
+        requires global { global < self.old.places.globals }
+        requires mutator { mutator < self.old.places.mutators }
+        requires from { from < self.old.places.registers }
+        ensures { self.new ≡ record self.old {
+          words = slice_set self.old.words global (slice_index_or self.old.words (register_place self.old.places mutator from) None);
+        } }
+    {
+        let value = self.held(mutator, from);
+        self.keep_global(global, value);
+    }
+
+    /// A global takes what is held, and the globals' bound is above it.
+    #[inline(always)]
+    fn keep_global(&mut self, global: u32, value: Held)
+        requires { global < self.old.places.globals }
+        ensures { self.new ≡ record self.old { words = slice_set self.old.words global value } }
+    {
+        self.globals[global as usize] = value;
         if self.used[0] <= global {
             self.used[0] = global + 1;
         }

@@ -236,19 +236,6 @@ impl Core {
         self.roots.get(place)
     }
 
-    pub(crate) fn set_global(&mut self, global: GlobalRoot, value: Ptr)
-        requires global { IsGlobal (places_of self.old.config) global }
-        requires word { IsWordOf (heap_of self.old) value }
-        requires held { IsHeld (heap_of self.old) value }
-        ensures shows { (g : Graph) (v : Option ℕ) → ShowsGraph g self.old → IsShown (heap_of self.old) value v
-            → ShowsGraph (with_root g global.number v) self.new }
-        ensures keeps { (s : Graph) → KeepsFrom s self.old → KeepsFrom s self.new }
-        ensures after { self.new ≡ with_root_word self.old global.number value }
-        ensures leaves { LeavesRegions self.old self.new }
-    {
-        self.roots.set_global(global.number, value);
-    }
-
     /// What a mutator's register holds.
     pub(crate) fn register(&self, mutator: u32, register: Register) -> Ptr
         requires mutator { mutator < self.now.config.mutators }
@@ -292,6 +279,21 @@ impl Core {
         ensures leaves { LeavesRegions self.old self.new }
     {
         self.roots.copy_register(mutator, to.number, from.number);
+    }
+
+    /// A global takes what a mutator's register holds, which isn't looked at.
+    #[inline(always)]
+    pub(crate) fn copy_to_global(&mut self, to: GlobalRoot, mutator: u32, from: Register)
+        requires to { IsGlobal (places_of self.old.config) to }
+        requires mutator { mutator < self.old.config.mutators }
+        requires from { IsRegister (places_of self.old.config) from }
+        ensures shows { (g : Graph) → ShowsGraph g self.old
+            → ShowsGraph (with_root g to.number (root_at g (register_place g.places mutator from.number))) self.new }
+        ensures keeps { (s : Graph) → KeepsFrom s self.old → KeepsFrom s self.new }
+        ensures after { self.new ≡ with_root_word self.old to.number (register_of self.old mutator from) }
+        ensures leaves { LeavesRegions self.old self.new }
+    {
+        self.roots.copy_to_global(to.number, mutator, from.number);
     }
 
     /// A mutator's registers from one on are nil.

@@ -456,8 +456,7 @@ impl Core {
         ensures after { ActsOn mutator (actions.Save to from) result self.old self.new }
         ensures leaves { LeavesRegions self.old self.new }
     {
-        let value = self.register(mutator, from);
-        self.set_global(to, value);
+        self.copy_to_global(to, mutator, from);
         Reply::Done
     }
 
