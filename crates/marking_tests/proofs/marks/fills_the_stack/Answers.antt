@@ -12,5 +12,5 @@ loop-at-init g c = record {
   scanned_flags = ap (λ (s : Scans). length s.scanned) c.in_ok-grey.ensures.none ∙ length-replicate {A = Bool} 200 false;
   fingers =
       c.in_ok-grey.ensures.fingers c.in_ok-marks.marks
-          (λ a. ap (λ (l : List Bool). is_marked l a) c.in_ok-marks.ensures ∙ none_marked 200 a);
+      (λ a. ap (λ (l : List Bool). is_marked l a) c.in_ok-marks.ensures ∙ none_marked 200 a);
 }
