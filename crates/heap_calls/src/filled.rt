@@ -13,7 +13,7 @@ ghost use Rattle.heap_calls.specs.Filled.{AreFields, Fills, FillsIt, FillsOrNot,
 ghost use Rattle.heap_calls.specs.Filled.{making, pointing, wording};
 
 use crate::answer::{Answer, answer_of};
-use crate::heap::{is_known_among, no_step_of};
+use crate::heap::{is_known, no_step_of};
 use crate::named::{counts, register};
 use heap_steps::{Counts, Refusal, Reply};
 use heap_words::addr::Addr;
@@ -65,7 +65,7 @@ pub fn has_fields(core: &Core, mutator: u32, to: u32, from: &[u32], words: &[u64
     if from.len() > u32::MAX as usize || words.len() > u32::MAX as usize {
         return false;
     }
-    if !is_known_among(core, mutator, to) {
+    if !is_known(core, mutator, to) {
         return false;
     }
     has_sources(core, to, from)

@@ -92,17 +92,6 @@ pub fn is_known(core: &Core, mutator: u32, register: u32) -> bool
     (mutator == 0 || mutator < places.mutators()) && register < places.registers()
 }
 
-/// The same, where other tests follow: then a compiler that doesn't know the mutator makes both tests of it at any rate, and one comparison
-/// with the last mutator is cheaper. One that knows that it is 0 leaves this out as well.
-#[inline(always)]
-pub fn is_known_among(core: &Core, mutator: u32, register: u32) -> bool
-    ensures { IsTrue result ↔ (mutator < core.now.config.mutators) × (register < registers_of core.now.config) }
-{
-    let _config = core.config();
-    let places = core.roots().places();
-    mutator <= places.mutators().wrapping_sub(1) && register < places.registers()
-}
-
 /// The code where numbers name no step, by a call. Each heap has regions, so the other code is never told: it keeps the compiler from
 /// putting a number in the place of the call.
 #[cold]
