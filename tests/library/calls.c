@@ -139,6 +139,37 @@ static void filled(g1_heap *h)
     g1_scope(h, 1, 0);
 }
 
+/* A filled object with the next name, whose fields are what its sources name and its words. Register 3 is none of the sources. */
+static void fills(g1_heap *h, uint32_t to, const uint32_t *from, uint32_t pointers, uint32_t values, uint64_t name)
+{
+    const uint64_t in[] = {7, UINT64_MAX, 9, 10, 11, 12, 13};
+    g1_answer named[4];
+    for (uint32_t i = 0; i < pointers; i++)
+        named[i] = from[i] == G1_NIL_REGISTER ? (g1_answer){G1_NIL_VALUE, 0, 0} : g1_name(h, 1, from[i]);
+    is("new_filled", g1_new_filled(h, 1, to, from, pointers, in, values), G1_NAME, name, 0);
+    is("shape", g1_shape(h, 1, to), G1_SHAPE, pointers, values);
+    for (uint32_t i = 0; i < pointers; i++) is("get", g1_get(h, 1, 3, to, i), named[i].code, named[i].first, 0);
+    for (uint32_t i = 0; i < values; i++) is("read", g1_read(h, 1, to, i), G1_WORD, in[i], 0);
+}
+
+/* Filled objects in all places, of all kinds of sources, and while marking runs: a new heap has 4 regions of 16 words and buffers of 8. In
+   brackets are the words that are left of the buffer. */
+static void filled_everywhere(g1_heap *h)
+{
+    const uint32_t first[] = {0, G1_NIL_REGISTER}, both[] = {0, 1, 2};
+    g1_new_object(h, 1, 0, 0, 0);                               /* [6] */
+    fills(h, 1, first, 1, 0, 1);                                /* [3] in the buffer */
+    fills(h, 2, first, 1, 0, 2);                                /* [0] its words are all that the buffer has */
+    fills(h, 1, first, 2, 2, 3);                                /* [2] a buffer of its own, in the same region */
+    fills(h, 2, both, 2, 0, 4);                                 /* [4] in another region than its sources */
+    g1_drop(h, 1, 0);
+    fills(h, 2, both + 1, 1, 0, 5);                             /* [1] a register that holds nil */
+    is("begin", g1_begin(h), G1_DONE, 0, 0);
+    fills(h, 0, both + 1, 2, 1, 6);                             /* [3] while marking runs */
+    fills(h, 1, first, 1, 7, 7);                                /* larger than half a region */
+    g1_scope(h, 1, 0);
+}
+
 /* The same by the policy. */
 static void made_filled(g1_heap *h, const g1_sizes *sizes)
 {
@@ -222,6 +253,7 @@ int main(void)
     is_code("g1_new", g1_new(&one, &sizes), G1_DONE);
     sizes.first_name = 0, g1_free(&one), g1_new(&one, &sizes);
     words(&one), filled(&one), made_filled(&one, &sizes);
+    g1_free(&one), g1_new(&one, &sizes), filled_everywhere(&one);
     g1_free(&one), g1_free(&one), g1_free(&other);
     if (failed == 0) puts("all calls answered as the header has it");
     return failed != 0;

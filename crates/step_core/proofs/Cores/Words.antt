@@ -20,8 +20,8 @@ use Rattle.heap_steps.specs.declared.step.Step.TheVariants as steps
 use Rattle.step_core.specs.Stands.{CoreState, IsCore, Leads, ShowsGraph}
 use Rattle.step_core.specs.Answers.{Acts}
 use Rattle.step_core.specs.Cycle.{LeavesRegions}
-use Rattle.step_core.specs.Mutators.{ActsOn, HasActed, register_of, object_of}
-use Rattle.step_core.specs.Words.{Takes, putting, reading, writing, AreRead, AreRefused, AreWritten, IsUnread, IsUnwritten}
+use Rattle.step_core.specs.Mutators.{ActsOn, register_of, object_of}
+use Rattle.step_core.specs.Words.{Takes, reading, writing, AreRead, AreWritten, IsUnread, IsUnwritten}
 use Rattle.step_core.proofs.Cores.Acted.{Acted, acted_plain}
 use Rattle.step_core.proofs.Cores.Sizes.{some_words}
 use Rattle.step_core.proofs.Cores.Keeping.{core_of, register_inside, write_after, write_kept, write_kept_from, write_leaves}

@@ -10,14 +10,13 @@ use Rattle.std.proofs.lemmas.List.Sums.{sum_by-cons, sum_by-append}
 use Rattle.std.proofs.lemmas.List.Elements.{All-append}
 use Rattle.std.proofs.lemmas.List.Folds.{Any-from_list_any, list_any-append}
 use Rattle.regions.specs.Table.{Region, Table, Free, Ordinary, First, Rest, is_free, kind_of, nth_region, region_kind}
-use Rattle.regions.specs.declared.row.Kind.{Kind}
 use Rattle.regions.specs.declared.row.Kind.TheVariants as kinds
 use Rattle.mark_bitmap.specs.Tops.{Tops}
 use Rattle.mark_bitmap.specs.Live.{live_bound_of}
 use Rattle.region_choice.specs.declared.LiveRow.{LiveRow}
 use Rattle.region_choice.specs.Choice.{copy_limit, live_sum}
 use Rattle.evacuation.specs.Evacuates.{is_chosen}
-use Rattle.step_core.specs.Pause.{IsRowOf, AreRowsOf, AreHighest, GoesDown, IsCompacted, free_below}
+use Rattle.step_core.specs.Pause.{IsRowOf, AreHighest, GoesDown, IsCompacted, free_below}
 use Rattle.step_core.proofs.Mutating.Small.{ordinary_known}
 use Rattle.step_core.proofs.Pauses.Rows.{All_one, length-push}
 

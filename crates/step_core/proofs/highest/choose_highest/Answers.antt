@@ -1,10 +1,10 @@
-use Rattle.std.proofs.Common.{◌≡◌, ◌∙◌, ◌+◌, ◌*◌, ◌<◌, ◌≤◌, ◌⊎◌, ◌∷◌, ◌++◌, ℕ, Bool, [], List, false, length, take, sym, ap, subst, arith}
+use Rattle.std.proofs.Common.{◌≡◌, ◌∙◌, ◌+◌, ◌*◌, ◌≤◌, ℕ, Bool, List, length, take, sym, ap, subst, arith}
 use Rattle.std.proofs.Common.{inl, inr}
 use Rattle.std.specs.Prelude.{count_by}
 use Rattle.std.proofs.lemmas.List.{take_all}
-use Rattle.regions.specs.Table.{is_free, kind_of}
+use Rattle.regions.specs.Table.{is_free}
 use Rattle.region_choice.specs.declared.LiveRow.{LiveRow}
-use Rattle.region_choice.specs.Choice.{copy_limit, live_sum}
+use Rattle.region_choice.specs.Choice.{copy_limit}
 use Rattle.step_core.specs.Pause.{IsCompacted}
 use Rattle.step_core.proofs.Pauses.Highest.{HasDescended, IsNext, at_top, one_further, stopped, ended}
 use Rattle.step_core.proofs.Pauses.Rows.{length-push}

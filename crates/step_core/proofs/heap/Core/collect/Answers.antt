@@ -2,7 +2,7 @@ use Rattle.std.proofs.Common.{refl}
 use Rattle.heap_steps.specs.declared.step.CollectorStep.TheVariants as collector
 use Rattle.heap_steps.specs.declared.step.Reply.TheVariants as replies
 use Rattle.heap_steps.specs.declared.step.Refusal.TheVariants as refusals
-use Rattle.step_core.proofs.Cores.Collected.{Collected, running_is, refused, begun, marked, remarked, cleaned, refined, paused, compacted}
+use Rattle.step_core.proofs.Cores.Collected.{Collected, running_is, refused, begun, marked, remarked, cleaned, refined, paused}
 use Rattle.step_core.proofs.heap.Core.collect.Goals as goal
 
 refused_begin : (c : goal.Then-self) → Collected c.args.step (replies.Refused refusals.MarkRunning) c.args.self.now c.args.self.now
