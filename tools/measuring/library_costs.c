@@ -7,7 +7,7 @@
 
 static g1_heap heap = G1_HEAP_NONE;
 static g1_policy policy;
-static const g1_sizes sizes = {256, 1024, 128, 1, 0, 8, 16, 64};
+static g1_sizes sizes = {256, 1024, 128, 1, 0, 8, 16, 64};
 
 /* What is in memory may have changed: else a compiler that inlines the calls would take them out of the loop. It costs no instruction. */
 static inline void again(void) { __asm__ volatile("" : : "r"(&heap) : "memory"); }
@@ -17,7 +17,9 @@ int main(int count, char **words)
     const char *call = count == 3 ? words[1] : "";
     long times = count == 3 ? atol(words[2]) : 0;
     uint64_t sum = 0, words_of_it[] = {7};
-    uint32_t sources[] = {4, G1_NIL_REGISTER};      /* of a filled object: the one made before it, and nil */
+    /* A filled object's numbers are constants, as a new one's are. So that it is in its source's region, that is large. */
+    static const uint32_t sources[] = {0, G1_NIL_REGISTER};
+    if (strstr(call, "filled") != NULL) sizes.regions = 16, sizes.words = 1 << 18;
     if (g1_new(&heap, &sizes) != G1_DONE) return 1;
     g1_new_object(&heap, 0, 0, 2, 2), g1_new_object(&heap, 0, 1, 2, 2), g1_put(&heap, 0, 0, 0, 1);
     if (strcmp(call, "get") == 0) for (long i = 0; i < times; i++, again()) sum += g1_get(&heap, 0, 2, 0, 0).first;
@@ -33,12 +35,10 @@ int main(int count, char **words)
         g1_policy_start(&policy, &sizes);
         for (long i = 0; i < times; i++, again()) sum += g1_make(&heap, &policy, 0, 3, 2, 0, 1).code;
     } else if (strcmp(call, "new filled 2 + 1") == 0) {
-        for (long i = 0; i < times; i++, again())
-            sources[0] = 4 - (i & 1), sum += g1_new_filled(&heap, 0, 3 + (i & 1), sources, 2, words_of_it, 1).code;
+        for (long i = 0; i < times; i++, again()) sum += g1_new_filled(&heap, 0, 3, sources, 2, words_of_it, 1).code;
     } else if (strcmp(call, "make filled 2 + 1") == 0) {
         g1_policy_start(&policy, &sizes);
-        for (long i = 0; i < times; i++, again())
-            sources[0] = 4 - (i & 1), sum += g1_make_filled(&heap, &policy, 0, 3 + (i & 1), sources, 2, words_of_it, 1).code;
+        for (long i = 0; i < times; i++, again()) sum += g1_make_filled(&heap, &policy, 0, 3, sources, 2, words_of_it, 1).code;
     } else if (strcmp(call, "name") == 0) for (long i = 0; i < times; i++, again()) sum += g1_name(&heap, 0, 0).first;
     else if (strcmp(call, "scope") == 0) for (long i = 0; i < times; i++, again()) sum += g1_scope(&heap, 0, 4).code;
     else if (strcmp(call, "no such register") == 0) for (long i = 0; i < times; i++, again()) sum += g1_get(&heap, 0, 2, 99, 0).code;
