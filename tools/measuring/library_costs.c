@@ -17,7 +17,7 @@ int main(int count, char **words)
     const char *call = count == 3 ? words[1] : "";
     long times = count == 3 ? atol(words[2]) : 0;
     uint64_t sum = 0, words_of_it[] = {7};
-    /* A filled object's numbers are constants, as a new one's are: its source is the first object, and regions are large enough for both. */
+    /* A filled object's numbers are constants, as a new one's are: its source is the first object, and regions have room for both. */
     static const uint32_t sources[] = {0, G1_NIL_REGISTER};
     if (strstr(call, "filled") != NULL) sizes.regions = 16, sizes.words = 1 << 18;
     if (g1_new(&heap, &sizes) != G1_DONE) return 1;
