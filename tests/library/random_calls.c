@@ -34,13 +34,14 @@ static void start_policy(const g1_sizes *s)
     by_policy = draw() % 2 == 0;
     if (draw() % 2 == 0) return;
     policy.reserve = below(4), policy.pause_words = below(600), policy.mark_objects = below(30);
-    policy.cycle_words = below(3 * s->words);
+    policy.cycle_words = below(3 * s->words), policy.young_words = below(4 * s->words), policy.cards_left = below(40);
 }
 static void note_policy(void)
 {
     note(policy.left), note(policy.begin_at), note(policy.young_at), note(policy.span), note(policy.young), note(policy.gained);
     note(policy.wanted), note(policy.pace), note(policy.paid), note(policy.asked), note(policy.marked), note(policy.cycles);
     note(policy.scanned), note(policy.pauses), note(policy.copied), note(policy.compactions), note(policy.compacted);
+    note(policy.packed_free), note(policy.packed_live), note(policy.packed_next);
 }
 
 static g1_answer asked(g1_heap *h, const g1_sizes *s, uint32_t m, uint32_t a)

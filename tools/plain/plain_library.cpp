@@ -74,6 +74,16 @@ public:
         for (const plain::Region& region : regions_) sum += live_bound(region);
         return sum;
     }
+
+    Word next_name() const { return next_name_; }
+
+    // How many regions are ordinary; their live bounds are added up.
+    Number ordinary(Word& bounds) const {
+        Number count = 0;
+        for (const plain::Region& region : regions_)
+            if (region.kind == plain::Kind::Ordinary) ++count, bounds += live_bound(region);
+        return count;
+    }
 };
 
 Heap& in(const g1_heap* heap) { return *static_cast<Heap*>(heap->at); }
@@ -132,8 +142,12 @@ int has_run(g1_heap* heap, std::uint32_t count) { return in(heap).has_run(count)
 
 int has_name(g1_heap* heap) { return in(heap).has_name(); }
 
+std::uint64_t next_name(g1_heap* heap) { return in(heap).next_name(); }
+
+std::uint32_t ordinary(g1_heap* heap, std::uint64_t* bounds) { return in(heap).ordinary(*bounds); }
+
 policy_of policy_for(g1_heap* heap, g1_policy* policy, const g1_sizes& sizes) {
-    return {heap, policy, &sizes, fits_open, has_run, has_name};
+    return {heap, policy, &sizes, fits_open, has_run, has_name, next_name, ordinary};
 }
 
 }  // namespace

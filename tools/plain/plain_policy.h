@@ -19,17 +19,26 @@ typedef struct policy_of {
     int (*fits_open)(g1_heap *heap, uint32_t mutator, uint32_t size);
     int (*has_run)(g1_heap *heap, uint32_t count);
     int (*has_name)(g1_heap *heap);
+    uint64_t (*next_name)(g1_heap *heap);
+    uint32_t (*ordinary)(g1_heap *heap, uint64_t *bounds);  /* how many regions are, and the sum of their live bounds */
 } policy_of;
 
+static inline uint32_t policy_regions(const g1_sizes *sizes, uint32_t words) { return policy_most(1, words / sizes->words); }
+static inline uint32_t policy_pause_budget(const g1_sizes *sizes)
+{
+    uint32_t share = policy_within((uint64_t)sizes->regions * sizes->words / 32);
+    return policy_most(policy_within((uint64_t)4 * sizes->words), policy_most(65536, policy_least(262144, share)));
+}
 static inline void policy_start(g1_policy *policy, const g1_sizes *sizes)
 {
-    g1_policy start = {0, 0, 0, 0, 0, 0, 0, 0, 0, 0, 0, 0, 0, 0, 0, 0, 0, 0, 0, 0, 0, 0};
+    g1_policy start = {0, 0, 0, 0, 0, 0, 0, 0, 0, 0, 0, 0, 0, 0, 0, 0, 0, 0, 0, 0, 0, 0, 0, 0, 0, 0, 0};
     start.reserve = policy_most(3, sizes->regions / 24);
-    start.pause_words = 262144;
-    start.mark_objects = 32768;
+    start.pause_words = policy_pause_budget(sizes);
+    start.mark_objects = policy_most(32768, policy_within((uint64_t)4 * sizes->words));
     start.cycle_words = policy_within((uint64_t)4 * policy_within((uint64_t)sizes->regions * sizes->words));
+    start.young_words = 131072, start.cards_left = 8192, start.packed_next = UINT64_MAX;
     start.begin_at = start.reserve + sizes->regions / 8;
-    start.span = policy_most(1, sizes->regions / 4);
+    start.span = policy_least(policy_regions(sizes, start.young_words), policy_most(1, sizes->regions / 4));
     start.young_at = policy_above(sizes->regions, start.span);
     *policy = start;
 }
@@ -53,19 +62,22 @@ static inline void policy_remark(policy_of *of)
     policy->marked = g1_remark(of->heap).first;
     policy->cycles++, policy->scanned += policy->marked;
 }
-static inline void policy_plan_young(policy_of *of, uint32_t free)
+static inline void policy_plan_young(policy_of *of, uint32_t free, uint32_t span)
 {
     uint32_t way = policy_above(free, of->policy->begin_at) / 2;
-    of->policy->young = 0, of->policy->span = way;
-    of->policy->young_at = way <= of->sizes->regions / 64 ? 0 : free - way;
+    of->policy->young = 0;
+    of->policy->span = policy_least(way, policy_most(span, policy_regions(of->sizes, of->policy->young_words)));
+    of->policy->young_at = way <= of->sizes->regions / 64 ? 0 : free - of->policy->span;
 }
 static inline void policy_plan_cycle(policy_of *of, uint32_t free)
 {
-    uint32_t room = policy_above(free, of->policy->reserve);
+    uint32_t room = policy_above(free, of->policy->reserve), needed;
+    uint64_t objects = policy_within(of->policy->marked), marking = objects * 3 / 2 / policy_most(of->policy->mark_objects, 1);
+    needed = policy_least(policy_within(marking), room / 4 * 3);
     of->policy->wanted = 0;
     of->policy->begin_at = room < 2 ? policy_above(free, 1)
-        : policy_within((uint64_t)of->policy->reserve + policy_least(room / 4, of->sizes->regions / 8));
-    policy_plan_young(of, free);
+        : policy_within((uint64_t)of->policy->reserve + policy_most(policy_least(room / 4, of->sizes->regions / 8), needed));
+    policy_plan_young(of, free, of->policy->span);
 }
 static inline int policy_is_young_due(g1_policy *policy, uint32_t free)
 {
@@ -77,7 +89,7 @@ static inline int policy_is_young_due(g1_policy *policy, uint32_t free)
 static inline void policy_pause_young(policy_of *of)
 {
     g1_policy *policy = of->policy;
-    uint32_t before = policy_free(of->heap), after;
+    uint32_t before = policy_free(of->heap), after, was;
     g1_answer moved = policy_pause(of, policy->pause_words);
     after = policy_free(of->heap);
     policy->gained += policy_above(after, before), policy->paid += moved.first;
@@ -87,24 +99,27 @@ static inline void policy_pause_young(policy_of *of)
         policy->young -= moved.second;
         return;
     }
-    policy_plan_young(of, after);
-    if (policy->paid > worth) policy->young_at = 0;
+    was = policy->span;
+    policy_plan_young(of, after, policy->paid > worth / 8 ? policy_within((uint64_t)4 * was) : policy->paid <= worth / 32 ? was / 2 : was);
+    if (policy->paid > worth && (policy->span <= was || policy->cycles != 0)) policy->young_at = 0;
 }
 static inline void policy_end(policy_of *of)
 {
     uint64_t all = (uint64_t)of->sizes->regions * of->sizes->words, live;
-    uint32_t most;
+    uint32_t most, free;
     policy_remark(of);
     g1_cleanup(of->heap);
-    live = g1_live_words(of->heap).first;
+    free = policy_free(of->heap), live = g1_live_words(of->heap).first;
     most = (uint32_t)((all > live ? all - live : 0) / of->sizes->words);
     of->policy->wanted = policy_most(1, policy_most(most - most / 4, policy_within((uint64_t)2 * of->policy->reserve)));
+    of->policy->begin_at = policy_least(of->policy->begin_at, (uint32_t)((uint64_t)3 * free / 4));
 }
 /* One pause of so many words at most. Answers whether it paid. */
 static inline int policy_evacuate_some(policy_of *of, uint32_t *left)
 {
     g1_policy *policy = of->policy;
     uint32_t before = policy_free(of->heap), after;
+    int is_cut_short;
     uint64_t words = of->sizes->words, live, used, more, all, budget, copied;
     if (policy->wanted == 0 || *left == 0) return 0;
     if (before >= policy->wanted) {
@@ -115,11 +130,12 @@ static inline int policy_evacuate_some(policy_of *of, uint32_t *left)
     more = policy_above(policy->wanted, before) * words;
     all = live != 0 && more > UINT64_MAX / live ? UINT64_MAX : more * live;
     budget = used <= live ? *left : all / (used - live);
+    is_cut_short = budget >= *left && *left < policy->pause_words;
     copied = policy_pause(of, budget < *left ? (uint32_t)budget : *left).first;
     after = policy_free(of->heap);
     *left = copied < *left ? *left - (uint32_t)copied : 0;
     if (after > before && after < policy->wanted && (after <= policy->reserve || copied <= 4 * (after - before) * words)) return 1;
-    policy_plan_cycle(of, after);
+    if (!is_cut_short || after >= policy->wanted) policy_plan_cycle(of, after);
     return 0;
 }
 static inline void policy_evacuate(policy_of *of)
@@ -135,7 +151,7 @@ static inline void policy_begin(policy_of *of)
     if (free > policy->begin_at && policy->asked < policy->cycle_words) return;
     objects = policy->cycles == 0 ? g1_used_words(of->heap).first / 4 : policy->marked;
     pace = 16 + objects * 3 / 2 / policy_most(1, policy_above(free, policy->reserve));
-    policy->pace = pace < policy->mark_objects ? (uint32_t)pace : policy->mark_objects, policy->asked = 0;
+    policy->pace = pace < policy->mark_objects ? (uint32_t)pace : policy->mark_objects, policy->asked = 0, policy->wanted = 0;
     g1_begin(of->heap);
     if (free <= policy->reserve) policy_end(of);
 }
@@ -144,18 +160,34 @@ static inline void policy_mark_or_begin(policy_of *of)
     if (g1_marking(of->heap).first == 1) {
         g1_mark(of->heap, policy_least(of->policy->pace, of->policy->mark_objects));
         if (policy_free(of->heap) <= of->policy->reserve || g1_grey(of->heap).first == 0) policy_end(of);
-    } else if (of->policy->wanted == 0) policy_begin(of);
+    } else policy_begin(of);
 }
 static inline void policy_due(policy_of *of)
 {
-    int is_young_due = policy_is_young_due(of->policy, policy_free(of->heap));
+    uint64_t queued = g1_queued(of->heap).first, left = of->policy->cards_left;
+    int is_young_due;
+    if (queued > left) g1_refine(of->heap, (uint32_t)(queued - left));
+    is_young_due = policy_is_young_due(of->policy, policy_free(of->heap));
     if (is_young_due) policy_pause_young(of);
     policy_mark_or_begin(of);
     if (!is_young_due) policy_evacuate(of);
 }
+static inline int policy_left_so(policy_of *of)
+{
+    g1_policy *policy = of->policy;
+    return policy_free(of->heap) == policy->packed_free && g1_live_words(of->heap).first == policy->packed_live
+        && of->next_name(of->heap) == policy->packed_next;
+}
+/* Whether pauses have nothing to gain. */
+static inline int policy_packed(policy_of *of)
+{
+    uint64_t bounds = 0, regions = of->ordinary(of->heap, &bounds), words = regions * of->sizes->words;
+    if (words >= 2 * bounds && regions >= 2) return 0;
+    return words < bounds + of->sizes->words || policy_left_so(of);
+}
 static inline void policy_pause_all(policy_of *of)
 {
-    for (uint32_t before, free = policy_free(of->heap); free < of->sizes->regions;) {
+    for (uint32_t before, free = policy_free(of->heap); free < of->sizes->regions && !policy_packed(of);) {
         before = free, policy_pause(of, UINT32_MAX), free = policy_free(of->heap);
         if (free <= before) return;
     }
@@ -167,6 +199,8 @@ static inline void policy_whole(policy_of *of)
     policy_remark(of);
     g1_cleanup(of->heap);
     policy_pause_all(of);
+    of->policy->packed_free = policy_free(of->heap), of->policy->packed_live = g1_live_words(of->heap).first;
+    of->policy->packed_next = of->next_name(of->heap);
 }
 static inline int policy_spared(policy_of *of, uint32_t mutator, uint64_t size)
 {

@@ -210,6 +210,10 @@ pub struct Pace {
     pub mark_objects: u32,
     /// Words: where so many were asked for since the last cycle began, another one begins.
     pub cycle_words: u32,
+    /// Words: new regions of so many are evacuated first, and no fewer later.
+    pub young_words: u32,
+    /// Cards: where more are queued at a look, it refines all but so many.
+    pub cards_left: u32,
 }
 
 /// A heap. It may go to another thread. Threads that are in it at once share a [`Shared`](crate::Shared), or a `Mutex<Heap>`.
@@ -307,7 +311,9 @@ impl Heap {
     /// ```
     pub fn pace(&self) -> Pace {
         let it = self.core.raw.policy();
-        Pace { reserve: it.reserve, pause_words: it.pause_words, mark_objects: it.mark_objects, cycle_words: it.cycle_words }
+        let (reserve, pause_words, mark_objects) = (it.reserve, it.pause_words, it.mark_objects);
+        let (cycle_words, young_words, cards_left) = (it.cycle_words, it.young_words, it.cards_left);
+        Pace { reserve, pause_words, mark_objects, cycle_words, young_words, cards_left }
     }
 
     /// Sets how much the policy does at once.
@@ -320,8 +326,8 @@ impl Heap {
     /// ```
     pub fn set_pace(&mut self, pace: Pace) {
         let mut it = self.core.raw.policy();
-        (it.reserve, it.pause_words, it.mark_objects, it.cycle_words) =
-            (pace.reserve, pace.pause_words, pace.mark_objects, pace.cycle_words);
+        (it.reserve, it.pause_words, it.mark_objects) = (pace.reserve, pace.pause_words, pace.mark_objects);
+        (it.cycle_words, it.young_words, it.cards_left) = (pace.cycle_words, pace.young_words, pace.cards_left);
         self.core.raw.set_policy(it);
     }
 

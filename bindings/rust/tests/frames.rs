@@ -301,7 +301,8 @@ fn the_policy_has_a_pace() {
     let mut heap = heap();
     let pace = heap.pace();
     assert!(pace.reserve == 3 && pace.pause_words > 0 && pace.mark_objects > 0 && pace.cycle_words > 0);
-    let other = Pace { reserve: 4, pause_words: 100, mark_objects: 5, cycle_words: 1000 };
+    assert!(pace.young_words > 0 && pace.cards_left > 0);
+    let other = Pace { reserve: 4, pause_words: 100, mark_objects: 5, cycle_words: 1000, young_words: 300, cards_left: 2 };
     heap.set_pace(other);
     assert_eq!(heap.pace(), other);
     heap.run(|f| (0..10_000).for_each(|_| f.scope(|g| assert!(g.alloc::<Cell>().is_ok()))));

@@ -22,8 +22,9 @@ use Rattle.step_core.specs.declared.candidates.Choice.{Choice}
 use Rattle.step_core.specs.declared.candidates.Choice.TheVariants as choices
 use Rattle.step_core.specs.Pause.{HasMoved, HasPaused, IsRowOf}
 use Rattle.step_core.proofs.Pauses.Chosen.{set_moves}
-use Rattle.collection.specs.Space.{run_one, run_count, ordinary_count, kept_sum, AreReachable, FillHalf, IsQuiet, IsPacked}
-use Rattle.collection.proofs.Sums.{sum_same}
+use Rattle.collection.specs.Space.{run_one, run_count, ordinary_count, kept_sum, kept_by_kind, bound_by_kind, bound_sum}
+use Rattle.collection.specs.Space.{AreReachable, FillHalf, IsDense, IsExact, IsQuiet, IsPacked}
+use Rattle.collection.proofs.Sums.{sum_same, sum_le}
 use Rattle.collection.proofs.Counts.{Taken, two_stay, same_stay, count_all}
 use Rattle.collection.proofs.Bound.{half_kept}
 use Rattle.collection.proofs.Names.{reachable, named_size, total, in_ordinary, ordinary_kept, ordinary_small, ordinary_total, all_total}
@@ -80,6 +81,70 @@ mixed ordinary runs words kept firsts ne some half wide =
           let over = runs_alone runs words firsts (omega (arith, some, none)) wide in
           omega (arith, e, z, over))
     ]
+
+-- ---- what roots reach in a quiet core, more than half of the words of the ordinary regions of another
+module _ (c c' : CoreState) (core : IsCore c) (shape : IsShaped c.table) (s : State) (q : IsQuiet s c)
+    (size : c'.table.words_per_region ≡ c.table.words_per_region) (runs : run_count c'.table ≡ run_count c.table)
+    (kept : 2 ≤ ordinary_count c'.table → ordinary_count c'.table * c.table.words_per_region < 2 * kept_sum c) where
+  abbrev first_sum : ℕ
+  first_sum = sum_below (λ k. first_words (nth_region c.table k)) (length c.table.regions)
+
+  wide_runs : (run_count c.table ≡ 0) ⊎ (run_count c.table * c.table.words_per_region < 2 * first_sum)
+  wide_runs = wide_below c.table shape core.layers.wide (length c.table.regions) (length c.table.regions) (omega arith)
+
+  -- all that is kept is reachable
+  fills : (m : ℕ) → m * c.table.words_per_region < 2 * (kept_sum c + first_sum) → FillHalf s.graph c' m
+  fills m half = record {
+    words = total (kept_of c) 0 (length c.table.regions * c.table.words_per_region);
+    reachable = reachable c s.graph q.stands.shows.shows q.reached (kept_of c) (λ a x e. e);
+    half =
+        (let a = all_total c shape q.runs in
+        let b = ap (λ (k : ℕ). m * k) size in
+        omega (arith, half, a, b));
+  }
+
+  pub filled : IsPacked s.graph c'
+  filled = record {
+    words = total (in_ordinary c) 0 (length c.table.regions * c.table.words_per_region);
+    reachable = reachable c s.graph q.stands.shows.shows q.reached (in_ordinary c) (ordinary_kept c);
+    small = λ i k e.
+        let (at, x, is, bytes) = named_size c s.graph q.stands.shows.shows q.reached (in_ordinary c) (ordinary_kept c) i k e in
+        let le = ordinary_small c core.layers.halves at x is in
+        omega (arith, le, bytes, size);
+    half = λ some.
+        (let h = kept some in
+        let i = ap (λ (m : ℕ). ordinary_count c'.table * m) size in
+        let k = ordinary_total c in
+        omega (arith, h, i, k));
+    in_use = λ ne some. fills (ordinary_count c'.table + run_count c'.table)
+        (let h = mixed (ordinary_count c'.table) (run_count c.table) c.table.words_per_region (kept_sum c) first_sum ne
+        (omega (arith, some, runs)) kept wide_runs in
+        let i = ap (λ (m : ℕ). (ordinary_count c'.table + m) * c.table.words_per_region) runs in
+        omega (arith, h, i));
+    in_runs = λ one some. fills (run_count c'.table)
+        (let h = runs_alone (run_count c.table) c.table.words_per_region first_sum (omega (arith, some, runs)) wide_runs in
+        let i = ap (λ (m : ℕ). m * c.table.words_per_region) runs in
+        omega (arith, h, i));
+  }
+
+-- so it is where the live bounds are more than half of these words
+kept_bound : (c : CoreState) → IsExact c → bound_sum c ≤ kept_sum c
+kept_bound c exact =
+    sum_le (λ k. bound_by_kind (kind_of c.table k) c k) (λ k. kept_by_kind (kind_of c.table k) c k) (length c.table.regions)
+    (λ k lt. each k lt (kind_of c.table k) refl)
+  where
+    each : (k : ℕ) → k < length c.table.regions → (o : Kind) → kind_of c.table k ≡ o → bound_by_kind o c k ≤ kept_by_kind o c k
+    each k lt kinds.Free e = omega arith
+    each k lt kinds.Ordinary e = exact.exact k lt e
+    each k lt kinds.First e = omega arith
+    each k lt kinds.Rest e = omega arith
+
+pub dense_packed : (s : State) (c : CoreState) → IsCore c → IsShaped c.table → IsQuiet s c → IsDense c → IsPacked s.graph c
+dense_packed s c core shape q dense =
+    filled c c core shape s q refl refl (λ some.
+    (let a = dense some in
+    let b = kept_bound c q.exact in
+    omega (arith, a, b)))
 
 -- ---- a pause or a compaction
 module _ (which : Choice) (budget n w : ℕ) (c c' : CoreState) (shape : IsShaped c.table) (p : HasMoved which budget n w c c') where
@@ -189,23 +254,6 @@ module _ (budget n w : ℕ) (c c' : CoreState) (core : IsCore c) (shape : IsShap
       sum_same (λ k. run_one (kind_of t' k)) (λ k. run_one (kind_of t k)) (length t'.regions) (λ k h. run_each k)
       ∙ ap (sum_below (λ k. run_one (kind_of t k))) regions.count
 
-  abbrev first_sum : ℕ
-  first_sum = sum_below (λ k. first_words (nth_region t k)) (length t.regions)
-
-  wide_runs : (run_count t ≡ 0) ⊎ (run_count t * words < 2 * first_sum)
-  wide_runs = wide_below t shape core.layers.wide (length t.regions) (length t.regions) (omega arith)
-
-  -- all that is kept is reachable
-  fills : (s : State) → IsQuiet s c → (m : ℕ) → m * words < 2 * (kept_sum c + first_sum) → FillHalf s.graph c' m
-  fills s q m half = record {
-    words = total (kept_of c) 0 (length t.regions * words);
-    reachable = reachable c s.graph q.stands.shows.shows q.reached (kept_of c) (λ a x e. e);
-    half =
-        (let a = all_total c shape q.runs in
-        let b = ap (λ (k : ℕ). m * k) regions.size in
-        omega (arith, half, a, b));
-  }
-
   pub packed : (s : State) → IsQuiet s c → 2 ≤ free_count t → free_count t' ≤ free_count t → free_count t' ≤ 2
       → free_count t * words / 2 ≤ budget → IsPacked s.graph c'
   packed s q two gain few enough =
@@ -217,31 +265,10 @@ module _ (budget n w : ℕ) (c c' : CoreState) (core : IsCore c) (shape : IsShap
       let e = regions.count in
       let ordinary : ordinary_count t' ≡ ordinary_count t = omega (arith, same, a, b, d, e) in
       let kept = half_kept budget n w c c' p q.exact shape.positive two gain enough in
-      record {
-        words = total (in_ordinary c) 0 (length t.regions * words);
-        reachable = reachable c s.graph q.stands.shows.shows q.reached (in_ordinary c) (ordinary_kept c);
-        small = λ i k e.
-            let (at, x, is, size) = named_size c s.graph q.stands.shows.shows q.reached (in_ordinary c) (ordinary_kept c) i k e in
-            let le = ordinary_small c core.layers.halves at x is in
-            let f = regions.size in
-            omega (arith, le, size, f);
-        half = λ some.
-            (let h = kept (omega (arith, some, ordinary)) in
-            let i = ap (λ (m : ℕ). ordinary_count t' * m) regions.size in
-            let j = ap (λ (m : ℕ). m * words) ordinary in
-            let k = ordinary_total c in
-            omega (arith, h, i, j, k));
-        in_use = λ ne some. fills s q (ordinary_count t' + run_count t')
-            (let h = mixed (ordinary_count t) (run_count t) words (kept_sum c) first_sum (omega (arith, ne, ordinary))
-            (omega (arith, some, ordinary, d)) kept wide_runs in
-            let same : ordinary_count t' + run_count t' ≡ ordinary_count t + run_count t = omega (arith, ordinary, d) in
-            let i = ap (λ (m : ℕ). m * words) same in
-            omega (arith, h, i));
-        in_runs = λ one some. fills s q (run_count t')
-            (let h = runs_alone (run_count t) words first_sum (omega (arith, some, d)) wide_runs in
-            let i = ap (λ (m : ℕ). m * words) d in
-            omega (arith, h, i));
-      }
+      filled c c' core shape s q regions.size d (λ some.
+      (let h = kept (omega (arith, some, ordinary)) in
+      let j = ap (λ (m : ℕ). m * words) ordinary in
+      omega (arith, h, j)))
 
 -- fewer regions are half full too
 fewer_filled : (g : Graph) (c : CoreState) (m n : ℕ) → m ≤ n → FillHalf g c n → FillHalf g c m

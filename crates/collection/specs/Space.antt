@@ -78,6 +78,21 @@ kept_by_kind kinds.Rest c k = 0
 abbrev pub kept_sum : CoreState → ℕ
 kept_sum c = sum_below (λ k. kept_by_kind (kind_of c.table k) c k) (length c.table.regions)
 
+-- the live bound of a region, if it is ordinary
+abbrev pub bound_by_kind : Kind → CoreState → ℕ → ℕ
+bound_by_kind kinds.Free c k = 0
+bound_by_kind kinds.Ordinary c k = live_bound_of c.table c.marker.tams.previous c.marker.bitmaps.previous k
+bound_by_kind kinds.First c k = 0
+bound_by_kind kinds.Rest c k = 0
+
+-- the live bounds of all ordinary regions together
+abbrev pub bound_sum : CoreState → ℕ
+bound_sum c = sum_below (λ k. bound_by_kind (kind_of c.table k) c k) (length c.table.regions)
+
+-- ordinary regions are more than half live by their bounds, if they are two or more
+abbrev pub IsDense : CoreState → Type 0
+IsDense c = 2 ≤ ordinary_count c.table → ordinary_count c.table * c.table.words_per_region < 2 * bound_sum c
+
 -- no marking runs, and what counts as live in an ordinary region is kept
 pub record IsExact (c : CoreState) : Type 0 where
   pub idle : c.marker.running ≡ false

@@ -28,7 +28,7 @@ fn end_cycle<W: Watch>(core: &mut Core, policy: &mut Policy, watch: &mut W)
 {
     take(core, policy, CollectorStep::Remark, watch);
     take(core, policy, CollectorStep::Cleanup, watch);
-    policy.plan_evacuation(&core.config(), core.live_words());
+    policy.plan_evacuation(&core.config(), core.free_regions(), core.live_words());
 }
 
 /// Marks, and ends the cycle where nothing is grey, or few regions are free.
@@ -42,7 +42,8 @@ fn mark_on<W: Watch>(core: &mut Core, policy: &mut Policy, watch: &mut W)
     }
 }
 
-/// Evacuates some of the regions in which little is live, so many words at most, which are fewer then. Answers whether it paid.
+/// Evacuates some of the regions in which little is live, so many words at most, which are fewer then. Answers whether it paid. If what is
+/// left of a look cut it short that says nothing: the next look goes on.
 fn evacuate_some<W: Watch>(
     core: &mut Core,
     policy: &mut Policy,
@@ -62,6 +63,7 @@ fn evacuate_some<W: Watch>(
         return false;
     }
     let budget = policy.evacuation_budget(&config, before, core.live_words(), *left);
+    let is_cut_short = budget == *left && budget < policy.pause_words;
     let reply = take(core, policy, CollectorStep::Pause(budget), watch);
     let after = core.free_regions();
     let copied = moved(reply).1;
@@ -69,7 +71,9 @@ fn evacuate_some<W: Watch>(
     if policy.pays(&config, before, after, copied) {
         return true;
     }
-    policy.plan_cycle(&config, after);
+    if !is_cut_short || after >= policy.wanted {
+        policy.plan_cycle(&config, after);
+    }
     false
 }
 
@@ -113,7 +117,7 @@ fn mark_or_begin<W: Watch>(core: &mut Core, policy: &mut Policy, watch: &mut W)
 {
     if core.marking() {
         mark_on(core, policy, watch);
-    } else if policy.wanted == 0 {
+    } else {
         begin_cycle(core, policy, watch);
     }
 }
@@ -134,6 +138,17 @@ fn young_on<W: Watch>(core: &mut Core, policy: &mut Policy, watch: &mut W)
     mark_or_begin(core, policy, watch);
 }
 
+/// Refines what is queued beyond the cards that may be left, so that no more are left for a pause.
+fn refine_on<W: Watch>(core: &mut Core, policy: &mut Policy, watch: &mut W)
+    ensures { Collects W.sees 1 core.old watch.old core.new watch.new }
+{
+    let queued = core.queued();
+    let left = policy.cards_left;
+    if queued > left {
+        take(core, policy, CollectorStep::Refine(queued - left), watch);
+    }
+}
+
 /// Takes the steps that are due at a look, at most five and one for each region. Where new regions are evacuated, the evacuation after a
 /// cycle waits for the next look.
 ///
@@ -143,6 +158,7 @@ fn young_on<W: Watch>(core: &mut Core, policy: &mut Policy, watch: &mut W)
 pub fn collect_due<W: Watch>(core: &mut Core, policy: &mut Policy, watch: &mut W)
     ensures { Collects W.sees (core.old.config.regions + 5) core.old watch.old core.new watch.new }
 {
+    refine_on(core, policy, watch);
     if policy.is_young_due(core.free_regions()) {
         young_on(core, policy, watch);
         return;

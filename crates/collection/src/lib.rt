@@ -12,9 +12,9 @@
 //!             refused as Full
 //! ```
 //!
-//! `steps` takes the steps, and shows each to who watches, `whole` is the whole collection, `compaction` what brings free regions
-//! side by side, `cycle` what is due at a look, by the `numbers` of the policy, `room` whether there is room for an object, `making` all
-//! together. `laws` has what a pause that frees no region says.
+//! `steps` takes the steps, and shows each to who watches, `whole` is the whole collection, which `density` ends, `compaction` what brings
+//! free regions side by side, `cycle` what is due at a look, by the `numbers` of the policy, `room` whether there is room for an object,
+//! `making` all together. `laws` has what a pause that frees no region says.
 //!
 //! Examples of calls go on from this one, in which `rt` is a test's `HostRuntime` and `alloc` its allocator:
 //!
@@ -34,6 +34,7 @@
 
 mod compaction;
 mod cycle;
+mod density;
 mod laws;
 mod making;
 mod numbers;

@@ -7,8 +7,9 @@ ghost use Rattle.std.specs.Prelude.{◌≡◌, ◌<◌, true};
 
 use heap_steps::{CollectorStep, Reply};
 use heap_words::config::Config;
+use step_core::Core;
 
-/// A policy's numbers and counts. A client may set the first four at any time; the others are the policy's
+/// A policy's numbers and counts. A client may set the first six at any time; the others are the policy's
 /// own.
 #[repr(C)]
 #[derive(Clone, Copy, Debug, PartialEq, Eq, Drop)]
@@ -21,6 +22,10 @@ pub struct Policy {
     pub mark_objects: u32,
     /// Words: where so many were asked for since the last cycle began, another one begins.
     pub cycle_words: u32,
+    /// Words: new regions of so many are evacuated first, and no fewer later.
+    pub young_words: u32,
+    /// Cards: where more are queued at a look, it refines all but so many.
+    pub cards_left: u32,
     /// Words that may be asked for before the next look, as it was set, and what is left of them.
     pub look: u32,
     pub left: u32,
@@ -36,6 +41,11 @@ pub struct Policy {
     pub wanted: u32,
     /// Objects to scan at each look of a cycle.
     pub pace: u32,
+    /// What the last whole collection left: the free regions, the live words and the next name. While these stay no object was made, and
+    /// none died, so that pauses gain nothing more.
+    pub packed_free: u32,
+    pub packed_live: u64,
+    pub packed_next: u64,
     /// Words that were copied for what was gained.
     pub paid: u64,
     /// Words asked for since the last cycle began.
@@ -61,6 +71,19 @@ pub(crate) fn moved(reply: Reply) -> (u32, u64) {
     }
 }
 
+/// How many whole regions have so many words, 1 at least.
+fn regions_of(config: &Config, words: u32) -> u32 {
+    (words / config.words.max(1)).max(1)
+}
+
+/// Words: the budget of a pause, a 32nd of the heap, 65,536 at least and 262,144 at most, or four regions if that is more. Smaller pauses
+/// visit the same cards again and again.
+fn pause_budget(config: &Config) -> u32 {
+    let all = u64::from(config.regions) * u64::from(config.words);
+    let share = (all / 32).min(262144).max(65536) as u32;
+    config.words.saturating_mul(4).max(share)
+}
+
 impl Policy {
     /// A policy for a new heap of these sizes.
     ///
@@ -69,15 +92,18 @@ impl Policy {
     /// ```
     pub fn new(config: &Config) -> Policy {
         let reserve = (config.regions / 24).max(3);
-        let span = (config.regions / 4).max(1);
+        let young_words = 131072;
+        let span = regions_of(config, young_words).min((config.regions / 4).max(1));
         Policy {
             reserve,
-            pause_words: 262144,
-            mark_objects: 32768,
+            pause_words: pause_budget(config),
+            mark_objects: config.words.saturating_mul(4).max(32768),
             cycle_words: config
                 .regions
                 .saturating_mul(config.words)
                 .saturating_mul(4),
+            young_words,
+            cards_left: 8192,
             look: 0,
             left: 0,
             begin_at: reserve.saturating_add(config.regions / 8),
@@ -87,6 +113,9 @@ impl Policy {
             gained: 0,
             wanted: 0,
             pace: 0,
+            packed_free: 0,
+            packed_live: 0,
+            packed_next: u64::MAX,
             paid: 0,
             asked: 0,
             marked: 0,
@@ -97,6 +126,20 @@ impl Policy {
             compactions: 0,
             compacted: 0,
         }
+    }
+
+    /// Takes note of what a whole collection left.
+    pub(crate) fn note_packed(&mut self, core: &Core) {
+        self.packed_free = core.free_regions();
+        self.packed_live = core.live_words();
+        self.packed_next = core.next_name();
+    }
+
+    /// Whether that is what there is.
+    pub(crate) fn left_so(&self, core: &Core) -> bool {
+        core.free_regions() == self.packed_free
+            && core.live_words() == self.packed_live
+            && core.next_name() == self.packed_next
     }
 
     /// Counts what a step of the collector did.
@@ -142,20 +185,24 @@ impl Policy {
     }
 
     /// Sets how fast a cycle marks: three times as fast as it would take to end at the reserve. The heap has so many objects, by estimate.
+    /// What is left of an evacuation waits for the end of the cycle.
     pub(crate) fn plan_marking(&mut self, free: u32, objects: u64) {
         let room = u64::from(free.saturating_sub(self.reserve).max(1));
         let pace = 16 + objects.min(u64::from(u32::MAX)) * 3 / 2 / room;
         self.pace = pace.min(u64::from(self.mark_objects)) as u32;
         self.asked = 0;
+        self.wanted = 0;
     }
 
-    /// Sets until how many free regions those that hold little live are evacuated after a cycle: three quarters of what is to be had.
-    pub(crate) fn plan_evacuation(&mut self, config: &Config, live: u64) {
+    /// Sets until how many free regions those that hold little live are evacuated after a cycle: three quarters of what is to be had. Where
+    /// a quarter of the free ones is used up meanwhile another cycle begins.
+    pub(crate) fn plan_evacuation(&mut self, config: &Config, free: u32, live: u64) {
         let all = u64::from(config.regions) * u64::from(config.words);
         let most = (all.saturating_sub(live) / u64::from(config.words).max(1)).min(u64::from(
             u32::MAX,
         )) as u32;
         self.wanted = (most - most / 4).max(self.reserve.saturating_mul(2)).max(1);
+        self.begin_at = self.begin_at.min((u64::from(free) * 3 / 4) as u32);
     }
 
     /// The budget of a pause after a cycle, at most so many words: what it takes to empty regions of the usual density until as many are
@@ -189,28 +236,33 @@ impl Policy {
         after <= self.reserve || copied <= gained.saturating_mul(4)
     }
 
-    /// Sets when the next cycle begins, and when new regions are evacuated before it.
+    /// Sets when the next cycle begins, and when new regions are evacuated before it. It has as much room as it takes to mark what the last
+    /// one marked.
     pub(crate) fn plan_cycle(&mut self, config: &Config, free: u32) {
         let room = free.saturating_sub(self.reserve);
         self.wanted = 0;
         self.begin_at = if room < 2 {
             free.saturating_sub(1)
         } else {
+            let objects = self.marked.min(u64::from(u32::MAX));
+            let marking = objects * 3 / 2 / u64::from(self.mark_objects.max(1));
+            let needed = marking.min(u64::from(room / 4 * 3)) as u32;
             self.reserve
-                .saturating_add((room / 4).min(config.regions / 8))
+                .saturating_add((room / 4).min(config.regions / 8).max(needed))
         };
-        self.plan_young(config, free);
+        self.plan_young(config, free, self.span);
     }
 
-    /// Sets when new regions are evacuated next: where half of the way to the next cycle is filled.
-    pub(crate) fn plan_young(&mut self, config: &Config, free: u32) {
+    /// Sets when new regions are evacuated next: when so many are filled, or the least number of them if that is more; but at the latest
+    /// half of the way to the next cycle.
+    pub(crate) fn plan_young(&mut self, config: &Config, free: u32, span: u32) {
         let way = free.saturating_sub(self.begin_at) / 2;
         self.young = 0;
-        self.span = way;
+        self.span = span.max(regions_of(config, self.young_words)).min(way);
         self.young_at = if way <= config.regions / 64 {
             0
         } else {
-            free.saturating_sub(way)
+            free.saturating_sub(self.span)
         };
     }
 
@@ -229,8 +281,9 @@ impl Policy {
     }
 
     /// Takes note of a pause of new regions. If its budget left some of them, and not the room for copies, and these pauses brought enough,
-    /// the next look goes on with those. Else the next ones are due later; and not before the next cycle, if more than half of what was
-    /// taken was copied.
+    /// the next look goes on with those. Else the next ones are due later: after more words, if much was copied for what was gained, and
+    /// after fewer, if little was. They aren't due before the next cycle, if more than half of what was taken was copied; before the first
+    /// one only if they can't be more.
     pub(crate) fn note_young(&mut self, config: &Config, before: u32, after: u32, reply: Reply) {
         let (regions, words) = moved(reply);
         self.gained = self.gained.saturating_add(after.saturating_sub(before));
@@ -242,8 +295,16 @@ impl Policy {
             self.young -= regions;
             return;
         }
-        self.plan_young(config, after);
-        if self.paid > worth {
+        let was = self.span;
+        let span = if self.paid > worth / 8 {
+            was.saturating_mul(4)
+        } else if self.paid <= worth / 32 {
+            was / 2
+        } else {
+            was
+        };
+        self.plan_young(config, after, span);
+        if self.paid > worth && (self.span <= was || self.cycles != 0) {
             self.young_at = 0;
         }
     }

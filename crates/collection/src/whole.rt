@@ -7,6 +7,7 @@ ghost use Rattle.step_core.specs.Stands.{Stands};
 ghost use Rattle.collection.specs.Space.{IsCollected, IsQuiet, IsPacked};
 ghost use Rattle.collection.specs.Steps.{Collects};
 
+use crate::density::is_packed;
 use crate::numbers::Policy;
 use crate::steps::{Watch, take};
 use heap_steps::CollectorStep;
@@ -49,7 +50,8 @@ fn pause_once<W: Watch>(core: &mut Core, policy: &mut Policy, watch: &mut W) -> 
     core.free_regions() > before
 }
 
-/// Pauses for as long as each frees a region and one is in use: at most so many pauses as regions are in use.
+/// Pauses for as long as each frees a region and one is in use: at most so many pauses as regions are in use. None where there is nothing
+/// to gain.
 pub(crate) fn pause_all<W: Watch>(core: &mut Core, policy: &mut Policy, watch: &mut W)
     ensures collects { Collects W.sees (core.old.config.regions - free_count core.old.table) core.old watch.old core.new watch.new }
     ensures quiet { (s : State) → IsQuiet s core.old → IsQuiet s core.new }
@@ -59,6 +61,10 @@ pub(crate) fn pause_all<W: Watch>(core: &mut Core, policy: &mut Policy, watch: &
     'pauses: loop {
         core.remembers();
         if core.free_regions() >= core.config().regions {
+            return;
+        }
+        core.shaped();
+        if is_packed(core, policy) {
             return;
         }
         if !pause_once(core, policy, watch) {
@@ -84,4 +90,5 @@ pub fn collect<W: Watch>(core: &mut Core, policy: &mut Policy, watch: &mut W)
     end_marking(core, policy, watch);
     mark_all(core, policy, watch);
     pause_all(core, policy, watch);
+    policy.note_packed(core);
 }

@@ -46,3 +46,7 @@ pauses-preserved g c =
       grows = omega (arith, m, f);
       quiet = λ s q. c.pause_once.ensures.quiet s (c.pauses.invariant.quiet s q);
     }
+
+pub returns-then-is_packed-clause-packed : goal.returns-then-is_packed-clause-packed
+returns-then-is_packed-clause-packed g c s q two few =
+    dense_packed s c.pauses.core c.remembers.ensures.core c.shaped.ensures (c.pauses.invariant.quiet s q) (c.is_packed.ensures c.if-is_packed.true)
