@@ -1,35 +1,45 @@
 -- Calls one after another are a run of the graph.
 use Rattle.std.proofs.Common.{◌≡◌, ◌⊎◌, ◌∙◌, ◌+◌, ◌*◌, ◌<◌, ℕ, zero, suc, List, [], ◌∷◌, ◌++◌, length, Some, inl, inr}
 use Rattle.std.proofs.Common.{refl, sym, ap, subst, map, None, Option, arith}
+use Rattle.std.proofs.lemmas.List.{map-append}
 use Rattle.std.specs.Prelude.{slice_index, All}
 use Rattle.heap_words.specs.declared.config.Config.{Config}
+use Rattle.heap_steps.specs.Actors.{IsOp, IsStep, step_in}
+use Rattle.heap_steps.specs.declared.step.CollectorStep.TheVariants as collector
 use Rattle.heap_steps.specs.declared.step.Event.{Event}
 use Rattle.heap_steps.specs.declared.step.Op.{Op}
+use Rattle.heap_steps.specs.declared.step.Refusal.{Refusal}
+use Rattle.heap_steps.specs.declared.step.Refusal.TheVariants as refusals
 use Rattle.heap_steps.specs.declared.step.Register.{Register}
 use Rattle.heap_steps.specs.declared.step.Reply.{Reply}
 use Rattle.heap_steps.specs.declared.step.Reply.TheVariants as replies
 use Rattle.heap_steps.specs.declared.step.Step.{Step}
+use Rattle.heap_steps.specs.declared.step.Step.TheVariants as steps
 use Rattle.graph_runs.specs.Run.{IsRun}
 use Rattle.graph_runs.specs.State.{State, first_state}
 use Rattle.step_core.specs.Answers.{Follows}
+use Rattle.step_core.specs.Cycle.{Does}
 use Rattle.step_core.specs.Fresh.{fresh_core}
-use Rattle.step_core.specs.Passages.{step_in}
+use Rattle.step_core.specs.Passages.{actor_in, actor_of}
 use Rattle.step_core.specs.Stands.{CoreState, Stands}
 use Rattle.step_core.specs.Words.{AreWritten, reading, writing}
 use Rattle.step_core.specs.Words as words
 use Rattle.step_core.proofs.Cores.Following.{passage_is_run}
-use Rattle.collection.specs.Steps.{HoldsBack, IsCollectors, TakesOwn, own_event}
-use Rattle.g1heap_c.specs.Calls.{AreCalls, AreRun, HasEvents, IsCall, event_of, reads_of, writes_of}
-use Rattle.g1heap_c.specs.Calls.{StepCall, MakeCall, DueCall, WholeCall, ReadCall, WriteCall, FilledCall, MadeFilledCall, OtherCall}
-use Rattle.g1heap_c.specs.Calls.{OfStep, OfMaking, OfCollection, OfReads, OfWrites, OfFilling, OfMadeFilling, OfNone}
-use Rattle.g1heap_c.specs.Calls.{filling, first_steps}
-use Rattle.heap_calls.specs.Filled.{FillsIt, RunsTo, Fills, making, pointing, wording}
-use Rattle.g1heap_c.specs.MadeFilled.{AsksToFill}
-use Rattle.heap_calls.specs.Numbers.{register, told}
-use Rattle.heap_calls.specs.Steps.{IsMade, Steps}
-use Rattle.g1heap_c.specs.Policies.{Asks, CollectsIn, asked}
+use Rattle.collection.specs.Steps.{HoldsBack, IsCollectors, TakesOwn}
+use Rattle.heap_calls.specs.Filled.{AreFields, FillsIt, RunsTo, Fills, making, pointing, wording}
+use Rattle.heap_calls.specs.Numbers.{no_step, refused, register, told}
+use Rattle.heap_calls.specs.Steps.{HasRegister, Makes, Stays, Steps}
 use Rattle.heap_calls.specs.Words.{ReadsAll, ReadsNone, WritesAll, WritesNone}
 use Rattle.heap_calls.specs.declared.answer.Answer.{Answer}
+use Rattle.g1heap_c.specs.Calls.{AreCalls, Call, Called, IsCall, telling}
+use Rattle.g1heap_c.specs.Calls.{NewCall, StepCall, NewFilledCall, MakeCall, MakeFilledCall, CollectCall, CollectAllCall, ReadWordsCall}
+use Rattle.g1heap_c.specs.Calls.{WriteWordsCall, AskCall, NoStepCall, FreeCall}
+use Rattle.g1heap_c.specs.MadeFilled.{AsksToFill}
+use Rattle.g1heap_c.specs.Policies.{Asks, CollectsIn, asked}
+use Rattle.g1heap_c.specs.Runs.{AreEventsOf, AreRun, CallRuns, HasCollection, HasEvents, HasFilling, HasMaking, HasMakingAndFilling}
+use Rattle.g1heap_c.specs.Runs.{HasNone, HasNotRead, HasRead, HasRefused, HasStep, HasWritten, IfElse, KeepsIfRefused, event_of, filling}
+use Rattle.g1heap_c.specs.Runs.{first_steps, last_read, last_write, reads_of, writes_of}
+use Rattle.g1heap_c.proofs.Named.{are_fields, is_op, is_register, is_step}
 
 run_then : (es fs : List Event) (s mid last : State) → IsRun s es mid → IsRun mid fs last → IsRun s (es ++ fs) last
 run_then [] fs s mid last h k = subst (λ (x : State). IsRun x fs last) h k
@@ -44,38 +54,99 @@ record From (s : State) (es : List Event) (c : CoreState) : Type 0 where
 none_from : (s : State) (c : CoreState) → Stands s c → From s [] c
 none_from s c st = record { last = s; run = refl; stands = st }
 
+same_from : (s : State) (c d : CoreState) → Stands s c → d ≡ c → From s [] d
+same_from s c d st same = none_from s d (subst (λ (x : CoreState). Stands s x) (sym same) st)
+
 one_from : (s : State) (step : Step) (reply : Reply) (c : CoreState) → Follows s step reply c → From s (event_of step reply ∷ []) c
 one_from s step reply c f = record { last = f.after; run = (f.after, f.happens, refl); stands = f.stands }
 
 then_from : (s : State) (es fs : List Event) (c c' : CoreState) (x : From s es c) → From x.last fs c' → From s (es ++ fs) c'
 then_from s es fs c c' x y = record { last = y.last; run = run_then es fs s x.last y.last x.run y.run; stands = y.stands }
 
--- what one call is
-record Done (s : State) (c : CoreState) (answer : Answer) (c' : CoreState) : Type 0 where
+-- events of which something holds, and that are a run up to a core
+record Found (s : State) (c' : CoreState) (P : List Event → Type 0) : Type 0 where
   events : List Event
   from : From s events c'
-  has : HasEvents c events answer c'
+  has : P events
+
+-- events of the one sort or of the other, as a fact holds or not
+choose : (s : State) (c' : CoreState) (F : Type 0) (A B : List Event → Type 0) → F ⊎ (F → ⊥) → (F → Found s c' A)
+    → ((F → ⊥) → Found s c' B) → Found s c' (λ es. IfElse F (A es) (B es))
+choose s c' F A B (inl is) here away = let f = here is in record { events = f.events; from = f.from; has = inl (is, f.has) }
+choose s c' F A B (inr isnt) here away = let f = away isnt in record { events = f.events; from = f.from; has = inr (isnt, f.has) }
+
+-- what one call is
+abbrev Done : State → CoreState → Call → Answer → CoreState → Type 0
+Done s c call answer c' = Found s c' (λ es. HasEvents c es call answer c')
 
 held_is : (c d : CoreState) → Some c ≡ Some d → c ≡ d
 held_is c d e = let f = e in cc
 
-step_done : (tell : CoreState → CoreState → Reply → Answer) (step : Step) (s : State) (c c' : CoreState) (answer : Answer)
-    → Stands s c → Steps tell c step answer (Some c') → Done s c answer c'
-step_done tell step s c c' answer st h =
+-- ---- a step that is refused
+stays : (step : Step) (why : Refusal) (c d : CoreState) → Does step (replies.Refused why) c d → d ≡ c
+stays (steps.Mutator o) why c d h = h
+stays (steps.Collector collector.Begin) refusals.MarkRunning c d h = h.1
+stays (steps.Collector collector.Begin) why c d h = absurd h
+stays (steps.Collector (collector.Mark k)) refusals.NotMarking c d h = h.1
+stays (steps.Collector (collector.Mark k)) why c d h = absurd h
+stays (steps.Collector collector.Remark) refusals.NotMarking c d h = h.1
+stays (steps.Collector collector.Remark) why c d h = absurd h
+stays (steps.Collector collector.Cleanup) refusals.MarkRunning c d h = h.1
+stays (steps.Collector collector.Cleanup) why c d h = absurd h
+stays (steps.Collector (collector.Refine k)) why c d h = absurd h
+stays (steps.Collector (collector.Pause k)) why c d h = absurd h
+stays (steps.Collector (collector.Compact k)) why c d h = absurd h
+
+keeps : (step : Step) (reply : Reply) (c d : CoreState) → Does step reply c d → KeepsIfRefused reply c d
+keeps step reply c d h why e = stays step why c d (subst (λ (r : Reply). Does step r c d) e h)
+
+refused_done : (step : Step) (why : Refusal) (s : State) (c c' : CoreState) (answer : Answer) → Stands s c → c' ≡ c
+    → words.Takes c step (replies.Refused why) c → answer ≡ refused why → Found s c' (λ es. HasRefused c es step answer c')
+refused_done step why s c c' answer st same h tells = record {
+  events = event_of step (replies.Refused why) ∷ [];
+  from = subst (λ (d : CoreState). From s (event_of step (replies.Refused why) ∷ []) d) (sym same)
+      (one_from s step (replies.Refused why) c (h.follows s st));
+  has = record { why = why; events = refl; tells = tells; same = same };
+}
+
+-- ---- no step, and one
+none_done : (code : Answer) (s : State) (c c' : CoreState) (answer : Answer) → Stands s c → Stays (Some c) code answer (Some c')
+    → Found s c' (λ es. HasNone c es code answer c')
+none_done code s c c' answer st h =
+    let same : c' ≡ c = held_is c' c h.same in
+    record { events = []; from = same_from s c c' st same; has = record { events = refl; tells = h.answer_is; same = same } }
+
+step_done : (step : Step) (s : State) (c c' : CoreState) (answer : Answer) → Stands s c → Steps (telling step) c step answer (Some c')
+    → Found s c' (λ es. HasStep c es step answer c')
+step_done step s c c' answer st h =
     let same : c' ≡ h.core = held_is c' h.core h.held in
     record {
       events = event_of step h.reply ∷ [];
       from = subst (λ (d : CoreState). From s (event_of step h.reply ∷ []) d) (sym same) (one_from s step h.reply h.core (h.follows s st));
-      has = OfStep tell step h.reply refl (h.tells ∙ ap (λ (d : CoreState). tell c d h.reply) (sym same));
+      has = record {
+        reply = h.reply;
+        events = refl;
+        tells = h.tells ∙ ap (λ (d : CoreState). telling step c d h.reply) (sym same);
+        kept = λ why e. same ∙ keeps step h.reply c h.core h.does why e;
+      };
     }
 
+-- ---- steps of the collector, and an object that is asked for
 collected_from : (most : ℕ) (s : State) (c d : CoreState) → Stands s c → (h : CollectsIn most c d) → From s h.events d
 collected_from most s c d st h =
     let r = h.runs s st in
     record { last = r.last; run = passage_is_run s c h.events r.last d r.passage; stands = r.stands }
 
+collect_done : (most : ℕ) (s : State) (c d c' : CoreState) (answer : Answer) → Stands s c → c' ≡ d → CollectsIn most c d
+    → answer ≡ told 0 0 0 → Found s c' (λ es. HasCollection es answer)
+collect_done most s c d c' answer st same h tells = record {
+  events = h.events;
+  from = subst (λ (e : CoreState). From s h.events e) (sym same) (collected_from most s c d st h);
+  has = record { collectors = h.collectors; tells = tells };
+}
+
 own_from : (op : Op) (reply : Reply) (s : State) (c c' : CoreState) (W : Type 0) (sees : W → Event → W → Type 0) (x x' : W) → Stands s c
-    → TakesOwn sees op reply c x c' x' ⊎ HoldsBack op reply c x c' x' → From s (own_event op reply ∷ []) c'
+    → TakesOwn sees op reply c x c' x' ⊎ HoldsBack op reply c x c' x' → From s (event_of (steps.Mutator op) reply ∷ []) c'
 own_from op reply s c c' W sees x x' st (inl h) =
     let p = h.passes s st in
     record { last = p.follows.after; run = (p.follows.after, p.follows.happens, refl); stands = p.follows.stands }
@@ -87,41 +158,150 @@ own_from op reply s c c' W sees x x' st (inr h) =
     }
 
 -- an object that was asked for: the steps of the collector, and its own
-record Asked (s : State) (c : CoreState) (op : Op) (reply : Reply) (d : CoreState) : Type 0 where
+record Asked (s : State) (op : Op) (reply : Reply) (d : CoreState) : Type 0 where
   before : List Event
   collectors : All IsCollectors before
-  from : From s (before ++ own_event op reply ∷ []) d
+  core : CoreState
+  first : From s before core
+  own : From first.last (event_of (steps.Mutator op) reply ∷ []) d
 
 asks_from : (op : Op) (s : State) (c : CoreState) (answer : Answer) (after : Option CoreState) → Stands s c
-    → (h : Asks c op answer after) → Asked s c op h.reply h.core
+    → (h : Asks c op answer after) → Asked s op h.reply h.core
 asks_from op s c answer after st h =
     let before = h.makes.collects in
-    let x = collected_from (4 * c.config.regions + 12) s c h.makes.core st before in
-    let y = own_from op h.reply x.last h.makes.core h.core _ _ _ _ x.stands h.makes.own in
+    let first = collected_from (4 * c.config.regions + 12) s c h.makes.core st before in
     record {
       before = before.events;
       collectors = before.collectors;
-      from = then_from s before.events (own_event op h.reply ∷ []) h.makes.core h.core x y;
+      core = h.makes.core;
+      first = first;
+      own = own_from op h.reply first.last h.makes.core h.core _ _ _ _ first.stands h.makes.own;
     }
 
-make_done : (op : Op) (s : State) (c c' : CoreState) (answer : Answer) → Stands s c → Asks c op answer (Some c') → Done s c answer c'
+make_done : (op : Op) (s : State) (c c' : CoreState) (answer : Answer) → Stands s c → Asks c op answer (Some c')
+    → Found s c' (λ es. HasMaking es op answer)
 make_done op s c c' answer st h =
     let same : c' ≡ h.core = held_is c' h.core h.held in
     let a = asks_from op s c answer (Some c') st h in
+    let own = event_of (steps.Mutator op) h.reply ∷ [] in
     record {
-      events = a.before ++ own_event op h.reply ∷ [];
-      from = subst (λ (d : CoreState). From s (a.before ++ own_event op h.reply ∷ []) d) (sym same) a.from;
-      has = OfMaking op h.reply a.before a.collectors refl h.tells;
+      events = a.before ++ own;
+      from = subst (λ (d : CoreState). From s (a.before ++ own) d) (sym same) (then_from s a.before own a.core h.core a.first a.own);
+      has = record { reply = h.reply; before = a.before; collectors = a.collectors; events = refl; tells = h.tells };
     }
 
-collect_done : (most : ℕ) (s : State) (c d c' : CoreState) (answer : Answer) → Stands s c → c' ≡ d → CollectsIn most c d
-    → answer ≡ told 0 0 0 → Done s c answer c'
-collect_done most s c d c' answer st same h tells = record {
-  events = h.events;
-  from = subst (λ (e : CoreState). From s h.events e) (sym same) (collected_from most s c d st h);
-  has = OfCollection h.collectors tells;
+-- ---- the steps that fill an object
+join : (xs ys : List Step) (es fs : List Event) → AreEventsOf xs es → AreEventsOf ys fs → AreEventsOf (xs ++ ys) (es ++ fs)
+join xs ys es fs h k = record {
+  steps = map-append step_in es fs ∙ ap (λ (zs : List Step). zs ++ map step_in fs) h.steps ∙ ap (λ (zs : List Step). xs ++ zs) k.steps;
+  actors = map-append actor_in es fs ∙ (cc (h.actors, k.actors)) ∙ sym (map-append actor_of xs ys);
 }
 
+-- events of the steps, one after another, that lead from one core to another
+record Led (s : State) (step : ℕ → Step) (n : ℕ) (d : CoreState) : Type 0 where
+  events : List Event
+  from : From s events d
+  are : AreEventsOf (first_steps step n) events
+
+leads : (step : ℕ → Step) (n : ℕ) (s : State) (c d : CoreState) → Stands s c → RunsTo c step n d → Led s step n d
+leads step zero s c d st h = record { events = []; from = same_from s c d st h; are = record { steps = refl; actors = refl } }
+leads step (suc n) s c d st h =
+    let before = leads step n s c h.0 st h.2.0 in
+    let own = event_of (step n) h.1 ∷ [] in
+    let one = one_from before.from.last (step n) h.1 d (h.2.1.follows before.from.last before.from.stands) in
+    record {
+      events = before.events ++ own;
+      from = then_from s before.events own h.0 d before.from one;
+      are = join (first_steps step n) (step n ∷ []) before.events own before.are (record { steps = refl; actors = refl });
+    }
+
+record Filling (s : State) (reply : Reply) (m to : ℕ) (from words : List ℕ) (d : CoreState) : Type 0 where
+  events : List Event
+  run : From s events d
+  are : AreEventsOf (filling reply m to from words) events
+
+module _ (m to : ℕ) (from words : List ℕ) (s : State) (c d : CoreState) where
+  no_filling : (reply : Reply) → filling reply m to from words ≡ [] → Stands s c → d ≡ c → Filling s reply m to from words d
+  no_filling reply none st same =
+      let is : AreEventsOf [] [] = record { steps = refl; actors = refl } in
+      record { events = []; run = same_from s c d st same; are = subst (λ (xs : List Step). AreEventsOf xs []) (sym none) is }
+
+  fills_from : (reply : Reply) → Stands s c → FillsIt reply c m to from words d → Filling s reply m to from words d
+  fills_from (replies.Named (Some name)) st h =
+      let one = leads (pointing m to from) (length from) s c h.0 st h.1.0 in
+      let two = leads (wording m to words) (length words) one.from.last h.0 d one.from.stands h.1.1 in
+      record {
+        events = one.events ++ two.events;
+        run = then_from s one.events two.events h.0 d one.from two.from;
+        are = join (first_steps (pointing m to from) (length from)) (first_steps (wording m to words) (length words)) one.events two.events
+            one.are two.are;
+      }
+  fills_from (replies.Named None) st h = no_filling (replies.Named None) refl st h
+  fills_from replies.Done st h = no_filling replies.Done refl st h
+  fills_from (replies.Word v) st h = no_filling (replies.Word v) refl st h
+  fills_from (replies.Shape p v) st h = no_filling (replies.Shape p v) refl st h
+  fills_from (replies.Marked v) st h = no_filling (replies.Marked v) refl st h
+  fills_from (replies.Reclaimed v) st h = no_filling (replies.Reclaimed v) refl st h
+  fills_from (replies.Refined v) st h = no_filling (replies.Refined v) refl st h
+  fills_from (replies.Moved p v) st h = no_filling (replies.Moved p v) refl st h
+  fills_from (replies.Refused why) st h = no_filling (replies.Refused why) refl st h
+
+-- nothing fills an object that was refused
+unfilled : (why : Refusal) (reply : Reply) (m to : ℕ) (from words : List ℕ) (c d : CoreState) → reply ≡ replies.Refused why
+    → FillsIt reply c m to from words d → d ≡ c
+unfilled why reply m to from words c d e h = subst (λ (r : Reply). FillsIt r c m to from words d) e h
+
+filled_done : (m to : ℕ) (from words : List ℕ) (s : State) (c c' : CoreState) (answer : Answer) → Stands s c
+    → Fills c m to from words answer (Some c') → Found s c' (λ es. HasFilling c es m to from words answer c')
+filled_done m to from words s c c' answer st h =
+    let same : c' ≡ h.filled = held_is c' h.filled h.held in
+    let step = making m to from words in
+    let one = one_from s step h.reply h.made (h.makes.follows s st) in
+    let rest = fills_from m to from words one.last h.made h.filled h.reply one.stands h.fills in
+    record {
+      events = event_of step h.reply ∷ rest.events;
+      from = subst (λ (d : CoreState). From s (event_of step h.reply ∷ rest.events) d) (sym same)
+          (then_from s (event_of step h.reply ∷ []) rest.events h.made h.filled one rest.run);
+      has = record {
+        reply = h.reply;
+        fills = rest.events;
+        events = refl;
+        filled = rest.are;
+        tells = h.tells;
+        kept = λ why e. same ∙ unfilled why h.reply m to from words h.made h.filled e h.fills
+            ∙ keeps step h.reply c h.made h.makes.does why e;
+      };
+    }
+
+make_filled_done : (m to : ℕ) (from words : List ℕ) (s : State) (c c' : CoreState) (answer : Answer) → Stands s c
+    → AsksToFill c m to from words answer (Some c') → Found s c' (λ es. HasMakingAndFilling es m to from words answer)
+make_filled_done m to from words s c c' answer st h =
+    let op = asked m to (length from) 0 (length words) in
+    let same : c' ≡ h.filled = held_is c' h.filled h.held in
+    let at : h.made ≡ h.asks.core = held_is h.made h.asks.core h.asks.held in
+    let a = asks_from op s c answer (Some h.made) st h.asks in
+    let fills : FillsIt h.asks.reply h.asks.core m to from words h.filled =
+    subst (λ (d : CoreState). FillsIt h.asks.reply d m to from words h.filled) at h.fills in
+    let rest = fills_from m to from words a.own.last h.asks.core h.filled h.asks.reply a.own.stands fills in
+    let own = event_of (steps.Mutator op) h.asks.reply in
+    let from_own = then_from a.first.last (own ∷ []) rest.events h.asks.core h.filled a.own rest.run in
+    let events = a.before ++ own ∷ rest.events in
+    record {
+      events = events;
+      from = subst (λ (d : CoreState). From s events d) (sym same)
+          (then_from s a.before (own ∷ rest.events) a.core h.filled a.first from_own);
+      has = record {
+        reply = h.asks.reply;
+        before = a.before;
+        fills = rest.events;
+        collectors = a.collectors;
+        events = refl;
+        filled = rest.are;
+        tells = h.asks.tells;
+      };
+    }
+
+-- ---- words in bulk
 reads_from : (m : ℕ) (object : Register) (c : CoreState) (ws : List ℕ) (from : ℕ) (s : State) → Stands s c
     → ((i : ℕ) → i < length ws → words.Takes c (reading m object (from + i)) (replies.Word (slice_index ws i)) c)
     → From s (reads_of m object from ws) c
@@ -141,156 +321,110 @@ reads_from m object c (w ∷ ws) from s st h =
 
 writes_from : (m : ℕ) (object : Register) (ws : List ℕ) (from : ℕ) (s : State) (c d : CoreState) → Stands s c
     → AreWritten c m object from ws d → From s (writes_of m object from ws) d
-writes_from m object [] from s c d st h = none_from s d (subst (λ (x : CoreState). Stands s x) (sym h) st)
+writes_from m object [] from s c d st h = same_from s c d st h
 writes_from m object (w ∷ ws) from s c d st h =
     let x = one_from s (writing m object from w) replies.Done h.0 (h.1.0.follows s st) in
     then_from s (event_of (writing m object from w) replies.Done ∷ []) (writes_of m object (suc from) ws) h.0 d x
     (writes_from m object ws (suc from) x.last h.0 d x.stands h.1.1)
 
--- events of the steps, one after another, that lead from one core to another
-record Led (s : State) (step : ℕ → Step) (n : ℕ) (d : CoreState) : Type 0 where
-  events : List Event
-  from : From s events d
-  steps_are : map step_in events ≡ first_steps step n
-
-map_then : (es fs : List Event) → map step_in (es ++ fs) ≡ map step_in es ++ map step_in fs
-map_then [] fs = refl
-map_then (e ∷ es) fs = ap (λ (xs : List Step). step_in e ∷ xs) (map_then es fs)
-
-leads : (step : ℕ → Step) (n : ℕ) (s : State) (c d : CoreState) → Stands s c → RunsTo c step n d → Led s step n d
-leads step zero s c d st h =
-    record { events = []; from = none_from s d (subst (λ (x : CoreState). Stands s x) (sym h) st); steps_are = refl }
-leads step (suc n) s c d st h =
-    let before = leads step n s c h.0 st h.2.0 in
-    let one = one_from before.from.last (step n) h.1 d (h.2.1.follows before.from.last before.from.stands) in
-    record {
-      events = before.events ++ event_of (step n) h.1 ∷ [];
-      from = then_from s before.events (event_of (step n) h.1 ∷ []) h.0 d before.from one;
-      steps_are = map_then before.events (event_of (step n) h.1 ∷ [])
-          ∙ ap (λ (xs : List Step). xs ++ step n ∷ []) before.steps_are;
-    }
-
--- what fills an object
-record Filling (s : State) (reply : Reply) (m to : ℕ) (from words : List ℕ) (d : CoreState) : Type 0 where
-  events : List Event
-  run : From s events d
-  steps_are : map step_in events ≡ filling reply m to from words
-
-no_filling : (s : State) (c d : CoreState) → Stands s c → d ≡ c → From s [] d
-no_filling s c d st h = none_from s d (subst (λ (x : CoreState). Stands s x) (sym h) st)
-
-fills_from : (reply : Reply) (m to : ℕ) (from words : List ℕ) (s : State) (c d : CoreState) → Stands s c
-    → FillsIt reply c m to from words d → Filling s reply m to from words d
-fills_from (replies.Named (Some name)) m to from words s c d st h =
-    let one = leads (pointing m to from) (length from) s c h.0 st h.1.0 in
-    let two = leads (wording m to words) (length words) one.from.last h.0 d one.from.stands h.1.1 in
-    record {
-      events = one.events ++ two.events;
-      run = then_from s one.events two.events h.0 d one.from two.from;
-      steps_are = map_then one.events two.events
-          ∙ ap (λ (xs : List Step). xs ++ map step_in two.events) one.steps_are
-          ∙ ap (λ (xs : List Step). first_steps (pointing m to from) (length from) ++ xs) two.steps_are;
-    }
-fills_from (replies.Named None) m to from words s c d st h = record { events = []; run = no_filling s c d st h; steps_are = refl }
-fills_from replies.Done m to from words s c d st h = record { events = []; run = no_filling s c d st h; steps_are = refl }
-fills_from (replies.Word v) m to from words s c d st h = record { events = []; run = no_filling s c d st h; steps_are = refl }
-fills_from (replies.Shape p v) m to from words s c d st h = record { events = []; run = no_filling s c d st h; steps_are = refl }
-fills_from (replies.Marked v) m to from words s c d st h = record { events = []; run = no_filling s c d st h; steps_are = refl }
-fills_from (replies.Reclaimed v) m to from words s c d st h = record { events = []; run = no_filling s c d st h; steps_are = refl }
-fills_from (replies.Refined v) m to from words s c d st h = record { events = []; run = no_filling s c d st h; steps_are = refl }
-fills_from (replies.Moved p v) m to from words s c d st h = record { events = []; run = no_filling s c d st h; steps_are = refl }
-fills_from (replies.Refused why) m to from words s c d st h = record { events = []; run = no_filling s c d st h; steps_are = refl }
-
-filled_done : (m to : ℕ) (from words : List ℕ) (s : State) (c c' : CoreState) (answer : Answer) → Stands s c
-    → Fills c m to from words answer (Some c') → Done s c answer c'
-filled_done m to from words s c c' answer st h =
-    let same : c' ≡ h.filled = held_is c' h.filled h.held in
-    let step = making m to from words in
-    let one = one_from s step h.reply h.made (h.makes.follows s st) in
-    let rest = fills_from h.reply m to from words one.last h.made h.filled one.stands h.fills in
-    record {
-      events = event_of step h.reply ∷ rest.events;
-      from = subst (λ (d : CoreState). From s (event_of step h.reply ∷ rest.events) d) (sym same)
-          (then_from s (event_of step h.reply ∷ []) rest.events h.made h.filled one rest.run);
-      has = OfFilling m to from words h.reply rest.events refl rest.steps_are h.tells;
-    }
-
-made_filled_done : (m to : ℕ) (from words : List ℕ) (s : State) (c c' : CoreState) (answer : Answer) → Stands s c
-    → AsksToFill c m to from words answer (Some c') → Done s c answer c'
-made_filled_done m to from words s c c' answer st h =
-    let op = asked m to (length from) 0 (length words) in
-    let same : c' ≡ h.filled = held_is c' h.filled h.held in
-    let at : h.made ≡ h.asks.core = held_is h.made h.asks.core h.asks.held in
-    let a = asks_from op s c answer (Some h.made) st h.asks in
-    let fills : FillsIt h.asks.reply h.asks.core m to from words h.filled =
-    subst (λ (d : CoreState). FillsIt h.asks.reply d m to from words h.filled) at h.fills in
-    let rest = fills_from h.asks.reply m to from words a.from.last h.asks.core h.filled a.from.stands fills in
-    let events = (a.before ++ own_event op h.asks.reply ∷ []) ++ rest.events in
-    record {
-      events = events;
-      from = subst (λ (d : CoreState). From s events d) (sym same)
-          (then_from s (a.before ++ own_event op h.asks.reply ∷ []) rest.events h.asks.core h.filled a.from rest.run);
-      has = OfMadeFilling m to from words h.asks.reply a.before rest.events a.collectors refl rest.steps_are h.asks.tells;
-    }
-
-same_done : (s : State) (c c' : CoreState) (answer : Answer) → Stands s c → c' ≡ c → Done s c answer c'
-same_done s c c' answer st same = record {
-  events = [];
-  from = none_from s c' (subst (λ (x : CoreState). Stands s x) (sym same) st);
-  has = OfNone refl same;
+read_done : (m object from : ℕ) (before after : List ℕ) (s : State) (c c' : CoreState) (answer : Answer) → Stands s c → c' ≡ c
+    → ReadsAll c m object from before after answer ⊎ ReadsNone c m object from before after answer
+    → Found s c' (λ es. HasRead c es m object from before after answer c' ⊎ HasNotRead c es m object from before after answer c')
+read_done m object from before after s c c' answer st same (inl a) = record {
+  events = reads_of m (register object) from after;
+  from = subst (λ (x : CoreState). From s (reads_of m (register object) from after) x) (sym same)
+      (reads_from m (register object) c after from s st a.read);
+  has = inl (record { events = refl; count = a.room; tells = a.done; same = same });
 }
+read_done m object from before after s c c' answer st same (inr n) =
+    let f = refused_done (last_read m (register object) from (length before)) n.why s c c' answer st same n.unread n.tells in
+    record { events = f.events; from = f.from; has = inr (record { refused = f.has; buffer = n.same }) }
 
-call_done : (s : State) (c c' : CoreState) (answer : Answer) → Stands s c → IsCall c answer c' → Done s c answer c'
-call_done s c c' answer st (StepCall tell step is h) = step_done tell step s c c' answer st (h.takes is)
-call_done s c c' answer st (MakeCall op is h) = make_done op s c c' answer st (h.asks is)
-call_done s c c' answer st (DueCall h) =
-    collect_done (c.config.regions + 5) s c h.core c' answer st (held_is c' h.core h.held) h.collects h.tells
-call_done s c c' answer st (WholeCall h) = collect_done _ s c h.core c' answer st (held_is c' h.core h.held) h.collects h.tells
-call_done s c c' answer st (ReadCall m object from before after is h) = go (h.0.takes is)
-  where
-    same : c' ≡ c
-    same = held_is c' c h.1
+unread_done : (before after : List ℕ) (s : State) (c c' : CoreState) (answer : Answer) → Stands s c → c' ≡ c
+    → (answer ≡ no_step) × (after ≡ before) → Found s c' (λ es. HasNone c es no_step answer c' × (after ≡ before))
+unread_done before after s c c' answer st same h =
+    record { events = []; from = same_from s c c' st same; has = (record { events = refl; tells = h.0; same = same }, h.1) }
 
-    go : ReadsAll c m object from before after answer ⊎ ReadsNone c m object from before after answer → Done s c answer c'
-    go (inl a) = record {
-      events = reads_of m (register object) from after;
-      from = subst (λ (x : CoreState). From s (reads_of m (register object) from after) x) (sym same)
-          (reads_from m (register object) c after from s st a.read);
-      has = OfReads m object from after refl a.done;
+write_done : (m object from : ℕ) (ws : List ℕ) (s : State) (c c' : CoreState) (answer : Answer) → Stands s c
+    → WritesAll c m object from ws answer (Some c') ⊎ WritesNone c m object from ws answer (Some c')
+    → Found s c' (λ es. HasWritten es m object from ws answer ⊎ HasRefused c es (last_write m (register object) from ws) answer c')
+write_done m object from ws s c c' answer st (inl a) =
+    let same : c' ≡ a.core = held_is c' a.core a.held in
+    record {
+      events = writes_of m (register object) from ws;
+      from = subst (λ (x : CoreState). From s (writes_of m (register object) from ws) x) (sym same)
+          (writes_from m (register object) ws from s c a.core st a.written);
+      has = inl (record { events = refl; tells = a.done });
     }
-    go (inr n) = same_done s c c' answer st same
-call_done s c c' answer st (WriteCall m object from ws is h) = go (h.takes is)
-  where
-    go : WritesAll c m object from ws answer (Some c') ⊎ WritesNone c m object from ws answer (Some c') → Done s c answer c'
-    go (inl a) =
-        let same : c' ≡ a.core = held_is c' a.core a.held in
-        record {
-          events = writes_of m (register object) from ws;
-          from = subst (λ (x : CoreState). From s (writes_of m (register object) from ws) x) (sym same)
-              (writes_from m (register object) ws from s c a.core st a.written);
-          has = OfWrites m object from ws refl a.done;
-        }
-    go (inr n) = same_done s c c' answer st (held_is c' c n.same)
-call_done s c c' answer st (FilledCall m to from words is h) = filled_done m to from words s c c' answer st (h.takes is)
-call_done s c c' answer st (MadeFilledCall m to from words is h) = made_filled_done m to from words s c c' answer st (h.asks is)
-call_done s c c' answer st (OtherCall same) = same_done s c c' answer st same
+write_done m object from ws s c c' answer st (inr n) =
+    let f = refused_done (last_write m (register object) from ws) n.why s c c' answer st (held_is c' c n.same) n.unwritten n.tells in
+    record { events = f.events; from = f.from; has = inr f.has }
 
-calls_from : (answers : List Answer) (s : State) (c c' : CoreState) → Stands s c → AreCalls c answers c' → AreRun s c answers c'
-calls_from [] s c c' st same =
-    record { events = []; last = s; run = refl; stands = subst (λ (x : CoreState). Stands s x) (sym same) st; each = (refl, same) }
-calls_from (x ∷ xs) s c c' st h =
-    let first = call_done s c h.0 x st h.1 in
-    let rest = calls_from xs first.from.last h.0 c' first.from.stands h.2 in
+-- ---- calls
+live_done : (config : Config) (s : State) (c c' : CoreState) (answer : Answer) → Stands s c
+    → IsCall (Some c) (NewCall config) answer (Some c') → Found s c' (λ es. HasNone c es (told 34 0 0) answer c')
+live_done config s c c' answer st h =
+    let is : answer ≡ told 34 0 0 = h.0 ∙ ap (λ (n : ℕ). told n 0 0) h.1.0 in
+    none_done (told 34 0 0) s c c' answer st (record { answer_is = is; same = h.1.1 })
+
+call_done : (call : Call) (s : State) (c c' : CoreState) (answer : Answer) → Stands s c → IsCall (Some c) call answer (Some c')
+    → Done s c call answer c'
+call_done (NewCall config) s c c' answer st h = live_done config s c c' answer st h
+call_done (StepCall step) s c c' answer st h =
+    choose s c' (IsStep c.config step) (λ es. HasStep c es step answer c') (λ es. HasNone c es no_step answer c') (is_step c.config step)
+    (λ is. step_done step s c c' answer st (h.takes is)) (λ isnt. none_done no_step s c c' answer st (h.not isnt))
+call_done (NewFilledCall m to from words) s c c' answer st h =
+    choose s c' (AreFields c.config m to from words) (λ es. HasFilling c es m to from words answer c')
+    (λ es. HasNone c es no_step answer c') (are_fields c.config m to from words)
+    (λ is. filled_done m to from words s c c' answer st (h.takes is)) (λ isnt. none_done no_step s c c' answer st (h.not isnt))
+call_done (MakeCall op) s c c' answer st h =
+    choose s c' (IsOp c.config op) (λ es. HasMaking es op answer) (λ es. HasNone c es no_step answer c') (is_op c.config op)
+    (λ is. make_done op s c c' answer st (h.asks is)) (λ isnt. none_done no_step s c c' answer st (h.not isnt))
+call_done (MakeFilledCall m to from words) s c c' answer st h =
+    choose s c' (AreFields c.config m to from words) (λ es. HasMakingAndFilling es m to from words answer)
+    (λ es. HasNone c es no_step answer c') (are_fields c.config m to from words)
+    (λ is. make_filled_done m to from words s c c' answer st (h.asks is)) (λ isnt. none_done no_step s c c' answer st (h.not isnt))
+call_done CollectCall s c c' answer st h =
+    collect_done (c.config.regions + 5) s c h.core c' answer st (held_is c' h.core h.held) h.collects h.tells
+call_done CollectAllCall s c c' answer st h = collect_done _ s c h.core c' answer st (held_is c' h.core h.held) h.collects h.tells
+call_done (ReadWordsCall m object from before after) s c c' answer st h =
+    let same : c' ≡ c = held_is c' c h.1 in
+    choose s c' (HasRegister c m object)
+    (λ es. HasRead c es m object from before after answer c' ⊎ HasNotRead c es m object from before after answer c')
+    (λ es. HasNone c es no_step answer c' × (after ≡ before)) (is_register c m object)
+    (λ is. read_done m object from before after s c c' answer st same (h.0.takes is))
+    (λ isnt. unread_done before after s c c' answer st same (h.0.not isnt))
+call_done (WriteWordsCall m object from ws) s c c' answer st h =
+    choose s c' (HasRegister c m object)
+    (λ es. HasWritten es m object from ws answer ⊎ HasRefused c es (last_write m (register object) from ws) answer c')
+    (λ es. HasNone c es no_step answer c') (is_register c m object)
+    (λ is. write_done m object from ws s c c' answer st (h.takes is)) (λ isnt. none_done no_step s c c' answer st (h.not isnt))
+call_done (AskCall question) s c c' answer st h =
+    let same : c' ≡ c = held_is c' c h.1 in
+    record { events = []; from = same_from s c c' st same; has = record { events = refl; answers = h.0; same = same } }
+call_done NoStepCall s c c' answer st h = none_done no_step s c c' answer st h
+call_done FreeCall s c c' answer st h = let e : Some c' ≡ None = h.1 in cc
+
+calls_from : (calls : List Called) (s : State) (c : CoreState) → Stands s c → AreCalls c calls → AreRun s c calls
+calls_from [] s c st h = record { events = []; last = s; run = refl; each = (refl, refl) }
+calls_from (x ∷ xs) s c st h =
+    let first = call_done x.call s c x.after x.answer st h.0 in
+    let rest = calls_from xs first.from.last x.after first.from.stands h.1 in
+    let runs : CallRuns s c first.events x first.from.last =
+    record { before = st; run = first.from.run; after = first.from.stands; has = first.has } in
     record {
       events = first.events ++ rest.events;
       last = rest.last;
       run = run_then first.events rest.events s first.from.last rest.last first.from.run rest.run;
-      stands = rest.stands;
-      each = (h.0, first.events, rest.events, refl, first.has, rest.each);
+      each = (first.from.last, first.events, rest.events, refl, runs, rest.each);
     }
 
-pub calls_run : (config : Config) (code : ℕ) (c : CoreState) (answers : List Answer) (c' : CoreState)
-    → IsMade config code (Some c) → AreCalls c answers c' → AreRun (first_state config) c answers c'
-calls_run config code c answers c' made calls =
-    let same : c ≡ fresh_core config = held_is c (fresh_core config) made.held in
-    calls_from answers (first_state config) c c' (subst (λ (x : CoreState). Stands (first_state config) x) (sym same) made.stands) calls
+-- a heap that was made stands for the state with no objects
+made_stands : (config : Config) (code : ℕ) (c : CoreState) → Makes None config code (Some c) → Stands (first_state config) c
+made_stands config code c (inl made) =
+    subst (λ (x : CoreState). Stands (first_state config) x) (sym (held_is c (fresh_core config) made.held)) made.stands
+made_stands config code c (inr failed) = let e : Some c ≡ None = failed.none in cc
+
+pub calls_run : (config : Config) (answer : Answer) (c : CoreState) (calls : List Called) → IsCall None (NewCall config) answer (Some c)
+    → AreCalls c calls → AreRun (first_state config) c calls
+calls_run config answer c calls made h = calls_from calls (first_state config) c (made_stands config answer.code c made.1) h

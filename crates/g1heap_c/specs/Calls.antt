@@ -1,108 +1,96 @@
--- A list of calls on a heap, as a run of the graph.
-use Rattle.std.specs.Prelude.{◌≡◌, ◌++◌, ℕ, zero, suc, All, List, [], ◌∷◌, Some, length, map}
+-- Calls on a heap, and what is proved of each.
+use Rattle.std.specs.Prelude.{◌≡◌, ℕ, ⊤, List, [], ◌∷◌, length, Option, Some, None}
+use Rattle.heap_words.specs.Configs.{globals_of, registers_of}
 use Rattle.heap_words.specs.declared.config.Config.{Config}
-use Rattle.heap_steps.specs.Actors.{IsOp, IsStep}
-use Rattle.heap_steps.specs.declared.step.Event.{Event}
+use Rattle.regions.specs.Table.{free_count}
+use Rattle.heap_steps.specs.declared.step.CollectorStep.TheVariants as collector
 use Rattle.heap_steps.specs.declared.step.Op.{Op}
-use Rattle.heap_steps.specs.declared.step.Register.{Register}
 use Rattle.heap_steps.specs.declared.step.Reply.{Reply}
-use Rattle.heap_steps.specs.declared.step.Reply.TheVariants as replies
 use Rattle.heap_steps.specs.declared.step.Step.{Step}
-use Rattle.graph_runs.specs.Run.{IsRun}
-use Rattle.graph_runs.specs.State.{State, first_state}
-use Rattle.step_core.specs.Passages.{actor_of, step_in}
-use Rattle.step_core.specs.Stands.{CoreState, Stands}
-use Rattle.step_core.specs.Words.{reading, writing}
-use Rattle.collection.specs.Steps.{IsCollectors, own_event}
-use Rattle.heap_calls.specs.Numbers.{told, numbers, register}
-use Rattle.g1heap_c.specs.Policies.{AsksFor, CollectsAll, CollectsDue, asked}
-use Rattle.heap_calls.specs.Steps.{HasRegister, IsMade, Takes}
+use Rattle.heap_steps.specs.declared.step.Step.TheVariants as steps
+use Rattle.step_core.specs.Measures.{used_words, live_words, HasGrey}
+use Rattle.step_core.specs.Stands.{CoreState}
+use Rattle.heap_calls.specs.Filled.{MakesFilled}
+use Rattle.heap_calls.specs.Numbers.{told}
+use Rattle.heap_calls.specs.Steps.{IsMarking, IsName, IsNumber, IsRun, IsSign, Makes, Takes, TakesNone, Tells, plain, scanned}
 use Rattle.heap_calls.specs.Words.{ReadsWords, WritesWords}
-use Rattle.heap_calls.specs.Filled.{AreFields, MakesFilled, making, pointing, wording}
-use Rattle.g1heap_c.specs.MadeFilled.{AsksFilled}
 use Rattle.heap_calls.specs.declared.answer.Answer.{Answer}
+use Rattle.g1heap_c.specs.MadeFilled.{AsksFilled}
+use Rattle.g1heap_c.specs.Policies.{AsksFor, CollectsAll, CollectsDue}
 
--- the event of a step, taken by whose it is
-abbrev pub event_of : Step → Reply → Event
-event_of step reply = record { actor = actor_of step; step = step; reply = reply }
+-- What is asked of a heap: how many regions are free, and how many of them side by side; how many words are handed out, and how many are
+-- live; whether marking runs, and whether it has more to scan; how many cards are queued; how many globals there are, and how many
+-- registers a mutator has; which name a mutator's register holds
+pub data Question : Type 0 where
+  FreeRegions : Question
+  FreeRun : Question
+  UsedWords : Question
+  LiveWords : Question
+  Marking : Question
+  Grey : Question
+  Queued : Question
+  Globals : Question
+  Registers : Question
+  Name : (m r : ℕ) → Question
 
--- What is proved of one call on a heap that is there: of one that takes a step, that makes an object by the policy or collects by it, that
--- reads or writes several data words, and that makes an object, by the policy or not, and fills it; any other leaves the heap as it was
-pub data IsCall (c : CoreState) (answer : Answer) (c' : CoreState) : Type 0 where
-  StepCall : (tell : CoreState → CoreState → Reply → Answer) (step : Step) → IsStep c.config step
-      → Takes tell (Some c) step answer (Some c') → IsCall c answer c'
-  MakeCall : (op : Op) → IsOp c.config op → AsksFor (Some c) op answer (Some c') → IsCall c answer c'
-  DueCall : CollectsDue (Some c) answer (Some c') → IsCall c answer c'
-  WholeCall : CollectsAll (Some c) answer (Some c') → IsCall c answer c'
-  ReadCall : (m object from : ℕ) (before after : List ℕ) → HasRegister c m object
-      → ReadsWords (Some c) m object from before after answer (Some c') → IsCall c answer c'
-  WriteCall : (m object from : ℕ) (words : List ℕ) → HasRegister c m object
-      → WritesWords (Some c) m object from words answer (Some c') → IsCall c answer c'
-  FilledCall : (m to : ℕ) (from words : List ℕ) → AreFields c.config m to from words
-      → MakesFilled (Some c) m to from words answer (Some c') → IsCall c answer c'
-  MadeFilledCall : (m to : ℕ) (from words : List ℕ) → AreFields c.config m to from words
-      → AsksFilled (Some c) m to from words answer (Some c') → IsCall c answer c'
-  OtherCall : c' ≡ c → IsCall c answer c'
+-- Which call it is, with its numbers. A heap is made; it takes a step; it makes an object and fills it; it makes an object by the policy,
+-- and makes one by the policy and fills it; the steps of the collector that are due; a whole collection; data words are read from one on,
+-- with what the buffer holds before and after, and are written; something is asked; the numbers name no step of any heap; it is freed
+pub data Call : Type 0 where
+  NewCall : (config : Config) → Call
+  StepCall : (step : Step) → Call
+  NewFilledCall : (m to : ℕ) (from words : List ℕ) → Call
+  MakeCall : (op : Op) → Call
+  MakeFilledCall : (m to : ℕ) (from words : List ℕ) → Call
+  CollectCall : Call
+  CollectAllCall : Call
+  ReadWordsCall : (m object from : ℕ) (before after : List ℕ) → Call
+  WriteWordsCall : (m object from : ℕ) (words : List ℕ) → Call
+  AskCall : (question : Question) → Call
+  NoStepCall : Call
+  FreeCall : Call
 
--- calls one after another
-abbrev pub AreCalls : CoreState → List Answer → CoreState → Type 0
-AreCalls c [] c' = c' ≡ c
-AreCalls c (x ∷ xs) c' = (mid : CoreState) × IsCall c x mid × AreCalls mid xs c'
+-- how a step's reply is told: of a mark that is done, by how many objects it scanned
+abbrev pub telling : Step → CoreState → CoreState → Reply → Answer
+telling (steps.Collector (collector.Mark k)) = scanned
+telling _ = plain
 
--- the events of reading data words, one after another from one on, and those of writing them
-abbrev pub reads_of : ℕ → Register → ℕ → List ℕ → List Event
-reads_of m object from [] = []
-reads_of m object from (w ∷ ws) = event_of (reading m object from) (replies.Word w) ∷ reads_of m object (suc from) ws
+-- the answer tells of a core what the question asks
+abbrev pub IsAnswerTo : Question → CoreState → Answer → Type 0
+IsAnswerTo FreeRegions = IsNumber (λ c. free_count c.table)
+IsAnswerTo FreeRun = IsRun
+IsAnswerTo UsedWords = IsNumber used_words
+IsAnswerTo LiveWords = IsNumber live_words
+IsAnswerTo Marking = IsSign IsMarking
+IsAnswerTo Grey = IsSign HasGrey
+IsAnswerTo Queued = IsNumber (λ c. length c.cards.queue)
+IsAnswerTo Globals = IsNumber (λ c. globals_of c.config)
+IsAnswerTo Registers = IsNumber (λ c. registers_of c.config)
+IsAnswerTo (Name m r) = IsName m r
 
-abbrev pub writes_of : ℕ → Register → ℕ → List ℕ → List Event
-writes_of m object from [] = []
-writes_of m object from (w ∷ ws) = event_of (writing m object from w) replies.Done ∷ writes_of m object (suc from) ws
+-- What is proved of a call, by its answer and by the heap before and after it, which may be none: each function that takes a heap has this
+-- of its call as its contract. What `g1_new` answers is the code; `g1_free` answers nothing, which counts as done
+abbrev pub IsCall : Option CoreState → Call → Answer → Option CoreState → Type 0
+IsCall heap (NewCall config) answer after = (answer ≡ told answer.code 0 0) × Makes heap config answer.code after
+IsCall heap (StepCall step) answer after = Takes (telling step) heap step answer after
+IsCall heap (NewFilledCall m to from words) answer after = MakesFilled heap m to from words answer after
+IsCall heap (MakeCall op) answer after = AsksFor heap op answer after
+IsCall heap (MakeFilledCall m to from words) answer after = AsksFilled heap m to from words answer after
+IsCall heap CollectCall answer after = CollectsDue heap answer after
+IsCall heap CollectAllCall answer after = CollectsAll heap answer after
+IsCall heap (ReadWordsCall m object from before out) answer after = ReadsWords heap m object from before out answer after
+IsCall heap (WriteWordsCall m object from words) answer after = WritesWords heap m object from words answer after
+IsCall heap (AskCall question) answer after = Tells (IsAnswerTo question) heap answer after
+IsCall heap NoStepCall answer after = TakesNone heap answer after
+IsCall heap FreeCall answer after = (answer ≡ told 0 0 0) × (after ≡ None)
 
--- the first so many of some steps, and those that fill an object, if one was made
-abbrev pub first_steps : (ℕ → Step) → ℕ → List Step
-first_steps step zero = []
-first_steps step (suc n) = first_steps step n ++ step n ∷ []
+-- a call that was made, with its answer and the heap after it
+pub record Called : Type 0 where
+  pub call : Call
+  pub answer : Answer
+  pub after : CoreState
 
-abbrev pub filling : Reply → ℕ → ℕ → List ℕ → List ℕ → List Step
-filling (replies.Named (Some name)) m to from words =
-    first_steps (pointing m to from) (length from) ++ first_steps (wording m to words) (length words)
-filling _ m to from words = []
-
--- The events of one call, and what its answer tells of them: a step with its reply; steps of the collector, and the making of an object
--- with its reply; steps of the collector; data words that were read, or written; the making of an object with its reply, and the steps that
--- fill it, perhaps after steps of the collector; or none
-pub data HasEvents (c : CoreState) (es : List Event) (answer : Answer) (c' : CoreState) : Type 0 where
-  OfStep : (tell : CoreState → CoreState → Reply → Answer) (step : Step) (reply : Reply) → es ≡ event_of step reply ∷ []
-      → answer ≡ tell c c' reply → HasEvents c es answer c'
-  OfMaking : (op : Op) (reply : Reply) (before : List Event) → All IsCollectors before → es ≡ before ++ own_event op reply ∷ []
-      → answer ≡ numbers reply → HasEvents c es answer c'
-  OfCollection : All IsCollectors es → answer ≡ told 0 0 0 → HasEvents c es answer c'
-  OfReads : (m object from : ℕ) (words : List ℕ) → es ≡ reads_of m (register object) from words → answer ≡ told 0 0 0
-      → HasEvents c es answer c'
-  OfWrites : (m object from : ℕ) (words : List ℕ) → es ≡ writes_of m (register object) from words → answer ≡ told 0 0 0
-      → HasEvents c es answer c'
-  OfFilling : (m to : ℕ) (from words : List ℕ) (reply : Reply) (fills : List Event)
-      → es ≡ event_of (making m to from words) reply ∷ fills → map step_in fills ≡ filling reply m to from words
-      → answer ≡ numbers reply → HasEvents c es answer c'
-  OfMadeFilling : (m to : ℕ) (from words : List ℕ) (reply : Reply) (before fills : List Event) → All IsCollectors before
-      → es ≡ (before ++ own_event (asked m to (length from) 0 (length words)) reply ∷ []) ++ fills
-      → map step_in fills ≡ filling reply m to from words → answer ≡ numbers reply → HasEvents c es answer c'
-  OfNone : es ≡ [] → c' ≡ c → HasEvents c es answer c'
-
--- the events of calls one after another
-abbrev pub HaveEvents : CoreState → List Event → List Answer → CoreState → Type 0
-HaveEvents c es [] c' = (es ≡ []) × (c' ≡ c)
-HaveEvents c es (x ∷ xs) c' = (mid : CoreState) × (first : List Event) × (rest : List Event) × (es ≡ first ++ rest)
-    × HasEvents c first x mid × HaveEvents mid rest xs c'
-
--- the calls have events that are a run of the graph from a state on, and the heap stands for the state after it
-pub record AreRun (s : State) (c : CoreState) (answers : List Answer) (c' : CoreState) : Type 0 where
-  pub events : List Event
-  pub last : State
-  pub run : IsRun s events last
-  pub stands : Stands last c'
-  pub each : HaveEvents c events answers c'
-
--- Calls on a new heap are a run from the state with no objects on
-abbrev pub NewHeapRuns : Config → ℕ → CoreState → List Answer → CoreState → Type 0
-NewHeapRuns config code c answers c' = IsMade config code (Some c) → AreCalls c answers c' → AreRun (first_state config) c answers c'
+-- calls one after another on a heap, which is there after each
+abbrev pub AreCalls : CoreState → List Called → Type 0
+AreCalls c [] = ⊤
+AreCalls c (x ∷ xs) = IsCall (Some c) x.call x.answer (Some x.after) × AreCalls x.after xs

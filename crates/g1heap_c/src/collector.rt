@@ -2,7 +2,7 @@
 
 ghost use Rattle.heap_steps.specs.declared.step.Step.TheVariants as steps;
 ghost use Rattle.heap_steps.specs.declared.step.CollectorStep.TheVariants as collector;
-ghost use Rattle.heap_calls.specs.Steps.{Takes, plain, scanned};
+ghost use Rattle.g1heap_c.specs.Calls.{IsCall, StepCall};
 
 use heap_calls::answer::Answer;
 use heap_calls::heap::{Heap, mark, take};
@@ -11,7 +11,7 @@ use heap_steps::{CollectorStep, Step};
 /// Marking begins.
 #[unsafe(no_mangle)]
 pub extern "C" fn g1_begin(heap: &mut Heap) -> Answer
-    ensures { Takes plain heap.old.handle.core (steps.Collector collector.Begin) result heap.new.handle.core }
+    ensures { IsCall heap.old.handle.core (StepCall (steps.Collector collector.Begin)) result heap.new.handle.core }
 {
     take(heap, Step::Collector(CollectorStep::Begin))
 }
@@ -19,7 +19,7 @@ pub extern "C" fn g1_begin(heap: &mut Heap) -> Answer
 /// At most so many objects are scanned; the answer tells how many.
 #[unsafe(no_mangle)]
 pub extern "C" fn g1_mark(heap: &mut Heap, objects: u32) -> Answer
-    ensures { Takes scanned heap.old.handle.core (steps.Collector (collector.Mark objects)) result heap.new.handle.core }
+    ensures { IsCall heap.old.handle.core (StepCall (steps.Collector (collector.Mark objects))) result heap.new.handle.core }
 {
     mark(heap, objects)
 }
@@ -27,7 +27,7 @@ pub extern "C" fn g1_mark(heap: &mut Heap, objects: u32) -> Answer
 /// Marking is brought to its end.
 #[unsafe(no_mangle)]
 pub extern "C" fn g1_remark(heap: &mut Heap) -> Answer
-    ensures { Takes plain heap.old.handle.core (steps.Collector collector.Remark) result heap.new.handle.core }
+    ensures { IsCall heap.old.handle.core (StepCall (steps.Collector collector.Remark)) result heap.new.handle.core }
 {
     take(heap, Step::Collector(CollectorStep::Remark))
 }
@@ -35,7 +35,7 @@ pub extern "C" fn g1_remark(heap: &mut Heap) -> Answer
 /// Regions with nothing live are free again.
 #[unsafe(no_mangle)]
 pub extern "C" fn g1_cleanup(heap: &mut Heap) -> Answer
-    ensures { Takes plain heap.old.handle.core (steps.Collector collector.Cleanup) result heap.new.handle.core }
+    ensures { IsCall heap.old.handle.core (StepCall (steps.Collector collector.Cleanup)) result heap.new.handle.core }
 {
     take(heap, Step::Collector(CollectorStep::Cleanup))
 }
@@ -43,7 +43,7 @@ pub extern "C" fn g1_cleanup(heap: &mut Heap) -> Answer
 /// At most so many queued cards are refined.
 #[unsafe(no_mangle)]
 pub extern "C" fn g1_refine(heap: &mut Heap, cards: u32) -> Answer
-    ensures { Takes plain heap.old.handle.core (steps.Collector (collector.Refine cards)) result heap.new.handle.core }
+    ensures { IsCall heap.old.handle.core (StepCall (steps.Collector (collector.Refine cards))) result heap.new.handle.core }
 {
     take(heap, Step::Collector(CollectorStep::Refine(cards)))
 }
@@ -51,7 +51,7 @@ pub extern "C" fn g1_refine(heap: &mut Heap, cards: u32) -> Answer
 /// Live objects are copied out of some regions, at most so many words, and these regions are free again.
 #[unsafe(no_mangle)]
 pub extern "C" fn g1_pause(heap: &mut Heap, words: u32) -> Answer
-    ensures { Takes plain heap.old.handle.core (steps.Collector (collector.Pause words)) result heap.new.handle.core }
+    ensures { IsCall heap.old.handle.core (StepCall (steps.Collector (collector.Pause words))) result heap.new.handle.core }
 {
     take(heap, Step::Collector(CollectorStep::Pause(words)))
 }
@@ -59,7 +59,7 @@ pub extern "C" fn g1_pause(heap: &mut Heap, words: u32) -> Answer
 /// Live objects of the highest regions are copied down, at most so many words, and these regions are free again.
 #[unsafe(no_mangle)]
 pub extern "C" fn g1_compact(heap: &mut Heap, words: u32) -> Answer
-    ensures { Takes plain heap.old.handle.core (steps.Collector (collector.Compact words)) result heap.new.handle.core }
+    ensures { IsCall heap.old.handle.core (StepCall (steps.Collector (collector.Compact words))) result heap.new.handle.core }
 {
     take(heap, Step::Collector(CollectorStep::Compact(words)))
 }

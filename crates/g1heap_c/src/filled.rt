@@ -1,6 +1,6 @@
 //! A new object with its fields, in one call.
 
-ghost use Rattle.heap_calls.specs.Filled.{MakesFilled};
+ghost use Rattle.g1heap_c.specs.Calls.{NewFilledCall, IsCall};
 
 use heap_calls::answer::{Answer, no_heap};
 use heap_calls::filled::make;
@@ -15,7 +15,7 @@ pub extern "C" fn g1_new_filled(
     from: &[u32],
     words: &[u64],
 ) -> Answer
-    ensures { MakesFilled heap.old.handle.core mutator to from.now words.now result heap.new.handle.core }
+    ensures { IsCall heap.old.handle.core (NewFilledCall mutator to from.now words.now) result heap.new.handle.core }
 {
     if !heap.live {
         return no_heap();

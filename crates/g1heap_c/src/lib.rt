@@ -6,8 +6,9 @@
 //!   g1_get(&heap, m, to, obj, i)   --->  Step -> Core::step -> Reply -> Answer
 //! ```
 //!
-//! A call takes numbers, and any numbers will do: they name a step, and if the heap's sizes have it the core takes it. So each call's
-//! clause says of the numbers what `Core::step` says of the step. Where they name none, or there is no heap, nothing changes.
+//! A call takes numbers, and any numbers will do: they name a step, and if the heap's sizes have it the core takes it. Where they name
+//! none, or there is no heap, nothing changes. Each call's clause is `IsCall` of it: of the numbers it says what `Core::step` says of the
+//! step.
 #![tactic(auto)]
 
 pub mod collector;

@@ -2,6 +2,7 @@
 
 ghost use Rattle.std.specs.Prelude.{◌≡◌, Some};
 ghost use Rattle.heap_calls.specs.Filled.{AreFields};
+ghost use Rattle.g1heap_c.specs.Calls.{IsCall, MakeFilledCall};
 ghost use Rattle.g1heap_c.specs.MadeFilled.{AsksFilled, AsksToFill, AsksToFillOrNot};
 
 use crate::noted::{Entry, Notes};
@@ -89,7 +90,7 @@ pub extern "C" fn g1_make_filled(
     from: &[u32],
     words: &[u64],
 ) -> Answer
-    ensures { AsksFilled heap.old.handle.core mutator to from.now words.now result heap.new.handle.core }
+    ensures { IsCall heap.old.handle.core (MakeFilledCall mutator to from.now words.now) result heap.new.handle.core }
 {
     ask(heap, policy, mutator, to, from, words, &mut Unwatched)
 }
@@ -106,7 +107,7 @@ pub extern "C" fn g1_make_filled_noted(
     entries: &mut [Entry],
     count: &mut u32,
 ) -> Answer
-    ensures { AsksFilled heap.old.handle.core mutator to from.now words.now result heap.new.handle.core }
+    ensures { IsCall heap.old.handle.core (MakeFilledCall mutator to from.now words.now) result heap.new.handle.core }
 {
     let mut notes = Notes { entries, count: 0 };
     let answer = ask(heap, policy, mutator, to, from, words, &mut notes);

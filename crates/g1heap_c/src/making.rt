@@ -1,8 +1,8 @@
 //! How a heap begins, and how it ends.
 
-ghost use Rattle.std.specs.Prelude.{◌≡◌, None};
-ghost use Rattle.heap_calls.specs.Numbers.{config_of};
-ghost use Rattle.heap_calls.specs.Steps.{Makes};
+ghost use Rattle.std.specs.Prelude.{◌≡◌};
+ghost use Rattle.heap_calls.specs.Numbers.{config_of, told};
+ghost use Rattle.g1heap_c.specs.Calls.{FreeCall, IsCall, NewCall};
 
 use heap_calls::answer::fault_code;
 use heap_calls::handle::Handle;
@@ -22,7 +22,7 @@ fn sendable<T: Send>(value: T) -> T
 /// Makes a heap of these sizes, in the place of none. The answer is 0, or why none was made.
 #[unsafe(no_mangle)]
 pub extern "C" fn g1_new(alloc: Global, heap: &mut Heap, sizes: &Sizes) -> u32
-    ensures { Makes heap.old.handle.core (config_of sizes.now) result heap.new.handle.core }
+    ensures { IsCall heap.old.handle.core (NewCall (config_of sizes.now)) (told result 0 0) heap.new.handle.core }
 {
     if heap.live {
         return 34;
@@ -42,7 +42,7 @@ pub extern "C" fn g1_new(alloc: Global, heap: &mut Heap, sizes: &Sizes) -> u32
 /// Frees a heap, if it is one. There is none from then on.
 #[unsafe(no_mangle)]
 pub extern "C" fn g1_free(alloc: Global, heap: &mut Heap)
-    ensures { heap.new.handle.core ≡ None }
+    ensures { IsCall heap.old.handle.core FreeCall (told 0 0 0) heap.new.handle.core }
 {
     if !heap.live {
         return;

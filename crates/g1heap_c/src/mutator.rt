@@ -4,7 +4,8 @@ ghost use Rattle.std.specs.Prelude.{◌≡◌, ◌<◌, ◌≤◌};
 ghost use Rattle.heap_steps.specs.declared.step.Action.TheVariants as actions;
 ghost use Rattle.heap_calls.specs.Numbers as spec;
 ghost use Rattle.heap_calls.specs.Numbers.{by};
-ghost use Rattle.heap_calls.specs.Steps.{Takes, TakesNone, plain};
+ghost use Rattle.heap_calls.specs.Steps.{Takes, plain};
+ghost use Rattle.g1heap_c.specs.Calls.{IsCall, NoStepCall, StepCall};
 
 use heap_calls::answer::Answer;
 use heap_calls::heap::{Heap, take, take_none, take_scope, take_up_to};
@@ -20,8 +21,8 @@ pub extern "C" fn g1_new_object(
     pointers: u32,
     values: u32,
 ) -> Answer
-    ensures { Takes plain heap.old.handle.core
-        (by mutator (actions.New (spec.register to) (spec.counts pointers values))) result heap.new.handle.core }
+    ensures { IsCall heap.old.handle.core
+        (StepCall (by mutator (actions.New (spec.register to) (spec.counts pointers values)))) result heap.new.handle.core }
 {
     let op = Op {
         mutator,
@@ -43,9 +44,9 @@ pub extern "C" fn g1_new_weak(
     weaks: u32,
     values: u32,
 ) -> Answer
-    ensures few { weaks ≤ 255 → Takes plain heap.old.handle.core
-        (by mutator (actions.NewWeak (spec.register to) (spec.counts pointers values) weaks)) result heap.new.handle.core }
-    ensures many { 255 < weaks → TakesNone heap.old.handle.core result heap.new.handle.core }
+    ensures few { weaks ≤ 255 → IsCall heap.old.handle.core
+        (StepCall (by mutator (actions.NewWeak (spec.register to) (spec.counts pointers values) weaks))) result heap.new.handle.core }
+    ensures many { 255 < weaks → IsCall heap.old.handle.core NoStepCall result heap.new.handle.core }
 {
     if 255 < weaks {
         return take_none(heap);
@@ -66,8 +67,8 @@ pub extern "C" fn g1_new_weak(
 /// `to` takes a pointer of the object that `object` names.
 #[unsafe(no_mangle)]
 pub extern "C" fn g1_get(heap: &mut Heap, mutator: u32, to: u32, object: u32, field: u32) -> Answer
-    ensures { Takes plain heap.old.handle.core
-        (by mutator (actions.Get (spec.register to) (spec.register object) field)) result heap.new.handle.core }
+    ensures { IsCall heap.old.handle.core
+        (StepCall (by mutator (actions.Get (spec.register to) (spec.register object) field))) result heap.new.handle.core }
 {
     let op = Op {
         mutator,
@@ -126,8 +127,8 @@ pub extern "C" fn g1_put(
     field: u32,
     from: u32,
 ) -> Answer
-    ensures { Takes plain heap.old.handle.core
-        (by mutator (actions.Put (spec.register object) field (spec.value from))) result heap.new.handle.core }
+    ensures { IsCall heap.old.handle.core
+        (StepCall (by mutator (actions.Put (spec.register object) field (spec.value from)))) result heap.new.handle.core }
 {
     put(heap, mutator, register(object), field, value(from))
 }
@@ -135,7 +136,7 @@ pub extern "C" fn g1_put(
 /// Tells a data word of the object that `object` names.
 #[unsafe(no_mangle)]
 pub extern "C" fn g1_read(heap: &mut Heap, mutator: u32, object: u32, field: u32) -> Answer
-    ensures { Takes plain heap.old.handle.core (by mutator (actions.Read (spec.register object) field)) result heap.new.handle.core }
+    ensures { IsCall heap.old.handle.core (StepCall (by mutator (actions.Read (spec.register object) field))) result heap.new.handle.core }
 {
     let op = Op {
         mutator,
@@ -156,7 +157,8 @@ pub extern "C" fn g1_write(
     field: u32,
     value: u64,
 ) -> Answer
-    ensures { Takes plain heap.old.handle.core (by mutator (actions.Write (spec.register object) field value)) result heap.new.handle.core }
+    ensures { IsCall heap.old.handle.core
+        (StepCall (by mutator (actions.Write (spec.register object) field value))) result heap.new.handle.core }
 {
     let op = Op {
         mutator,
@@ -172,8 +174,8 @@ pub extern "C" fn g1_write(
 /// `to` takes what `from` holds.
 #[unsafe(no_mangle)]
 pub extern "C" fn g1_move(heap: &mut Heap, mutator: u32, to: u32, from: u32) -> Answer
-    ensures { Takes plain heap.old.handle.core
-        (by mutator (actions.Move (spec.register to) (spec.register from))) result heap.new.handle.core }
+    ensures { IsCall heap.old.handle.core
+        (StepCall (by mutator (actions.Move (spec.register to) (spec.register from)))) result heap.new.handle.core }
 {
     let op = Op {
         mutator,
@@ -188,7 +190,7 @@ pub extern "C" fn g1_move(heap: &mut Heap, mutator: u32, to: u32, from: u32) -> 
 /// `to` becomes nil.
 #[unsafe(no_mangle)]
 pub extern "C" fn g1_drop(heap: &mut Heap, mutator: u32, to: u32) -> Answer
-    ensures { Takes plain heap.old.handle.core (by mutator (actions.Drop (spec.register to))) result heap.new.handle.core }
+    ensures { IsCall heap.old.handle.core (StepCall (by mutator (actions.Drop (spec.register to)))) result heap.new.handle.core }
 {
     let op = Op {
         mutator,
@@ -202,8 +204,8 @@ pub extern "C" fn g1_drop(heap: &mut Heap, mutator: u32, to: u32) -> Answer
 /// `to` takes what a global holds.
 #[unsafe(no_mangle)]
 pub extern "C" fn g1_load(heap: &mut Heap, mutator: u32, to: u32, from: u32) -> Answer
-    ensures { Takes plain heap.old.handle.core
-        (by mutator (actions.Load (spec.register to) (spec.global from))) result heap.new.handle.core }
+    ensures { IsCall heap.old.handle.core
+        (StepCall (by mutator (actions.Load (spec.register to) (spec.global from)))) result heap.new.handle.core }
 {
     take(
         heap,
@@ -220,8 +222,8 @@ pub extern "C" fn g1_load(heap: &mut Heap, mutator: u32, to: u32, from: u32) -> 
 /// A global takes what `from` holds.
 #[unsafe(no_mangle)]
 pub extern "C" fn g1_save(heap: &mut Heap, mutator: u32, to: u32, from: u32) -> Answer
-    ensures { Takes plain heap.old.handle.core
-        (by mutator (actions.Save (spec.global to) (spec.register from))) result heap.new.handle.core }
+    ensures { IsCall heap.old.handle.core
+        (StepCall (by mutator (actions.Save (spec.global to) (spec.register from)))) result heap.new.handle.core }
 {
     take(
         heap,
@@ -238,7 +240,7 @@ pub extern "C" fn g1_save(heap: &mut Heap, mutator: u32, to: u32, from: u32) -> 
 /// Tells how many pointers and data words the object has that `object` names.
 #[unsafe(no_mangle)]
 pub extern "C" fn g1_shape(heap: &mut Heap, mutator: u32, object: u32) -> Answer
-    ensures { Takes plain heap.old.handle.core (by mutator (actions.Shape (spec.register object))) result heap.new.handle.core }
+    ensures { IsCall heap.old.handle.core (StepCall (by mutator (actions.Shape (spec.register object)))) result heap.new.handle.core }
 {
     let op = Op {
         mutator,
@@ -258,8 +260,8 @@ pub extern "C" fn g1_get_weak(
     object: u32,
     slot: u32,
 ) -> Answer
-    ensures { Takes plain heap.old.handle.core
-        (by mutator (actions.GetWeak (spec.register to) (spec.register object) slot)) result heap.new.handle.core }
+    ensures { IsCall heap.old.handle.core
+        (StepCall (by mutator (actions.GetWeak (spec.register to) (spec.register object) slot))) result heap.new.handle.core }
 {
     take(
         heap,
@@ -283,8 +285,8 @@ pub extern "C" fn g1_put_weak(
     slot: u32,
     from: u32,
 ) -> Answer
-    ensures { Takes plain heap.old.handle.core
-        (by mutator (actions.PutWeak (spec.register object) slot (spec.value from))) result heap.new.handle.core }
+    ensures { IsCall heap.old.handle.core
+        (StepCall (by mutator (actions.PutWeak (spec.register object) slot (spec.value from)))) result heap.new.handle.core }
 {
     take(
         heap,
@@ -302,7 +304,7 @@ pub extern "C" fn g1_put_weak(
 /// Tells how many weak slots the object has that `object` names.
 #[unsafe(no_mangle)]
 pub extern "C" fn g1_weaks(heap: &mut Heap, mutator: u32, object: u32) -> Answer
-    ensures { Takes plain heap.old.handle.core (by mutator (actions.Weaks (spec.register object))) result heap.new.handle.core }
+    ensures { IsCall heap.old.handle.core (StepCall (by mutator (actions.Weaks (spec.register object)))) result heap.new.handle.core }
 {
     let op = Op {
         mutator,
@@ -316,7 +318,7 @@ pub extern "C" fn g1_weaks(heap: &mut Heap, mutator: u32, object: u32) -> Answer
 /// A frame is left: each register from one on becomes nil.
 #[unsafe(no_mangle)]
 pub extern "C" fn g1_scope(heap: &mut Heap, mutator: u32, first: u32) -> Answer
-    ensures { Takes plain heap.old.handle.core (by mutator (actions.Scope (spec.register first))) result heap.new.handle.core }
+    ensures { IsCall heap.old.handle.core (StepCall (by mutator (actions.Scope (spec.register first)))) result heap.new.handle.core }
 {
     take_scope(heap, mutator, first)
 }

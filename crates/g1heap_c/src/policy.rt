@@ -4,7 +4,8 @@
 ghost use Rattle.std.specs.Prelude.{◌≡◌, ◌↔◌, ◌<◌, ◌≤◌, Some, IsTrue};
 ghost use Rattle.heap_steps.specs.Actors.{IsOp};
 ghost use Rattle.graph_runs.specs.Run.{IsNew};
-ghost use Rattle.heap_calls.specs.Steps.{IsUpTo, TakesNone};
+ghost use Rattle.heap_calls.specs.Steps.{IsUpTo};
+ghost use Rattle.g1heap_c.specs.Calls.{CollectCall, IsCall, MakeCall, NoStepCall, CollectAllCall};
 ghost use Rattle.g1heap_c.specs.Policies.{Asks, AsksFor, CollectsAll, CollectsAllIn, CollectsDue, CollectsDueIn, asked};
 
 use crate::noted::{Entry, Notes};
@@ -89,8 +90,9 @@ pub extern "C" fn g1_make(
     weaks: u32,
     values: u32,
 ) -> Answer
-    ensures few { weaks ≤ 255 → AsksFor heap.old.handle.core (asked mutator to pointers weaks values) result heap.new.handle.core }
-    ensures many { 255 < weaks → TakesNone heap.old.handle.core result heap.new.handle.core }
+    ensures few { weaks ≤ 255 → IsCall heap.old.handle.core
+        (MakeCall (asked mutator to pointers weaks values)) result heap.new.handle.core }
+    ensures many { 255 < weaks → IsCall heap.old.handle.core NoStepCall result heap.new.handle.core }
 {
     // Each call of `ask` is written out here with the kind of its action known.
     if weaks == 0 {
@@ -141,7 +143,7 @@ fn collect_all_now<W: Watch>(heap: &mut Heap, policy: &mut Policy, watch: &mut W
 /// Takes the steps of the collector that are due at a look.
 #[unsafe(no_mangle)]
 pub extern "C" fn g1_collect(heap: &mut Heap, policy: &mut Policy) -> Answer
-    ensures { CollectsDue heap.old.handle.core result heap.new.handle.core }
+    ensures { IsCall heap.old.handle.core CollectCall result heap.new.handle.core }
 {
     collect_now(heap, policy, &mut Unwatched)
 }
@@ -149,7 +151,7 @@ pub extern "C" fn g1_collect(heap: &mut Heap, policy: &mut Policy) -> Answer
 /// A whole collection.
 #[unsafe(no_mangle)]
 pub extern "C" fn g1_collect_all(heap: &mut Heap, policy: &mut Policy) -> Answer
-    ensures { CollectsAll heap.old.handle.core result heap.new.handle.core }
+    ensures { IsCall heap.old.handle.core CollectAllCall result heap.new.handle.core }
 {
     collect_all_now(heap, policy, &mut Unwatched)
 }
@@ -167,8 +169,9 @@ pub extern "C" fn g1_make_noted(
     entries: &mut [Entry],
     count: &mut u32,
 ) -> Answer
-    ensures few { weaks ≤ 255 → AsksFor heap.old.handle.core (asked mutator to pointers weaks values) result heap.new.handle.core }
-    ensures many { 255 < weaks → TakesNone heap.old.handle.core result heap.new.handle.core }
+    ensures few { weaks ≤ 255 → IsCall heap.old.handle.core
+        (MakeCall (asked mutator to pointers weaks values)) result heap.new.handle.core }
+    ensures many { 255 < weaks → IsCall heap.old.handle.core NoStepCall result heap.new.handle.core }
 {
     *count = 0;
     if 255 < weaks {
@@ -193,7 +196,7 @@ pub extern "C" fn g1_collect_noted(
     entries: &mut [Entry],
     count: &mut u32,
 ) -> Answer
-    ensures { CollectsDue heap.old.handle.core result heap.new.handle.core }
+    ensures { IsCall heap.old.handle.core CollectCall result heap.new.handle.core }
 {
     let mut notes = Notes { entries, count: 0 };
     let answer = collect_now(heap, policy, &mut notes);
@@ -209,7 +212,7 @@ pub extern "C" fn g1_collect_all_noted(
     entries: &mut [Entry],
     count: &mut u32,
 ) -> Answer
-    ensures { CollectsAll heap.old.handle.core result heap.new.handle.core }
+    ensures { IsCall heap.old.handle.core CollectAllCall result heap.new.handle.core }
 {
     let mut notes = Notes { entries, count: 0 };
     let answer = collect_all_now(heap, policy, &mut notes);

@@ -1,11 +1,8 @@
 //! What a policy of collection steers by, a call for each. C declares these with a heap that doesn't change: what it points to is the same
 //! after the call as before.
 
-ghost use Rattle.std.specs.Prelude.{length};
-ghost use Rattle.heap_words.specs.Configs.{globals_of, registers_of};
-ghost use Rattle.regions.specs.Table.{free_count};
-ghost use Rattle.step_core.specs.Measures.{used_words, live_words, HasGrey};
-ghost use Rattle.heap_calls.specs.Steps.{Tells, IsNumber, IsRun, IsSign, IsMarking, IsName};
+ghost use Rattle.g1heap_c.specs.Calls.{AskCall, IsCall};
+ghost use Rattle.g1heap_c.specs.Calls.{FreeRegions, FreeRun, UsedWords, LiveWords, Marking, Grey, Queued, Globals, Registers, Name};
 
 use heap_calls::answer::{Answer, no_heap, number};
 use heap_calls::heap::Heap;
@@ -14,7 +11,7 @@ use heap_calls::readers::{longest_run, name_at};
 /// How many regions are free.
 #[unsafe(no_mangle)]
 pub extern "C" fn g1_free_regions(heap: &mut Heap) -> Answer
-    ensures { Tells (IsNumber (λ c. free_count c.table)) heap.old.handle.core result heap.new.handle.core }
+    ensures { IsCall heap.old.handle.core (AskCall FreeRegions) result heap.new.handle.core }
 {
     if !heap.live {
         return no_heap();
@@ -26,7 +23,7 @@ pub extern "C" fn g1_free_regions(heap: &mut Heap) -> Answer
 /// How many free regions lie side by side, at most.
 #[unsafe(no_mangle)]
 pub extern "C" fn g1_free_run(heap: &mut Heap) -> Answer
-    ensures { Tells IsRun heap.old.handle.core result heap.new.handle.core }
+    ensures { IsCall heap.old.handle.core (AskCall FreeRun) result heap.new.handle.core }
 {
     if !heap.live {
         return no_heap();
@@ -38,7 +35,7 @@ pub extern "C" fn g1_free_run(heap: &mut Heap) -> Answer
 /// How many words are handed out.
 #[unsafe(no_mangle)]
 pub extern "C" fn g1_used_words(heap: &mut Heap) -> Answer
-    ensures { Tells (IsNumber used_words) heap.old.handle.core result heap.new.handle.core }
+    ensures { IsCall heap.old.handle.core (AskCall UsedWords) result heap.new.handle.core }
 {
     if !heap.live {
         return no_heap();
@@ -50,7 +47,7 @@ pub extern "C" fn g1_used_words(heap: &mut Heap) -> Answer
 /// How many words are live.
 #[unsafe(no_mangle)]
 pub extern "C" fn g1_live_words(heap: &mut Heap) -> Answer
-    ensures { Tells (IsNumber live_words) heap.old.handle.core result heap.new.handle.core }
+    ensures { IsCall heap.old.handle.core (AskCall LiveWords) result heap.new.handle.core }
 {
     if !heap.live {
         return no_heap();
@@ -62,7 +59,7 @@ pub extern "C" fn g1_live_words(heap: &mut Heap) -> Answer
 /// 1 while marking runs, else 0.
 #[unsafe(no_mangle)]
 pub extern "C" fn g1_marking(heap: &mut Heap) -> Answer
-    ensures { Tells (IsSign IsMarking) heap.old.handle.core result heap.new.handle.core }
+    ensures { IsCall heap.old.handle.core (AskCall Marking) result heap.new.handle.core }
 {
     if !heap.live {
         return no_heap();
@@ -74,7 +71,7 @@ pub extern "C" fn g1_marking(heap: &mut Heap) -> Answer
 /// 1 while marking runs and some marked object isn't scanned yet, else 0.
 #[unsafe(no_mangle)]
 pub extern "C" fn g1_grey(heap: &mut Heap) -> Answer
-    ensures { Tells (IsSign HasGrey) heap.old.handle.core result heap.new.handle.core }
+    ensures { IsCall heap.old.handle.core (AskCall Grey) result heap.new.handle.core }
 {
     if !heap.live {
         return no_heap();
@@ -86,7 +83,7 @@ pub extern "C" fn g1_grey(heap: &mut Heap) -> Answer
 /// How many cards wait for refinement.
 #[unsafe(no_mangle)]
 pub extern "C" fn g1_queued(heap: &mut Heap) -> Answer
-    ensures { Tells (IsNumber (λ c. length c.cards.queue)) heap.old.handle.core result heap.new.handle.core }
+    ensures { IsCall heap.old.handle.core (AskCall Queued) result heap.new.handle.core }
 {
     if !heap.live {
         return no_heap();
@@ -98,7 +95,7 @@ pub extern "C" fn g1_queued(heap: &mut Heap) -> Answer
 /// How many globals there are.
 #[unsafe(no_mangle)]
 pub extern "C" fn g1_globals(heap: &mut Heap) -> Answer
-    ensures { Tells (IsNumber (λ c. globals_of c.config)) heap.old.handle.core result heap.new.handle.core }
+    ensures { IsCall heap.old.handle.core (AskCall Globals) result heap.new.handle.core }
 {
     if !heap.live {
         return no_heap();
@@ -110,7 +107,7 @@ pub extern "C" fn g1_globals(heap: &mut Heap) -> Answer
 /// How many registers each mutator has.
 #[unsafe(no_mangle)]
 pub extern "C" fn g1_registers(heap: &mut Heap) -> Answer
-    ensures { Tells (IsNumber (λ c. registers_of c.config)) heap.old.handle.core result heap.new.handle.core }
+    ensures { IsCall heap.old.handle.core (AskCall Registers) result heap.new.handle.core }
 {
     if !heap.live {
         return no_heap();
@@ -122,7 +119,7 @@ pub extern "C" fn g1_registers(heap: &mut Heap) -> Answer
 /// The name that a register holds.
 #[unsafe(no_mangle)]
 pub extern "C" fn g1_name(heap: &mut Heap, mutator: u32, which: u32) -> Answer
-    ensures { Tells (IsName mutator which) heap.old.handle.core result heap.new.handle.core }
+    ensures { IsCall heap.old.handle.core (AskCall (Name mutator which)) result heap.new.handle.core }
 {
     if !heap.live {
         return no_heap();

@@ -1,6 +1,6 @@
 //! Several data words in one call, between an object and a buffer of C's.
 
-ghost use Rattle.heap_calls.specs.Words.{ReadsWords, WritesWords};
+ghost use Rattle.g1heap_c.specs.Calls.{IsCall, ReadWordsCall, WriteWordsCall};
 
 use heap_calls::answer::{Answer, no_heap};
 use heap_calls::heap::Heap;
@@ -15,7 +15,7 @@ pub extern "C" fn g1_read_words(
     from: u32,
     out: &mut [u64],
 ) -> Answer
-    ensures { ReadsWords heap.old.handle.core mutator object from out.old out.new result heap.new.handle.core }
+    ensures { IsCall heap.old.handle.core (ReadWordsCall mutator object from out.old out.new) result heap.new.handle.core }
 {
     if !heap.live {
         return no_heap();
@@ -33,7 +33,7 @@ pub extern "C" fn g1_write_words(
     from: u32,
     words: &[u64],
 ) -> Answer
-    ensures { WritesWords heap.old.handle.core mutator object from words.now result heap.new.handle.core }
+    ensures { IsCall heap.old.handle.core (WriteWordsCall mutator object from words.now) result heap.new.handle.core }
 {
     if !heap.live {
         return no_heap();

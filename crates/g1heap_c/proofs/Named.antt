@@ -1,0 +1,135 @@
+-- It can be told whether numbers name steps of a heap.
+use Rattle.std.proofs.Common.{◌≡◌, ◌⊎◌, ◌<◌, ◌^◌, ℕ, zero, suc, List, length, Option, Some, None, inl, inr, subst, arith}
+use Rattle.std.specs.Prelude.{◌≢◌, slice_index}
+use Rattle.std.proofs.lemmas.Bool.{cases_eq, cases_lt}
+use Rattle.heap_words.specs.Configs.{registers_of}
+use Rattle.heap_words.specs.declared.config.Config.{Config}
+use Rattle.heap_words.specs.declared.config.Format.{Format}
+use Rattle.heap_words.specs.declared.config.Format.TheVariants.{V1, V2, V3}
+use Rattle.heap_model.specs.Graph.{Places}
+use Rattle.graph_runs.specs.State.{places_of}
+use Rattle.heap_steps.specs.Actors.{HasAction, HasCollection, IsOp, IsStep, IsThird}
+use Rattle.heap_steps.specs.Roots.{IsValue, NamesRoots}
+use Rattle.heap_steps.specs.declared.step.Action.{Action}
+use Rattle.heap_steps.specs.declared.step.Action.TheVariants as actions
+use Rattle.heap_steps.specs.declared.step.CollectorStep.{CollectorStep}
+use Rattle.heap_steps.specs.declared.step.CollectorStep.TheVariants as collector
+use Rattle.heap_steps.specs.declared.step.Op.{Op}
+use Rattle.heap_steps.specs.declared.step.Register.{Register}
+use Rattle.heap_steps.specs.declared.step.Step.{Step}
+use Rattle.heap_steps.specs.declared.step.Step.TheVariants as steps
+use Rattle.step_core.specs.Stands.{CoreState}
+use Rattle.heap_calls.specs.Filled.{AreFields, making, pointing}
+use Rattle.heap_calls.specs.Steps.{HasRegister}
+
+-- a fact, or what refutes it
+abbrev pub OrNot : Type 0 → Type 0
+OrNot P = P ⊎ (P → ⊥)
+
+both : (A B : Type 0) → OrNot A → OrNot B → OrNot (A × B)
+both A B (inl a) (inl b) = inl (a, b)
+both A B (inl a) (inr n) = inr (λ p. n p.1)
+both A B (inr n) b = inr (λ p. n p.0)
+
+less : (a b : ℕ) → OrNot (a < b)
+less a b = elim (cases_lt a b) [
+  | inl lt ↦ inl lt
+  | inr ge ↦ inr (λ lt. absurd (omega (arith, lt, ge)))
+]
+
+apart : (a b : ℕ) → OrNot (a ≢ b)
+apart a b = elim (cases_eq a b) [ inl e ↦ inr (λ ne. ne e) | inr ne ↦ inl ne ]
+
+all_below : (P : ℕ → Type 0) → ((i : ℕ) → OrNot (P i)) → (n : ℕ) → OrNot ((i : ℕ) → i < n → P i)
+all_below P each zero = inl (λ i lt. absurd (omega (arith, lt)))
+all_below P each (suc n) = elim (all_below P each n) [
+  | inr nay ↦ inr (λ h. nay (λ i lt. h i (omega (arith, lt))))
+  | inl every ↦ elim (each n) [
+    | inr nay ↦ inr (λ h. nay (h n (omega arith)))
+    | inl one ↦ inl (λ i lt. last P n every one i lt)
+  ]
+]
+  where
+    last : (P : ℕ → Type 0) (n : ℕ) → ((i : ℕ) → i < n → P i) → P n → (i : ℕ) → i < suc n → P i
+    last P n every one i lt = elim (cases_lt i n) [
+      | inl below ↦ every i below
+      | inr above ↦ let e : n ≡ i = omega (arith, lt, above) in subst P e one
+    ]
+
+a_value : (p : Places) (v : Option Register) → OrNot (IsValue p v)
+a_value p None = inl tt
+a_value p (Some r) = less r.number p.registers
+
+roots : (p : Places) (a : Action) → OrNot (NamesRoots p a)
+roots p (actions.New to counts) = less to.number p.registers
+roots p (actions.Get to object i) = both _ _ (less to.number p.registers) (less object.number p.registers)
+roots p (actions.Put object i value) = both _ _ (less object.number p.registers) (a_value p value)
+roots p (actions.Read object j) = less object.number p.registers
+roots p (actions.Write object j value) = less object.number p.registers
+roots p (actions.Move to from) = both _ _ (less to.number p.registers) (less from.number p.registers)
+roots p (actions.Drop register) = less register.number p.registers
+roots p (actions.Load to from) = both _ _ (less to.number p.registers) (less from.number p.globals)
+roots p (actions.Save to from) = both _ _ (less to.number p.globals) (less from.number p.registers)
+roots p (actions.Shape object) = less object.number p.registers
+roots p (actions.NewWeak to counts weaks) = less to.number p.registers
+roots p (actions.GetWeak to object i) = both _ _ (less to.number p.registers) (less object.number p.registers)
+roots p (actions.PutWeak object i value) = both _ _ (less object.number p.registers) (a_value p value)
+roots p (actions.Weaks object) = less object.number p.registers
+roots p (actions.Scope from) = less from.number p.registers
+
+third : (f : Format) → OrNot (IsThird f)
+third V1 = inr (λ h. h)
+third (V2 card) = inr (λ h. h)
+third (V3 card globals registers) = inl tt
+
+action : (f : Format) (a : Action) → OrNot (HasAction f a)
+action f (actions.New to counts) = inl tt
+action f (actions.Get to object i) = inl tt
+action f (actions.Put object i value) = inl tt
+action f (actions.Read object j) = inl tt
+action f (actions.Write object j value) = inl tt
+action f (actions.Move to from) = inl tt
+action f (actions.Drop register) = inl tt
+action f (actions.Load to from) = inl tt
+action f (actions.Save to from) = inl tt
+action f (actions.Shape object) = inl tt
+action f (actions.NewWeak to counts weaks) = inl tt
+action f (actions.GetWeak to object i) = inl tt
+action f (actions.PutWeak object i value) = inl tt
+action f (actions.Weaks object) = inl tt
+action f (actions.Scope from) = third f
+
+collection : (f : Format) (k : CollectorStep) → OrNot (HasCollection f k)
+collection f collector.Begin = inl tt
+collection f (collector.Mark n) = inl tt
+collection f collector.Remark = inl tt
+collection f collector.Cleanup = inl tt
+collection f (collector.Refine n) = inl tt
+collection f (collector.Pause n) = inl tt
+collection f (collector.Compact n) = third f
+
+pub is_op : (c : Config) (o : Op) → OrNot (IsOp c o)
+is_op c o = elim (both _ _ (less o.mutator c.mutators) (both _ _ (roots (places_of c) o.action) (action c.format o.action))) [
+  | inl h ↦ inl (record { at = record { mutator = h.0; roots = h.1.0 }; known = h.1.1 })
+  | inr nay ↦ inr (λ h. nay (h.at.mutator, (h.at.roots, h.known)))
+]
+
+pub is_step : (c : Config) (step : Step) → OrNot (IsStep c step)
+is_step c (steps.Mutator o) = is_op c o
+is_step c (steps.Collector k) = collection c.format k
+
+pub is_register : (c : CoreState) (m r : ℕ) → OrNot (HasRegister c m r)
+is_register c m r = elim (both _ _ (less m c.config.mutators) (less r (registers_of c.config))) [
+  | inl h ↦ inl (record { mutator = h.0; register = h.1 })
+  | inr nay ↦ inr (λ h. nay (h.mutator, h.register))
+]
+
+pub are_fields : (c : Config) (m to : ℕ) (from words : List ℕ) → OrNot (AreFields c m to from words)
+are_fields c m to from words =
+    let points = all_below (λ (i : ℕ). IsStep c (pointing m to from i)) (λ i. is_step c (pointing m to from i)) (length from) in
+    let others = all_below (λ (i : ℕ). slice_index from i ≢ to) (λ i. apart (slice_index from i) to) (length from) in
+    elim (both _ _ (less (length from) (2 ^ 32))
+    (both _ _ (less (length words) (2 ^ 32)) (both _ _ (is_step c (making m to from words)) (both _ _ points others)))) [
+      | inl h ↦ inl (record { few = h.0; few_words = h.1.0; makes = h.1.1.0; points = h.1.1.1.0; apart = h.1.1.1.1 })
+      | inr nay ↦ inr (λ h. nay (h.few, (h.few_words, (h.makes, (h.points, h.apart)))))
+    ]

@@ -1,0 +1,173 @@
+-- A call's answer is fixed by its events, with the heap before and after it.
+use Rattle.std.proofs.Common.{◌≡◌, ◌⊎◌, ◌∙◌, ◌++◌, ◌≤◌, ℕ, List, [], ◌∷◌, inl, inr, sym, ap, length, arith}
+use Rattle.std.specs.Prelude.{All}
+use Rattle.std.proofs.lemmas.List.Elements.{All-head, All-tail}
+use Rattle.heap_steps.specs.Actors.{IsOp, IsStep}
+use Rattle.heap_steps.specs.declared.step.Event.{Event}
+use Rattle.heap_steps.specs.declared.step.Op.{Op}
+use Rattle.heap_steps.specs.declared.step.Refusal.{Refusal}
+use Rattle.heap_steps.specs.declared.step.Reply.{Reply}
+use Rattle.heap_steps.specs.declared.step.Reply.TheVariants as replies
+use Rattle.heap_steps.specs.declared.step.Step.{Step}
+use Rattle.heap_steps.specs.declared.step.Step.TheVariants as steps
+use Rattle.step_core.specs.Measures.{HasGrey}
+use Rattle.step_core.specs.Stands.{CoreState}
+use Rattle.collection.specs.Steps.{IsCollectors}
+use Rattle.heap_calls.specs.Filled.{AreFields}
+use Rattle.heap_calls.specs.FreeRuns.{IsLongestRun}
+use Rattle.heap_calls.specs.Numbers.{numbers, register, told}
+use Rattle.heap_calls.specs.Steps.{HasRegister, IsMarking}
+use Rattle.heap_calls.specs.declared.answer.Answer.{Answer}
+use Rattle.g1heap_c.specs.Calls.{Call, IsAnswerTo, Question, telling}
+use Rattle.g1heap_c.specs.Calls.{NewCall, StepCall, NewFilledCall, MakeCall, MakeFilledCall, CollectCall, CollectAllCall, ReadWordsCall}
+use Rattle.g1heap_c.specs.Calls.{WriteWordsCall, AskCall, NoStepCall, FreeCall}
+use Rattle.g1heap_c.specs.Calls.{FreeRegions, FreeRun, UsedWords, LiveWords, Marking, Grey, Queued, Globals, Registers, Name}
+use Rattle.g1heap_c.specs.Runs.{HasEvents, HasFilling, HasMaking, HasMakingAndFilling, HasNone, HasNotRead, HasRead, HasRefused, HasStep}
+use Rattle.g1heap_c.specs.Runs.{HasWritten, IfElse, event_of, last_read, last_write, reads_of, writes_of}
+use Rattle.g1heap_c.proofs.Named.{is_register}
+
+head_is : (x y : Event) (xs ys : List Event) → x ∷ xs ≡ y ∷ ys → x ≡ y
+head_is x y xs ys e = cc
+
+tail_is : (x y : Event) (xs ys : List Event) → x ∷ xs ≡ y ∷ ys → xs ≡ ys
+tail_is x y xs ys e = cc
+
+replies_are : (x y : Event) (xs ys : List Event) → x ∷ xs ≡ y ∷ ys → x.reply ≡ y.reply
+replies_are x y xs ys e = ap (λ (z : Event). z.reply) (head_is x y xs ys e)
+
+-- a mutator's step is none of the collector's
+mine : (op : Op) (r : Reply) (y : Event) → event_of (steps.Mutator op) r ≡ y → IsCollectors y → ⊥
+mine op r y e h = let z : steps.Mutator op ≡ steps.Collector h.step = ap (λ (x : Event). x.step) e ∙ h.is in cc
+
+-- the first mutator's step of some events has one reply
+own_is : (op : Op) (r q : Reply) (a b f g : List Event) → All IsCollectors a → All IsCollectors b
+    → a ++ event_of (steps.Mutator op) r ∷ f ≡ b ++ event_of (steps.Mutator op) q ∷ g → r ≡ q
+own_is op r q [] [] f g ca cb e = replies_are (event_of (steps.Mutator op) r) (event_of (steps.Mutator op) q) f g e
+own_is op r q [] (y ∷ b) f g ca cb e = absurd (mine op r y (head_is _ _ _ _ e) (All-head IsCollectors y b cb))
+own_is op r q (x ∷ a) [] f g ca cb e = absurd (mine op q x (sym (head_is _ _ _ _ e)) (All-head IsCollectors x a ca))
+own_is op r q (x ∷ a) (y ∷ b) f g ca cb e =
+    own_is op r q a b f g (All-tail IsCollectors x a ca) (All-tail IsCollectors y b cb) (tail_is _ _ _ _ e)
+
+-- two that say this or that, as a fact holds or not, both say this or both that
+pub same_side : (F A B C D G : Type 0) → IfElse F A B → IfElse F C D → (A → C → G) → (B → D → G) → G
+same_side F A B C D G (inl p) (inl q) f g = f p.1 q.1
+same_side F A B C D G (inl p) (inr q) f g = absurd (q.0 p.0)
+same_side F A B C D G (inr p) (inl q) f g = absurd (p.0 q.0)
+same_side F A B C D G (inr p) (inr q) f g = g p.1 q.1
+
+module _ (c : CoreState) (es : List Event) (y z : Answer) (d : CoreState) where
+  none_one : (code : Answer) → HasNone c es code y d → HasNone c es code z d → y ≡ z
+  none_one code h k = h.tells ∙ sym k.tells
+
+  step_one : (step : Step) → HasStep c es step y d → HasStep c es step z d → y ≡ z
+  step_one step h k =
+      let same : h.reply ≡ k.reply = replies_are _ _ _ _ (sym h.events ∙ k.events) in
+      h.tells ∙ ap (λ (r : Reply). telling step c d r) same ∙ sym k.tells
+
+  fill_one : (m to : ℕ) (from words : List ℕ) → HasFilling c es m to from words y d → HasFilling c es m to from words z d → y ≡ z
+  fill_one m to from words h k =
+      let same : h.reply ≡ k.reply = replies_are _ _ _ _ (sym h.events ∙ k.events) in
+      h.tells ∙ ap numbers same ∙ sym k.tells
+
+  make_one : (op : Op) → HasMaking es op y → HasMaking es op z → y ≡ z
+  make_one op h k =
+      let same : h.reply ≡ k.reply =
+      own_is op h.reply k.reply h.before k.before [] [] h.collectors k.collectors (sym h.events ∙ k.events) in
+      h.tells ∙ ap numbers same ∙ sym k.tells
+
+  make_fill_one : (m to : ℕ) (from words : List ℕ) → HasMakingAndFilling es m to from words y → HasMakingAndFilling es m to from words z
+      → y ≡ z
+  make_fill_one m to from words h k =
+      let same : h.reply ≡ k.reply =
+      own_is _ h.reply k.reply h.before k.before h.fills k.fills h.collectors k.collectors (sym h.events ∙ k.events) in
+      h.tells ∙ ap numbers same ∙ sym k.tells
+
+  refused_one : (step : Step) → HasRefused c es step y d → HasRefused c es step z d → y ≡ z
+  refused_one step h k =
+      let same : replies.Refused h.why ≡ replies.Refused k.why = replies_are _ _ _ _ (sym h.events ∙ k.events) in
+      h.tells ∙ ap (λ (r : Reply). numbers r) same ∙ sym k.tells
+
+  no_read : (m object from : ℕ) (ws : List ℕ) (step : Step) (why : Refusal)
+      → reads_of m (register object) from ws ≡ event_of step (replies.Refused why) ∷ [] → ⊥
+  no_read m object from [] step why e = cc
+  no_read m object from (w ∷ ws) step why e =
+      let z : replies.Word w ≡ replies.Refused why = replies_are _ _ _ _ e in cc
+
+  no_write : (m object from : ℕ) (ws : List ℕ) (step : Step) (why : Refusal)
+      → writes_of m (register object) from ws ≡ event_of step (replies.Refused why) ∷ [] → ⊥
+  no_write m object from [] step why e = cc
+  no_write m object from (w ∷ ws) step why e =
+      let z : replies.Done ≡ replies.Refused why = replies_are _ _ _ _ e in cc
+
+  read_one : (m object from : ℕ) (before after : List ℕ)
+      → HasRead c es m object from before after y d ⊎ HasNotRead c es m object from before after y d
+      → HasRead c es m object from before after z d ⊎ HasNotRead c es m object from before after z d → y ≡ z
+  read_one m object from before after (inl h) (inl k) = h.tells ∙ sym k.tells
+  read_one m object from before after (inl h) (inr k) =
+      absurd (no_read m object from after (last_read m (register object) from (length before)) k.refused.why
+      (sym h.events ∙ k.refused.events))
+  read_one m object from before after (inr h) (inl k) =
+      absurd (no_read m object from after (last_read m (register object) from (length before)) h.refused.why
+      (sym k.events ∙ h.refused.events))
+  read_one m object from before after (inr h) (inr k) = refused_one (last_read m (register object) from (length before)) h.refused k.refused
+
+  write_one : (m object from : ℕ) (ws : List ℕ)
+      → HasWritten es m object from ws y ⊎ HasRefused c es (last_write m (register object) from ws) y d
+      → HasWritten es m object from ws z ⊎ HasRefused c es (last_write m (register object) from ws) z d → y ≡ z
+  write_one m object from ws (inl h) (inl k) = h.tells ∙ sym k.tells
+  write_one m object from ws (inl h) (inr k) =
+      absurd (no_write m object from ws (last_write m (register object) from ws) k.why (sym h.events ∙ k.events))
+  write_one m object from ws (inr h) (inl k) =
+      absurd (no_write m object from ws (last_write m (register object) from ws) h.why (sym k.events ∙ h.events))
+  write_one m object from ws (inr h) (inr k) = refused_one (last_write m (register object) from ws) h k
+
+  longest_one : (n m : ℕ) → IsLongestRun c.table n → IsLongestRun c.table m → n ≡ m
+  longest_one n m h k =
+      let low : m ≤ n = h.most k.at m k.within k.free in
+      let high : n ≤ m = k.most h.at n h.within h.free in
+      omega (arith, low, high)
+
+  sign_one : (P : CoreState → Type 0) → ((y ≡ told 10 1 0) × P c) ⊎ ((y ≡ told 10 0 0) × (P c → ⊥))
+      → ((z ≡ told 10 1 0) × P c) ⊎ ((z ≡ told 10 0 0) × (P c → ⊥)) → y ≡ z
+  sign_one P (inl h) (inl k) = h.0 ∙ sym k.0
+  sign_one P (inl h) (inr k) = absurd (k.1 h.1)
+  sign_one P (inr h) (inl k) = absurd (h.1 k.1)
+  sign_one P (inr h) (inr k) = h.0 ∙ sym k.0
+
+  ask_one : (q : Question) → IsAnswerTo q c y → IsAnswerTo q c z → y ≡ z
+  ask_one FreeRegions h k = h ∙ sym k
+  ask_one FreeRun h k =
+      let same : h.count ≡ k.count = longest_one h.count k.count h.longest k.longest in
+      h.is ∙ ap (λ (n : ℕ). told 10 n 0) same ∙ sym k.is
+  ask_one UsedWords h k = h ∙ sym k
+  ask_one LiveWords h k = h ∙ sym k
+  ask_one Marking h k = sign_one IsMarking h k
+  ask_one Grey h k = sign_one HasGrey h k
+  ask_one Queued h k = h ∙ sym k
+  ask_one Globals h k = h ∙ sym k
+  ask_one Registers h k = h ∙ sym k
+  ask_one (Name m r) h k = elim (is_register c m r) [
+    | inl is ↦ h.name is ∙ sym (k.name is)
+    | inr isnt ↦ h.none isnt ∙ sym (k.none isnt)
+  ]
+
+  none_else : HasNone c es (told 32 0 0) y d → HasNone c es (told 32 0 0) z d → y ≡ z
+  none_else h k = none_one (told 32 0 0) h k
+
+  pub one_answer : (call : Call) → HasEvents c es call y d → HasEvents c es call z d → y ≡ z
+  one_answer (NewCall config) h k = none_one (told 34 0 0) h k
+  one_answer (StepCall step) h k = same_side (IsStep c.config step) _ _ _ _ (y ≡ z) h k (step_one step) none_else
+  one_answer (NewFilledCall m to from words) h k =
+      same_side (AreFields c.config m to from words) _ _ _ _ (y ≡ z) h k (fill_one m to from words) none_else
+  one_answer (MakeCall op) h k = same_side (IsOp c.config op) _ _ _ _ (y ≡ z) h k (make_one op) none_else
+  one_answer (MakeFilledCall m to from words) h k =
+      same_side (AreFields c.config m to from words) _ _ _ _ (y ≡ z) h k (make_fill_one m to from words) none_else
+  one_answer CollectCall h k = h.tells ∙ sym k.tells
+  one_answer CollectAllCall h k = h.tells ∙ sym k.tells
+  one_answer (ReadWordsCall m object from before after) h k =
+      same_side (HasRegister c m object) _ _ _ _ (y ≡ z) h k (read_one m object from before after) (λ a b. none_else a.0 b.0)
+  one_answer (WriteWordsCall m object from ws) h k =
+      same_side (HasRegister c m object) _ _ _ _ (y ≡ z) h k (write_one m object from ws) none_else
+  one_answer (AskCall q) h k = ask_one q h.answers k.answers
+  one_answer NoStepCall h k = none_else h k
+  one_answer FreeCall h k = absurd h
