@@ -6,30 +6,33 @@
    next few, and g1_scope leaves it.
 
        g1_heap heap = G1_HEAP_NONE;
+       g1_policy policy;
        g1_sizes sizes = {256, 1024, 127, 1, 0, 64, 16, 64};
        if (g1_new(&heap, &sizes) != G1_DONE) return 1;
-       g1_new_object(&heap, 0, 0, 1, 1);        // register 0 of mutator 0 holds a new object of one pointer and one data word
+       g1_policy_start(&policy, &sizes);
+       g1_make(&heap, &policy, 0, 0, 1, 0, 1);  // register 0 of mutator 0 holds a new object of 1 pointer, 0 weak slots and 1 data word
        g1_write(&heap, 0, 0, 0, 42);            // its data word 0 is 42
        g1_put(&heap, 0, 0, 0, 0);               // its pointer 0 names the object itself
        g1_get(&heap, 0, 1, 0, 0);               // loads pointer 0 into register 1
        g1_free(&heap);
+
+   g1_make takes the steps of the collector that are due: nothing else has to be done. g1_new_object takes none, and is for a program that
+   calls the collector's steps itself.
 
    OWNERSHIP. A g1_heap is the caller's, and begins as G1_HEAP_NONE, all zeros. g1_new puts a heap into it, whose memory comes from malloc,
    all of it then; no other call takes memory. g1_free takes the heap out again and frees it. Don't write to its fields, nor use a copy of
    them: two copies are two owners.
 
    ARGUMENTS. Any numbers will do. Those that name no step of this heap are answered G1_NO_STEP, and nothing changes. What names a step goes
-   to the heap, which does it or refuses it; a refusal changes nothing either. Only the pointers are the caller's duty: `heap` points to a
-   g1_heap that is G1_HEAP_NONE or as a call left it, `sizes` to a g1_sizes, a buffer to as many numbers as its count says.
+   to the heap, which does it or refuses it; a refused step changes nothing either. Only the pointers are the caller's duty: `heap` points
+   to a g1_heap that is G1_HEAP_NONE or as a call left it, `sizes` to a g1_sizes, `policy` to a g1_policy, a buffer to as many numbers as
+   its count says.
 
    THREADS. The library has no lock and no thread. A heap takes one call at a time, those that only tell something too; heaps don't know of
    each other. A heap may pass from one thread to another, which is proved of it, and threads may share one under a lock of the caller's. No
    call waits, or calls back. None is for a signal handler.
 
-   WHAT IS PROVED of each call, and what isn't, is in docs/EMBEDDING.md. In short: whatever numbers a program gives in whatever order,
-   each answer is the one that a graph of objects gives from which nothing is ever freed or moved, or G1_FULL for a new object where the
-   rules of placement find no place (docs/HEAP.md, "Where a new object goes"), and no memory but the heap's is touched. Nothing is proved
-   of C code.
+   WHAT IS PROVED of these calls, and what isn't: docs/EMBEDDING.md, "What is proved".
 
    SPEED. A call is a function call with a few checks, where a pointer in C is one load; docs/GATE.md has figures. */
 #ifndef G1HEAP_H
@@ -78,11 +81,13 @@ typedef struct g1_sizes {
 /* The version of this header and of the library, as pkg-config tells it. */
 #define G1_VERSION "0.1.0"
 
-/* What came of a call. Below 16 it was done; from 16 on nothing changed. */
+/* What came of a call. Below 16 it was done. From 16 on it wasn't, and objects and roots are as they were. But before g1_make or
+   g1_make_filled refuses an object it may take steps of the collector: then weak slots may have become nil, and counts and the policy's
+   numbers differ. From 32 on nothing changed at all. */
 enum {
     G1_DONE = 0,       /* there is nothing to tell */
     G1_NIL_VALUE = 1,  /* g1_get, g1_load, g1_get_weak, g1_name: nil */
-    G1_NAME = 2,       /* the same and g1_new_object, g1_new_weak: `first` is the object's name */
+    G1_NAME = 2,       /* the same, and calls that make an object: `first` is the object's name */
     G1_WORD = 3,       /* g1_read, g1_weaks: `first` is the word, or the count of weak slots */
     G1_SHAPE = 4,      /* g1_shape: `first` pointers, `second` data words */
     G1_MARKED = 5,     /* g1_remark: `first` objects were marked in this cycle */
@@ -94,7 +99,7 @@ enum {
 
     G1_NIL = 16,          /* the register that should name an object is nil */
     G1_NO_FIELD = 17,     /* the object has no such field */
-    G1_FULL = 18,         /* no place was found for the new object: collect, and try again */
+    G1_FULL = 18,         /* no place was found for the new object: collect, and try again, which g1_make has done already */
     G1_TOO_BIG = 19,      /* the new object is larger than the heap, or than 16,777,216 words */
     G1_NAMES_SPENT = 20,  /* no names are left */
     G1_MARK_RUNNING = 21, /* marking is running */
@@ -167,8 +172,8 @@ g1_answer g1_put_weak(g1_heap *heap, uint32_t mutator, uint32_t object, uint32_t
 g1_answer g1_weaks(g1_heap *heap, uint32_t mutator, uint32_t object);
 g1_answer g1_scope(g1_heap *heap, uint32_t mutator, uint32_t first);
 
-/* Several data words of the object that a register names, from one on: all of them or none. Each is what g1_read would tell, or g1_write would
-   write, one after another, and a record has these steps; here they are one copy of memory.
+/* Several data words of the object that a register names, from one on: all of them or none. Each is what g1_read would tell, or g1_write
+   would write, one after another, and a record has these steps; here they are one copy of memory.
 
        uint64_t buffer[64];
        g1_write_words(&heap, 0, STRING, 1, buffer, 64);     // data words 1 to 64 of register STRING's object
@@ -180,9 +185,9 @@ g1_answer g1_read_words(g1_heap *heap, uint32_t mutator, uint32_t object, uint32
 g1_answer g1_write_words(g1_heap *heap, uint32_t mutator, uint32_t object, uint32_t from, const uint64_t *in, size_t count);
 
 /* A new object with its fields: its pointers are what the registers in `from` hold, or nil for G1_NIL_REGISTER, and its data words are those
-   of `words`. It is g1_new_object, and where that answers NAME a g1_put for each pointer and a g1_write for each data word; a record has these
-   steps. Answers as g1_new_object does. `to` may not be among the sources, since after the first step it names the new object: G1_NO_STEP, and
-   so where a source is no register. Then nothing changes.
+   of `words`. It is g1_new_object, and where that answers NAME a g1_put for each pointer and a g1_write for each data word; a record has
+   these steps. Answers as g1_new_object does. `to` may not be among the sources, since after the first step it names the new object:
+   G1_NO_STEP, and so where a source is no register.
 
        uint32_t from[] = {FIRST, REST};
        uint64_t words[] = {PAIR_TAG};
@@ -200,15 +205,16 @@ g1_answer g1_new_filled(g1_heap *heap, uint32_t mutator, uint32_t to, const uint
    g1_begin     gc begin           marking begins, with the present graph as its snapshot                   DONE         MARK_RUNNING
    g1_mark      gc mark            at most so many objects are scanned                                      SCANNED      NOT_MARKING
    g1_remark    gc remark          marking ends, and weak slots are cleared                                 MARKED       NOT_MARKING
-   g1_cleanup   gc cleanup         regions with nothing live are free again                                 RECLAIMED    MARK_RUNNING
+   g1_cleanup   gc cleanup         regions with nothing live are free again, but the one that objects are   RECLAIMED    MARK_RUNNING
+                                   cut from now
    g1_refine    gc refine          at most so many queued cards are refined                                 REFINED
    g1_pause     gc pause           live objects are copied out of some regions, at most so many words,      MOVED
                                    and at most half the words of the free regions; these regions are
                                    free again
-   g1_compact   gc compact         the same of the highest ordinary regions, full ones too, as many as    MOVED
-                                   go down: so free regions are side by side, for objects of
-                                   more than half a region, which never move. While marking runs
-                                   nothing is copied */
+   g1_compact   gc compact         the same, within the same limit, of the highest ordinary regions, full   MOVED
+                                   ones too, as many as go down: so free regions are side by side, for
+                                   objects of more than half a region, which never move. While marking
+                                   runs nothing is copied, and no region is freed */
 g1_answer g1_begin(g1_heap *heap);
 g1_answer g1_mark(g1_heap *heap, uint32_t objects);
 g1_answer g1_remark(g1_heap *heap);
@@ -302,8 +308,8 @@ void g1_policy_start(g1_policy *policy, const g1_sizes *sizes);
 /* g1_new_object, or g1_new_weak where there are weak slots, after the steps of the collector that are due. Answers as these do. */
 g1_answer g1_make(g1_heap *heap, g1_policy *policy, uint32_t mutator, uint32_t to, uint32_t pointers, uint32_t weaks, uint32_t values);
 
-/* The same with its fields, as g1_new_filled has them: where g1_make answers NAME, a g1_put for each pointer and a g1_write for each data word.
-   `to` may not be among the sources: G1_NO_STEP, and so where a source is no register. Then nothing changes.
+/* The same with its fields, as g1_new_filled has them: where g1_make answers NAME, a g1_put for each pointer and a g1_write for each data
+   word. `to` may not be among the sources: G1_NO_STEP, and so where a source is no register.
 
        uint32_t from[] = {FIRST, REST};
        uint64_t words[] = {PAIR_TAG};
@@ -314,7 +320,8 @@ g1_answer g1_make_filled(g1_heap *heap, g1_policy *policy, uint32_t mutator, uin
 /* Takes the steps that are due: DONE, or NO_HEAP. */
 g1_answer g1_collect(g1_heap *heap, g1_policy *policy);
 
-/* A whole collection. Weak slots are cleared, and each region is free again that can be: DONE, or NO_HEAP. */
+/* A whole collection, as above: only what roots reach is kept then, and a weak slot that held anything else is nil. What is kept isn't
+   always moved together: the regions of objects may be little more than half full. DONE, or NO_HEAP. */
 g1_answer g1_collect_all(g1_heap *heap, g1_policy *policy);
 
 #ifdef __cplusplus
