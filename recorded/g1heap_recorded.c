@@ -48,8 +48,8 @@ g1_answer g1raw_name(const g1_heap *heap, uint32_t mutator, uint32_t of);
 
 void g1raw_policy_start(g1_policy *policy, const g1_sizes *sizes);
 
-/* A step that a call of the policy took: 0 begin, 1 mark, 2 remark, 3 cleanup, 4 refine, 5 pause, each with its number, and 6 the mutator's
-   own. The library writes as many of the first ones as there is room for, and counts all. */
+/* A step that a call of the policy took: 0 begin, 1 mark, 2 remark, 3 cleanup, 4 refine, 5 pause, 6 compact, each with its number, and 7
+   the mutator's own. The library writes as many of the first ones as there is room for, and counts all. */
 typedef struct entry {
     uint32_t step, number;
     g1_answer answer;
