@@ -81,9 +81,9 @@ typedef struct g1_sizes {
 /* The version of this header and of the library, as pkg-config tells it. */
 #define G1_VERSION "0.1.0"
 
-/* What came of a call. Below 16 it was done. From 16 on it wasn't, and objects and roots are as they were. But before g1_make or
-   g1_make_filled refuses an object it may take steps of the collector: then weak slots may have become nil, and counts and the policy's
-   numbers differ. From 32 on nothing changed at all. */
+/* What came of a call. Below 16 it was done. From 16 on it wasn't, and objects and roots are as they were; but g1_make and g1_make_filled
+   may take steps of the collector before they refuse an object, so that weak slots become nil, and counts and the policy's numbers differ.
+   From 32 on nothing changed at all. */
 enum {
     G1_DONE = 0,       /* there is nothing to tell */
     G1_NIL_VALUE = 1,  /* g1_get, g1_load, g1_get_weak, g1_name: nil */
@@ -184,9 +184,9 @@ g1_answer g1_scope(g1_heap *heap, uint32_t mutator, uint32_t first);
 g1_answer g1_read_words(g1_heap *heap, uint32_t mutator, uint32_t object, uint32_t from, uint64_t *out, size_t count);
 g1_answer g1_write_words(g1_heap *heap, uint32_t mutator, uint32_t object, uint32_t from, const uint64_t *in, size_t count);
 
-/* A new object with its fields: its pointers are what the registers in `from` hold, or nil for G1_NIL_REGISTER, and its data words are those
-   of `words`. It is g1_new_object, and where that answers NAME a g1_put for each pointer and a g1_write for each data word; a record has
-   these steps. Answers as g1_new_object does. `to` may not be among the sources, since after the first step it names the new object:
+/* A new object with its fields: its pointers are what the registers in `from` hold, or nil for G1_NIL_REGISTER, and its data words are
+   those of `words`. It is g1_new_object, and where that answers NAME a g1_put for each pointer and a g1_write for each data word; a record
+   has these steps. Answers as g1_new_object does. `to` may not be among the sources, since after the first step it names the new object:
    G1_NO_STEP, and so where a source is no register.
 
        uint32_t from[] = {FIRST, REST};
