@@ -262,6 +262,7 @@ pub use recorded::*;
 #[cfg(feature = "recorded")]
 mod recorded {
     use super::{c_void, g1_heap, Raw, DONE};
+    use std::mem::forget;
     use std::os::raw::{c_char, c_int};
     use std::panic::{catch_unwind, AssertUnwindSafe};
     use std::ptr::NonNull;
@@ -279,11 +280,12 @@ mod recorded {
         // SAFETY: `Raw::record` gave a Writer as context, which lives until the heap is freed, and the library calls this once at a time;
         // the line has so many bytes.
         let (writer, line) = unsafe { (&mut *context.cast::<Writer>(), std::slice::from_raw_parts(line.cast::<u8>(), bytes)) };
-        // A panic must not pass through the library.
-        match catch_unwind(AssertUnwindSafe(|| (writer.0)(line))) {
-            Ok(Ok(())) => 0,
-            _ => 1,
-        }
+        // No panic may pass through the library: the writer's, or that of a Drop of its error or of what it threw.
+        let is_taken = catch_unwind(AssertUnwindSafe(|| (writer.0)(line).is_ok())).unwrap_or_else(|thrown| {
+            catch_unwind(AssertUnwindSafe(|| drop(thrown))).unwrap_or_else(forget);
+            false
+        });
+        c_int::from(!is_taken)
     }
 
     pub fn drop_writer(writer: Option<NonNull<Writer>>) {

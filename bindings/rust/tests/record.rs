@@ -89,6 +89,40 @@ fn a_writer_that_panics_ends_the_record_alone() {
     assert_eq!(lines.load(Ordering::Relaxed), 3);
 }
 
+/// An error, and something to throw, that throws once more when it is dropped.
+#[derive(Debug)]
+struct Thrower;
+impl Drop for Thrower {
+    fn drop(&mut self) {
+        panic!("thrown by a drop");
+    }
+}
+impl std::fmt::Display for Thrower {
+    fn fmt(&self, f: &mut std::fmt::Formatter<'_>) -> std::fmt::Result {
+        f.write_str("a thrower")
+    }
+}
+impl std::error::Error for Thrower {}
+
+fn ends_the_record_alone(mut end: impl FnMut() -> std::io::Result<()> + Send + 'static) {
+    let lines = Arc::new(AtomicU32::new(0));
+    let mut heap = Heap::new(&sizes()).unwrap();
+    let counted = lines.clone();
+    assert!(heap.record(move |_| if counted.fetch_add(1, Ordering::Relaxed) < 2 { Ok(()) } else { end() }));
+    heap.run(|f| (0..10).for_each(|_| assert!(f.alloc::<Cell>().is_ok())));
+    assert_eq!(lines.load(Ordering::Relaxed), 3);
+}
+
+#[test]
+fn a_writers_error_may_throw_when_it_is_dropped() {
+    ends_the_record_alone(|| Err(std::io::Error::new(std::io::ErrorKind::Other, Thrower)));
+}
+
+#[test]
+fn what_a_writer_throws_may_throw_when_it_is_dropped() {
+    ends_the_record_alone(|| std::panic::panic_any(Thrower));
+}
+
 #[test]
 fn a_writer_may_leave_what_was_kept() {
     let left: Arc<Mutex<Vec<Kept<Cell>>>> = Arc::default();
