@@ -710,8 +710,9 @@ impl<'f, 'h> Frame<'f, 'h> {
     pub fn counts(&self) -> Counts {
         Counts::of(self.core)
     }
-    /// Gives the lock of a [`Shared`](crate::Shared) heap to other threads while `body` runs. All roots of this thread stay. In a run of a
-    /// [`Heap`](crate::Heap) there is no lock, and `body` just runs.
+    /// Gives the lock of a [`Shared`](crate::Shared) heap to other threads while `body` runs. Where some wait for it, the one that waits
+    /// longest gets it, even where `body` does nothing. All roots of this thread stay. In a run of a [`Heap`](crate::Heap) there is no
+    /// lock, and `body` just runs.
     ///
     /// ```
     /// # use g1heap::*;

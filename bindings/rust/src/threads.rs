@@ -1,6 +1,7 @@
 use crate::base::{Core, Globals};
 use crate::frame::{Frame, Run};
 use crate::heap::{new_core, BadSizes, Counts, Error, Global, Sizes};
+use std::collections::VecDeque;
 use std::fmt;
 use std::sync::atomic::{AtomicUsize, Ordering};
 use std::sync::{Arc, Condvar, Mutex, MutexGuard};
@@ -68,7 +69,7 @@ struct Held<'a> {
 }
 impl Drop for Held<'_> {
     fn drop(&mut self) {
-        self.lock.give();
+        self.lock.give(false);
     }
 }
 
@@ -157,6 +158,7 @@ pub struct Seat {
 }
 impl Seat {
     /// Waits for the lock, takes it, and lends a frame to `body`. [`Frame::unlocked`] gives the lock to others meanwhile; roots stay.
+    /// The thread that waits longest for the lock gets it at another's next `unlocked`, or after some runs of others at the latest.
     ///
     /// Within a run of this heap, on the same thread, there is no other: it would wait for itself, and panics.
     ///
@@ -192,33 +194,61 @@ fn locked<T>(it: &Mutex<T>) -> MutexGuard<'_, T> {
     it.lock().unwrap_or_else(|poisoned| poisoned.into_inner())
 }
 
+/// How often the lock is given and then taken by another thread than the one that waits longest, before it is handed to that one.
+const PASSES: u32 = 10;
+
 /// A lock that can be given back and taken again in the midst of what it is held for, and knows who holds it.
 #[derive(Default)]
 pub(crate) struct Lock {
-    taken: Mutex<bool>,
-    given: Condvar,
+    queue: Mutex<Queue>,
     /// The thread that holds it, or 0. A thread asks this of itself alone, and only it writes its own number.
     holder: AtomicUsize,
+}
+#[derive(Default)]
+struct Queue {
+    taken: bool,
+    /// Who waits, the longest first. Whom the lock is handed to isn't in here any more, and it stays taken.
+    waiting: VecDeque<Arc<Condvar>>,
+    /// How often the lock was given since the first one waits, or since one that waited has got it.
+    passes: u32,
 }
 impl Lock {
     #[track_caller]
     fn take(&self) {
-        let me = this_thread();
-        assert!(
-            self.holder.load(Ordering::Relaxed) != me,
-            "this thread is in a run of this heap already: Frame::unlocked gives the lock to others"
-        );
-        let mut taken = locked(&self.taken);
-        while *taken {
-            taken = self.given.wait(taken).unwrap_or_else(|poisoned| poisoned.into_inner());
+        assert!(!self.is_mine(), "this thread is in a run of this heap already: Frame::unlocked gives the lock to others");
+        let mut queue = locked(&self.queue);
+        if queue.taken {
+            let turn = Arc::new(Condvar::new());
+            queue.waiting.push_back(turn.clone());
+            while queue.taken && queue.waiting.iter().any(|it| Arc::ptr_eq(it, &turn)) {
+                queue = turn.wait(queue).unwrap_or_else(|poisoned| poisoned.into_inner());
+            }
+            queue.waiting.retain(|it| !Arc::ptr_eq(it, &turn));
+            queue.passes = 0;
         }
-        *taken = true;
-        self.holder.store(me, Ordering::Relaxed);
+        queue.taken = true;
+        self.holder.store(this_thread(), Ordering::Relaxed);
     }
-    fn give(&self) {
+    /// Whether this thread holds it.
+    fn is_mine(&self) -> bool {
+        self.holder.load(Ordering::Relaxed) == this_thread()
+    }
+    /// Gives it to the thread that waits longest, now or after some times; where none waits, to any.
+    fn give(&self, now: bool) {
         self.holder.store(0, Ordering::Relaxed);
-        *locked(&self.taken) = false;
-        self.given.notify_one();
+        let mut queue = locked(&self.queue);
+        queue.taken = false;
+        let first = match queue.waiting.front() {
+            Some(first) => first.clone(),
+            None => return,
+        };
+        queue.passes += 1;
+        if now || queue.passes > PASSES {
+            queue.waiting.pop_front();
+            queue.taken = true;
+        }
+        drop(queue);
+        first.notify_one();
     }
     /// Gives it to others while `body` runs.
     pub fn without<R>(&self, body: impl FnOnce() -> R) -> R {
@@ -228,7 +258,7 @@ impl Lock {
                 self.0.take();
             }
         }
-        self.give();
+        self.give(true);
         let _again = Again(self);
         body()
     }
@@ -238,4 +268,44 @@ impl Lock {
 fn this_thread() -> usize {
     thread_local!(static HERE: u8 = const { 0 });
     HERE.with(|it| it as *const u8 as usize)
+}
+
+#[cfg(test)]
+mod tests {
+    use super::*;
+    use std::sync::atomic::AtomicBool;
+
+    /// How often `pass` gives the lock and takes it again until a thread has got it that waited from the first time on.
+    fn passes(pass: impl Fn(&Lock)) -> u32 {
+        let (lock, entered) = (Lock::default(), AtomicBool::new(false));
+        std::thread::scope(|threads| {
+            lock.take();
+            threads.spawn(|| {
+                lock.take();
+                entered.store(true, Ordering::Relaxed);
+                lock.give(false);
+            });
+            while locked(&lock.queue).waiting.is_empty() {
+                std::thread::yield_now();
+            }
+            let mut passes = 0;
+            while !entered.load(Ordering::Relaxed) {
+                pass(&lock);
+                passes += 1;
+            }
+            lock.give(false);
+            passes
+        })
+    }
+    #[test]
+    fn who_waits_gets_the_lock() {
+        for _ in 0..100 {
+            assert_eq!(passes(|lock| lock.without(|| ())), 1);
+            let passes = passes(|lock| {
+                lock.give(false);
+                lock.take();
+            });
+            assert!(passes <= PASSES + 1, "{passes}");
+        }
+    }
 }

@@ -1,5 +1,8 @@
 use g1heap::*;
+use std::sync::atomic::{AtomicBool, Ordering};
 use std::sync::{Barrier, Mutex};
+use std::thread::sleep;
+use std::time::Duration;
 
 layout! { struct Cell { pointers { next: Cell } words { n: u64 } } }
 
@@ -95,7 +98,6 @@ fn what_a_left_frame_held_is_collected_by_others() {
 
 #[test]
 fn the_lock_is_taken_again() {
-    use std::sync::atomic::{AtomicBool, Ordering};
     let shared = Shared::new(&Sizes::default(), 2).unwrap();
     let (mut one, mut two) = (shared.seat().unwrap(), shared.seat().unwrap());
     let (go, entered) = (Barrier::new(2), AtomicBool::new(false));
@@ -107,11 +109,38 @@ fn the_lock_is_taken_again() {
         one.run(|f| {
             f.unlocked(|| ());
             go.wait();
-            std::thread::sleep(std::time::Duration::from_millis(50));
+            sleep(Duration::from_millis(50));
             assert!(!entered.load(Ordering::SeqCst));
         });
     });
     assert!(entered.load(Ordering::SeqCst));
+}
+
+#[test]
+fn unlocked_lets_all_in_that_wait() {
+    let shared = Shared::new(&Sizes::default(), 8).unwrap();
+    let (go, is_first, order) = (Barrier::new(8), AtomicBool::new(true), Mutex::new(Vec::new()));
+    std::thread::scope(|s| {
+        for t in 0..8 {
+            let (mut seat, go, is_first, order) = (shared.seat().unwrap(), &go, &is_first, &order);
+            s.spawn(move || {
+                seat.run(|f| {
+                    f.unlocked(|| go.wait());
+                    if is_first.swap(false, Ordering::SeqCst) {
+                        sleep(Duration::from_millis(200)); // in which the others come to wait
+                    }
+                    for _ in 0..10 {
+                        order.lock().unwrap().push(t);
+                        f.unlocked(|| ());
+                    }
+                })
+            });
+        }
+    });
+    let order = order.into_inner().unwrap();
+    let mut first = order[..8].to_vec(); // by then each one was in once, and none twice
+    first.sort();
+    assert_eq!(first, [0, 1, 2, 3, 4, 5, 6, 7], "{order:?}");
 }
 
 #[test]
