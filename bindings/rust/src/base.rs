@@ -1,6 +1,6 @@
 //! What frames are made on: a heap of the library with its policy, and its globals.
 use crate::heap::Error;
-use crate::sys::{g1_sizes, Raw, DONE};
+use crate::sys::{g1_sizes, Raw, DONE, NIL_VALUE};
 use crate::threads::Lock;
 use std::sync::atomic::{AtomicUsize, Ordering};
 use std::sync::{Arc, Mutex, MutexGuard};
@@ -11,6 +11,7 @@ pub(crate) struct Core {
     pub raw: Raw,
     /// Whether objects are made by the policy.
     pub collects: bool,
+    pub mutators: u32,
     /// How many registers each mutator has.
     pub registers: u32,
     pub globals: Arc<Globals>,
@@ -20,8 +21,8 @@ pub(crate) struct Core {
 
 impl Core {
     pub fn new(sizes: &g1_sizes, collects: bool, lock: Option<Lock>) -> Result<Box<Core>, u32> {
-        let (registers, globals) = (sizes.registers, Arc::new(Globals::new(sizes.globals)));
-        let core = Box::new(Core { raw: Raw::none(), collects, registers, globals, lock });
+        let g1_sizes { mutators, registers, .. } = *sizes;
+        let core = Box::new(Core { raw: Raw::none(), collects, mutators, registers, globals: Arc::new(Globals::new(sizes.globals)), lock });
         match core.raw.open(sizes) {
             DONE => Ok(core),
             code => Err(code),
@@ -35,6 +36,22 @@ impl Core {
             self.raw.save(mutator, *global, nil);
         }
         self.globals.state().spare.extend(left);
+    }
+    /// A global that is nil. Where none is, those become so whose `Kept` is gone, for which some register has to be nil.
+    pub fn take_nil(&self) -> Result<u32, Error> {
+        self.globals.take_nil().or_else(|error| {
+            if self.globals.state().left.is_empty() {
+                return Err(error);
+            }
+            let (mutator, nil) = self.nil_register().ok_or(Error::NoRegisters)?;
+            self.empty_left(mutator, nil);
+            self.globals.take_nil()
+        })
+    }
+    /// A register that is nil, of any mutator. The last ones are rarely in use.
+    fn nil_register(&self) -> Option<(u32, u32)> {
+        let mut all = (0..self.mutators).flat_map(|mutator| (0..self.registers).rev().map(move |register| (mutator, register)));
+        all.find(|(mutator, register)| self.raw.name(*mutator, *register).code == NIL_VALUE)
     }
 }
 

@@ -538,7 +538,8 @@ impl<'f, 'h> Frame<'f, 'h> {
         self.name(one) == self.name(other)
     }
 
-    /// A global, nil at first; it lives as long as the heap.
+    /// A global, nil at first; it lives as long as the heap. Where the only ones left are those whose [`Kept`] was dropped, it takes them
+    /// back, which needs a register that is left, and else answers [`Error::NoRegisters`].
     ///
     /// ```
     /// # use g1heap::*;
@@ -552,10 +553,12 @@ impl<'f, 'h> Frame<'f, 'h> {
     /// # Ok::<_, Box<dyn std::error::Error>>(())
     /// ```
     pub fn new_global<T>(&self) -> Result<Global<T>, Error> {
-        Global::take(&self.core.globals).or_else(|_| {
-            self.ready();
-            Global::take(&self.core.globals)
-        })
+        let globals = &self.core.globals;
+        let number = globals.take_nil().or_else(|_| {
+            self.clear();
+            self.core.take_nil()
+        })?;
+        Ok(Global::new(globals, number))
     }
     /// What a global holds, in a new root.
     ///

@@ -285,8 +285,7 @@ impl Heap {
     /// # Ok::<_, Box<dyn std::error::Error>>(())
     /// ```
     pub fn new_global<T>(&mut self) -> Result<Global<T>, Error> {
-        self.core.empty_left(0, 0); // no run is on, so all registers are nil
-        Global::take(&self.core.globals)
+        self.core.take_nil().map(|number| Global::new(&self.core.globals, number))
     }
 
     /// What the policy did so far.
@@ -389,8 +388,8 @@ pub struct Global<T = Any> {
     of: PhantomData<fn() -> T>,
 }
 impl<T> Global<T> {
-    pub(crate) fn take(globals: &Globals) -> Result<Global<T>, Error> {
-        Ok(Global { number: globals.take_nil()?, serial: globals.serial, of: PhantomData })
+    pub(crate) fn new(globals: &Globals, number: u32) -> Global<T> {
+        Global { number, serial: globals.serial, of: PhantomData }
     }
     #[track_caller]
     pub(crate) fn number_in(&self, core: &Core) -> u32 {

@@ -257,11 +257,17 @@ impl Drop for Raw {
     }
 }
 
+/// Whether this thread is in the writer of a record, and so in the midst of a call.
+#[cfg(not(feature = "recorded"))]
+pub fn is_writing() -> bool {
+    false
+}
 #[cfg(feature = "recorded")]
 pub use recorded::*;
 #[cfg(feature = "recorded")]
 mod recorded {
     use super::{c_void, g1_heap, Raw, DONE};
+    use std::cell::Cell;
     use std::mem::forget;
     use std::os::raw::{c_char, c_int};
     use std::panic::{catch_unwind, AssertUnwindSafe};
@@ -276,16 +282,25 @@ mod recorded {
     pub struct Writer(Box<Lines>);
     type Lines = dyn FnMut(&[u8]) -> std::io::Result<()> + Send;
 
+    thread_local!(static IS_WRITING: Cell<bool> = const { Cell::new(false) });
+
     extern "C" fn write(context: *mut c_void, line: *const c_char, bytes: usize) -> c_int {
         // SAFETY: `Raw::record` gave a Writer as context, which lives until the heap is freed, and the library calls this once at a time;
         // the line has so many bytes.
         let (writer, line) = unsafe { (&mut *context.cast::<Writer>(), std::slice::from_raw_parts(line.cast::<u8>(), bytes)) };
+        let outer = IS_WRITING.with(|it| it.replace(true));
         // No panic may pass through the library: the writer's, or that of a Drop of its error or of what it threw.
         let is_taken = catch_unwind(AssertUnwindSafe(|| (writer.0)(line).is_ok())).unwrap_or_else(|thrown| {
             catch_unwind(AssertUnwindSafe(|| drop(thrown))).unwrap_or_else(forget);
             false
         });
+        IS_WRITING.with(|it| it.set(outer));
         c_int::from(!is_taken)
+    }
+
+    /// Whether this thread is in the writer of a record, and so in the midst of a call.
+    pub fn is_writing() -> bool {
+        IS_WRITING.with(Cell::get)
     }
 
     pub fn drop_writer(writer: Option<NonNull<Writer>>) {

@@ -1,6 +1,7 @@
 use crate::base::{Core, Globals};
 use crate::frame::{Frame, Run};
 use crate::heap::{new_core, BadSizes, Counts, Error, Global, Sizes};
+use crate::sys::is_writing;
 use std::collections::VecDeque;
 use std::fmt;
 use std::sync::atomic::{AtomicUsize, Ordering};
@@ -48,7 +49,8 @@ struct Inner {
 
 /// What only a thread that holds its lock makes calls of.
 struct Locked(Box<Core>);
-// SAFETY: of a `Core` only the heap isn't Sync, and none of this module's calls gets to that but through `hold`.
+// SAFETY: of a `Core` only the heap isn't Sync, and none of this module's calls gets to that but through `hold` and `reach`, in the thread
+// that holds the lock.
 unsafe impl Sync for Locked {}
 impl Locked {
     /// Waits for the lock, and has it for as long as what is answered lives.
@@ -57,6 +59,15 @@ impl Locked {
         let lock = self.0.lock.as_ref().expect("a shared heap has one");
         lock.take();
         Held { core: &self.0, lock }
+    }
+    /// Lends the heap to `body` under the lock, which this thread may have in a run of its own; not in the midst of a call.
+    fn reach<R>(&self, body: impl FnOnce(&Core) -> R) -> Option<R> {
+        let is_mine = self.0.lock.as_ref().map_or(false, Lock::is_mine);
+        match (is_mine, is_writing()) {
+            (false, _) => Some(body(self.hold().core)),
+            (true, false) => Some(body(&self.0)),
+            (true, true) => None,
+        }
     }
     /// What needs no lock.
     fn globals(&self) -> &Globals {
@@ -99,8 +110,9 @@ impl Shared {
         let mutator = locked(&self.0.free).pop()?;
         Some(Seat { inner: self.0.clone(), mutator })
     }
-    /// A global, nil at first. It needs no lock of the heap, so it may be called in a [`Seat::run`] too. Globals whose
-    /// [`Kept`](crate::Kept) was dropped come back at the next collection.
+    /// A global, nil at first. It may be called in a [`Seat::run`] too, and needs no lock of the heap, but where the only globals left are
+    /// those whose [`Kept`](crate::Kept) was dropped. These it takes back, for which a register of some thread has to be nil; where none is,
+    /// it answers [`Error::NoRegisters`].
     ///
     /// ```
     /// # use g1heap::*;
@@ -114,7 +126,9 @@ impl Shared {
     /// # Ok::<_, Box<dyn std::error::Error>>(())
     /// ```
     pub fn new_global<T>(&self) -> Result<Global<T>, Error> {
-        Global::take(self.0.locked.globals())
+        let locked = &self.0.locked;
+        let number = locked.globals().take_nil().or_else(|error| locked.reach(Core::take_nil).unwrap_or(Err(error)))?;
+        Ok(Global::new(locked.globals(), number))
     }
     /// What the policy did so far. It takes the lock; within a run there is [`Frame::counts`].
     ///

@@ -124,6 +124,29 @@ fn what_a_writer_throws_may_throw_when_it_is_dropped() {
 }
 
 #[test]
+fn a_writer_reaches_no_heap_in_use() {
+    let shared = Shared::new(&Sizes { globals: 1, ..sizes() }, 2).unwrap();
+    let (told, left): (Lines, Arc<Mutex<Option<Kept<Cell>>>>) = Default::default();
+    let (mut seat, mut other, within) = (shared.seat().unwrap(), shared.seat().unwrap(), shared.clone());
+    let (tells, leaves) = (told.clone(), left.clone());
+    assert!(shared.record(move |line| {
+        if leaves.lock().unwrap().take().is_some() {
+            assert_eq!(within.new_global::<Cell>().unwrap_err(), Error::NoGlobals); // it needs a step, and one is being written
+            assert!(std::panic::catch_unwind(std::panic::AssertUnwindSafe(|| other.run(|g| g.room()))).is_err());
+            assert!(std::panic::catch_unwind(|| within.counts()).is_err());
+        }
+        tells.lock().unwrap().write_all(line)
+    }));
+    seat.run(|f| {
+        *left.lock().unwrap() = Some(f.keep(f.alloc().unwrap()).unwrap());
+        f.collect();
+        assert!(left.lock().unwrap().is_none());
+    });
+    assert!(shared.new_global::<Cell>().is_ok());
+    judge(&told, 4);
+}
+
+#[test]
 fn a_writer_may_leave_what_was_kept() {
     let left: Arc<Mutex<Vec<Kept<Cell>>>> = Arc::default();
     let mut heap = Heap::new(&sizes()).unwrap();

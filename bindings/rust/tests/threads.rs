@@ -144,6 +144,41 @@ fn unlocked_lets_all_in_that_wait() {
 }
 
 #[test]
+fn a_global_that_was_kept_is_taken_back() {
+    let shared = Shared::new(&Sizes { globals: 2, registers: 4, ..Sizes::default() }, 2).unwrap();
+    let (mut one, mut two) = (shared.seat().unwrap(), shared.seat().unwrap());
+    let keep = |seat: &mut Seat| seat.run(|f| f.keep(f.alloc::<Cell>().unwrap()).unwrap());
+    drop((keep(&mut one), keep(&mut two)));
+    let first = shared.new_global::<Cell>().expect("out of runs");
+    one.run(|f| {
+        assert!(f.load(first).unwrap().is_none());
+        let second = shared.new_global::<Cell>().expect("the other one came back with the first");
+        assert!(f.load(second).unwrap().is_none());
+    });
+    assert_eq!(shared.new_global::<Cell>().unwrap_err(), Error::NoGlobals);
+}
+
+#[test]
+fn a_global_that_was_kept_is_taken_back_in_a_run() {
+    let shared = Shared::new(&Sizes { globals: 1, registers: 2, ..Sizes::default() }, 2).unwrap();
+    let (mut one, mut two) = (shared.seat().unwrap(), shared.seat().unwrap());
+    one.run(|f| {
+        drop(f.keep(f.alloc::<Cell>().unwrap()).unwrap());
+        f.alloc::<Cell>().unwrap(); // the last register, so another thread's serves
+        let global = shared.new_global::<Cell>().expect("in a run");
+        f.unlocked(|| two.run(|g| assert!(g.load(global).unwrap().is_none())));
+    });
+    // Where no register is left at all, nothing is made nil.
+    let shared = Shared::new(&Sizes { globals: 1, registers: 1, ..Sizes::default() }, 1).unwrap();
+    shared.seat().unwrap().run(|f| {
+        drop(f.keep(f.alloc::<Cell>().unwrap()).unwrap());
+        assert_eq!(shared.new_global::<Cell>().unwrap_err(), Error::NoRegisters);
+        assert_eq!(f.new_global::<Cell>().unwrap_err(), Error::NoRegisters);
+    });
+    assert!(shared.new_global::<Cell>().is_ok());
+}
+
+#[test]
 fn a_global_is_made_in_a_run() {
     let shared = Shared::new(&Sizes { globals: 2, ..Sizes::default() }, 1).unwrap();
     shared.seat().unwrap().run(|f| {
