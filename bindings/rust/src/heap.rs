@@ -14,7 +14,7 @@ use std::sync::Arc;
 pub enum Error {
     /// There is no room for the object, after a whole collection. A program that drops most of what it has can go on.
     Full,
-    /// The object is larger than the heap, or has more than 255 weak slots.
+    /// The object is larger than the heap, or than 16,777,216 words, two of which aren't fields; or it has more than 255 weak slots.
     TooBig,
     /// No names are left for new objects.
     NamesSpent,
@@ -31,7 +31,7 @@ impl fmt::Display for Error {
     fn fmt(&self, f: &mut fmt::Formatter<'_>) -> fmt::Result {
         f.write_str(match self {
             Error::Full => "the heap is full",
-            Error::TooBig => "the object is too big for the heap",
+            Error::TooBig => "the object is larger than the heap, or than 16,777,216 words, or has more than 255 weak slots",
             Error::NamesSpent => "no names are left for new objects",
             Error::NoRegisters => "no registers are left for roots",
             Error::NoGlobals => "no globals are left",
@@ -47,28 +47,29 @@ impl std::error::Error for Error {}
 /// use g1heap::{BadSizes, Heap, Sizes};
 /// let error = Heap::new(&Sizes { words: 100, ..Sizes::default() }).unwrap_err();
 /// assert_eq!(error, BadSizes::Words);
-/// assert_eq!(error.to_string(), "no heap has these sizes: words of a region");
+/// let said = "no heap has these sizes: words of a region, a power of two up to 4,194,304, or of all, up to 2,147,483,648 (16 GiB)";
+/// assert_eq!(error.to_string(), said);
 /// ```
 #[derive(Clone, Copy, Debug, PartialEq, Eq)]
 #[non_exhaustive]
 pub enum BadSizes {
-    /// The number of regions.
+    /// The number of regions, 2 to 4,096.
     Regions,
-    /// The words of a region.
+    /// The words of a region, a power of two of 16 to 4,194,304; or those of all regions, at most 2,147,483,648, which are 16 GiB.
     Words,
-    /// The words of an allocation buffer.
+    /// The words of an allocation buffer, 4 to half of a region's.
     Buffer,
-    /// The number of mutators, see [`Shared::new`](crate::Shared::new).
+    /// The number of mutators, 1 to 64, see [`Shared::new`](crate::Shared::new).
     Mutators,
     /// There is no memory for a heap of these sizes.
     Memory,
-    /// The words of a card.
+    /// The words of a card, a power of two of 8 to 512, and at most a region's.
     Card,
-    /// The number of globals.
+    /// The number of globals, at most 65,536.
     Globals,
-    /// The number of registers of a mutator.
+    /// The number of registers of a mutator, 1 to 65,536.
     Registers,
-    /// The number of globals and of all registers.
+    /// The number of globals and of all registers, at most 1,048,576.
     Roots,
     /// Another one, by the code of `g1_new`.
     Other(u32),
@@ -93,15 +94,15 @@ impl fmt::Display for BadSizes {
     fn fmt(&self, f: &mut fmt::Formatter<'_>) -> fmt::Result {
         f.write_str("no heap has these sizes: ")?;
         f.write_str(match self {
-            BadSizes::Regions => "regions",
-            BadSizes::Words => "words of a region",
-            BadSizes::Buffer => "words of a buffer",
-            BadSizes::Mutators => "mutators",
+            BadSizes::Regions => "regions, 2 to 4,096",
+            BadSizes::Words => "words of a region, a power of two up to 4,194,304, or of all, up to 2,147,483,648 (16 GiB)",
+            BadSizes::Buffer => "words of a buffer, 4 to half of a region's",
+            BadSizes::Mutators => "mutators, 1 to 64",
             BadSizes::Memory => return f.write_str("there is no memory for it"),
-            BadSizes::Card => "words of a card",
-            BadSizes::Globals => "globals",
-            BadSizes::Registers => "registers",
-            BadSizes::Roots => "globals and registers of all mutators",
+            BadSizes::Card => "words of a card, a power of two of 8 to 512, and at most a region's",
+            BadSizes::Globals => "globals, at most 65,536",
+            BadSizes::Registers => "registers, 1 to 65,536",
+            BadSizes::Roots => "globals and registers of all mutators, at most 1,048,576",
             BadSizes::Other(code) => return write!(f, "code {code}"),
         })
     }
@@ -118,9 +119,9 @@ impl std::error::Error for BadSizes {}
 /// ```
 #[derive(Clone, Copy, Debug, PartialEq, Eq)]
 pub struct Sizes {
-    /// Regions: 4 or more, better 64. `g1heap.h` says how many there may be.
+    /// Regions: 4 or more, better 64, at most 4,096.
     pub regions: u32,
-    /// Words of a region, a power of two. `g1heap.h` says how many there may be, and how many in all.
+    /// Words of a region: a power of two, 16 to 4,194,304, and at most 2,147,483,648 in all regions, which are 16 GiB.
     pub words: u32,
     /// Words of an allocation buffer: 4 to half of a region's; an eighth of them less 1 is a good one.
     pub buffer: u32,

@@ -334,6 +334,19 @@ fn sizes_by_mebibytes() {
 }
 
 #[test]
+fn the_largest_object() {
+    let mut heap = Heap::new(&Sizes::mebibytes(256)).unwrap(); // of 33,554,432 words
+    heap.run(|f| {
+        assert_eq!(f.alloc_any(0, 0, 16_777_215).err(), Some(Error::TooBig));
+        let object = f.alloc_any(0, 0, 16_777_214).unwrap(); // two more words are taken
+        assert_eq!(f.read_at(object, 16_777_213), Ok(0));
+    });
+    for (regions, words) in [(4096, 1_048_576), (4, 8_388_608)] {
+        assert_eq!(Heap::new(&Sizes { regions, words, ..Sizes::default() }).unwrap_err(), BadSizes::Words);
+    }
+}
+
+#[test]
 fn an_error_leaves_a_stack_as_it_was() {
     let mut heap = heap();
     heap.run(|f| {
