@@ -1,6 +1,7 @@
 use crate::base::{Core, Globals};
 use crate::frame::{Frame, Run};
 use crate::layout::Any;
+use crate::local::Exactly;
 use crate::sys;
 use crate::threads::Lock;
 use std::fmt;
@@ -386,7 +387,7 @@ impl fmt::Debug for Heap {
 pub struct Global<T = Any> {
     number: u32,
     serial: usize,
-    of: PhantomData<fn() -> T>,
+    of: Exactly<T>,
 }
 impl<T> Global<T> {
     pub(crate) fn new(globals: &Globals, number: u32) -> Global<T> {
@@ -426,7 +427,7 @@ impl<T> fmt::Debug for Global<T> {
 pub struct Kept<T = Any> {
     number: u32,
     globals: Arc<Globals>,
-    of: PhantomData<fn() -> T>,
+    of: Exactly<T>,
 }
 impl<T> Kept<T> {
     pub(crate) fn new(core: &Core, number: u32) -> Kept<T> {

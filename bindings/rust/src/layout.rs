@@ -1,4 +1,5 @@
 //! Layouts: how many pointers, weak slots and data words an object of a type has, and the names of its fields.
+use crate::local::Exactly;
 use crate::Name;
 use std::fmt;
 use std::marker::PhantomData;
@@ -29,7 +30,7 @@ macro_rules! field {
         $(#[$doc])*
         pub struct $name<T, V> {
             pub(crate) index: u32,
-            of: PhantomData<fn(T) -> V>,
+            of: Exactly<(T, V)>,
         }
         impl<T, V> Clone for $name<T, V> {
             fn clone(&self) -> Self {

@@ -8,8 +8,35 @@ use std::num::NonZeroU32;
 
 /// Makes `'h` invariant: each run has a lifetime of its own, so its roots fit no other run, and no other heap.
 pub(crate) type Brand<'h> = PhantomData<fn(&'h ()) -> &'h ()>;
+/// Makes `T` invariant: what is of one layout is of no other, not even of one whose type is a more general one. So none of these compiles:
+///
+/// ```compile_fail,E0308
+/// # use g1heap::*; type One = fn(&'static u8); type More = for<'a> fn(&'a u8);
+/// fn other<'f, 'h>(it: Local<'f, 'h, More>) -> Local<'f, 'h, One> { it }
+/// ```
+/// ```compile_fail,E0308
+/// # use g1heap::*; type One = fn(&'static u8); type More = for<'a> fn(&'a u8);
+/// fn other<'f, 'h>(it: Var<'f, 'h, More>) -> Var<'f, 'h, One> { it }
+/// ```
+/// ```compile_fail,E0308
+/// # use g1heap::*; type One = fn(&'static u8); type More = for<'a> fn(&'a u8);
+/// fn other(it: Global<More>) -> Global<One> { it }
+/// ```
+/// ```compile_fail,E0308
+/// # use g1heap::*; type One = fn(&'static u8); type More = for<'a> fn(&'a u8);
+/// fn other(it: Kept<More>) -> Kept<One> { it }
+/// ```
+/// ```compile_fail,E0308
+/// # use g1heap::*; type One = fn(&'static u8); type More = for<'a> fn(&'a u8);
+/// fn other(it: Word<One, u64>) -> Word<More, u64> { it } // a field of the one layout
+/// ```
+/// ```compile_fail,E0308
+/// # use g1heap::*; type One = fn(&'static u8); type More = for<'a> fn(&'a u8);
+/// fn other(it: Pointer<Any, More>) -> Pointer<Any, One> { it } // to the one layout
+/// ```
+pub(crate) type Exactly<T> = PhantomData<fn(T) -> T>;
 /// A root of a frame, which may be taken for one of an inner frame.
-type Rooted<'f, T> = PhantomData<(&'f (), fn() -> T)>;
+type Rooted<'f, T> = PhantomData<(&'f (), Exactly<T>)>;
 
 /// A root: an object of layout `T`, never nil, for as long as the frame `'f` of the run `'h`. It's the number of a register, 4 bytes,
 /// and `Copy`; an `Option` of one is 4 bytes too.
