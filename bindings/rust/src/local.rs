@@ -192,14 +192,11 @@ impl<'f, 'h, T> Var<'f, 'h, T> {
     /// # use g1heap::*;
     /// # layout! { struct Cell { pointers { next: Cell } } }
     /// fn last<'f, 'h>(f: &Frame<'f, 'h>, list: Local<'_, 'h, Cell>) -> Result<Local<'f, 'h, Cell>, Error> {
-    ///     let mut at = f.var(list)?;
-    ///     loop {
-    ///         let next = f.get(at.local().expect("a cell"), Cell::next)?;
-    ///         match next {
-    ///             Some(next) => at.set(f, next),
-    ///             None => return Ok(at.into_local().expect("a cell")),
-    ///         }
+    ///     let (mut at, mut next) = (f.var(list)?, f.var(list)?);
+    ///     while next.follow(f, Cell::next) {
+    ///         at.set(f, &next);
     ///     }
+    ///     Ok(at.into_local().expect("a cell"))
     /// }
     /// # let mut heap = Heap::new(&Sizes::default())?;
     /// # heap.run(|f| { let cell = f.alloc()?; let end = last(f, cell)?; assert!(f.same(end, cell)); Ok::<_, Error>(()) })?;
