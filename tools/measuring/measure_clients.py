@@ -1,6 +1,8 @@
 """The C library and its clients, beside other memories: tables for docs/GATE.md.
 
-    tools/measure clients [ARCHIVE [LIBRARY ..]] [--runs 9] [--only calls programs clients millions growth longest]
+    tools/measure clients [ARCHIVE [LIBRARY ..]] [--runs 9] [--only calls programs clients millions growth]
+    tools/measure clients [ARCHIVE [LIBRARY ..]] --only live [--sizes 16 128 1024 4096] [--shares 20 50 75]
+                          [--loads trees lists hash arrays weak] [--options runs=2 pause_words=0 ..]
 
 ARCHIVE is lib/libg1heap.a where it is left out. Each table goes over memories: g1heap by the archive; the same inlined by the kit's clang,
 where its module is beside the archive; Boehm's collector; malloc, where nothing is freed; the heap without proofs behind the same header; and
@@ -11,11 +13,18 @@ the archive that records is one more memory, while nothing is recorded. `program
 time of larger ones, the best of some runs in turns, and the peak memory; with a JDK also of GCBench and binary-trees on OpenJDK's G1, with
 as much heap, one thread for each of its tasks, and the time in which the virtual machine starts and compiles. `millions` runs a Scheme
 program of more than 10,000,000 objects in a heap of 2 MiB. `growth` counts the instructions of steps whose cost might grow with the heap, in
-a large one. `longest` takes the time of each g1_make of a load in heaps of 16 to 512 MiB, by tools/measuring/longest_make.c. It needs gcc,
-g++, valgrind and Debian's libgc-dev.
+a large one. It needs gcc, g++, valgrind and Debian's libgc-dev.
+
+`live`, which takes long and is run only where it is asked for, prints how long looks of the collector take where a share of a heap lives, by
+tools/measuring/live_loads.c, which says what the loads and the columns are, and has the options. Beside that are the longest stop of
+OpenJDK's G1, where a JDK is there, and of Boehm's collector, after the filling, and the processor time of the process for each object made.
+G1 has as large a heap and one thread for each of its tasks; its stops are by the clock, the least of two runs. Boehm's has one thread and, at
+first, as large a heap, which may grow: its size at the end comes third. Both lack weak slots, so `weak` isn't run there. A hyphen is where
+a memory isn't there, or the heap was full.
 """
 import argparse
 import glob
+import itertools
 import os
 import re
 import shutil
@@ -27,8 +36,9 @@ from measuring import counting
 from measuring.counting import TOP
 
 ARCHIVE, INLINED, PLAIN, BOEHM = "g1heap", "inlined", "plain heap", "Boehm"
-# Megabytes of the heap in which a benchmark runs.
+# Megabytes of the heap in which a benchmark runs on OpenJDK's G1, and one thread for each of its tasks.
 JAVA = {"gcbench": 50, "binary_trees": 32}
+JAVA_FLAGS = ["-XX:+UseG1GC", "-XX:ParallelGCThreads=1", "-XX:ConcGCThreads=1", "-XX:G1ConcRefinementThreads=1"]
 CALLS = ["get", "read", "write", "put", "put while marking", "move", "new 2 + 1", "new filled 2 + 1", "make 2 + 1", "make filled 2 + 1",
          "name", "scope", "no such register"]
 # A step with its size, two numbers of times of which the difference is taken, and what the difference is divided by.
@@ -160,8 +170,7 @@ def java_of(client, folder):
     if client not in JAVA or not shutil.which("javac"):
         return None
     subprocess.run(["javac", "-d", folder, path("tools/measuring/trees.java")], check=True)
-    flags = ["-XX:+UseG1GC", "-XX:ParallelGCThreads=1", "-XX:ConcGCThreads=1", "-XX:G1ConcRefinementThreads=1"]
-    return ["java", *flags, f"-Xms{JAVA[client]}m", f"-Xmx{JAVA[client]}m", "-cp", folder, "Trees", client]
+    return ["java", *JAVA_FLAGS, f"-Xms{JAVA[client]}m", f"-Xmx{JAVA[client]}m", "-cp", folder, "Trees", client]
 
 
 def measure_programs(memories, runs, folder):
@@ -200,10 +209,46 @@ def measure_millions(libraries, folder):
         print(f"{name}: status {done.returncode}, {done.stdout.strip()}; {done.stderr.strip()}", flush=True)
 
 
-def measure_longest(libraries, folder):
-    program = os.path.join(folder, "longest")
-    compile_c("tools/measuring/longest_make.c", program, *libraries[ARCHIVE])
-    subprocess.run([program, "4", "16", "128", "512"], check=True)
+def live_row(program, words):
+    """The cells that live_loads prints, or none where its heap was full."""
+    done = subprocess.run([program, *words], stdout=subprocess.PIPE, text=True, check=False)
+    return [cell.strip() for cell in done.stdout.strip().strip("|").split("|")] if done.returncode == 0 else []
+
+
+def live_on_java(load, size, share, folder):
+    """The longest stop after the filling, and the time of each object made, of the best of two runs on OpenJDK's G1."""
+    if load == "weak" or not shutil.which("javac"):
+        return "-"
+    log, stops, times = os.path.join(folder, "live.log"), [], []
+    for _ in range(2):
+        flags = [*JAVA_FLAGS, "-XX:-UseCompressedOops", f"-Xms{size}m", f"-Xmx{size}m", f"-Xlog:gc:file={log}:uptimemillis:filecount=0"]
+        command = ["java", *flags, "-cp", folder, "Live", load, str(size), str(share)]
+        done = subprocess.run(command, capture_output=True, text=True, check=False)
+        if done.returncode != 0:
+            return "-"
+        filled, each = done.stdout.split()
+        with open(log) as lines:
+            pauses = re.findall(r"^\[(\d+)ms\] GC\(\d+\) Pause .* ([\d.]+)ms$", lines.read(), re.M)
+        stops.append(max((float(took) for at, took in pauses if int(at) >= int(filled)), default=0))
+        times.append(float(each) / 1e3)
+    return f"{min(stops):.1f} ms, {min(times):.3f} us"
+
+
+def measure_live(libraries, chosen, folder):
+    heading("Heap", ["Live", "Load", "Longest look", "while it was filled", "Collector", "Scanned a word", "Copied a word", "Cycles",
+                     "An object", "OpenJDK's G1", "Boehm"])
+    program, boehm = os.path.join(folder, "live"), os.path.join(folder, "live_boehm")
+    compile_c("tools/measuring/live_loads.c", program, *libraries[ARCHIVE])
+    has_boehm = subprocess.run(["cc", "-E", "-include", "gc.h", "-xc", os.devnull], capture_output=True, check=False).returncode == 0
+    if has_boehm:
+        compile_c("tools/measuring/live_loads.c", boehm, ["cc", "-DMEMORY_BOEHM"], "-lgc")
+    if shutil.which("javac"):
+        subprocess.run(["javac", "-d", folder, path("tools/measuring/live_loads.java")], check=True)
+    for size, share, load in itertools.product(chosen.sizes, chosen.shares, chosen.loads):
+        words = [load, str(size), str(share), *chosen.options]
+        first, *cells = live_row(program, words) or [f"{size} MiB", f"{share} %", load, *"-" * 7]
+        other = live_row(boehm, words) if has_boehm and load != "weak" else []
+        row(first, [*cells, live_on_java(load, size, share, folder), f"{other[3]}, {other[9]}, {other[0]}" if other else "-"])
 
 
 def memories_of(archive, folder):
@@ -226,7 +271,11 @@ def main():
     parser = argparse.ArgumentParser(description=__doc__, formatter_class=argparse.RawDescriptionHelpFormatter)
     parser.add_argument("archive", nargs="*", default=[path("lib/libg1heap.a")])
     parser.add_argument("--runs", type=int, default=9)
-    parser.add_argument("--only", nargs="+", default=["calls", "programs", "clients", "millions", "growth", "longest"])
+    parser.add_argument("--only", nargs="+", default=["calls", "programs", "clients", "millions", "growth"])
+    parser.add_argument("--sizes", nargs="+", type=int, default=[16, 128, 1024, 4096], metavar="MEBIBYTES")
+    parser.add_argument("--shares", nargs="+", type=int, default=[20, 50, 75], metavar="PERCENT")
+    parser.add_argument("--loads", nargs="+", default=["trees", "lists", "hash", "arrays", "weak"], metavar="LOAD")
+    parser.add_argument("--options", nargs="+", default=[], metavar="NAME=NUMBER")
     chosen = parser.parse_args()
     with tempfile.TemporaryDirectory() as folder:
         libraries, memories = memories_of(chosen.archive, folder)
@@ -240,5 +289,5 @@ def main():
             measure_millions(libraries, folder)
         if "growth" in chosen.only:
             measure_growth(libraries, folder)
-        if "longest" in chosen.only:
-            measure_longest(libraries, folder)
+        if "live" in chosen.only:
+            measure_live(libraries, chosen, folder)
