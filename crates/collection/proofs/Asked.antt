@@ -14,7 +14,7 @@ use Rattle.regions.specs.Table.{free_count}
 use Rattle.step_core.specs.Stands.{CoreState, Stands}
 use Rattle.step_core.specs.Mutators.{ActsOn}
 use Rattle.collection.specs.Space.{IsCollected}
-use Rattle.collection.specs.Steps.{Collects, LeavesTwo, Makes, TakesOwn, asked_words}
+use Rattle.collection.specs.Steps.{Collects, HasRoom, LeavesTwo, Makes, TakesOwn, asked_words}
 use Rattle.collection.specs.Rooms.{IsCreatable, IsFilled, IsLast, IsSpared}
 use Rattle.collection.proofs.Created.{by_creates, creates_by, full_creates}
 use Rattle.collection.proofs.Spared.{spared_made, spared_two}
@@ -41,6 +41,7 @@ module _ {W : Type 0} (sees : W → Event → W → Type 0) (most : ℕ) (op : O
           collected = subst (λ (k : CoreState). IsCollected state.graph k) (sym same) (l.collected state stands);
           small = λ leaves. absurd (l.few leaves);
           large = λ leaves. absurd (l.few leaves);
+          dense = λ leaves. absurd (l.few leaves);
           side_by_side = λ third leaves. absurd (l.few leaves);
         }
 
@@ -57,8 +58,9 @@ module _ {W : Type 0} (sees : W → Event → W → Type 0) (most : ℕ) (op : O
         absurd (not (by_creates mid.graph d there.shows op (full_creates mid.graph op d ((own.passes mid there).full.0 e))))
 
   -- no step of its own
-  pub held_makes : IsNew op.action → IsCreatable c op.action → Makes sees most op (replies.Refused refusals.Full) c x d y
-  held_makes new h = record {
+  pub held_makes : IsNew op.action → IsCreatable c op.action → LeavesTwo c.config op.action → (HasRoom d op → ⊥)
+      → Makes sees most op (replies.Refused refusals.Full) c x d y
+  held_makes new h leaves none = record {
     core = d;
     watch = y;
     collects = before;
@@ -70,5 +72,7 @@ module _ {W : Type 0} (sees : W → Event → W → Type 0) (most : ℕ) (op : O
       });
       core = refl;
       watch = refl;
+      leaves = subst (λ (k : Config). LeavesTwo k op.action) (sym before.config) leaves;
+      no_room = none;
     });
   }

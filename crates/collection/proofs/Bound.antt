@@ -20,7 +20,7 @@ use Rattle.step_core.specs.Measures.{sum_below}
 use Rattle.step_core.specs.Pause.{HasPaused, IsChosen}
 use Rattle.collection.specs.Space.{FreesNone, ordinary_one, ordinary_count, kept_by_kind, kept_sum, IsExact}
 use Rattle.collection.proofs.Sums.{sum_same, sum_le, sum_plus, sum_times, chosen_sum, CountsOnce, if_true, if_false}
-use Rattle.collection.proofs.Choice.{choice}
+use Rattle.collection.proofs.Choice.{choice_after}
 
 ones : (rows : List LiveRow) → sum_by (λ (row : LiveRow). 1) rows ≡ length rows
 ones [] = refl
@@ -198,14 +198,17 @@ module _ (budget n w : ℕ) (c c' : CoreState) (p : HasPaused budget n w c c') (
         taken_few (suc m) [] e = absurd (omega (arith, e))
         taken_few (suc m) (x ∷ xs) e = let a = taken_few m xs (omega (arith, e)) in omega (arith, a)
 
-    pub half_kept : 2 ≤ ordinary_count t → ordinary_count t * words < 2 * kept_sum c
-    half_kept two =
+    -- so many regions are ordinary after it
+    pub half_kept : (after : ℕ) → after + length chosen ≡ ordinary_count t + p.evacuates.evacuated.spares.taken
+        → (length chosen ≡ 1 → live_sum chosen < words) → 2 ≤ after → after * words < 2 * kept_sum c
+    half_kept after same single two =
         let a = counted in
         let b = kept_most in
         let d = chosen_few in
         let e = sum_by-take-drop (λ (row : LiveRow). row.live_bound) rows (length chosen) in
         let f = ap live_sum p.evacuates.choice.front in
-        let g = choice words (free_count t) p.evacuates.evacuated.spares.taken w full chosen rest none_freed (omega (arith, two, a, d)) in
-        let h : ordinary_count t ≡ length chosen + length rest + full = omega (arith, a, d) in
+        let h : after ≡ p.evacuates.evacuated.spares.taken + length rest + full = omega (arith, a, d, same) in
+        let g = choice_after words (free_count t) p.evacuates.evacuated.spares.taken w full chosen rest none_freed single
+        (omega (arith, two, h)) in
         let i = ap (λ (m : ℕ). m * words) h in
         omega (arith, b, e, f, g, i)

@@ -1,6 +1,6 @@
 -- A pause that frees no region took what is more than half live.
 use Rattle.std.proofs.Common.{◌≡◌, ◌+◌, ◌*◌, ◌/◌, ◌<◌, ◌≤◌, ◌∷◌}
-use Rattle.std.proofs.Common.{ℕ, suc, zero, List, [], length, get_or, All, inl, inr, refl, arith}
+use Rattle.std.proofs.Common.{ℕ, suc, zero, List, [], length, get_or, All, inl, inr, refl, ap, arith}
 use Rattle.std.proofs.Math.Nat.{suc-mul, lt_of_mul-lt-mul_right}
 use Rattle.std.proofs.lemmas.Bool.{cases_lt}
 use Rattle.std.proofs.lemmas.Nat.{mul-le}
@@ -103,6 +103,41 @@ choice words frees taken copied full (c ∷ b ∷ cs) rest n two =
     let h = half_each words rest (others_more words frees taken copied (c ∷ b ∷ cs) rest n (omega arith)) in
     let m = more words frees taken copied (c ∷ b ∷ cs) rest n (omega arith) in
     sum words (length (c ∷ b ∷ cs)) (length rest) full (live_sum (c ∷ b ∷ cs)) (live_sum rest) m h
+  where
+    sum : (words k l full a b : ℕ) → k * words < 2 * a → l * words ≤ 2 * b → (k + l + full) * words < 2 * (a + b + full * words)
+    sum words k l full a b m h = omega (arith, m, h)
+
+-- and so what is there after it is: the destinations in place of what was chosen
+pub choice_after : (words frees taken copied full : ℕ) (chosen rest : List LiveRow) → FreesNone words frees chosen rest taken copied
+    → (length chosen ≡ 1 → live_sum chosen < words) → 2 ≤ taken + length rest + full
+    → (taken + length rest + full) * words < 2 * (live_sum chosen + live_sum rest + full * words)
+choice_after words frees taken copied full [] rest n single two =
+    let e = others_none words frees taken copied rest n in
+    let z = n.none (let w = n.within in omega (arith, w)) in
+    let h = choice words frees taken copied full [] rest n (omega (arith, e, z, two)) in
+    let same : taken + length rest + full ≡ 0 + length rest + full = omega (arith, z) in
+    let i = ap (λ (m : ℕ). m * words) same in
+    omega (arith, h, i)
+choice_after words frees taken copied full (c ∷ []) rest n single two = elim (cases_lt 1 taken) [
+  | inl more ↦
+      (let f = n.full (omega (arith, more)) in
+      let s = single refl in
+      let w = n.within in
+      let m = mul-le 2 words taken words (omega (arith, more)) (omega arith) in
+      absurd (omega (arith, f, s, w, m)))
+  | inr few ↦
+      (let g = n.gain in
+      let one : taken ≡ 1 = omega (arith, few, g) in
+      let h = choice words frees taken copied full (c ∷ []) rest n (omega (arith, one, two)) in
+      let i = ap (λ (m : ℕ). (m + length rest + full) * words) one in
+      omega (arith, h, i))
+]
+choice_after words frees taken copied full (c ∷ b ∷ cs) rest n single two =
+    let h = half_each words rest (others_more words frees taken copied (c ∷ b ∷ cs) rest n (omega arith)) in
+    let g = n.gain in
+    let f = n.full (omega (arith, g)) in
+    let w = n.within in
+    sum words taken (length rest) full (live_sum (c ∷ b ∷ cs)) (live_sum rest) (omega (arith, f, w)) h
   where
     sum : (words k l full a b : ℕ) → k * words < 2 * a → l * words ≤ 2 * b → (k + l + full) * words < 2 * (a + b + full * words)
     sum words k l full a b m h = omega (arith, m, h)

@@ -2,7 +2,6 @@
 use Rattle.std.proofs.Common.{◌≡◌, ◌+◌, ◌*◌, ◌/◌, ◌<◌, ◌≤◌}
 use Rattle.std.proofs.Common.{ℕ, suc, zero, cond, List, length, get_or, take, sum_by, inl, inr, refl, ap, arith}
 use Rattle.std.proofs.lemmas.Bool.{cases_lt}
-use Rattle.std.proofs.lemmas.Nat.{mul-le}
 use Rattle.std.proofs.Math.Nat.{lt_of_mul-lt-mul_right}
 use Rattle.std.proofs.lemmas.List.{take_all}
 use Rattle.std.proofs.lemmas.List.Sums.{sum_by_more}
@@ -100,7 +99,7 @@ fewer r f k d w s t two =
     let c = t.limit in
     lt_of_mul-lt-mul_right r (omega (arith, a, b, c))
 
-some_taken : (r f k d w s : ℕ) → Taken r f k d w s → 0 < d → 0 < k
+pub some_taken : (r f k d w s : ℕ) → Taken r f k d w s → 0 < d → 0 < k
 some_taken r f k d w s t h = elim (cases_lt 0 k) [
   | inl p ↦ p
   | inr z ↦ (let a = t.empty (omega arith) in let b = t.within in let e = t.none (omega (arith, a, b)) in absurd (omega (arith, e, h)))
@@ -113,23 +112,5 @@ two_stay r f f' k d w s t e two = elim (cases_lt 1 d) [
   | inr less ↦ elim (cases_lt 0 d) [
     | inl one ↦ (let b = some_taken r f k d w s t one in omega (arith, b, e, less, two))
     | inr zero' ↦ omega (arith, e, zero', two)
-  ]
-]
-
--- where no more are free than before, and no more than two, as many are as before
-pub same_stay : (r f f' k d w s : ℕ) → Taken r f k d w s → (k ≡ 1 → s < r) → f' + d ≡ f + k → 2 ≤ f → f' ≤ f → f' ≤ 2 → f' ≡ f
-same_stay r f f' k d w s t single e two gain few = elim (cases_lt 1 d) [
-  | inl more ↦
-      (let a = fewer r f k d w s t (omega arith) in
-      let b = some_taken r f k d w s t (omega arith) in
-      let one : k ≡ 1 = omega (arith, a, b, e, few) in
-      let q = single one in
-      let g = t.full (omega arith) in
-      let h = t.within in
-      let m = mul-le 2 r d r (omega arith) (omega arith) in
-      absurd (omega (arith, q, g, h, m)))
-  | inr less ↦ elim (cases_lt 0 d) [
-    | inl one ↦ (let b = some_taken r f k d w s t one in omega (arith, b, e, less, gain))
-    | inr zero' ↦ omega (arith, e, zero', gain)
   ]
 ]

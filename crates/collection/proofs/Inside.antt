@@ -10,7 +10,7 @@ use Rattle.alloc_buffers.specs.declared.buffers.Buffer.{Buffer}
 use Rattle.alloc_buffers.specs.Placement.{Buffers, Placement, Room, room_for, fresh_room, in_new_buffer, in_buffer, alone, outside}
 use Rattle.alloc_buffers.specs.Placement.{made_at, place_by, place_of, small_place_of, run_place_of}
 use Rattle.step_core.specs.Stands.{CoreState}
-use Rattle.collection.specs.Rooms.{FitsOpen, has_rest}
+use Rattle.collection.specs.Rooms.{FitsOpen, TakesRegion, has_rest}
 use Rattle.collection.proofs.Made.{IsInside, IsOutside, new_as, alone_as, next_room, inside_buffer}
 
 some_is : {A : Type 0} (x y : A) → Some x ≡ Some y → x ≡ y
@@ -123,32 +123,43 @@ module _ (c : CoreState) (m size : ℕ) (small : 2 * size ≤ c.table.words_per_
       placed ∙ ap (place_by t b m size) is
       ∙ ap (λ (q : Bool). if q then Some (in_buffer t b m size y) else outside t b m size) (lt-leb size y.rest h)
 
-  pub in_new : IsOut → size ≤ b.words → (r : Bool) → r ≡ has_rest t b.current b.words → (r ≡ true) ↔ FitsOpen c m size
+  placed_new : IsOut → size ≤ b.words → place_of t b m size ≡ in_new_buffer b m size (room_for t b.current b.words)
   unfolding IsOut
+  placed_new out h = out ∙ ap (λ (q : Bool). if q then in_new_buffer b m size (room_for t b.current b.words) else alone b size
+      (room_for t b.current size)) (le-leb size b.words h)
+
+  placed_alone : IsOut → b.words < size → place_of t b m size ≡ alone b size (room_for t b.current size)
+  unfolding IsOut
+  placed_alone out h = out ∙ ap (λ (q : Bool). if q then in_new_buffer b m size (room_for t b.current b.words) else alone b size
+      (room_for t b.current size)) (lt-leb size b.words h)
+
+  -- where neither the buffer nor the region has room a region is taken
+  pub new_taken : IsOut → size ≤ b.words → (r : Bool) → r ≡ has_rest t b.current b.words → r ≡ false → TakesRegion c m size
+  new_taken out h r e f = record {
+    less = λ p s is. new_out t b m size (sym e ∙ f) p (sym (placed_new out h) ∙ is) s;
+  }
+
+  pub alone_taken : IsOut → b.words < size → (r : Bool) → r ≡ has_rest t b.current size → r ≡ false → TakesRegion c m size
+  alone_taken out h r e f = record {
+    less = λ p s is. alone_out t b size (sym e ∙ f) p (sym (placed_alone out h) ∙ is) s;
+  }
+
+  pub in_new : IsOut → size ≤ b.words → (r : Bool) → r ≡ has_rest t b.current b.words → (r ≡ true) ↔ FitsOpen c m size
   in_new out h r e = (
-    λ f. fits_by (in_new_buffer b m size (room_for t b.current b.words)) there (new_fits t b m size (sym e ∙ f)),
+    λ f. fits_by (in_new_buffer b m size (room_for t b.current b.words)) (placed_new out h) (new_fits t b m size (sym e ∙ f)),
     λ f. yes r refl f,
   )
     where
-      there : place_of t b m size ≡ in_new_buffer b m size (room_for t b.current b.words)
-      there = out ∙ ap (λ (q : Bool). if q then in_new_buffer b m size (room_for t b.current b.words) else alone b size
-          (room_for t b.current size)) (le-leb size b.words h)
-
       yes : (q : Bool) → r ≡ q → FitsOpen c m size → r ≡ true
       yes true g f = g
-      yes false g f = absurd (not_both t _ (new_out t b m size (sym e ∙ g)) (by_fits _ there f))
+      yes false g f = absurd (not_both t _ (new_out t b m size (sym e ∙ g)) (by_fits _ (placed_new out h) f))
 
   pub alone_in : IsOut → b.words < size → (r : Bool) → r ≡ has_rest t b.current size → (r ≡ true) ↔ FitsOpen c m size
-  unfolding IsOut
   alone_in out h r e = (
-    λ f. fits_by (alone b size (room_for t b.current size)) there (alone_fits t b size (sym e ∙ f)),
+    λ f. fits_by (alone b size (room_for t b.current size)) (placed_alone out h) (alone_fits t b size (sym e ∙ f)),
     λ f. yes r refl f,
   )
     where
-      there : place_of t b m size ≡ alone b size (room_for t b.current size)
-      there = out ∙ ap (λ (q : Bool). if q then in_new_buffer b m size (room_for t b.current b.words) else alone b size
-          (room_for t b.current size)) (lt-leb size b.words h)
-
       yes : (q : Bool) → r ≡ q → FitsOpen c m size → r ≡ true
       yes true g f = g
-      yes false g f = absurd (not_both t _ (alone_out t b size (sym e ∙ g)) (by_fits _ there f))
+      yes false g f = absurd (not_both t _ (alone_out t b size (sym e ∙ g)) (by_fits _ (placed_alone out h) f))

@@ -13,7 +13,7 @@ use Rattle.heap_steps.specs.declared.step.Event.{Event}
 use Rattle.alloc_buffers.specs.Placement.{run_count}
 use Rattle.collection.specs.Steps.{Collects, LeavesTwo, asked_words, regions_for}
 use Rattle.collection.specs.Rooms.{IsFilled, IsLast, IsSpared}
-use Rattle.collection.proofs.Reached.{packed_at_before, then_cleared}
+use Rattle.collection.proofs.Reached.{packed_at_before, packed_before, then_cleared}
 use Rattle.collection.proofs.Took.{collected_after, reached}
 
 pub clash : (b : Bool) → b ≡ true → b ≡ false → ⊥
@@ -63,6 +63,9 @@ module _ {W : Type 0} (sees : W → Event → W → Type 0) (m : ℕ) (c d : Cor
             (let e = ap (λ (k : Config). k.words) before.config in omega (arith, e, small)) (before.two two));
         large = λ leaves large. w.large (subst (λ (k : Config). LeavesTwo k a) (sym before.config) leaves)
             (let e = ap (λ (k : Config). k.words) before.config in omega (arith, e, large));
+        dense = λ leaves large two. packed_before s.graph mid.graph c' reach
+            (w.dense (subst (λ (k : Config). LeavesTwo k a) (sym before.config) leaves)
+            (let e = ap (λ (k : Config). k.words) before.config in omega (arith, e, large)) (before.two two));
         side_by_side = λ third leaves large two.
             w.side_by_side (subst (λ (k : Config). IsThird k.format) (sym before.config) third)
             (subst (λ (k : Config). LeavesTwo k a) (sym before.config) leaves)

@@ -4,6 +4,7 @@ pub mod Bound
 pub mod Wide
 pub mod Names
 pub mod Exact
+pub mod Paced
 pub mod Paused
 pub mod Counts
 pub mod Packed

@@ -19,7 +19,7 @@ use Rattle.mark_bitmap.specs.Marks.{is_marked}
 use Rattle.mark_bitmap.specs.Tops.{Tops, below_previous}
 use Rattle.mark_bitmap.proofs.Spans.{spans, chosen_words, IsChoice, chosen_le}
 use Rattle.region_choice.specs.declared.LiveRow.{LiveRow}
-use Rattle.region_choice.specs.Choice.{copy_limit, live_sum}
+use Rattle.region_choice.specs.Choice.{copy_limit}
 use Rattle.evacuation.specs.Evacuates.{RegionsAfter, is_chosen}
 use Rattle.step_core.specs.Stands.{CoreState, IsCore}
 use Rattle.step_core.specs.Measures.{sum_below}

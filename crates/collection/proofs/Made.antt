@@ -1,5 +1,5 @@
 -- How many free regions it takes to make an object.
-use Rattle.std.proofs.Common.{◌≡◌, ◌+◌, ◌-◌, ◌*◌, ◌/◌, ◌%◌, ◌≤◌, ◌∷◌, ◌++◌}
+use Rattle.std.proofs.Common.{◌≡◌, ◌+◌, ◌-◌, ◌*◌, ◌/◌, ◌%◌, ◌≤◌, ◌∷◌, ◌++◌, min}
 use Rattle.std.proofs.Common.{ℕ, suc, zero, Bool, true, false, cond, List, [], Option, Some, None, get_or, set, sum_by, take, drop}
 use Rattle.std.proofs.Common.{length, refl, sym, ap, subst, arith}
 use Rattle.std.specs.Prelude.{nat_le, if◌then◌else◌, slice_index_or}
@@ -7,9 +7,10 @@ use Rattle.std.proofs.lemmas.Bool.{le-leb}
 use Rattle.std.proofs.lemmas.List.Sums.{sum_by-cons, sum_by-append, count_by-le-length}
 use Rattle.std.proofs.lemmas.List.{take-append-drop, drop-drop}
 use Rattle.heap_model.specs.Heap.{Stored}
-use Rattle.regions.specs.Tiles.{Tile, Object, Filler}
+use Rattle.regions.specs.Tiles.{Tile, Object, Filler, tile_size}
 use Rattle.regions.specs.Table.{Region, Free, Ordinary, First, Rest, Table, is_free, free_count, first_free, used_of, top_of, remainder}
-use Rattle.regions.specs.Table.{nth_region, region_at}
+use Rattle.regions.specs.Table.{first_run, front_count, nth_region, region_at, rests, run_regions}
+use Rattle.regions.proofs.Rows.Fronts.{run_passes}
 use Rattle.regions.specs.Table.{push_tile, replace_tile, region_with_tile, region_replaced, with_regions}
 use Rattle.object_copy.proofs.Frees.{fewer_free}
 use Rattle.alloc_buffers.specs.declared.buffers.Buffer.{Buffer}
@@ -197,4 +198,52 @@ run_free t k m block =
     let h = ap (sum_by bit) (drop-drop m k rs) in
     let i = count_by-le-length is_free (take m (drop k rs)) in
     let j = take_most m (drop k rs) in
+    omega (arith, a, b, d, e, f, g, h, i, j)
+
+-- where these were free all of them are less
+front_free : (m : ℕ) (rs : List Region) → m ≤ front_count is_free rs → sum_by (λ (x : Region). cond (is_free x) 1 0) (take m rs) ≡ m
+front_free zero rs h = refl
+front_free (suc m) [] h = absurd (omega arith)
+front_free (suc m) (r ∷ rs) h = go (is_free r) refl h (λ le. front_free m rs le)
+  where
+    go : (b : Bool) → is_free r ≡ b → suc m ≤ cond b (suc (front_count is_free rs)) 0
+        → (m ≤ front_count is_free rs → sum_by (λ (x : Region). cond (is_free x) 1 0) (take m rs) ≡ m)
+        → sum_by (λ (x : Region). cond (is_free x) 1 0) (take (suc m) (r ∷ rs)) ≡ suc m
+    go true e le rest =
+        let a = sum_by-cons (λ (x : Region). cond (is_free x) 1 0) r (take m rs) in
+        let b = ap {B = ℕ} (λ (b : Bool). cond b 1 0) e in
+        let d = rest (omega (arith, le)) in
+        omega (arith, a, b, d)
+    go false e le rest = absurd (omega arith)
+
+rests_free : (size s i m : ℕ) → sum_by (λ (x : Region). cond (is_free x) 1 0) (rests size s i m) ≡ 0
+rests_free size s i zero = refl
+rests_free size s i (suc m) =
+    let a = sum_by-cons (λ (x : Region). cond (is_free x) 1 0) (Rest (min size (s - i * size))) (rests size s (suc i) m) in
+    let b = rests_free size s (suc i) m in
+    omega (arith, a, b)
+
+run_regions_free : (size m : ℕ) (s : Stored) → sum_by (λ (x : Region). cond (is_free x) 1 0) (run_regions size s m) ≡ 0
+run_regions_free size zero s = refl
+run_regions_free size (suc m) s =
+    let a = sum_by-cons (λ (x : Region). cond (is_free x) 1 0) (First s) (rests size (tile_size (Object s)) 1 m) in
+    let b = rests_free size (tile_size (Object s)) 1 m in
+    omega (arith, a, b)
+
+pub run_taken : (t : Table) (k m : ℕ) (s : Stored) → first_run is_free m t.regions ≡ Some k
+    → free_count (with_regions t k m (run_regions t.words_per_region s m)) + m ≡ free_count t
+run_taken t k m s found =
+    let bit : Region → ℕ = λ (x : Region). cond (is_free x) 1 0 in
+    let rs = t.regions in
+    let block : List Region = run_regions t.words_per_region s m in
+    let p = run_passes is_free m k rs found in
+    let a = sum_by-append bit (take k rs) (block ++ drop (k + m) rs) in
+    let b = sum_by-append bit block (drop (k + m) rs) in
+    let d = ap (sum_by bit) (take-append-drop k rs) in
+    let e = sum_by-append bit (take k rs) (drop k rs) in
+    let f = ap (sum_by bit) (take-append-drop m (drop k rs)) in
+    let g = sum_by-append bit (take m (drop k rs)) (drop m (drop k rs)) in
+    let h = ap (sum_by bit) (drop-drop m k rs) in
+    let i = front_free m (drop k rs) p.1 in
+    let j = run_regions_free t.words_per_region m s in
     omega (arith, a, b, d, e, f, g, h, i, j)

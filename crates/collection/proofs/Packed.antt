@@ -20,12 +20,12 @@ use Rattle.step_core.specs.Stands.{CoreState, IsCore, Stands, kept_of}
 use Rattle.step_core.specs.Measures.{sum_below}
 use Rattle.step_core.specs.declared.candidates.Choice.{Choice}
 use Rattle.step_core.specs.declared.candidates.Choice.TheVariants as choices
-use Rattle.step_core.specs.Pause.{HasMoved, HasPaused, IsRowOf}
-use Rattle.step_core.proofs.Pauses.Chosen.{set_moves}
+use Rattle.step_core.specs.Pause.{HasCompacted, HasMoved, HasPaused}
+use Rattle.step_core.proofs.Pauses.Chosen.{chosen_rows, set_moves}
 use Rattle.collection.specs.Space.{run_one, run_count, ordinary_count, kept_sum, kept_by_kind, bound_by_kind, bound_sum}
-use Rattle.collection.specs.Space.{AreReachable, FillHalf, IsDense, IsExact, IsQuiet, IsPacked}
+use Rattle.collection.specs.Space.{FillHalf, IsDense, IsExact, IsQuiet, IsPacked}
 use Rattle.collection.proofs.Sums.{sum_same, sum_le}
-use Rattle.collection.proofs.Counts.{Taken, two_stay, same_stay, count_all}
+use Rattle.collection.proofs.Counts.{Taken, some_taken, two_stay, count_all}
 use Rattle.collection.proofs.Bound.{half_kept}
 use Rattle.collection.proofs.Names.{reachable, named_size, total, in_ordinary, ordinary_kept, ordinary_small, ordinary_total, all_total}
 use Rattle.collection.proofs.Wide.{wide_below, first_words}
@@ -171,6 +171,40 @@ module _ (which : Choice) (budget n w : ℕ) (c c' : CoreState) (shape : IsShape
   pub moved_counted : free_count c'.table + p.evacuates.evacuated.spares.taken ≡ free_count c.table + length p.evacuates.chosen
   moved_counted = let a = p.evacuates.evacuated.spares.count in let b = ap free_count same_table in omega (arith, a, b)
 
+  pub moved_regions : RegionsAfter p.evacuates.chosen c.table c'.table
+  moved_regions = subst (λ (u : Table). RegionsAfter p.evacuates.chosen u c'.table) same_table p.evacuates.evacuated.regions
+
+  ordinary_chosen : (k : ℕ) → is_chosen p.evacuates.chosen k ≡ true → kind_of c.table k ≡ kinds.Ordinary
+  ordinary_chosen k e =
+      let (i, row, at, same) = found p.evacuates.chosen k e in
+      let (lt, is) = get_is p.evacuates.chosen i row at in
+      let r = chosen_rows c.table c.marker.tams c.marker.bitmaps.previous c.marker.running budget p.evacuates.chosen
+      (set_moves which c.table c.marker.tams c.marker.bitmaps.previous c.marker.running budget p.evacuates.chosen p.evacuates.choice) i row lt in
+      subst (λ (j : ℕ). kind_of c.table j ≡ kinds.Ordinary) (ap (λ (x : LiveRow). x.region) is ∙ same) r.ordinary
+
+  run_each : (k : ℕ) → run_one (kind_of c'.table k) ≡ run_one (kind_of c.table k)
+  run_each k = elim (cases_Bool (is_chosen p.evacuates.chosen k)) [
+    | inl i ↦ ap run_one (moved_regions.chosen k i) ∙ sym (ap run_one (ordinary_chosen k i))
+    | inr out ↦ by_kind k out (kind_of c.table k) refl
+  ]
+    where
+      by_kind : (k : ℕ) → is_chosen p.evacuates.chosen k ≡ false → (o : Kind) → kind_of c.table k ≡ o → run_one (kind_of c'.table k) ≡ run_one (kind_of c.table k)
+      by_kind k out kinds.Free e = elim (moved_regions.was_free k e) [
+        | inl f ↦ ap run_one f ∙ sym (ap run_one e)
+        | inr o ↦ ap run_one o ∙ sym (ap run_one e)
+      ]
+      by_kind k out kinds.Ordinary e = ap run_one (moved_regions.kinds_same k out (λ f. let q : kinds.Free ≡ kinds.Ordinary = sym f
+          ∙ e in absurd {A = ⊥} cc))
+      by_kind k out kinds.First e = ap run_one (moved_regions.kinds_same k out (λ f. let q : kinds.Free ≡ kinds.First = sym f
+          ∙ e in absurd {A = ⊥} cc))
+      by_kind k out kinds.Rest e = ap run_one (moved_regions.kinds_same k out (λ f. let q : kinds.Free ≡ kinds.Rest = sym f
+          ∙ e in absurd {A = ⊥} cc))
+
+  pub runs_stay : run_count c'.table ≡ run_count c.table
+  runs_stay =
+      sum_same (λ k. run_one (kind_of c'.table k)) (λ k. run_one (kind_of c.table k)) (length c'.table.regions) (λ k h. run_each k)
+      ∙ ap (sum_below (λ k. run_one (kind_of c.table k))) moved_regions.count
+
   pub two_free : 2 ≤ free_count c.table → 2 ≤ free_count c'.table
   two_free two = two_stay c.table.words_per_region (free_count c.table) (free_count c'.table) (length p.evacuates.chosen)
       p.evacuates.evacuated.spares.taken w (live_sum p.evacuates.chosen) moved_taken moved_counted two
@@ -197,15 +231,6 @@ module _ (budget n w : ℕ) (c c' : CoreState) (core : IsCore c) (shape : IsShap
   abbrev chosen : List LiveRow
   chosen = p.evacuates.chosen
 
-  ready_same : p.ready.table ≡ t
-  ready_same = ap (λ (k : CoreState). k.table) p.is_ready.same
-
-  regions : RegionsAfter chosen t t'
-  regions = subst (λ (u : Table). RegionsAfter chosen u t') ready_same p.evacuates.evacuated.regions
-
-  taken : Taken words (free_count t) (length chosen) p.evacuates.evacuated.spares.taken w (live_sum chosen)
-  taken = moved_taken choices.Best budget n w c c' shape p
-
   -- a single region isn't full
   single : length chosen ≡ 1 → live_sum chosen < words
   single = one_sum words chosen below
@@ -217,58 +242,22 @@ module _ (budget n w : ℕ) (c c' : CoreState) (core : IsCore c) (shape : IsShap
           let b = (p.evacuates.choice.candidates.are_rows.each i d l).bound in
           omega (arith, a, b))))
 
+  regions : RegionsAfter chosen t t'
+  regions = moved_regions choices.Best budget n w c c' shape p
+
   counted : free_count t' + p.evacuates.evacuated.spares.taken ≡ free_count t + length chosen
   counted = moved_counted choices.Best budget n w c c' shape p
 
-  ordinary_chosen : (k : ℕ) → is_chosen chosen k ≡ true → kind_of t k ≡ kinds.Ordinary
-  ordinary_chosen k e =
-      let each : All (IsRowOf t c.marker.tams.previous c.marker.bitmaps.previous) chosen =
-      subst (λ (rows : List LiveRow). All (IsRowOf t c.marker.tams.previous c.marker.bitmaps.previous) rows) (sym p.evacuates.choice.front)
-      (All-take (IsRowOf t c.marker.tams.previous c.marker.bitmaps.previous) (length chosen) p.evacuates.choice.rows
-      p.evacuates.choice.candidates.are_rows.each) in
-      let (i, row, at, same) = found chosen k e in
-      let (lt, is) = get_is chosen i row at in
-      let r = each i row lt in
-      subst (λ (j : ℕ). kind_of t j ≡ kinds.Ordinary) (ap (λ (x : LiveRow). x.region) is ∙ same) r.ordinary
-
-  run_each : (k : ℕ) → run_one (kind_of t' k) ≡ run_one (kind_of t k)
-  run_each k = elim (cases_Bool (is_chosen chosen k)) [
-    | inl i ↦ ap run_one (regions.chosen k i) ∙ sym (ap run_one (ordinary_chosen k i))
-    | inr out ↦ by_kind k out (kind_of t k) refl
-  ]
-    where
-      by_kind : (k : ℕ) → is_chosen chosen k ≡ false → (o : Kind) → kind_of t k ≡ o → run_one (kind_of t' k) ≡ run_one (kind_of t k)
-      by_kind k out kinds.Free e = elim (regions.was_free k e) [
-        | inl f ↦ ap run_one f ∙ sym (ap run_one e)
-        | inr o ↦ ap run_one o ∙ sym (ap run_one e)
-      ]
-      by_kind k out kinds.Ordinary e = ap run_one (regions.kinds_same k out (λ f. let q : kinds.Free ≡ kinds.Ordinary = sym f
-          ∙ e in absurd {A = ⊥} cc))
-      by_kind k out kinds.First e = ap run_one (regions.kinds_same k out (λ f. let q : kinds.Free ≡ kinds.First = sym f
-          ∙ e in absurd {A = ⊥} cc))
-      by_kind k out kinds.Rest e = ap run_one (regions.kinds_same k out (λ f. let q : kinds.Free ≡ kinds.Rest = sym f
-          ∙ e in absurd {A = ⊥} cc))
-
-  pub runs_same : run_count t' ≡ run_count t
-  runs_same =
-      sum_same (λ k. run_one (kind_of t' k)) (λ k. run_one (kind_of t k)) (length t'.regions) (λ k h. run_each k)
-      ∙ ap (sum_below (λ k. run_one (kind_of t k))) regions.count
-
-  pub packed : (s : State) → IsQuiet s c → 2 ≤ free_count t → free_count t' ≤ free_count t → free_count t' ≤ 2
-      → free_count t * words / 2 ≤ budget → IsPacked s.graph c'
-  packed s q two gain few enough =
-      let same = same_stay words (free_count t) (free_count t') (length chosen) p.evacuates.evacuated.spares.taken w (live_sum chosen)
-      taken single counted two gain few in
+  pub packed : (s : State) → IsQuiet s c → 2 ≤ free_count t → free_count t' ≤ free_count t → free_count t * words / 2 ≤ budget
+      → IsPacked s.graph c'
+  packed s q two gain enough =
       let a = count_all t in
       let b = count_all t' in
-      let d = runs_same in
+      let d = runs_stay choices.Best budget n w c c' shape p in
       let e = regions.count in
-      let ordinary : ordinary_count t' ≡ ordinary_count t = omega (arith, same, a, b, d, e) in
-      let kept = half_kept budget n w c c' p q.exact shape.positive two gain enough in
-      filled c c' core shape s q regions.size d (λ some.
-      (let h = kept (omega (arith, some, ordinary)) in
-      let j = ap (λ (m : ℕ). m * words) ordinary in
-      omega (arith, h, j)))
+      let f = counted in
+      filled c c' core shape s q regions.size d
+      (half_kept budget n w c c' p q.exact shape.positive two gain enough (ordinary_count t') (omega (arith, a, b, d, e, f)) single)
 
 -- fewer regions are half full too
 fewer_filled : (g : Graph) (c : CoreState) (m n : ℕ) → m ≤ n → FillHalf g c n → FillHalf g c m
@@ -279,6 +268,75 @@ fewer_filled g c m n le f = record {
       let b = mul-le m c.table.words_per_region n c.table.words_per_region le (omega arith) in
       omega (arith, a, b));
 }
+
+-- ---- fewer ordinary regions, and the same runs
+module _ (g : Graph) (c c' : CoreState) (size : c'.table.words_per_region ≡ c.table.words_per_region)
+    (runs : run_count c'.table ≡ run_count c.table) (fewer : ordinary_count c'.table ≤ ordinary_count c.table) (p : IsPacked g c) where
+  fill_moved : (m n : ℕ) → n ≤ m → FillHalf g c m → FillHalf g c' n
+  fill_moved m n le f = record {
+    words = f.words;
+    reachable = f.reachable;
+    half = (let a = f.half in
+        let b = mul-le n c.table.words_per_region m c.table.words_per_region le (omega arith) in
+        let e = ap (λ (k : ℕ). n * k) size in
+        omega (arith, a, b, e));
+  }
+
+  by_runs : 0 < run_count c'.table → FillHalf g c' (run_count c'.table)
+  by_runs some = elim (cases_eq (ordinary_count c.table) 1) [
+    | inl one ↦ fill_moved (run_count c.table) (run_count c'.table) (omega (arith, runs)) (p.in_runs one (omega (arith, some, runs)))
+    | inr ne ↦ fill_moved (ordinary_count c.table + run_count c.table) (run_count c'.table) (omega (arith, runs))
+        (p.in_use ne (omega (arith, some, runs)))
+  ]
+
+  pub still_packed : IsPacked g c'
+  still_packed = record {
+    words = p.words;
+    reachable = p.reachable;
+    small = λ i n e. (let a = p.small i n e in omega (arith, a, size));
+    half = λ some. (let a = p.half (omega (arith, some, fewer)) in
+        let b = mul-le (ordinary_count c'.table) c.table.words_per_region (ordinary_count c.table) c.table.words_per_region fewer
+        (omega arith) in
+        let e = ap (λ (k : ℕ). ordinary_count c'.table * k) size in
+        omega (arith, a, b, e));
+    in_use = λ ne some. elim (cases_eq (ordinary_count c.table) 1) [
+      | inl one ↦ (let none : ordinary_count c'.table ≡ 0 = omega (arith, ne, one, fewer) in
+          let f = p.in_runs one (omega (arith, some, none, runs)) in
+          fill_moved (run_count c.table) (ordinary_count c'.table + run_count c'.table) (omega (arith, none, runs)) f)
+      | inr more ↦ fill_moved (ordinary_count c.table + run_count c.table) (ordinary_count c'.table + run_count c'.table)
+          (omega (arith, fewer, runs)) (p.in_use more (omega (arith, some, fewer, runs)))
+    ];
+    in_runs = λ one some. by_runs some;
+  }
+
+-- a compaction of a region of words takes one destination at most
+pub compacted_packed : (budget n w : ℕ) (c c' : CoreState) (shape : IsShaped c.table) → HasCompacted budget n w c c'
+    → budget ≤ c.table.words_per_region → (g : Graph) → IsPacked g c → IsPacked g c'
+compacted_packed budget n w c c' shape p few g packed =
+    let words : ℕ = c.table.words_per_region in
+    let d : ℕ = p.evacuates.evacuated.spares.taken in
+    let t = moved_taken choices.Highest budget n w c c' shape p in
+    let count = moved_counted choices.Highest budget n w c c' shape p in
+    let regions = moved_regions choices.Highest budget n w c c' shape p in
+    let runs = runs_stay choices.Highest budget n w c c' shape p in
+    let a = count_all c.table in
+    let b = count_all c'.table in
+    let e = regions.count in
+    let le = no_more words (free_count c.table) (length p.evacuates.chosen) d w (live_sum p.evacuates.chosen) t
+    (let q = p.evacuates.within in omega (arith, few, q)) in
+    still_packed g c c' regions.size runs (omega (arith, count, runs, a, b, e, le)) packed
+  where
+    no_more : (r f k d w s : ℕ) → Taken r f k d w s → w ≤ r → d ≤ k
+    no_more r f k d w s t small = elim (cases_lt 1 d) [
+      | inl more ↦
+          (let a = t.full (omega (arith, more)) in
+          let m = mul-le 2 r d r (omega (arith, more)) (omega arith) in
+          absurd (omega (arith, a, m, small)))
+      | inr less ↦ elim (cases_lt 0 d) [
+        | inl one ↦ (let b = some_taken r f k d w s t one in omega (arith, b, less))
+        | inr zero' ↦ omega (arith, zero')
+      ]
+    ]
 
 -- where two of four regions or more are free
 module _ (g : Graph) (c : CoreState) (p : IsPacked g c)

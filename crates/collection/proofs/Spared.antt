@@ -5,7 +5,7 @@ use Rattle.std.specs.Prelude.{if◌then◌else◌}
 use Rattle.std.proofs.lemmas.Bool.{lt-leb}
 use Rattle.heap_model.specs.Graph.{Graph}
 use Rattle.heap_model.specs.Heap.{Stored}
-use Rattle.regions.specs.Table.{first_run, free_count, is_free, run_regions}
+use Rattle.regions.specs.Table.{first_run, free_count, is_free, new_object, run_regions}
 use Rattle.alloc_buffers.specs.declared.placement.Place.TheVariants as places
 use Rattle.alloc_buffers.specs.Placement.{Placement, in_run, made_at, place_of, run_count, run_place_of, small_place_of}
 use Rattle.heap_steps.specs.declared.step.Action.{Action}
@@ -18,9 +18,9 @@ use Rattle.graph_runs.specs.Run.{IsNew}
 use Rattle.step_core.specs.Stands.{CoreState}
 use Rattle.step_core.specs.Answers.{IsFull}
 use Rattle.step_core.specs.Mutators.{ActsOn, HasActed, core_after, with_made}
-use Rattle.collection.specs.Rooms.{FitsOpen, HasRun, IsSpared}
-use Rattle.collection.specs.Steps.{asked_words}
-use Rattle.collection.proofs.Made.{place_near, run_free}
+use Rattle.collection.specs.Rooms.{FitsOpen, HasRun, IsSpared, TakesRegion}
+use Rattle.collection.specs.Steps.{HasRoom, asked_words}
+use Rattle.collection.proofs.Made.{place_near, run_free, run_taken}
 use Rattle.collection.proofs.Placed.{place_found}
 
 some_of : {A : Type 0} (o : Option A) → (o ≡ None → ⊥) → (x : A) × (o ≡ Some x)
@@ -86,6 +86,64 @@ module _ (c : CoreState) where
       (lt-leb (2 * size) c.table.words_per_region large) ∙ ap (in_run c.table c.buffers count) e)
       (λ two s.
       (let f = run_free c.table k count (run_regions c.table.words_per_region s count) in let g = r.two in omega (arith, f, g)))
+
+-- ---- where it hasn't
+module _ (c : CoreState) where
+  made_few : (p : ℕ) (counts : Counts) (weaks : ℕ) (o : Option Placement) (x : Placement) → o ≡ Some x
+      → 2 ≤ free_count (with_made c p counts weaks o).table → (s : Stored) × (2 ≤ free_count (made_at x.table x.place s))
+  made_few p counts weaks o x e two = (
+    new_object c.next counts.pointers weaks counts.values,
+    subst (λ (q : Option Placement). 2 ≤ free_count (with_made c p counts weaks q).table) e two,
+  )
+
+  after_few : (m : ℕ) (a : Action) → IsNew a → (x : Placement) → place_of c.table c.buffers m (asked_words a) ≡ Some x
+      → 2 ≤ free_count (core_after c m a).table → (s : Stored) × (2 ≤ free_count (made_at x.table x.place s))
+  after_few m (actions.New to counts) new x e two = made_few _ counts 0 _ x e two
+  after_few m (actions.NewWeak to counts weaks) new x e two = made_few _ counts weaks _ x e two
+  after_few m (actions.Get a b d) new x e two = absurd new
+  after_few m (actions.Put a b d) new x e two = absurd new
+  after_few m (actions.Read a b) new x e two = absurd new
+  after_few m (actions.Write a b d) new x e two = absurd new
+  after_few m (actions.Move a b) new x e two = absurd new
+  after_few m (actions.Drop a) new x e two = absurd new
+  after_few m (actions.Load a b) new x e two = absurd new
+  after_few m (actions.Save a b) new x e two = absurd new
+  after_few m (actions.Shape a) new x e two = absurd new
+  after_few m (actions.GetWeak a b d) new x e two = absurd new
+  after_few m (actions.PutWeak a b d) new x e two = absurd new
+  after_few m (actions.Weaks a) new x e two = absurd new
+  after_few m (actions.Scope a) new x e two = absurd new
+
+  -- it takes one of two free regions
+  pub small_full : (op : Op) → IsNew op.action → free_count c.table ≤ 2 → TakesRegion c op.mutator (asked_words op.action) → HasRoom c op → ⊥
+  small_full op new few takes room =
+      let (x, e) = some_of (place_of c.table c.buffers op.mutator (asked_words op.action)) room.place in
+      let (s, two) = after_few op.mutator op.action new x e room.two in
+      let less = takes.less x s e in
+      absurd (omega (arith, less, two, few))
+
+  -- it has no run, or not two regions beside it
+  pub run_full : (op : Op) → IsNew op.action → c.table.words_per_region < 2 * asked_words op.action
+      → (HasRun c (asked_words op.action) → ⊥) → HasRoom c op → ⊥
+  run_full op new large none room = go (first_run is_free count c.table.regions) refl
+    where
+      size : ℕ
+      size = asked_words op.action
+
+      count : ℕ
+      count = run_count c.table.words_per_region size
+
+      placed : place_of c.table c.buffers op.mutator size ≡ in_run c.table c.buffers count (first_run is_free count c.table.regions)
+      placed = ap (λ (q : Bool). if q then small_place_of c.table c.buffers op.mutator size else run_place_of c.table c.buffers size)
+          (lt-leb (2 * size) c.table.words_per_region large)
+
+      go : (o : Option ℕ) → first_run is_free count c.table.regions ≡ o → ⊥
+      go None e = room.place (placed ∙ ap (in_run c.table c.buffers count) e)
+      go (Some k) e =
+          let at = placed ∙ ap (in_run c.table c.buffers count) e in
+          let (s, two) = after_few op.mutator op.action new _ at room.two in
+          let less = run_taken c.table k count s e in
+          none (record { two = omega (arith, less, two); run = none_some k _ e })
 
 -- ---- its step
 acted_two : (c d : CoreState) (op : Op) → IsSpared c op → HasActed op.mutator op.action c d → 2 ≤ free_count c.table

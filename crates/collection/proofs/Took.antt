@@ -24,7 +24,7 @@ use Rattle.step_core.specs.Answers.{Follows, IsFullStep}
 use Rattle.step_core.specs.Cycle.{Does}
 use Rattle.step_core.specs.Passages.{IsPassage, Passes, Runs}
 use Rattle.collection.specs.Space.{HasReached, IsCollected}
-use Rattle.collection.specs.Steps.{Collects, HoldsBack, IsCollectors, Makes, Sees, TakesOwn}
+use Rattle.collection.specs.Steps.{Collects, CollectsSome, HoldsBack, IsCollectors, Makes, Sees, TakesOwn}
 use Rattle.collection.proofs.Reached.{by_reached, none_cleared, then_cleared}
 
 -- ---- one step
@@ -154,6 +154,36 @@ module _ {W : Type 0} (sees : W → Event → W → Type 0) where
           let t = b.runs r.last r.stands in
           record { last = t.last; stands = t.stands; passage = passage_then s r.last t.last c d c' a.events b.events r.passage t.passage }
 
+  -- ---- at least one
+  pub one_some : (c c' : CoreState) (x x' : W) (e : Event) (k : CollectorStep) → e.step ≡ steps.Collector k → e.actor ≡ actors.Collector
+      → sees x e x' → ((s : State) → Stands s c → Passes s c e c') → (2 ≤ free_count c.table → 2 ≤ free_count c'.table)
+      → c'.config ≡ c.config → c'.next ≡ c.next → CollectsSome sees 1 c x c' x'
+  unfolding one
+  one_some c c' x x' e k is actor seen passes two config next = record {
+    collects = one c c' x x' e k is actor seen passes two config next;
+    some = omega arith;
+  }
+
+  pub some_more : (m n : ℕ) (c c' : CoreState) (x x' : W) → m ≤ n → CollectsSome sees m c x c' x' → CollectsSome sees n c x c' x'
+  unfolding more
+  some_more m n c c' x x' h a = record { collects = more m n c c' x x' h a.collects; some = a.some }
+
+  pub some_then : (m n o : ℕ) (c d c' : CoreState) (x y x' : W) → m + n ≤ o → CollectsSome sees m c x d y → Collects sees n d y c' x'
+      → CollectsSome sees o c x c' x'
+  unfolding chain
+  some_then m n o c d c' x y x' h a b = record {
+    collects = chain m n o c d c' x y x' h a.collects b;
+    some = (let e = length-append a.collects.events b.events in let f = a.some in omega (arith, e, f));
+  }
+
+  pub then_some : (m n o : ℕ) (c d c' : CoreState) (x y x' : W) → m + n ≤ o → Collects sees m c x d y → CollectsSome sees n d y c' x'
+      → CollectsSome sees o c x c' x'
+  unfolding chain
+  then_some m n o c d c' x y x' h a b = record {
+    collects = chain m n o c d c' x y x' h a b.collects;
+    some = (let e = length-append a.events b.collects.events in let f = b.some in omega (arith, e, f));
+  }
+
   -- the state after the steps, and what was reachable before them
   pub reached : (m : ℕ) (c c' : CoreState) (x x' : W) (s : State) → Collects sees m c x c' x' → Stands s c
       → (after : State) × Stands after c' × HasReached s.graph after.graph
@@ -190,11 +220,23 @@ unseen sees most c c' x x' a = record {
   next = a.next;
 }
 
+pub unseen_some : {W : Type 0} (sees : W → Event → W → Type 0) (most : ℕ) (c c' : CoreState) (x x' : W) → CollectsSome sees most c x c' x'
+    → CollectsSome {W = Unit {0}} (λ x e y. Unit {0}) most c nobody c' nobody
+unfolding unseen
+unseen_some sees most c c' x x' a = record { collects = unseen sees most c c' x x' a.collects; some = a.some }
+
 unseen_own : {W : Type 0} (sees : W → Event → W → Type 0) (op : Op) (reply : Reply) (c c' : CoreState) (x x' : W)
     → TakesOwn sees op reply c x c' x' ⊎ HoldsBack op reply c x c' x'
     → TakesOwn {W = Unit {0}} (λ x e y. Unit {0}) op reply c nobody c' nobody ⊎ HoldsBack {W = Unit {0}} op reply c nobody c' nobody
 unseen_own sees op reply c c' x x' (inl t) = inl (record { seen = tt; passes = t.passes })
-unseen_own sees op reply c c' x x' (inr h) = inr (record { reply_is = h.reply_is; creates = h.creates; core = h.core; watch = refl })
+unseen_own sees op reply c c' x x' (inr h) = inr (record {
+  reply_is = h.reply_is;
+  creates = h.creates;
+  core = h.core;
+  watch = refl;
+  leaves = h.leaves;
+  no_room = h.no_room;
+})
 
 pub unseen_made : {W : Type 0} (sees : W → Event → W → Type 0) (most : ℕ) (op : Op) (reply : Reply) (c c' : CoreState) (x x' : W)
     → Makes sees most op reply c x c' x' → Makes {W = Unit {0}} (λ x e y. Unit {0}) most op reply c nobody c' nobody

@@ -1,3 +1,5 @@
+pub mod Asked
+pub mod Numbers
 pub mod Rooms
 pub mod Space
 pub mod Steps

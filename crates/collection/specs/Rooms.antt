@@ -11,7 +11,7 @@ use Rattle.heap_steps.specs.declared.step.Op.{Op}
 use Rattle.graph_runs.specs.State.{State}
 use Rattle.step_core.specs.Stands.{CoreState, Stands}
 use Rattle.step_core.specs.Mutators.{core_after}
-use Rattle.collection.specs.Space.{IsCollected, IsPackedAt, LieBelowFree}
+use Rattle.collection.specs.Space.{IsCollected, IsPacked, IsPackedAt, LieBelowFree}
 use Rattle.collection.specs.Steps.{LeavesTwo, asked_words}
 
 -- the graph would create the object: it isn't larger than an object may be, and a name is left
@@ -30,6 +30,11 @@ pub record FitsOpen (c : CoreState) (m size : ℕ) : Type 0 where
   pub is : place_of c.table c.buffers m size ≡ Some place
   pub free : (object : Stored) → free_count (made_at place.table place.place object) ≡ free_count c.table
 
+-- wherever the object has a place, a region less is free once it is made there
+pub record TakesRegion (c : CoreState) (m size : ℕ) : Type 0 where
+  pub less : (p : Placement) (object : Stored) → place_of c.table c.buffers m size ≡ Some p
+      → free_count (made_at p.table p.place object) + 1 ≡ free_count c.table
+
 -- there is a run of free regions for the object, and two are free beside it
 pub record HasRun (c : CoreState) (size : ℕ) : Type 0 where
   pub two : run_count c.table.words_per_region size + 2 ≤ free_count c.table
@@ -47,11 +52,13 @@ pub record IsLast (c : CoreState) (op : Op) (c' : CoreState) : Type 0 where
 
 -- Why an object is refused as Full, of the graph as it was when it was asked for. A whole collection was just done. And if the heap has
 -- regions enough to leave two beside the object: for one of at most half a region only two are free, and what roots reach has more than
--- half of the words of all regions but three; for a larger one there is no run of free regions, or fewer than two are free beside it, and
--- in the third format each ordinary region is below each free one, so that objects which roots reach are all that parts free regions
+-- half of the words of all regions but three; for a larger one there is no run of free regions, or fewer than two are free beside it, what
+-- roots reach has more than half of the words of the regions in use, and in the third format each ordinary region is below each free one,
+-- so that objects which roots reach are all that parts free regions
 pub record IsFilled (g : Graph) (c : CoreState) (a : Action) (c' : CoreState) : Type 0 where
   pub collected : IsCollected g c'
   pub small : LeavesTwo c.config a → 2 * asked_words a ≤ c.config.words → 2 ≤ free_count c.table → IsPackedAt g c'
   pub large : LeavesTwo c.config a → c.config.words < 2 * asked_words a → HasRun c' (asked_words a) → ⊥
+  pub dense : LeavesTwo c.config a → c.config.words < 2 * asked_words a → 2 ≤ free_count c.table → IsPacked g c'
   pub side_by_side : IsThird c.config.format → LeavesTwo c.config a → c.config.words < 2 * asked_words a → 2 ≤ free_count c.table
       → LieBelowFree c'.table

@@ -3,11 +3,12 @@
 ghost use Rattle.std.specs.Prelude.{◌≡◌, ◌+◌, ◌*◌, ◌<◌, ◌≤◌, true, false, ℕ};
 ghost use Rattle.heap_steps.specs.Actors.{IsThird, IsOp};
 ghost use Rattle.heap_steps.specs.declared.step.Reply.TheVariants as replies;
+ghost use Rattle.heap_model.specs.Graph.{Graph};
 ghost use Rattle.regions.specs.Table.{free_count};
 ghost use Rattle.graph_runs.specs.State.{State};
 ghost use Rattle.graph_runs.specs.Run.{IsNew};
-ghost use Rattle.collection.specs.Space.{IsQuiet, LieBelowFree, ordinary_end};
-ghost use Rattle.collection.specs.Steps.{Collects, asked_words};
+ghost use Rattle.collection.specs.Space.{IsPacked, IsQuiet, LieBelowFree, ordinary_end};
+ghost use Rattle.collection.specs.Steps.{Collects, HasRoom, asked_words};
 ghost use Rattle.collection.specs.Rooms.{HasRun, IsSpared};
 
 use crate::numbers::Policy;
@@ -33,6 +34,7 @@ fn compact_once<W: Watch>(core: &mut Core, policy: &mut Policy, watch: &mut W) -
     requires third { IsThird core.old.config.format }
     ensures collects { Collects W.sees 1 core.old watch.old core.new watch.new }
     ensures quiet { (s : State) → IsQuiet s core.old → IsQuiet s core.new }
+    ensures packed { (g : Graph) → IsPacked g core.old → IsPacked g core.new }
     ensures lower { result ≡ true → ordinary_end core.new.table < ordinary_end core.old.table }
     ensures below { result ≡ false → (s : State) → IsQuiet s core.old → 2 ≤ free_count core.old.table → LieBelowFree core.new.table }
 {
@@ -57,7 +59,9 @@ pub(crate) fn compact_for<W: Watch>(
     requires within { size ≤ core.old.config.regions * core.old.config.words }
     ensures collects { Collects W.sees (core.old.config.regions + 1) core.old watch.old core.new watch.new }
     ensures quiet { (s : State) → IsQuiet s core.old → IsQuiet s core.new }
+    ensures packed { (g : Graph) → IsPacked g core.old → IsPacked g core.new }
     ensures spared { result ≡ true → IsSpared core.new op.now }
+    ensures full { result ≡ false → HasRoom core.new op.now → ⊥ }
     ensures none { result ≡ false → HasRun core.new size → ⊥ }
     ensures below { result ≡ false → (s : State) → IsQuiet s core.old → 2 ≤ free_count core.old.table → LieBelowFree core.new.table }
 {

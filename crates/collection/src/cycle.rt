@@ -1,9 +1,9 @@
 //! What is due at a look: steps that go on with a cycle of marking, or evacuate some regions. How many at most is proved, and what any
 //! steps of the collector do; which they are is the policy's choice.
 
-ghost use Rattle.std.specs.Prelude.{◌≡◌, ◌+◌, ◌<◌, true};
+ghost use Rattle.std.specs.Prelude.{◌≡◌, ◌⊎◌, ◌+◌, ◌<◌, ◌≤◌, true};
 ghost use Rattle.regions.specs.Table.{free_count};
-ghost use Rattle.collection.specs.Steps.{Collects};
+ghost use Rattle.collection.specs.Steps.{Collects, CollectsSome, IsDue};
 
 use crate::numbers::{Policy, moved};
 use crate::steps::{Watch, take};
@@ -13,7 +13,7 @@ use step_core::Core;
 
 /// Evacuates some new regions, of which most objects are dead by now.
 fn pause_young<W: Watch>(core: &mut Core, policy: &mut Policy, watch: &mut W)
-    ensures { Collects W.sees 1 core.old watch.old core.new watch.new }
+    ensures { CollectsSome W.sees 1 core.old watch.old core.new watch.new }
 {
     let config = core.config();
     let before = core.free_regions();
@@ -33,7 +33,7 @@ fn end_cycle<W: Watch>(core: &mut Core, policy: &mut Policy, watch: &mut W)
 
 /// Marks, and ends the cycle where nothing is grey, or few regions are free.
 fn mark_on<W: Watch>(core: &mut Core, policy: &mut Policy, watch: &mut W)
-    ensures { Collects W.sees 3 core.old watch.old core.new watch.new }
+    ensures { CollectsSome W.sees 3 core.old watch.old core.new watch.new }
 {
     let objects = policy.pace.min(policy.mark_objects);
     take(core, policy, CollectorStep::Mark(objects), watch);
@@ -93,7 +93,8 @@ fn evacuate<W: Watch>(core: &mut Core, policy: &mut Policy, watch: &mut W)
 
 /// Begins a cycle where few regions are free, or many words were asked for since the last one began.
 fn begin_cycle<W: Watch>(core: &mut Core, policy: &mut Policy, watch: &mut W)
-    ensures { Collects W.sees 3 core.old watch.old core.new watch.new }
+    ensures collects { Collects W.sees 3 core.old watch.old core.new watch.new }
+    ensures some { free_count core.old.table ≤ policy.old.begin_at → CollectsSome W.sees 3 core.old watch.old core.new watch.new }
 {
     let free = core.free_regions();
     if free > policy.begin_at && policy.asked < u64::from(policy.cycle_words) {
@@ -113,7 +114,8 @@ fn begin_cycle<W: Watch>(core: &mut Core, policy: &mut Policy, watch: &mut W)
 
 /// Goes on with a cycle, or begins one where it is due.
 fn mark_or_begin<W: Watch>(core: &mut Core, policy: &mut Policy, watch: &mut W)
-    ensures { Collects W.sees 3 core.old watch.old core.new watch.new }
+    ensures collects { Collects W.sees 3 core.old watch.old core.new watch.new }
+    ensures some { IsDue core.old policy.old.begin_at → CollectsSome W.sees 3 core.old watch.old core.new watch.new }
 {
     if core.marking() {
         mark_on(core, policy, watch);
@@ -124,7 +126,9 @@ fn mark_or_begin<W: Watch>(core: &mut Core, policy: &mut Policy, watch: &mut W)
 
 /// The same, and the evacuation after a cycle.
 fn cycle_on<W: Watch>(core: &mut Core, policy: &mut Policy, watch: &mut W)
-    ensures { Collects W.sees (core.old.config.regions + 4) core.old watch.old core.new watch.new }
+    ensures collects { Collects W.sees (core.old.config.regions + 4) core.old watch.old core.new watch.new }
+    ensures some { IsDue core.old policy.old.begin_at
+        → CollectsSome W.sees (core.old.config.regions + 4) core.old watch.old core.new watch.new }
 {
     mark_or_begin(core, policy, watch);
     evacuate(core, policy, watch);
@@ -132,7 +136,7 @@ fn cycle_on<W: Watch>(core: &mut Core, policy: &mut Policy, watch: &mut W)
 
 /// Evacuates some new regions, and goes on with a cycle.
 fn young_on<W: Watch>(core: &mut Core, policy: &mut Policy, watch: &mut W)
-    ensures { Collects W.sees 4 core.old watch.old core.new watch.new }
+    ensures { CollectsSome W.sees 4 core.old watch.old core.new watch.new }
 {
     pause_young(core, policy, watch);
     mark_or_begin(core, policy, watch);
@@ -140,7 +144,8 @@ fn young_on<W: Watch>(core: &mut Core, policy: &mut Policy, watch: &mut W)
 
 /// Refines what is queued beyond the cards that may be left, so that no more are left for a pause.
 fn refine_on<W: Watch>(core: &mut Core, policy: &mut Policy, watch: &mut W)
-    ensures { Collects W.sees 1 core.old watch.old core.new watch.new }
+    ensures collects { Collects W.sees 1 core.old watch.old core.new watch.new }
+    ensures some { CollectsSome W.sees 1 core.old watch.old core.new watch.new ⊎ (core.new ≡ core.old) × (policy.new ≡ policy.old) }
 {
     let queued = core.queued();
     let left = policy.cards_left;
@@ -149,14 +154,16 @@ fn refine_on<W: Watch>(core: &mut Core, policy: &mut Policy, watch: &mut W)
     }
 }
 
-/// Takes the steps that are due at a look, at most five and one for each region. Where new regions are evacuated, the evacuation after a
+/// Takes the steps that are due at a look, at most five and one for each region; at least one, if marking runs or few regions are free. Where new regions are evacuated, the evacuation after a
 /// cycle waits for the next look.
 ///
 /// ```rust
 /// collect_due(&mut core, &mut policy, &mut Unwatched);
 /// ```
 pub fn collect_due<W: Watch>(core: &mut Core, policy: &mut Policy, watch: &mut W)
-    ensures { Collects W.sees (core.old.config.regions + 5) core.old watch.old core.new watch.new }
+    ensures collects { Collects W.sees (core.old.config.regions + 5) core.old watch.old core.new watch.new }
+    ensures some { IsDue core.old policy.old.begin_at
+        → CollectsSome W.sees (core.old.config.regions + 5) core.old watch.old core.new watch.new }
 {
     refine_on(core, policy, watch);
     if policy.is_young_due(core.free_regions()) {

@@ -1,6 +1,7 @@
 //! An object that is asked for, with the steps of the collector that are due before it.
 
-ghost use Rattle.std.specs.Prelude.{◌≡◌, ◌⊎◌, ◌+◌, ◌*◌, ◌<◌, ◌≤◌, true, false, ℕ};
+ghost use Rattle.std.specs.Prelude.{◌≡◌, ◌⊎◌, ◌+◌, ◌-◌, ◌*◌, ◌<◌, ◌≤◌, true, false, ℕ, nat_le};
+ghost use Rattle.heap_model.specs.Graph.{Graph};
 ghost use Rattle.regions.specs.Table.{free_count};
 ghost use Rattle.graph_runs.specs.State.{State};
 ghost use Rattle.graph_runs.specs.Run.{IsNew};
@@ -9,8 +10,9 @@ ghost use Rattle.step_core.specs.Making.{HasMade};
 ghost use Rattle.heap_steps.specs.Actors.{IsOp, IsThird};
 ghost use Rattle.heap_steps.specs.declared.step.Reply.TheVariants as replies;
 ghost use Rattle.heap_steps.specs.declared.step.Refusal.TheVariants as refusals;
-ghost use Rattle.collection.specs.Steps.{Collects, LeavesTwo, Makes, asked_words};
-ghost use Rattle.collection.specs.Space.{IsQuiet, LieBelowFree};
+ghost use Rattle.collection.specs.Asked.{IsPaced, MakesObject, MakesRoom, due_steps};
+ghost use Rattle.collection.specs.Steps.{Collects, CollectsSome, HasRoom, IsDue, LeavesTwo, Makes, asked_words};
+ghost use Rattle.collection.specs.Space.{IsPacked, IsQuiet, LieBelowFree};
 ghost use Rattle.collection.specs.Rooms.{HasRun, IsCreatable, IsFilled, IsLast, IsSpared};
 
 use crate::compaction::compact_for;
@@ -24,7 +26,9 @@ use step_core::Core;
 
 /// Takes what is due, if a look is.
 fn look<W: Watch>(core: &mut Core, policy: &mut Policy, size: u32, due: bool, watch: &mut W)
-    ensures { Collects W.sees (core.old.config.regions + 5) core.old watch.old core.new watch.new }
+    ensures collects { Collects W.sees (due_steps core.old.config due) core.old watch.old core.new watch.new }
+    ensures some { due ≡ true → IsDue core.old policy.old.begin_at
+        → CollectsSome W.sees (core.old.config.regions + 5) core.old watch.old core.new watch.new }
 {
     if due {
         policy.look_on(&core.config(), u64::from(size));
@@ -48,8 +52,10 @@ fn compact_all<W: Watch>(
     requires within { size ≤ core.old.config.regions * core.old.config.words }
     ensures collects { Collects W.sees (core.old.config.regions + 1) core.old watch.old core.new watch.new }
     ensures quiet { (s : State) → IsQuiet s core.old → IsQuiet s core.new }
+    ensures packed { (g : Graph) → IsPacked g core.old → IsPacked g core.new }
     ensures room { result ≡ true → IsSpared core.new op.now ⊎ (LeavesTwo core.old.config op.now.action → ⊥) }
     ensures leaves { result ≡ false → LeavesTwo core.old.config op.now.action }
+    ensures full { result ≡ false → HasRoom core.new op.now → ⊥ }
     ensures none { result ≡ false → HasRun core.new size → ⊥ }
     ensures below { result ≡ false → (s : State) → IsQuiet s core.old → 2 ≤ free_count core.old.table → LieBelowFree core.new.table }
 {
@@ -77,6 +83,7 @@ fn collect_all<W: Watch>(
     ensures collects { Collects W.sees (5 + 2 * core.old.config.regions) core.old watch.old core.new watch.new }
     ensures room { result ≡ true → IsSpared core.new op.now ⊎ IsLast core.old op.now core.new }
     ensures leaves { result ≡ false → LeavesTwo core.old.config op.now.action }
+    ensures full { result ≡ false → HasRoom core.new op.now → ⊥ }
     ensures filled { result ≡ false → (s : State) → Stands s core.old → IsFilled s.graph core.old op.now.action core.new }
 {
     collect(core, policy, watch);
@@ -107,8 +114,10 @@ fn make_room<W: Watch>(
     requires size { size ≡ asked_words op.now.action }
     requires within { size ≤ core.old.config.regions * core.old.config.words }
     ensures collects { Collects W.sees (4 * core.old.config.regions + 12) core.old watch.old core.new watch.new }
+    ensures paced { MakesRoom W.sees due policy.old.begin_at op.now core.old watch.old core.new watch.new }
     ensures room { result ≡ true → IsSpared core.new op.now ⊎ IsLast core.old op.now core.new }
     ensures leaves { result ≡ false → LeavesTwo core.old.config op.now.action }
+    ensures full { result ≡ false → HasRoom core.new op.now → ⊥ }
     ensures filled { result ≡ false → (s : State) → Stands s core.old → IsFilled s.graph core.old op.now.action core.new }
 {
     look(core, policy, size, due, watch);
@@ -122,8 +131,8 @@ fn make_room<W: Watch>(
     collect_all(core, policy, op, size, watch)
 }
 
-/// Makes an object that the graph would create, where something has to be looked at before.
-fn make_creatable<W: Watch>(
+/// Makes an object that the graph would create, or refuses it as Full.
+fn make_or_refuse<W: Watch>(
     core: &mut Core,
     policy: &mut Policy,
     op: Op,
@@ -136,6 +145,7 @@ fn make_creatable<W: Watch>(
     requires size { size ≡ asked_words op.action }
     requires creatable { IsCreatable core.old op.action }
     ensures makes { Makes W.sees (4 * core.old.config.regions + 12) op result core.old watch.old core.new watch.new }
+    ensures paced { IsPaced W.sees due policy.old.begin_at op result core.old watch.old core.new watch.new }
     ensures full { result ≡ replies.Refused refusals.Full → (s : State) → Stands s core.old
         → IsFilled s.graph core.old op.action core.new }
     ensures two { LeavesTwo core.old.config op.action → 2 ≤ free_count core.old.table → 2 ≤ free_count core.new.table }
@@ -146,6 +156,27 @@ fn make_creatable<W: Watch>(
         return Reply::Refused(Refusal::Full);
     }
     take_own(core, op, watch)
+}
+
+/// The same. How many words may be asked for before the next look is set last, since no step changes that.
+fn make_creatable<W: Watch>(
+    core: &mut Core,
+    policy: &mut Policy,
+    op: Op,
+    size: u32,
+    due: bool,
+    watch: &mut W,
+) -> Reply
+    requires op { IsOp core.old.config op }
+    requires new { IsNew op.action }
+    requires size { size ≡ asked_words op.action }
+    requires creatable { IsCreatable core.old op.action }
+    ensures { MakesObject W.sees due policy.old.left policy.new.left policy.old.begin_at op result core.old watch.old core.new watch.new }
+{
+    let left = policy.left_after(&core.config(), due);
+    let reply = make_or_refuse(core, policy, op, size, due, watch);
+    policy.left = left;
+    reply
 }
 
 /// Makes an object where something has to be looked at before.
@@ -161,12 +192,7 @@ fn make_looking<W: Watch>(
     requires op { IsOp core.old.config op }
     requires new { IsNew op.action }
     requires size { size ≡ asked_words op.action }
-    ensures makes { Makes W.sees (4 * core.old.config.regions + 12) op result core.old watch.old core.new watch.new }
-    ensures full { result ≡ replies.Refused refusals.Full → (s : State) → Stands s core.old
-        → IsFilled s.graph core.old op.action core.new }
-    ensures two { LeavesTwo core.old.config op.action → 2 ≤ free_count core.old.table → 2 ≤ free_count core.new.table }
-    ensures made { HasMade op.mutator op.action result core.new }
-    ensures config { core.new.config ≡ core.old.config }
+    ensures { MakesObject W.sees due policy.old.left policy.new.left policy.old.begin_at op result core.old watch.old core.new watch.new }
 {
     core.remembers();
     core.shaped();
@@ -189,12 +215,7 @@ fn make_apart<W: Watch>(
     requires op { IsOp core.old.config op }
     requires new { IsNew op.action }
     requires size { size ≡ asked_words op.action }
-    ensures makes { Makes W.sees (4 * core.old.config.regions + 12) op result core.old watch.old core.new watch.new }
-    ensures full { result ≡ replies.Refused refusals.Full → (s : State) → Stands s core.old
-        → IsFilled s.graph core.old op.action core.new }
-    ensures two { LeavesTwo core.old.config op.action → 2 ≤ free_count core.old.table → 2 ≤ free_count core.new.table }
-    ensures made { HasMade op.mutator op.action result core.new }
-    ensures config { core.new.config ≡ core.old.config }
+    ensures { MakesObject W.sees due policy.old.left policy.new.left policy.old.begin_at op result core.old watch.old core.new watch.new }
 {
     make_looking(core, policy, op, size, due, watch)
 }
@@ -204,7 +225,8 @@ fn make_apart<W: Watch>(
 /// Full only where two regions are free, if two were so before, and what roots reach has more than half of the words of all but three;
 /// and a larger one where there is no run of free regions for it, or fewer than two are free beside it. In the third format compactions
 /// come before that, so that from the lowest free region on only objects which roots reach part the free ones. Two regions that were free
-/// stay free then.
+/// stay free then. While words are left to ask for no step of the collector comes, else those that are due; and more, up to a whole
+/// collection, only where there is no room for the object then.
 ///
 /// ```rust
 /// let op = Op { mutator: 0, action: Action::New { to: r0, counts } };
@@ -214,12 +236,8 @@ fn make_apart<W: Watch>(
 pub fn make<W: Watch>(core: &mut Core, policy: &mut Policy, op: Op, watch: &mut W) -> Reply
     requires op { IsOp core.old.config op }
     requires new { IsNew op.action }
-    ensures makes { Makes W.sees (4 * core.old.config.regions + 12) op result core.old watch.old core.new watch.new }
-    ensures full { result ≡ replies.Refused refusals.Full → (s : State) → Stands s core.old
-        → IsFilled s.graph core.old op.action core.new }
-    ensures two { LeavesTwo core.old.config op.action → 2 ≤ free_count core.old.table → 2 ≤ free_count core.new.table }
-    ensures made { HasMade op.mutator op.action result core.new }
-    ensures config { core.new.config ≡ core.old.config }
+    ensures { MakesObject W.sees (nat_le policy.old.left (asked_words op.action)) (policy.old.left - asked_words op.action) policy.new.left
+        policy.old.begin_at op result core.old watch.old core.new watch.new }
 {
     let size = words_of(&op.action);
     let due = !policy.spends(size);

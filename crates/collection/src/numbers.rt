@@ -3,7 +3,7 @@
 //! Nothing is promised of these numbers, and any will do: the theorem of `make` holds whatever they are. They decide how often the
 //! collector works, and how much at a time.
 
-ghost use Rattle.std.specs.Prelude.{◌≡◌, ◌<◌, true};
+ghost use Rattle.std.specs.Prelude.{◌≡◌, ◌-◌, ◌*◌, ◌/◌, ◌<◌, ◌≤◌, ◌^◌, true, false, min, nat_le, if◌then◌else◌};
 
 use heap_steps::{CollectorStep, Reply};
 use heap_words::config::Config;
@@ -78,19 +78,26 @@ fn regions_of(config: &Config, words: u32) -> u32 {
 
 /// Words: the budget of a pause, a 32nd of the heap, 65,536 at least and 262,144 at most, or four regions if that is more. Smaller pauses
 /// visit the same cards again and again.
-fn pause_budget(config: &Config) -> u32 {
+fn pause_budget(config: &Config) -> u32
+    ensures regions { min (config.now.words * 4) (2 ^ 32 - 1) ≤ result }
+    ensures words { 65536 ≤ result }
+{
     let all = u64::from(config.regions) * u64::from(config.words);
     let share = (all / 32).min(262144).max(65536) as u32;
     config.words.saturating_mul(4).max(share)
 }
 
 impl Policy {
+    ghost use Rattle.collection.specs.Numbers.{IsStarted};
+
     /// A policy for a new heap of these sizes.
     ///
     /// ```rust
     /// let mut policy = Policy::new(&config);
     /// ```
-    pub fn new(config: &Config) -> Policy {
+    pub fn new(config: &Config) -> Policy
+        ensures { IsStarted config.now result }
+    {
         let reserve = (config.regions / 24).max(3);
         let young_words = 131072;
         let span = regions_of(config, young_words).min((config.regions / 4).max(1));
@@ -164,7 +171,11 @@ impl Policy {
 
     /// Whether so many words may be asked for before the next look. They are asked for then.
     #[inline(always)]
-    pub(crate) fn spends(&mut self, size: u64) -> bool {
+    pub(crate) fn spends(&mut self, size: u64) -> bool
+        ensures due { nat_le self.old.left size ≡ (if result then false else true) }
+        ensures spent { result ≡ true → self.new.left ≡ self.old.left - size }
+        ensures begins { self.new.begin_at ≡ self.old.begin_at }
+    {
         let left = u64::from(self.left);
         if size < left {
             self.left = (left - size) as u32;
@@ -174,8 +185,17 @@ impl Policy {
         }
     }
 
+    /// How many words may be asked for before the next look, once an object is made: half a region where a look was due.
+    pub(crate) fn left_after(&self, config: &Config, due: bool) -> u32
+        ensures { result ≡ (if due then config.now.words / 2 else self.now.left) }
+    {
+        if due { config.words / 2 } else { self.left }
+    }
+
     /// The next look is due after half a region of words.
-    pub(crate) fn look_on(&mut self, config: &Config, size: u64) {
+    pub(crate) fn look_on(&mut self, config: &Config, size: u64)
+        ensures { self.new.begin_at ≡ self.old.begin_at }
+    {
         self.asked = self
             .asked
             .saturating_add(u64::from(self.look))
@@ -267,7 +287,9 @@ impl Policy {
     }
 
     /// Whether new regions are to be evacuated now, some at each look.
-    pub(crate) fn is_young_due(&mut self, free: u32) -> bool {
+    pub(crate) fn is_young_due(&mut self, free: u32) -> bool
+        ensures { result ≡ false → self.new ≡ self.old }
+    {
         if self.young != 0 {
             return true;
         }

@@ -5,8 +5,8 @@ ghost use Rattle.heap_steps.specs.Actors.{IsOp, IsThird};
 ghost use Rattle.regions.specs.Table.{free_count};
 ghost use Rattle.graph_runs.specs.Run.{IsNew};
 ghost use Rattle.alloc_buffers.specs.Placement.{run_count};
-ghost use Rattle.collection.specs.Steps.{LeavesTwo, asked_words};
-ghost use Rattle.collection.specs.Rooms.{FitsOpen, HasRun, IsCreatable, IsSpared, has_rest};
+ghost use Rattle.collection.specs.Steps.{HasRoom, LeavesTwo, asked_words};
+ghost use Rattle.collection.specs.Rooms.{FitsOpen, HasRun, IsCreatable, IsSpared, TakesRegion, has_rest};
 
 use heap_steps::{Action, Op};
 use heap_words::addr::RegionNo;
@@ -52,7 +52,8 @@ fn has_rest(core: &Core, words: u32) -> bool
 fn fits_open(core: &Core, mutator: u32, size: u32) -> bool
     requires known { mutator < core.now.config.mutators }
     requires small { 2 * size ≤ core.now.config.words }
-    ensures { IsTrue result ↔ FitsOpen core.now mutator size }
+    ensures fits { IsTrue result ↔ FitsOpen core.now mutator size }
+    ensures takes { result ≡ false → TakesRegion core.now mutator size }
 {
     core.remembers();
     if let Some(open) = core.buffers().open_buffer(mutator) {
@@ -100,6 +101,7 @@ pub(crate) fn is_spared(core: &Core, op: &Op, size: u32) -> bool
     requires size { size ≡ asked_words op.now.action }
     requires within { size ≤ core.now.config.regions * core.now.config.words }
     ensures spared { result ≡ true → IsSpared core.now op.now }
+    ensures full { result ≡ false → HasRoom core.now op.now → ⊥ }
     ensures small { result ≡ false → 2 * size ≤ core.now.config.words → free_count core.now.table ≤ 2 }
     ensures large { result ≡ false → core.now.config.words < 2 * size → HasRun core.now size → ⊥ }
 {

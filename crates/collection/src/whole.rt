@@ -41,8 +41,7 @@ fn pause_once<W: Watch>(core: &mut Core, policy: &mut Policy, watch: &mut W) -> 
     ensures collects { Collects W.sees 1 core.old watch.old core.new watch.new }
     ensures quiet { (s : State) → IsQuiet s core.old → IsQuiet s core.new }
     ensures more { result ≡ true → free_count core.old.table < free_count core.new.table }
-    ensures packed { result ≡ false → (s : State) → IsQuiet s core.old → 2 ≤ free_count core.old.table → free_count core.new.table ≤ 2
-        → IsPacked s.graph core.new }
+    ensures packed { result ≡ false → (s : State) → IsQuiet s core.old → 2 ≤ free_count core.old.table → IsPacked s.graph core.new }
     ensures within { free_count core.new.table ≤ core.new.config.regions }
 {
     let before = core.free_regions();
@@ -55,8 +54,7 @@ fn pause_once<W: Watch>(core: &mut Core, policy: &mut Policy, watch: &mut W) -> 
 pub(crate) fn pause_all<W: Watch>(core: &mut Core, policy: &mut Policy, watch: &mut W)
     ensures collects { Collects W.sees (core.old.config.regions - free_count core.old.table) core.old watch.old core.new watch.new }
     ensures quiet { (s : State) → IsQuiet s core.old → IsQuiet s core.new }
-    ensures packed { (s : State) → IsQuiet s core.old → 2 ≤ free_count core.old.table → free_count core.new.table ≤ 2
-        → IsPacked s.graph core.new }
+    ensures packed { (s : State) → IsQuiet s core.old → 2 ≤ free_count core.old.table → IsPacked s.graph core.new }
 {
     'pauses: loop {
         core.remembers();
@@ -84,8 +82,7 @@ pub(crate) fn pause_all<W: Watch>(core: &mut Core, policy: &mut Policy, watch: &
 pub fn collect<W: Watch>(core: &mut Core, policy: &mut Policy, watch: &mut W)
     ensures collects { Collects W.sees (4 + (core.old.config.regions - free_count core.old.table)) core.old watch.old core.new watch.new }
     ensures quiet { (s : State) → Stands s core.old → IsCollected s.graph core.new }
-    ensures packed { (s : State) → Stands s core.old → 2 ≤ free_count core.old.table → free_count core.new.table ≤ 2
-        → IsPacked s.graph core.new }
+    ensures packed { (s : State) → Stands s core.old → 2 ≤ free_count core.old.table → IsPacked s.graph core.new }
 {
     end_marking(core, policy, watch);
     mark_all(core, policy, watch);

@@ -1,5 +1,5 @@
 -- What a call of the policy does to a heap: nothing, where there is none, or a core.
-use Rattle.std.specs.Prelude.{◌≡◌, ◌+◌, ◌-◌, ◌*◌, ◌≤◌, ◌==◌, ℕ, Option, Some, None, if◌then◌else◌}
+use Rattle.std.specs.Prelude.{◌≡◌, ◌+◌, ◌-◌, ◌*◌, ◌≤◌, ◌==◌, ℕ, ⊤, Option, Some, None, if◌then◌else◌}
 use Rattle.regions.specs.Table.{free_count}
 use Rattle.heap_steps.specs.Actors.{IsOp}
 use Rattle.heap_steps.specs.declared.step.Action.TheVariants as actions
@@ -10,7 +10,7 @@ use Rattle.heap_steps.specs.declared.step.Refusal.TheVariants as refusals
 use Rattle.graph_runs.specs.State.{State}
 use Rattle.step_core.specs.Stands.{CoreState, Stands}
 use Rattle.collection.specs.Space.{IsCollected, IsPacked}
-use Rattle.collection.specs.Steps.{Collects, LeavesTwo, Makes}
+use Rattle.collection.specs.Steps.{Collects, CollectsSome, IsDue, LeavesTwo, Makes}
 use Rattle.collection.specs.Rooms.{IsFilled}
 use Rattle.heap_calls.specs.Numbers.{counts, no_heap, no_step, numbers, register, told}
 use Rattle.heap_calls.specs.Steps.{Stays}
@@ -30,6 +30,9 @@ nobody = tt
 -- steps that nobody is said to watch: of the collector, and for an object
 abbrev pub CollectsIn : ℕ → CoreState → CoreState → Type 0
 CollectsIn most c c' = Collects {W = Unit {0}} (λ x e y. Unit {0}) most c nobody c' nobody
+
+abbrev pub CollectsSomeIn : ℕ → CoreState → CoreState → Type 0
+CollectsSomeIn most c c' = CollectsSome {W = Unit {0}} (λ x e y. Unit {0}) most c nobody c' nobody
 
 abbrev pub MakesIn : ℕ → Op → Reply → CoreState → CoreState → Type 0
 MakesIn most op reply c c' = Makes {W = Unit {0}} (λ x e y. Unit {0}) most op reply c nobody c' nobody
@@ -64,14 +67,19 @@ abbrev pub CollectsDue : Option CoreState → Answer → Option CoreState → Ty
 CollectsDue None answer after = Stays None no_heap answer after
 CollectsDue (Some c) answer after = CollectsDueIn c answer after
 
--- a whole collection: what is kept is reachable then, and fills more than half of the ordinary regions, where no more than two are free
+-- if a step is due, by the number of free regions at which a cycle begins, at least one is taken
+abbrev pub TakesDue : Option CoreState → ℕ → Option CoreState → Type 0
+TakesDue None begin_at after = ⊤
+TakesDue (Some c) begin_at after = IsDue c begin_at → (core : CoreState) × (after ≡ Some core) × CollectsSomeIn (c.config.regions + 5) c core
+
+-- a whole collection: what is kept is reachable then, and fills more than half of the ordinary regions
 pub record CollectsAllIn (c : CoreState) (answer : Answer) (after : Option CoreState) : Type 0 where
   pub core : CoreState
   pub tells : answer ≡ told 0 0 0
   pub held : after ≡ Some core
   pub collects : CollectsIn (4 + (c.config.regions - free_count c.table)) c core
   pub collected : (s : State) → Stands s c → IsCollected s.graph core
-  pub packed : (s : State) → Stands s c → 2 ≤ free_count c.table → free_count core.table ≤ 2 → IsPacked s.graph core
+  pub packed : (s : State) → Stands s c → 2 ≤ free_count c.table → IsPacked s.graph core
 
 abbrev pub CollectsAll : Option CoreState → Answer → Option CoreState → Type 0
 CollectsAll None answer after = Stays None no_heap answer after

@@ -1,6 +1,7 @@
 //! The steps that a policy takes, noted for who records them.
 
-ghost use Rattle.std.specs.Prelude.{⊤};
+ghost use Rattle.std.specs.Prelude.{◌≡◌, slice_set};
+ghost use Rattle.g1heap_c.specs.Noted.{entry_of, step_code, step_number};
 
 use collection::Watch;
 use heap_calls::answer::{Answer, answer_of};
@@ -24,7 +25,10 @@ pub(crate) struct Notes<'a> {
 }
 
 /// Which step it is, and its number.
-fn numbers_of(step: Step) -> (u32, u32) {
+fn numbers_of(step: Step) -> (u32, u32)
+    ensures step { result.0 ≡ step_code step }
+    ensures number { result.1 ≡ step_number step }
+{
     match step {
         Step::Collector(CollectorStep::Begin) => (0, 0),
         Step::Collector(CollectorStep::Mark(objects)) => (1, objects),
@@ -38,7 +42,9 @@ fn numbers_of(step: Step) -> (u32, u32) {
 }
 
 /// Writes an entry, where there is room for it.
-fn note(entries: &mut [Entry], at: u32, event: &Event) {
+fn note(entries: &mut [Entry], at: u32, event: &Event)
+    ensures { entries.new ≡ slice_set entries.old at (entry_of event.now) }
+{
     let (step, number) = numbers_of(event.step);
     let at = at as usize;
     if at < entries.len() {
@@ -51,7 +57,9 @@ fn note(entries: &mut [Entry], at: u32, event: &Event) {
 }
 
 impl Watch for Notes<'_> {
-    ghost sees = { λ x e y. ⊤ };
+    ghost use Rattle.g1heap_c.specs.Noted.{IsNoted};
+
+    ghost sees = { λ x e y. IsNoted x e y };
 
     fn took(&mut self, event: &Event) {
         note(self.entries, self.count, event);

@@ -1,12 +1,15 @@
 //! Objects that are asked for, and collections, by the proved policy: the collector takes the steps that are due. Any numbers will do, the
 //! policy's too.
 
-ghost use Rattle.std.specs.Prelude.{◌≡◌, ◌↔◌, ◌<◌, ◌≤◌, Some, IsTrue};
+ghost use Rattle.std.specs.Prelude.{◌≡◌, ◌↔◌, ◌+◌, ◌<◌, ◌≤◌, Some, IsTrue};
 ghost use Rattle.heap_steps.specs.Actors.{IsOp};
 ghost use Rattle.graph_runs.specs.Run.{IsNew};
+ghost use Rattle.collection.specs.Numbers.{IsStarted};
+ghost use Rattle.collection.specs.Steps.{IsDue};
+ghost use Rattle.heap_calls.specs.Numbers.{config_of};
 ghost use Rattle.heap_calls.specs.Steps.{IsUpTo};
 ghost use Rattle.g1heap_c.specs.Calls.{CollectCall, IsCall, MakeCall, NoStepCall, CollectAllCall};
-ghost use Rattle.g1heap_c.specs.Policies.{Asks, AsksFor, CollectsAll, CollectsAllIn, CollectsDue, CollectsDueIn, asked};
+ghost use Rattle.g1heap_c.specs.Policies.{Asks, AsksFor, CollectsAll, CollectsAllIn, CollectsDue, CollectsDueIn, CollectsSomeIn, TakesDue, asked};
 
 use crate::noted::{Entry, Notes};
 use collection::{Policy, Unwatched, Watch, collect, collect_due, make};
@@ -75,7 +78,9 @@ fn ask<W: Watch>(heap: &mut Heap, policy: &mut Policy, op: Op, to: u32, watch: &
 
 /// A policy for a new heap of these sizes.
 #[unsafe(no_mangle)]
-pub extern "C" fn g1_policy_start(policy: &mut Policy, sizes: &Sizes) {
+pub extern "C" fn g1_policy_start(policy: &mut Policy, sizes: &Sizes)
+    ensures { IsStarted (config_of sizes.now) policy.new }
+{
     *policy = Policy::new(&config_of(sizes));
 }
 
@@ -107,7 +112,8 @@ pub extern "C" fn g1_make(
 }
 
 fn collect_in<W: Watch>(core: &mut Core, policy: &mut Policy, watch: &mut W) -> Answer
-    ensures { CollectsDueIn core.old result (Some core.new) }
+    ensures collects { CollectsDueIn core.old result (Some core.new) }
+    ensures due { IsDue core.old policy.old.begin_at → CollectsSomeIn (core.old.config.regions + 5) core.old core.new }
 {
     collect_due(core, policy, watch);
     done()
@@ -121,7 +127,8 @@ fn collect_all_in<W: Watch>(core: &mut Core, policy: &mut Policy, watch: &mut W)
 }
 
 fn collect_now<W: Watch>(heap: &mut Heap, policy: &mut Policy, watch: &mut W) -> Answer
-    ensures { CollectsDue heap.old.handle.core result heap.new.handle.core }
+    ensures collects { CollectsDue heap.old.handle.core result heap.new.handle.core }
+    ensures due { TakesDue heap.old.handle.core policy.old.begin_at heap.new.handle.core }
 {
     if !heap.live {
         return no_heap();
@@ -143,7 +150,8 @@ fn collect_all_now<W: Watch>(heap: &mut Heap, policy: &mut Policy, watch: &mut W
 /// Takes the steps of the collector that are due at a look.
 #[unsafe(no_mangle)]
 pub extern "C" fn g1_collect(heap: &mut Heap, policy: &mut Policy) -> Answer
-    ensures { IsCall heap.old.handle.core CollectCall result heap.new.handle.core }
+    ensures call { IsCall heap.old.handle.core CollectCall result heap.new.handle.core }
+    ensures due { TakesDue heap.old.handle.core policy.old.begin_at heap.new.handle.core }
 {
     collect_now(heap, policy, &mut Unwatched)
 }
@@ -196,7 +204,8 @@ pub extern "C" fn g1_collect_noted(
     entries: &mut [Entry],
     count: &mut u32,
 ) -> Answer
-    ensures { IsCall heap.old.handle.core CollectCall result heap.new.handle.core }
+    ensures call { IsCall heap.old.handle.core CollectCall result heap.new.handle.core }
+    ensures due { TakesDue heap.old.handle.core policy.old.begin_at heap.new.handle.core }
 {
     let mut notes = Notes { entries, count: 0 };
     let answer = collect_now(heap, policy, &mut notes);

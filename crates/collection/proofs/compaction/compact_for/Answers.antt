@@ -1,4 +1,4 @@
-use Rattle.std.proofs.Common.{◌-◌, ap, arith}
+use Rattle.std.proofs.Common.{◌-◌, arith}
 use Rattle.collection.specs.Space.{ordinary_end}
 use Rattle.collection.proofs.Lowered.{end_within}
 use Rattle.collection.proofs.Took.{chain}
@@ -14,6 +14,12 @@ returns-then-not-compact_once-clause-collects g c =
 
 pub returns-then-not-compact_once-clause-quiet : goal.returns-then-not-compact_once-clause-quiet
 returns-then-not-compact_once-clause-quiet g c s q = c.compact_once.ensures.quiet s (c.compactions.invariant.quiet s q)
+
+pub returns-then-not-compact_once-clause-packed : goal.returns-then-not-compact_once-clause-packed
+returns-then-not-compact_once-clause-packed g c graph q = c.compact_once.ensures.packed graph (c.compactions.invariant.packed graph q)
+
+pub returns-then-is_spared-clause-packed : goal.returns-then-is_spared-clause-packed
+returns-then-is_spared-clause-packed g c graph q = c.compact_once.ensures.packed graph (c.compactions.invariant.packed graph q)
 
 pub returns-then-is_spared-clause-collects : goal.returns-then-is_spared-clause-collects
 returns-then-is_spared-clause-collects g c =
@@ -36,4 +42,5 @@ compactions-preserved g c =
           (omega (arith, less, falls)) c.compactions.invariant.collects c.compact_once.ensures.collects;
       falls = omega (arith, less, falls);
       quiet = λ s q. c.compact_once.ensures.quiet s (c.compactions.invariant.quiet s q);
+      packed = λ graph q. c.compact_once.ensures.packed graph (c.compactions.invariant.packed graph q);
     }

@@ -1,6 +1,7 @@
 use Rattle.std.proofs.Common.{◌≤◌, ◌-◌}
+use Rattle.heap_model.specs.Graph.{Graph}
 use Rattle.graph_runs.specs.State.{State}
-use Rattle.collection.specs.Space.{IsQuiet, ordinary_end}
+use Rattle.collection.specs.Space.{IsPacked, IsQuiet, ordinary_end}
 use Rattle.collection.specs.Steps.{Collects}
 use Rattle.collection.proofs.compaction.compact_for.Given as goal
 
@@ -10,6 +11,7 @@ invariant-compactions g l = record {
       l.watch;
   falls : ordinary_end l.core.table ≤ ordinary_end l.initial.core.table;
   quiet : (s : State) → IsQuiet s l.initial.core → IsQuiet s l.core;
+  packed : (graph : Graph) → IsPacked graph l.initial.core → IsPacked graph l.core;
 }
 
 abbrev pub decreases-compactions : goal.decreases-compactions

@@ -55,6 +55,7 @@ returns-clause-filled g c e s stands = record {
   large = λ leaves large run. c.is_spared.ensures.large c.if-is_spared.false
       (let f = ap (λ (x : Config). x.words) c.collect.ensures.collects.config in let h = c.requires.size in omega (arith, f, h, large))
       (subst (λ (n : ℕ). HasRun c.collect.new.core n) (sym c.requires.size) run);
+  dense = λ leaves large two. c.collect.ensures.packed s stands two;
   side_by_side = λ third leaves large two. absurd (clash c.may_compact.result (c.may_compact.ensures.1 (can third large))
       c.if-may_compact.false);
 }
@@ -77,7 +78,7 @@ returns-clause-filled g c e s stands = record {
         let i = count_all c.collect.new.core.table in
         let j = c.remembers.ensures.core.layers.region_count in
         let w = c.collect.ensures.quiet s stands in
-        let p = c.collect.ensures.packed s stands two few in
+        let p = c.collect.ensures.packed s stands two in
         let l = ap (λ (x : Config). x.regions) c.collect.ensures.collects.config in
         let four = leaves_four c.args.core.now.config c.args.op.now.action small leaves in
         let counts : ordinary_count c.collect.new.core.table + run_count c.collect.new.core.table + 2 ≡ c.collect.new.core.config.regions =
@@ -144,5 +145,6 @@ returns-then-may_compact-clause-filled g c e s stands =
       small = λ leaves small. absurd (omega (arith, small, words, over, h));
       large = λ leaves large run. c.compact_all.ensures.none e
           (subst (λ (n : ℕ). HasRun c.compact_all.new.core n) (sym c.requires.size) run);
+      dense = λ leaves large two. c.compact_all.ensures.packed s.graph (c.collect.ensures.packed s stands two);
       side_by_side = λ third leaves large two. c.compact_all.ensures.below e w.after w.quiet (c.collect.ensures.collects.two two);
     }

@@ -1,36 +1,17 @@
-use Rattle.std.proofs.Common.{sym, subst}
+use Rattle.std.proofs.Common.{◌/◌, ◌∙◌, ap}
 use Rattle.heap_words.specs.declared.config.Config.{Config}
-use Rattle.heap_steps.specs.Actors.{IsOp}
-use Rattle.collection.proofs.Asked.{held_makes, own_makes, room_full, room_two}
+use Rattle.collection.proofs.Paced.{if_due, if_not_due}
 use Rattle.collection.proofs.making.make_creatable.Goals as goal
 
-pub returns-then-not-make_room-clause-makes : goal.returns-then-not-make_room-clause-makes
-returns-then-not-make_room-clause-makes g c =
-    held_makes g.W.Watch.sees _ c.args.op c.args.core.now c.make_room.new.core c.args.watch.now c.make_room.new.watch
-    c.make_room.ensures.collects c.requires.new c.requires.creatable
-
-pub returns-then-not-make_room-clause-full : goal.returns-then-not-make_room-clause-full
-returns-then-not-make_room-clause-full g c e s stands = c.make_room.ensures.filled c.if-not-make_room.true s stands
-
-pub returns-then-not-make_room-clause-two : goal.returns-then-not-make_room-clause-two
-returns-then-not-make_room-clause-two g c leaves two = c.make_room.ensures.collects.two two
-
-pub take_own-requires : goal.take_own-requires
-take_own-requires g c = subst (λ (x : Config). IsOp x c.args.op) (sym c.make_room.ensures.collects.config) c.requires.op
-
-pub returns-clause-makes : goal.returns-clause-makes
-returns-clause-makes g c =
-    own_makes g.W.Watch.sees _ c.args.op c.args.core.now c.make_room.new.core c.args.watch.now c.make_room.new.watch
-    c.make_room.ensures.collects c.take_own.result c.take_own.new.core c.take_own.new.watch c.take_own.ensures.own
-
-pub returns-clause-full : goal.returns-clause-full
-returns-clause-full g c e s stands =
-    room_full g.W.Watch.sees _ c.args.op c.args.core.now c.make_room.new.core c.args.watch.now c.make_room.new.watch
-    c.make_room.ensures.collects c.take_own.result c.take_own.new.core c.take_own.new.watch c.take_own.ensures.own
-    c.take_own.ensures.does (c.make_room.ensures.room c.if-not-make_room.false) e s stands
-
-pub returns-clause-two : goal.returns-clause-two
-returns-clause-two g c leaves two =
-    room_two g.W.Watch.sees _ c.args.op c.args.core.now c.make_room.new.core c.args.watch.now c.make_room.new.watch
-    c.make_room.ensures.collects c.take_own.result c.take_own.new.core c.take_own.new.watch c.take_own.ensures.own
-    c.take_own.ensures.does (c.make_room.ensures.room c.if-not-make_room.false) leaves two
+pub returns : goal.returns
+returns g c = record {
+  makes = c.make_or_refuse-reply.ensures.makes;
+  paced = λ h. c.make_or_refuse-reply.ensures.paced;
+  uncreated = λ n. absurd (n c.requires.creatable);
+  spent = λ e. c.left_after-left.ensures ∙ if_not_due c.args.due _ _ e;
+  renewed = λ e h. c.left_after-left.ensures ∙ if_due c.args.due _ _ e ∙ ap (λ (x : Config). x.words / 2) c.config.ensures.config;
+  full = c.make_or_refuse-reply.ensures.full;
+  two = c.make_or_refuse-reply.ensures.two;
+  made = c.make_or_refuse-reply.ensures.made;
+  config = c.make_or_refuse-reply.ensures.config;
+}

@@ -27,7 +27,7 @@ returns-clause-quiet g c s stands =
     record { after = w.after; quiet = c.pause_all.ensures.quiet w.after w.quiet; reached = w.reached }))
 
 pub returns-clause-packed : goal.returns-clause-packed
-returns-clause-packed g c s stands two few =
+returns-clause-packed g c s stands two =
     let (mid, there, before) = reached g.W.Watch.sees 1 c.args.core.now c.end_marking.new.core c.args.watch.now c.end_marking.new.watch s
     c.end_marking.ensures.collects stands in
     let w = c.mark_all.ensures.quiet mid there in
@@ -35,4 +35,4 @@ returns-clause-packed g c s stands two few =
     let q = c.mark_all.ensures.free in
     packed_before s.graph mid.graph c.pause_all.new.core before
     (packed_before mid.graph w.after.graph c.pause_all.new.core w.reached
-    (c.pause_all.ensures.packed w.after w.quiet (omega (arith, p, q, two)) few))
+    (c.pause_all.ensures.packed w.after w.quiet (omega (arith, p, q, two))))

@@ -2,7 +2,7 @@ use Rattle.std.proofs.Common.{◌-◌, ap, arith}
 use Rattle.heap_words.specs.declared.config.Config.{Config}
 use Rattle.std.proofs.lemmas.List.Sums.{count_by-le-length}
 use Rattle.regions.specs.Table.{free_count, is_free}
-use Rattle.collection.proofs.Packed.{all_free}
+use Rattle.collection.proofs.Packed.{all_free, dense_packed}
 use Rattle.collection.proofs.Took.{chain, more}
 use Rattle.collection.proofs.whole.pause_all.Goals as goal
 
@@ -17,7 +17,7 @@ returns-then-free_regions-config-clause-collects g c =
 
 pub returns-then-free_regions-config-clause-packed :
     goal.returns-then-free_regions-config-clause-packed
-returns-then-free_regions-config-clause-packed g c s q two few =
+returns-then-free_regions-config-clause-packed g c s q two =
     all_free s.graph c.pauses.core c.remembers.ensures.core
     (let a = c.if-free_regions-config.true in
     let b = c.free_regions.ensures in
@@ -48,5 +48,5 @@ pauses-preserved g c =
     }
 
 pub returns-then-is_packed-clause-packed : goal.returns-then-is_packed-clause-packed
-returns-then-is_packed-clause-packed g c s q two few =
+returns-then-is_packed-clause-packed g c s q two =
     dense_packed s c.pauses.core c.remembers.ensures.core c.shaped.ensures (c.pauses.invariant.quiet s q) (c.is_packed.ensures c.if-is_packed.true)

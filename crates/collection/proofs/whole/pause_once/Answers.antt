@@ -15,13 +15,13 @@ returns-clause-quiet g c s q =
     (paused_stands 4294967295 c.take.result s c.take.new.core (c.take.ensures.follows s q.stands)) q
 
 pub returns-clause-packed : goal.returns-clause-packed
-returns-clause-packed g c e s q two few =
+returns-clause-packed g c e s q two =
     let (n, w, p) = has_paused 4294967295 c.take.result c.args.core.now c.take.new.core c.take.ensures.does in
     let a = ltb-false c.free_regions-before.result c.free_regions.result e in
     let b = c.free_regions-before.ensures in
     let d = c.free_regions.ensures in
     packed 4294967295 n w c.args.core.now c.take.new.core c.take.ensures.before c.take.ensures.shaped_before c.take.ensures.shaped p s q two
-    (omega (arith, a, b, d)) few (half_small c.args.core.now.table 4294967295 c.take.ensures.shaped_before (omega arith))
+    (omega (arith, a, b, d)) (half_small c.args.core.now.table 4294967295 c.take.ensures.shaped_before (omega arith))
 
 pub returns-clause-within : goal.returns-clause-within
 returns-clause-within g c =
