@@ -179,7 +179,8 @@ module _ (which : Choice) (budget n w : ℕ) (c c' : CoreState) (shape : IsShape
       let (i, row, at, same) = found p.evacuates.chosen k e in
       let (lt, is) = get_is p.evacuates.chosen i row at in
       let r = chosen_rows c.table c.marker.tams c.marker.bitmaps.previous c.marker.running budget p.evacuates.chosen
-      (set_moves which c.table c.marker.tams c.marker.bitmaps.previous c.marker.running budget p.evacuates.chosen p.evacuates.choice) i row lt in
+      (set_moves which c.table c.marker.tams c.marker.bitmaps.previous c.marker.running budget p.evacuates.chosen p.evacuates.choice)
+      i row lt in
       subst (λ (j : ℕ). kind_of c.table j ≡ kinds.Ordinary) (ap (λ (x : LiveRow). x.region) is ∙ same) r.ordinary
 
   run_each : (k : ℕ) → run_one (kind_of c'.table k) ≡ run_one (kind_of c.table k)
@@ -188,7 +189,8 @@ module _ (which : Choice) (budget n w : ℕ) (c c' : CoreState) (shape : IsShape
     | inr out ↦ by_kind k out (kind_of c.table k) refl
   ]
     where
-      by_kind : (k : ℕ) → is_chosen p.evacuates.chosen k ≡ false → (o : Kind) → kind_of c.table k ≡ o → run_one (kind_of c'.table k) ≡ run_one (kind_of c.table k)
+      by_kind : (k : ℕ) → is_chosen p.evacuates.chosen k ≡ false → (o : Kind) → kind_of c.table k ≡ o
+          → run_one (kind_of c'.table k) ≡ run_one (kind_of c.table k)
       by_kind k out kinds.Free e = elim (moved_regions.was_free k e) [
         | inl f ↦ ap run_one f ∙ sym (ap run_one e)
         | inr o ↦ ap run_one o ∙ sym (ap run_one e)

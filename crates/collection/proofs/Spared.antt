@@ -115,7 +115,8 @@ module _ (c : CoreState) where
   after_few m (actions.Scope a) new x e two = absurd new
 
   -- it takes one of two free regions
-  pub small_full : (op : Op) → IsNew op.action → free_count c.table ≤ 2 → TakesRegion c op.mutator (asked_words op.action) → HasRoom c op → ⊥
+  pub small_full : (op : Op) → IsNew op.action → free_count c.table ≤ 2 → TakesRegion c op.mutator (asked_words op.action)
+      → HasRoom c op → ⊥
   small_full op new few takes room =
       let (x, e) = some_of (place_of c.table c.buffers op.mutator (asked_words op.action)) room.place in
       let (s, two) = after_few op.mutator op.action new x e room.two in

@@ -30,8 +30,8 @@ pub record MakesRoom {W : Type 0} (sees : W → Event → W → Type 0) (due : B
   pub more : Collects sees rest looked seen c' x'
 
 -- The same, and then the mutator's own step, or none
-pub record IsPaced {W : Type 0} (sees : W → Event → W → Type 0) (due : Bool) (begin_at : ℕ) (op : Op) (reply : Reply) (c : CoreState) (x : W)
-    (c' : CoreState) (x' : W) : Type 0 where
+pub record IsPaced {W : Type 0} (sees : W → Event → W → Type 0) (due : Bool) (begin_at : ℕ) (op : Op) (reply : Reply)
+    (c : CoreState) (x : W) (c' : CoreState) (x' : W) : Type 0 where
   pub core : CoreState
   pub watch : W
   pub room : MakesRoom sees due begin_at op c x core watch

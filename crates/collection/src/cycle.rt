@@ -154,8 +154,8 @@ fn refine_on<W: Watch>(core: &mut Core, policy: &mut Policy, watch: &mut W)
     }
 }
 
-/// Takes the steps that are due at a look, at most five and one for each region; at least one, if marking runs or few regions are free. Where new regions are evacuated, the evacuation after a
-/// cycle waits for the next look.
+/// Takes the steps that are due at a look, at most five and one for each region; at least one, if marking runs or few regions are free.
+/// Where new regions are evacuated, the evacuation after a cycle waits for the next look.
 ///
 /// ```rust
 /// collect_due(&mut core, &mut policy, &mut Unwatched);

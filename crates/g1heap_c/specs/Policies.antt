@@ -70,7 +70,8 @@ CollectsDue (Some c) answer after = CollectsDueIn c answer after
 -- if a step is due, by the number of free regions at which a cycle begins, at least one is taken
 abbrev pub TakesDue : Option CoreState → ℕ → Option CoreState → Type 0
 TakesDue None begin_at after = ⊤
-TakesDue (Some c) begin_at after = IsDue c begin_at → (core : CoreState) × (after ≡ Some core) × CollectsSomeIn (c.config.regions + 5) c core
+TakesDue (Some c) begin_at after =
+    IsDue c begin_at → (core : CoreState) × (after ≡ Some core) × CollectsSomeIn (c.config.regions + 5) c core
 
 -- a whole collection: what is kept is reachable then, and fills more than half of the ordinary regions
 pub record CollectsAllIn (c : CoreState) (answer : Answer) (after : Option CoreState) : Type 0 where

@@ -9,7 +9,8 @@ ghost use Rattle.collection.specs.Steps.{IsDue};
 ghost use Rattle.heap_calls.specs.Numbers.{config_of};
 ghost use Rattle.heap_calls.specs.Steps.{IsUpTo};
 ghost use Rattle.g1heap_c.specs.Calls.{CollectCall, IsCall, MakeCall, NoStepCall, CollectAllCall};
-ghost use Rattle.g1heap_c.specs.Policies.{Asks, AsksFor, CollectsAll, CollectsAllIn, CollectsDue, CollectsDueIn, CollectsSomeIn, TakesDue, asked};
+ghost use Rattle.g1heap_c.specs.Policies.{Asks, AsksFor, CollectsAll, CollectsAllIn, CollectsDue, CollectsDueIn, CollectsSomeIn};
+ghost use Rattle.g1heap_c.specs.Policies.{TakesDue, asked};
 
 use crate::noted::{Entry, Notes};
 use collection::{Policy, Unwatched, Watch, collect, collect_due, make};

@@ -20,7 +20,8 @@ returns-clause-packed g c graph packed =
     let (n, w, is, p) = has_compacted b c.take-reply.result c.args.core.now c.take-reply.new.core c.take-reply.ensures.does in
     let size = c.take-reply.ensures.before.layers.region_size in
     let words = ap (λ (x : Config). x.words) c.config-words.ensures.config in
-    compacted_packed b n w c.args.core.now c.take-reply.new.core c.take-reply.ensures.shaped_before p (omega (arith, size, words)) graph packed
+    compacted_packed b n w c.args.core.now c.take-reply.new.core c.take-reply.ensures.shaped_before p (omega (arith, size, words))
+    graph packed
 
 pub returns-clause-lower : goal.returns-clause-lower
 returns-clause-lower g c e =

@@ -31,7 +31,8 @@ returns-then-has_spare g c = record {
   renewed = λ e h. absurd (clash (nat_le c.args.policy.now.left (asked_words c.args.op.action)) e is_left);
   full = λ e s stands. spared_full g.W.Watch.sees 0 c.args.op c.args.core.now c.args.core.now c.args.watch.now c.args.watch.now
       (none g.W.Watch.sees c.args.core.now c.args.watch.now)
-      c.take_own.result c.take_own.new.core c.take_own.new.watch c.take_own.ensures.own (c.has_spare.ensures c.if-has_spare.true) e s stands;
+      c.take_own.result c.take_own.new.core c.take_own.new.watch c.take_own.ensures.own (c.has_spare.ensures c.if-has_spare.true)
+      e s stands;
   two = λ leaves two. spared_two c.take_own.result c.args.core.now c.take_own.new.core c.args.op
       (c.has_spare.ensures c.if-has_spare.true) c.take_own.ensures.does two;
   made = c.take_own.ensures.made;

@@ -36,7 +36,8 @@ returns-then-is_spared-2-clause-collects g c =
     chain g.W.Watch.sees (c.args.core.now.config.regions + 5)
     (2 + c.look.new.core.config.regions) _ c.args.core.now c.look.new.core c.finish_cycle.new.core
     c.args.watch.now c.look.new.watch c.finish_cycle.new.watch (omega (arith, e))
-    (look_most g.W.Watch.sees c.args.due c.args.core.now c.look.new.core c.args.watch.now c.look.new.watch c.look.ensures.collects) c.finish_cycle.ensures
+    (look_most g.W.Watch.sees c.args.due c.args.core.now c.look.new.core c.args.watch.now c.look.new.watch c.look.ensures.collects)
+    c.finish_cycle.ensures
 
 pub returns-then-is_spared-2-clause-room : goal.returns-then-is_spared-2-clause-room
 returns-then-is_spared-2-clause-room g c e = inl (c.is_spared-2.ensures.spared c.if-is_spared-2.true)
@@ -60,7 +61,8 @@ returns-clause-collects g c =
     (chain g.W.Watch.sees (c.args.core.now.config.regions + 5) (2 + c.look.new.core.config.regions) (7 + 2 * c.args.core.now.config.regions)
     c.args.core.now c.look.new.core c.finish_cycle.new.core
     c.args.watch.now c.look.new.watch c.finish_cycle.new.watch (omega (arith, e))
-    (look_most g.W.Watch.sees c.args.due c.args.core.now c.look.new.core c.args.watch.now c.look.new.watch c.look.ensures.collects) c.finish_cycle.ensures)
+    (look_most g.W.Watch.sees c.args.due c.args.core.now c.look.new.core c.args.watch.now c.look.new.watch c.look.ensures.collects)
+    c.finish_cycle.ensures)
     c.collect_all.ensures.collects
 
 pub returns-clause-room : goal.returns-clause-room
@@ -71,7 +73,8 @@ returns-clause-room g c e =
     (chain g.W.Watch.sees (c.args.core.now.config.regions + 5) (2 + c.look.new.core.config.regions) (7 + 2 * c.args.core.now.config.regions)
     c.args.core.now c.look.new.core c.finish_cycle.new.core
     c.args.watch.now c.look.new.watch c.finish_cycle.new.watch (omega (arith, f))
-    (look_most g.W.Watch.sees c.args.due c.args.core.now c.look.new.core c.args.watch.now c.look.new.watch c.look.ensures.collects) c.finish_cycle.ensures)
+    (look_most g.W.Watch.sees c.args.due c.args.core.now c.look.new.core c.args.watch.now c.look.new.watch c.look.ensures.collects)
+    c.finish_cycle.ensures)
     c.args.op.now c.collect_all.new.core (c.collect_all.ensures.room e)
 
 pub returns-clause-leaves : goal.returns-clause-leaves
@@ -82,7 +85,8 @@ returns-clause-leaves g c e =
     (chain g.W.Watch.sees (c.args.core.now.config.regions + 5) (2 + c.look.new.core.config.regions) (7 + 2 * c.args.core.now.config.regions)
     c.args.core.now c.look.new.core c.finish_cycle.new.core
     c.args.watch.now c.look.new.watch c.finish_cycle.new.watch (omega (arith, f))
-    (look_most g.W.Watch.sees c.args.due c.args.core.now c.look.new.core c.args.watch.now c.look.new.watch c.look.ensures.collects) c.finish_cycle.ensures)
+    (look_most g.W.Watch.sees c.args.due c.args.core.now c.look.new.core c.args.watch.now c.look.new.watch c.look.ensures.collects)
+    c.finish_cycle.ensures)
     c.args.op.now.action (c.collect_all.ensures.leaves e)
 
 pub returns-clause-filled : goal.returns-clause-filled
@@ -93,7 +97,8 @@ returns-clause-filled g c e s stands =
     (chain g.W.Watch.sees (c.args.core.now.config.regions + 5) (2 + c.look.new.core.config.regions) (7 + 2 * c.args.core.now.config.regions)
     c.args.core.now c.look.new.core c.finish_cycle.new.core
     c.args.watch.now c.look.new.watch c.finish_cycle.new.watch (omega (arith, f))
-    (look_most g.W.Watch.sees c.args.due c.args.core.now c.look.new.core c.args.watch.now c.look.new.watch c.look.ensures.collects) c.finish_cycle.ensures)
+    (look_most g.W.Watch.sees c.args.due c.args.core.now c.look.new.core c.args.watch.now c.look.new.watch c.look.ensures.collects)
+    c.finish_cycle.ensures)
     c.args.op.now.action c.collect_all.new.core s stands (c.collect_all.ensures.filled e)
 
 -- ---- what was due, and more only where there was no room

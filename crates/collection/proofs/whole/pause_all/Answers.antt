@@ -49,4 +49,5 @@ pauses-preserved g c =
 
 pub returns-then-is_packed-clause-packed : goal.returns-then-is_packed-clause-packed
 returns-then-is_packed-clause-packed g c s q two =
-    dense_packed s c.pauses.core c.remembers.ensures.core c.shaped.ensures (c.pauses.invariant.quiet s q) (c.is_packed.ensures c.if-is_packed.true)
+    dense_packed s c.pauses.core c.remembers.ensures.core c.shaped.ensures (c.pauses.invariant.quiet s q)
+    (c.is_packed.ensures c.if-is_packed.true)

@@ -7,9 +7,11 @@ returns-clause-collects g c = record {
   core = c.collect_due.new.core;
   tells = c.done.ensures;
   held = refl;
-  collects = unseen g.W.Watch.sees _ c.args.core.now c.collect_due.new.core c.args.watch.now c.collect_due.new.watch c.collect_due.ensures.collects;
+  collects = unseen g.W.Watch.sees _ c.args.core.now c.collect_due.new.core c.args.watch.now c.collect_due.new.watch
+      c.collect_due.ensures.collects;
 }
 
 pub returns-clause-due : goal.returns-clause-due
 returns-clause-due g c due =
-    unseen_some g.W.Watch.sees _ c.args.core.now c.collect_due.new.core c.args.watch.now c.collect_due.new.watch (c.collect_due.ensures.some due)
+    unseen_some g.W.Watch.sees _ c.args.core.now c.collect_due.new.core c.args.watch.now c.collect_due.new.watch
+    (c.collect_due.ensures.some due)
