@@ -1,5 +1,5 @@
 -- The code of each answer of a run is one that calls on a heap have.
-use Rattle.std.proofs.Common.{◌≡◌, ◌≤◌, ◌-◌, ℕ, List, [], ◌∷◌, Some, None, inl, inr, sym, subst, arith}
+use Rattle.std.proofs.Common.{◌≡◌, ◌≤◌, ◌-◌, ℕ, List, [], ◌∷◌, Some, None, inl, inr, refl, sym, subst, arith}
 use Rattle.std.specs.Prelude.{All}
 use Rattle.std.proofs.lemmas.List.Elements.{All-cons, All-nil}
 use Rattle.heap_steps.specs.declared.step.CollectorStep.TheVariants as collector
@@ -19,45 +19,48 @@ use Rattle.g1heap_c.specs.Calls.{Call, Called, IsAnswerTo, Question, telling}
 use Rattle.g1heap_c.specs.Calls.{NewCall, StepCall, NewFilledCall, MakeCall, MakeFilledCall, CollectCall, CollectAllCall, ReadWordsCall}
 use Rattle.g1heap_c.specs.Calls.{WriteWordsCall, AskCall, NoStepCall, FreeCall}
 use Rattle.g1heap_c.specs.Calls.{FreeRegions, FreeRun, UsedWords, LiveWords, Marking, Grey, Queued, Globals, Registers, Name}
-use Rattle.g1heap_c.specs.Runs.{AreRun, CallsRun, HasCode, HasEvents}
+use Rattle.g1heap_c.specs.Runs.{AreRun, CallsRun, HasCode, HasEvents, IsCode}
 use Rattle.g1heap_c.proofs.Named.{is_register}
 
-abbrev IsCode : Answer → Type 0
-IsCode y = y.code ≤ 34
+none : IsCode 32
+none = inr (inr (inl refl))
 
-of_refused : (why : Refusal) → IsCode (refused why)
-of_refused refusals.Nil = omega arith
-of_refused refusals.NoField = omega arith
-of_refused refusals.Full = omega arith
-of_refused refusals.TooBig = omega arith
-of_refused refusals.NamesSpent = omega arith
-of_refused refusals.MarkRunning = omega arith
-of_refused refusals.NotMarking = omega arith
+live : IsCode 34
+live = inr (inr (inr refl))
 
-of_numbers : (r : Reply) → IsCode (numbers r)
-of_numbers replies.Done = omega arith
-of_numbers (replies.Named None) = omega arith
-of_numbers (replies.Named (Some name)) = omega arith
-of_numbers (replies.Word value) = omega arith
-of_numbers (replies.Shape pointers values) = omega arith
-of_numbers (replies.Marked count) = omega arith
-of_numbers (replies.Reclaimed count) = omega arith
-of_numbers (replies.Refined count) = omega arith
-of_numbers (replies.Moved regions words) = omega arith
+of_refused : (why : Refusal) → IsCode (refused why).code
+of_refused refusals.Nil = inr (inl (omega arith, omega arith))
+of_refused refusals.NoField = inr (inl (omega arith, omega arith))
+of_refused refusals.Full = inr (inl (omega arith, omega arith))
+of_refused refusals.TooBig = inr (inl (omega arith, omega arith))
+of_refused refusals.NamesSpent = inr (inl (omega arith, omega arith))
+of_refused refusals.MarkRunning = inr (inl (omega arith, omega arith))
+of_refused refusals.NotMarking = inr (inl (omega arith, omega arith))
+
+of_numbers : (r : Reply) → IsCode (numbers r).code
+of_numbers replies.Done = inl (omega arith)
+of_numbers (replies.Named None) = inl (omega arith)
+of_numbers (replies.Named (Some name)) = inl (omega arith)
+of_numbers (replies.Word value) = inl (omega arith)
+of_numbers (replies.Shape pointers values) = inl (omega arith)
+of_numbers (replies.Marked count) = inl (omega arith)
+of_numbers (replies.Reclaimed count) = inl (omega arith)
+of_numbers (replies.Refined count) = inl (omega arith)
+of_numbers (replies.Moved regions words) = inl (omega arith)
 of_numbers (replies.Refused why) = of_refused why
 
-of_counted : (n : ℕ) (r : Reply) → IsCode (counted n r)
-of_counted n replies.Done = omega arith
+of_counted : (n : ℕ) (r : Reply) → IsCode (counted n r).code
+of_counted n replies.Done = inl (omega arith)
 of_counted n (replies.Named name) = of_numbers (replies.Named name)
-of_counted n (replies.Word value) = omega arith
-of_counted n (replies.Shape pointers values) = omega arith
-of_counted n (replies.Marked count) = omega arith
-of_counted n (replies.Reclaimed count) = omega arith
-of_counted n (replies.Refined count) = omega arith
-of_counted n (replies.Moved regions words) = omega arith
+of_counted n (replies.Word value) = inl (omega arith)
+of_counted n (replies.Shape pointers values) = inl (omega arith)
+of_counted n (replies.Marked count) = inl (omega arith)
+of_counted n (replies.Reclaimed count) = inl (omega arith)
+of_counted n (replies.Refined count) = inl (omega arith)
+of_counted n (replies.Moved regions words) = inl (omega arith)
 of_counted n (replies.Refused why) = of_refused why
 
-of_telling : (step : Step) (c d : CoreState) (r : Reply) → IsCode (telling step c d r)
+of_telling : (step : Step) (c d : CoreState) (r : Reply) → IsCode (telling step c d r).code
 of_telling (steps.Mutator o) c d r = of_numbers r
 of_telling (steps.Collector collector.Begin) c d r = of_numbers r
 of_telling (steps.Collector (collector.Mark k)) c d r = of_counted (d.marker.scans.since - c.marker.scans.since) r
@@ -68,46 +71,46 @@ of_telling (steps.Collector (collector.Pause k)) c d r = of_numbers r
 of_telling (steps.Collector (collector.Compact k)) c d r = of_numbers r
 
 -- an answer that equals another one has its code
-alike : (y z : Answer) → y ≡ z → IsCode z → IsCode y
-alike y z e h = subst IsCode (sym e) h
+alike : (y z : Answer) → y ≡ z → IsCode z.code → IsCode y.code
+alike y z e h = subst (λ (x : Answer). IsCode x.code) (sym e) h
 
-of_question : (q : Question) (c : CoreState) (y : Answer) → IsAnswerTo q c y → IsCode y
-of_question FreeRegions c y h = alike y _ h (omega arith)
-of_question FreeRun c y h = alike y _ h.is (omega arith)
-of_question UsedWords c y h = alike y _ h (omega arith)
-of_question LiveWords c y h = alike y _ h (omega arith)
-of_question Marking c y (inl h) = alike y _ h.0 (omega arith)
-of_question Marking c y (inr h) = alike y _ h.0 (omega arith)
-of_question Grey c y (inl h) = alike y _ h.0 (omega arith)
-of_question Grey c y (inr h) = alike y _ h.0 (omega arith)
-of_question Queued c y h = alike y _ h (omega arith)
-of_question Globals c y h = alike y _ h (omega arith)
-of_question Registers c y h = alike y _ h (omega arith)
+of_question : (q : Question) (c : CoreState) (y : Answer) → IsAnswerTo q c y → IsCode y.code
+of_question FreeRegions c y h = alike y _ h (inl (omega arith))
+of_question FreeRun c y h = alike y _ h.is (inl (omega arith))
+of_question UsedWords c y h = alike y _ h (inl (omega arith))
+of_question LiveWords c y h = alike y _ h (inl (omega arith))
+of_question Marking c y (inl h) = alike y _ h.0 (inl (omega arith))
+of_question Marking c y (inr h) = alike y _ h.0 (inl (omega arith))
+of_question Grey c y (inl h) = alike y _ h.0 (inl (omega arith))
+of_question Grey c y (inr h) = alike y _ h.0 (inl (omega arith))
+of_question Queued c y h = alike y _ h (inl (omega arith))
+of_question Globals c y h = alike y _ h (inl (omega arith))
+of_question Registers c y h = alike y _ h (inl (omega arith))
 of_question (Name m r) c y h = elim (is_register c m r) [
   | inl is ↦ alike y _ (h.name is) (of_numbers (replies.Named (name_in c.table (register_of c m (register r)))))
-  | inr isnt ↦ alike y _ (h.none isnt) (omega arith)
+  | inr isnt ↦ alike y _ (h.none isnt) none
 ]
 
-of_call : (c : CoreState) (es : List Event) (call : Call) (y : Answer) (d : CoreState) → HasEvents c es call y d → IsCode y
-of_call c es (NewCall config) y d h = alike y _ h.tells (omega arith)
+of_call : (c : CoreState) (es : List Event) (call : Call) (y : Answer) (d : CoreState) → HasEvents c es call y d → IsCode y.code
+of_call c es (NewCall config) y d h = alike y _ h.tells live
 of_call c es (StepCall step) y d (inl h) = alike y _ h.1.tells (of_telling step c d h.1.reply)
-of_call c es (StepCall step) y d (inr h) = alike y _ h.1.tells (omega arith)
+of_call c es (StepCall step) y d (inr h) = alike y _ h.1.tells none
 of_call c es (NewFilledCall m to from words) y d (inl h) = alike y _ h.1.tells (of_numbers h.1.reply)
-of_call c es (NewFilledCall m to from words) y d (inr h) = alike y _ h.1.tells (omega arith)
+of_call c es (NewFilledCall m to from words) y d (inr h) = alike y _ h.1.tells none
 of_call c es (MakeCall op) y d (inl h) = alike y _ h.1.tells (of_numbers h.1.reply)
-of_call c es (MakeCall op) y d (inr h) = alike y _ h.1.tells (omega arith)
+of_call c es (MakeCall op) y d (inr h) = alike y _ h.1.tells none
 of_call c es (MakeFilledCall m to from words) y d (inl h) = alike y _ h.1.tells (of_numbers h.1.reply)
-of_call c es (MakeFilledCall m to from words) y d (inr h) = alike y _ h.1.tells (omega arith)
-of_call c es CollectCall y d h = alike y _ h.tells (omega arith)
-of_call c es CollectAllCall y d h = alike y _ h.tells (omega arith)
-of_call c es (ReadWordsCall m object from before after) y d (inl (is, inl h)) = alike y _ h.tells (omega arith)
+of_call c es (MakeFilledCall m to from words) y d (inr h) = alike y _ h.1.tells none
+of_call c es CollectCall y d h = alike y _ h.tells (inl (omega arith))
+of_call c es CollectAllCall y d h = alike y _ h.tells (inl (omega arith))
+of_call c es (ReadWordsCall m object from before after) y d (inl (is, inl h)) = alike y _ h.tells (inl (omega arith))
 of_call c es (ReadWordsCall m object from before after) y d (inl (is, inr h)) = alike y _ h.refused.tells (of_refused h.refused.why)
-of_call c es (ReadWordsCall m object from before after) y d (inr h) = alike y _ h.1.0.tells (omega arith)
-of_call c es (WriteWordsCall m object from words) y d (inl (is, inl h)) = alike y _ h.tells (omega arith)
+of_call c es (ReadWordsCall m object from before after) y d (inr h) = alike y _ h.1.0.tells none
+of_call c es (WriteWordsCall m object from words) y d (inl (is, inl h)) = alike y _ h.tells (inl (omega arith))
 of_call c es (WriteWordsCall m object from words) y d (inl (is, inr h)) = alike y _ h.tells (of_refused h.why)
-of_call c es (WriteWordsCall m object from words) y d (inr h) = alike y _ h.1.tells (omega arith)
+of_call c es (WriteWordsCall m object from words) y d (inr h) = alike y _ h.1.tells none
 of_call c es (AskCall question) y d h = of_question question c y h.answers
-of_call c es NoStepCall y d h = alike y _ h.tells (omega arith)
+of_call c es NoStepCall y d h = alike y _ h.tells none
 of_call c es FreeCall y d h = absurd h
 
 of_calls : (calls : List Called) (s : State) (c : CoreState) (es : List Event) (last : State) → CallsRun s c es calls last

@@ -1,6 +1,5 @@
--- A step's reply is read from its answer, and so is its event.
-use Rattle.std.proofs.Common.{◌≡◌, ◌∙◌, ◌-◌, ◌==◌, ℕ, List, [], ◌∷◌, Some, None, if◌then◌else◌, refl, sym, ap}
-use Rattle.heap_steps.specs.Actors.{IsStep}
+-- A step's event is read from its answer.
+use Rattle.std.proofs.Common.{◌≡◌, ◌∙◌, ◌-◌, ◌==◌, ℕ, List, [], ◌∷◌, Some, None, inl, inr, if◌then◌else◌, refl, sym, ap}
 use Rattle.heap_steps.specs.declared.step.CollectorStep.TheVariants as collector
 use Rattle.heap_steps.specs.declared.step.Event.{Event}
 use Rattle.heap_steps.specs.declared.step.Refusal.{Refusal}
@@ -10,11 +9,10 @@ use Rattle.heap_steps.specs.declared.step.Reply.TheVariants as replies
 use Rattle.heap_steps.specs.declared.step.Step.{Step}
 use Rattle.heap_steps.specs.declared.step.Step.TheVariants as steps
 use Rattle.step_core.specs.Stands.{CoreState}
-use Rattle.heap_calls.specs.Numbers.{counted, no_step, numbers, refused}
+use Rattle.heap_calls.specs.Numbers.{counted, numbers, refused}
 use Rattle.heap_calls.specs.declared.answer.Answer.{Answer}
 use Rattle.g1heap_c.specs.Calls.{StepCall, telling}
-use Rattle.g1heap_c.specs.Runs.{HasEvents, HasNone, HasStep, event_of}
-use Rattle.g1heap_c.proofs.Told.{same_side}
+use Rattle.g1heap_c.specs.Runs.{HasEvents, event_of}
 
 -- the refusal of a code, and the reply of an answer: of codes that tell none any
 abbrev refusal_of : ℕ → Refusal
@@ -32,57 +30,58 @@ reply_of y =
     if y.code == 8 then replies.Moved y.second y.first else (if y.code == 9 then replies.Done else
     replies.Refused (refusal_of y.code))))))))))
 
-of_refused : (why : Refusal) → reply_of (refused why) ≡ replies.Refused why
-of_refused refusals.Nil = refl
-of_refused refusals.NoField = refl
-of_refused refusals.Full = refl
-of_refused refusals.TooBig = refl
-of_refused refusals.NamesSpent = refl
-of_refused refusals.MarkRunning = refl
-of_refused refusals.NotMarking = refl
+-- the events of a step with an answer
+abbrev events_in : Step → Answer → List Event
+events_in step y = if y.code == 32 then [] else event_of step (reply_of y) ∷ []
 
-of_numbers : (r : Reply) → reply_of (numbers r) ≡ r
-of_numbers replies.Done = refl
-of_numbers (replies.Named None) = refl
-of_numbers (replies.Named (Some name)) = refl
-of_numbers (replies.Word value) = refl
-of_numbers (replies.Shape pointers values) = refl
-of_numbers (replies.Marked count) = refl
-of_numbers (replies.Reclaimed count) = refl
-of_numbers (replies.Refined count) = refl
-of_numbers (replies.Moved regions words) = refl
-of_numbers (replies.Refused why) = of_refused why
+in_refused : (step : Step) (why : Refusal) → events_in step (refused why) ≡ event_of step (replies.Refused why) ∷ []
+in_refused step refusals.Nil = refl
+in_refused step refusals.NoField = refl
+in_refused step refusals.Full = refl
+in_refused step refusals.TooBig = refl
+in_refused step refusals.NamesSpent = refl
+in_refused step refusals.MarkRunning = refl
+in_refused step refusals.NotMarking = refl
 
-of_counted : (n : ℕ) (r : Reply) → reply_of (counted n r) ≡ r
-of_counted n replies.Done = refl
-of_counted n (replies.Named name) = of_numbers (replies.Named name)
-of_counted n (replies.Word value) = refl
-of_counted n (replies.Shape pointers values) = refl
-of_counted n (replies.Marked count) = refl
-of_counted n (replies.Reclaimed count) = refl
-of_counted n (replies.Refined count) = refl
-of_counted n (replies.Moved regions words) = refl
-of_counted n (replies.Refused why) = of_refused why
+in_numbers : (step : Step) (r : Reply) → events_in step (numbers r) ≡ event_of step r ∷ []
+in_numbers step replies.Done = refl
+in_numbers step (replies.Named None) = refl
+in_numbers step (replies.Named (Some name)) = refl
+in_numbers step (replies.Word value) = refl
+in_numbers step (replies.Shape pointers values) = refl
+in_numbers step (replies.Marked count) = refl
+in_numbers step (replies.Reclaimed count) = refl
+in_numbers step (replies.Refined count) = refl
+in_numbers step (replies.Moved regions words) = refl
+in_numbers step (replies.Refused why) = in_refused step why
 
-of_telling : (step : Step) (c d : CoreState) (r : Reply) → reply_of (telling step c d r) ≡ r
-of_telling (steps.Mutator o) c d r = of_numbers r
-of_telling (steps.Collector collector.Begin) c d r = of_numbers r
-of_telling (steps.Collector (collector.Mark k)) c d r = of_counted (d.marker.scans.since - c.marker.scans.since) r
-of_telling (steps.Collector collector.Remark) c d r = of_numbers r
-of_telling (steps.Collector collector.Cleanup) c d r = of_numbers r
-of_telling (steps.Collector (collector.Refine k)) c d r = of_numbers r
-of_telling (steps.Collector (collector.Pause k)) c d r = of_numbers r
-of_telling (steps.Collector (collector.Compact k)) c d r = of_numbers r
+in_counted : (step : Step) (n : ℕ) (r : Reply) → events_in step (counted n r) ≡ event_of step r ∷ []
+in_counted step n replies.Done = refl
+in_counted step n (replies.Named name) = in_numbers step (replies.Named name)
+in_counted step n (replies.Word value) = refl
+in_counted step n (replies.Shape pointers values) = refl
+in_counted step n (replies.Marked count) = refl
+in_counted step n (replies.Reclaimed count) = refl
+in_counted step n (replies.Refined count) = refl
+in_counted step n (replies.Moved regions words) = refl
+in_counted step n (replies.Refused why) = in_refused step why
 
-module _ (c : CoreState) (step : Step) (answer : Answer) (d : CoreState) (es fs : List Event) where
-  step_event : HasStep c es step answer d → HasStep c fs step answer d → es ≡ fs
-  step_event h k =
-      let alike : telling step c d h.reply ≡ telling step c d k.reply = sym h.tells ∙ k.tells in
-      let same : h.reply ≡ k.reply = sym (of_telling step c d h.reply) ∙ ap reply_of alike ∙ of_telling step c d k.reply in
-      h.events ∙ ap (λ (r : Reply). event_of step r ∷ []) same ∙ sym k.events
+in_telling : (step : Step) (c d : CoreState) (r : Reply) → events_in step (telling step c d r) ≡ event_of step r ∷ []
+in_telling (steps.Mutator o) c d r = in_numbers (steps.Mutator o) r
+in_telling (steps.Collector collector.Begin) c d r = in_numbers (steps.Collector collector.Begin) r
+in_telling (steps.Collector (collector.Mark k)) c d r =
+    in_counted (steps.Collector (collector.Mark k)) (d.marker.scans.since - c.marker.scans.since) r
+in_telling (steps.Collector collector.Remark) c d r = in_numbers (steps.Collector collector.Remark) r
+in_telling (steps.Collector collector.Cleanup) c d r = in_numbers (steps.Collector collector.Cleanup) r
+in_telling (steps.Collector (collector.Refine k)) c d r = in_numbers (steps.Collector (collector.Refine k)) r
+in_telling (steps.Collector (collector.Pause k)) c d r = in_numbers (steps.Collector (collector.Pause k)) r
+in_telling (steps.Collector (collector.Compact k)) c d r = in_numbers (steps.Collector (collector.Compact k)) r
 
-  none_event : HasNone c es no_step answer d → HasNone c fs no_step answer d → es ≡ fs
-  none_event h k = h.events ∙ sym k.events
+module _ (step : Step) (answer : Answer) where
+  events_are : (c d : CoreState) (es : List Event) → HasEvents c es (StepCall step) answer d → es ≡ events_in step answer
+  events_are c d es (inl (is, h)) = h.events ∙ sym (in_telling step c d h.reply) ∙ ap (events_in step) (sym h.tells)
+  events_are c d es (inr (isnt, h)) = h.events ∙ ap (events_in step) (sym h.tells)
 
-  pub one_event : HasEvents c es (StepCall step) answer d → HasEvents c fs (StepCall step) answer d → es ≡ fs
-  one_event h k = same_side (IsStep c.config step) _ _ _ _ (es ≡ fs) h k step_event none_event
+  pub one_event : (c d : CoreState) (es : List Event) (c' d' : CoreState) (fs : List Event) → HasEvents c es (StepCall step) answer d
+      → HasEvents c' fs (StepCall step) answer d' → es ≡ fs
+  one_event c d es c' d' fs h k = events_are c d es h ∙ sym (events_are c' d' fs k)

@@ -49,7 +49,7 @@ own_is op r q (x ∷ a) (y ∷ b) f g ca cb e =
     own_is op r q a b f g (All-tail IsCollectors x a ca) (All-tail IsCollectors y b cb) (tail_is _ _ _ _ e)
 
 -- two that say this or that, as a fact holds or not, both say this or both that
-pub same_side : (F A B C D G : Type 0) → IfElse F A B → IfElse F C D → (A → C → G) → (B → D → G) → G
+same_side : (F A B C D G : Type 0) → IfElse F A B → IfElse F C D → (A → C → G) → (B → D → G) → G
 same_side F A B C D G (inl p) (inl q) f g = f p.1 q.1
 same_side F A B C D G (inl p) (inr q) f g = absurd (q.0 p.0)
 same_side F A B C D G (inr p) (inl q) f g = absurd (p.0 q.0)

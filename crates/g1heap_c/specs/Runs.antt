@@ -199,11 +199,15 @@ NewHeapRuns config answer c calls = IsCall None (NewCall config) answer (Some c)
 abbrev pub HasOneAnswer : CoreState → List Event → Call → CoreState → Type 0
 HasOneAnswer c es call c' = (answer other : Answer) → HasEvents c es call answer c' → HasEvents c es call other c' → answer ≡ other
 
--- a step's event is fixed by its answer
-abbrev pub HasOneEvent : CoreState → Step → Answer → CoreState → Type 0
-HasOneEvent c step answer c' =
-    (es other : List Event) → HasEvents c es (StepCall step) answer c' → HasEvents c other (StepCall step) answer c' → es ≡ other
+-- a step's event is fixed by its answer, whatever the heap
+abbrev pub HasOneEvent : Step → Answer → Type 0
+HasOneEvent step answer = (c c' d d' : CoreState) (es other : List Event)
+    → HasEvents c es (StepCall step) answer c' → HasEvents d other (StepCall step) answer d' → es ≡ other
 
--- a call's answer has a code that calls on a heap have, of which 34 is the last
+-- the codes of calls on a heap: of what is done, of what is refused, that there is no such step, and that there is a heap already
+abbrev pub IsCode : ℕ → Type 0
+IsCode n = (n ≤ 10) ⊎ (((16 ≤ n) × (n ≤ 22)) ⊎ ((n ≡ 32) ⊎ (n ≡ 34)))
+
+-- a call's answer has such a code
 abbrev pub HasCode : Called → Type 0
-HasCode x = x.answer.code ≤ 34
+HasCode x = IsCode x.answer.code

@@ -21,9 +21,9 @@ pub fn answer_law()
     ensures { (c : CoreState) (es : List Event) (call : Call) (after : CoreState) → HasOneAnswer c es call after }
 {}
 
-/// The answer of a step fixes its event: no two replies are told alike.
+/// The answer of a step fixes its event, whatever the heap: no two replies are told alike.
 pub fn event_law()
-    ensures { (c : CoreState) (step : Step) (answer : Answer) (after : CoreState) → HasOneEvent c step answer after }
+    ensures { (step : Step) (answer : Answer) → HasOneEvent step answer }
 {}
 
 /// Calls with an answer among theirs that has a code of no call are no run.
