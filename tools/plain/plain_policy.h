@@ -27,7 +27,7 @@ static inline uint32_t policy_regions(const g1_sizes *sizes, uint32_t words) { r
 static inline uint32_t policy_pause_budget(const g1_sizes *sizes)
 {
     uint32_t share = policy_within((uint64_t)sizes->regions * sizes->words / 32);
-    return policy_most(policy_within((uint64_t)4 * sizes->words), policy_most(65536, policy_least(262144, share)));
+    return policy_most(policy_within((uint64_t)4 * sizes->words), policy_most(98304, policy_least(262144, share)));
 }
 static inline void policy_start(g1_policy *policy, const g1_sizes *sizes)
 {

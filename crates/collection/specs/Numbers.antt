@@ -4,11 +4,11 @@ use Rattle.heap_words.specs.declared.config.Config.{Config}
 use Rattle.collection.specs.declared.numbers.Policy.{Policy}
 
 -- a policy that begins: a look comes before its first object, no cycle and no evacuation is under way, nothing was counted, and a pause may
--- copy four regions and 65,536 words at least, as far as a number of 32 bits says so
+-- copy four regions and 98,304 words at least, as far as a number of 32 bits says so
 pub record IsStarted (config : Config) (p : Policy) : Type 0 where
   pub reserve : p.reserve ≡ max (config.regions / 24) 3
   pub pause_regions : min (config.words * 4) (2 ^ 32 - 1) ≤ p.pause_words
-  pub pause_words : 65536 ≤ p.pause_words
+  pub pause_words : 98304 ≤ p.pause_words
   pub mark_regions : min (config.words * 4) (2 ^ 32 - 1) ≤ p.mark_objects
   pub young_words : p.young_words ≡ 131072
   pub cards_left : p.cards_left ≡ 8192

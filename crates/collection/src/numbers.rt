@@ -76,14 +76,14 @@ fn regions_of(config: &Config, words: u32) -> u32 {
     (words / config.words.max(1)).max(1)
 }
 
-/// Words: the budget of a pause, a 32nd of the heap, 65,536 at least and 262,144 at most, or four regions if that is more. Smaller pauses
+/// Words: the budget of a pause, a 32nd of the heap, 98,304 at least and 262,144 at most, or four regions if that is more. Smaller pauses
 /// visit the same cards again and again.
 fn pause_budget(config: &Config) -> u32
     ensures regions { min (config.now.words * 4) (2 ^ 32 - 1) ≤ result }
-    ensures words { 65536 ≤ result }
+    ensures words { 98304 ≤ result }
 {
     let all = u64::from(config.regions) * u64::from(config.words);
-    let share = (all / 32).min(262144).max(65536) as u32;
+    let share = (all / 32).min(262144).max(98304) as u32;
     config.words.saturating_mul(4).max(share)
 }
 
