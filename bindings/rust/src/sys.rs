@@ -183,6 +183,22 @@ steps! {
     name = g1_name(mutator: u32, of: u32);
 }
 
+/// The policy of a new heap. Panics where the library's has another size, which would be written beyond the crate's.
+fn new_policy(sizes: &g1_sizes) -> g1_policy {
+    const WORDS: usize = std::mem::size_of::<g1_policy>() / 8;
+    let started = |fill: u64| {
+        let mut words = [fill; WORDS + 64];
+        // SAFETY: there is room for more than a policy, and the numbers of the sizes may be any.
+        unsafe { g1_policy_start(words.as_mut_ptr().cast(), sizes) };
+        words
+    };
+    let (words, others) = (started(0), started(u64::MAX));
+    let written = words.iter().zip(others).rposition(|(word, other)| *word != 0 || other != u64::MAX).map_or(0, |last| last + 1);
+    assert!(written == WORDS, "the archive is of another version than the crate: its policy has {} words, and here {}", written, WORDS);
+    // SAFETY: the words begin with a policy, of plain numbers, and are aligned as one.
+    unsafe { *words.as_ptr().cast() }
+}
+
 impl Raw {
     /// No heap yet.
     pub fn none() -> Raw {
@@ -196,13 +212,11 @@ impl Raw {
     /// Makes the heap, and its policy: `DONE`, or why there is none.
     pub fn open(&self, sizes: &g1_sizes) -> u32 {
         // SAFETY: the heap is none, or the call refuses; both pointers lead to what they should, and the numbers may be any.
-        unsafe {
-            let code = g1_new(self.heap.get(), sizes);
-            if code == DONE {
-                g1_policy_start(self.policy.get(), sizes);
-            }
-            code
+        let code = unsafe { g1_new(self.heap.get(), sizes) };
+        if code == DONE {
+            self.set_policy(new_policy(sizes));
         }
+        code
     }
     /// Reads data words from number `from` on, as many as `out` takes, all or none.
     #[inline]
