@@ -4,11 +4,15 @@ use Rattle.std.specs.Prelude.{if◌then◌else◌, not}
 use Rattle.heap_words.specs.Configs.{object_limit}
 use Rattle.heap_words.specs.declared.config.Config.{Config}
 use Rattle.heap_steps.specs.declared.step.Action.{Action}
+use Rattle.heap_steps.specs.declared.step.Action.TheVariants as actions
+use Rattle.heap_steps.specs.declared.step.Refusal.{Refusal}
+use Rattle.heap_steps.specs.declared.step.Reply.TheVariants as replies
+use Rattle.step_core.specs.Making.{HasMade}
 use Rattle.heap_steps.specs.declared.step.Event.{Event}
 use Rattle.heap_steps.specs.declared.step.Op.{Op}
 use Rattle.heap_steps.specs.declared.step.Reply.{Reply}
 use Rattle.step_core.specs.Stands.{CoreState}
-use Rattle.collection.specs.Asked.{MakesObject, MakesRoom, due_steps}
+use Rattle.collection.specs.Asked.{MakesByPolicy, MakesRoom, due_steps}
 use Rattle.collection.specs.Rooms.{IsCreatable}
 use Rattle.collection.specs.Steps.{Collects, asked_words}
 use Rattle.collection.proofs.Leaving.{clash}
@@ -38,11 +42,11 @@ module _ {W : Type 0} (sees : W → Event → W → Type 0) where
 
   -- the same with names for what is due, and for what was left
   pub asked_as : (due due' : Bool) (left left' was begin_at begin' : ℕ) (op : Op) (reply : Reply) (c : CoreState) (x : W) (c' : CoreState)
-      (x' : W) → MakesObject sees due left was begin_at op reply c x c' x' → due ≡ due' → (due' ≡ false → left ≡ left') → begin_at ≡ begin'
-      → MakesObject sees due' left' was begin' op reply c x c' x'
+      (x' : W) → MakesByPolicy sees due left was begin_at op reply c x c' x' → due ≡ due' → (due' ≡ false → left ≡ left') → begin_at ≡ begin'
+      → MakesByPolicy sees due' left' was begin' op reply c x c' x'
   asked_as due due' left left' was begin_at begin' op reply c x c' x' m same before begins =
-      let m' = subst (λ (b : Bool). MakesObject sees b left was begin_at op reply c x c' x') same m in
-      let n = subst (λ (b : ℕ). MakesObject sees due' left was b op reply c x c' x') begins m' in
+      let m' = subst (λ (b : Bool). MakesByPolicy sees b left was begin_at op reply c x c' x') same m in
+      let n = subst (λ (b : ℕ). MakesByPolicy sees due' left was b op reply c x c' x') begins m' in
       record {
         makes = n.makes;
         paced = n.paced;
@@ -81,3 +85,9 @@ due_is false q e = sym e
 pub due_left : (b q : Bool) → q ≡ (if b then false else true) → q ≡ false → b ≡ true
 due_left true q e f = refl
 due_left false q e f = absurd (clash q e f)
+
+-- a refused object isn't there
+pub refused_made : (m : ℕ) (a : Action) (why : Refusal) (c : CoreState) → HasMade m a (replies.Refused why) c
+refused_made m (actions.New to counts) why c = tt
+refused_made m (actions.NewWeak to counts weaks) why c = tt
+refused_made m _ why c = tt

@@ -39,7 +39,7 @@ pub record IsPaced {W : Type 0} (sees : W → Event → W → Type 0) (due : Boo
 
 -- What a policy does for an object that is asked for. A look is due or not, and so many words may be asked for before the next one, before
 -- the object and after it. Nothing is due for an object that the graph doesn't create
-pub record MakesObject {W : Type 0} (sees : W → Event → W → Type 0) (due : Bool) (left left' begin_at : ℕ) (op : Op) (reply : Reply)
+pub record MakesByPolicy {W : Type 0} (sees : W → Event → W → Type 0) (due : Bool) (left left' begin_at : ℕ) (op : Op) (reply : Reply)
     (c : CoreState) (x : W) (c' : CoreState) (x' : W) : Type 0 where
   pub makes : Makes sees (4 * c.config.regions + 12) op reply c x c' x'
   pub paced : IsCreatable c op.action → IsPaced sees due begin_at op reply c x c' x'

@@ -10,7 +10,7 @@ ghost use Rattle.step_core.specs.Making.{HasMade};
 ghost use Rattle.heap_steps.specs.Actors.{IsOp, IsThird};
 ghost use Rattle.heap_steps.specs.declared.step.Reply.TheVariants as replies;
 ghost use Rattle.heap_steps.specs.declared.step.Refusal.TheVariants as refusals;
-ghost use Rattle.collection.specs.Asked.{IsPaced, MakesObject, MakesRoom, due_steps};
+ghost use Rattle.collection.specs.Asked.{MakesByPolicy, MakesRoom, due_steps};
 ghost use Rattle.collection.specs.Steps.{Collects, CollectsSome, HasRoom, IsDue, LeavesTwo, Makes, asked_words};
 ghost use Rattle.collection.specs.Space.{IsPacked, IsQuiet, LieBelowFree};
 ghost use Rattle.collection.specs.Rooms.{HasRun, IsCreatable, IsFilled, IsLast, IsSpared};
@@ -131,34 +131,8 @@ fn make_room<W: Watch>(
     collect_all(core, policy, op, size, watch)
 }
 
-/// Makes an object that the graph would create, or refuses it as Full.
-fn make_or_refuse<W: Watch>(
-    core: &mut Core,
-    policy: &mut Policy,
-    op: Op,
-    size: u32,
-    due: bool,
-    watch: &mut W,
-) -> Reply
-    requires op { IsOp core.old.config op }
-    requires new { IsNew op.action }
-    requires size { size ≡ asked_words op.action }
-    requires creatable { IsCreatable core.old op.action }
-    ensures makes { Makes W.sees (4 * core.old.config.regions + 12) op result core.old watch.old core.new watch.new }
-    ensures paced { IsPaced W.sees due policy.old.begin_at op result core.old watch.old core.new watch.new }
-    ensures full { result ≡ replies.Refused refusals.Full → (s : State) → Stands s core.old
-        → IsFilled s.graph core.old op.action core.new }
-    ensures two { LeavesTwo core.old.config op.action → 2 ≤ free_count core.old.table → 2 ≤ free_count core.new.table }
-    ensures made { HasMade op.mutator op.action result core.new }
-    ensures config { core.new.config ≡ core.old.config }
-{
-    if !make_room(core, policy, &op, size, due, watch) {
-        return Reply::Refused(Refusal::Full);
-    }
-    take_own(core, op, watch)
-}
-
-/// The same. How many words may be asked for before the next look is set last, since no step changes that.
+/// Makes an object that the graph would create, or refuses it as Full. How many words may be asked for before the next look is set once the
+/// collector took its steps, since none of them changes that.
 fn make_creatable<W: Watch>(
     core: &mut Core,
     policy: &mut Policy,
@@ -171,12 +145,15 @@ fn make_creatable<W: Watch>(
     requires new { IsNew op.action }
     requires size { size ≡ asked_words op.action }
     requires creatable { IsCreatable core.old op.action }
-    ensures { MakesObject W.sees due policy.old.left policy.new.left policy.old.begin_at op result core.old watch.old core.new watch.new }
+    ensures { MakesByPolicy W.sees due policy.old.left policy.new.left policy.old.begin_at op result core.old watch.old core.new watch.new }
 {
     let left = policy.left_after(&core.config(), due);
-    let reply = make_or_refuse(core, policy, op, size, due, watch);
+    let has_room = make_room(core, policy, &op, size, due, watch);
     policy.left = left;
-    reply
+    if !has_room {
+        return Reply::Refused(Refusal::Full);
+    }
+    take_own(core, op, watch)
 }
 
 /// Makes an object where something has to be looked at before.
@@ -192,7 +169,7 @@ fn make_looking<W: Watch>(
     requires op { IsOp core.old.config op }
     requires new { IsNew op.action }
     requires size { size ≡ asked_words op.action }
-    ensures { MakesObject W.sees due policy.old.left policy.new.left policy.old.begin_at op result core.old watch.old core.new watch.new }
+    ensures { MakesByPolicy W.sees due policy.old.left policy.new.left policy.old.begin_at op result core.old watch.old core.new watch.new }
 {
     core.remembers();
     core.shaped();
@@ -215,7 +192,7 @@ fn make_apart<W: Watch>(
     requires op { IsOp core.old.config op }
     requires new { IsNew op.action }
     requires size { size ≡ asked_words op.action }
-    ensures { MakesObject W.sees due policy.old.left policy.new.left policy.old.begin_at op result core.old watch.old core.new watch.new }
+    ensures { MakesByPolicy W.sees due policy.old.left policy.new.left policy.old.begin_at op result core.old watch.old core.new watch.new }
 {
     make_looking(core, policy, op, size, due, watch)
 }
@@ -236,7 +213,7 @@ fn make_apart<W: Watch>(
 pub fn make<W: Watch>(core: &mut Core, policy: &mut Policy, op: Op, watch: &mut W) -> Reply
     requires op { IsOp core.old.config op }
     requires new { IsNew op.action }
-    ensures { MakesObject W.sees (nat_le policy.old.left (asked_words op.action)) (policy.old.left - asked_words op.action) policy.new.left
+    ensures { MakesByPolicy W.sees (nat_le policy.old.left (asked_words op.action)) (policy.old.left - asked_words op.action) policy.new.left
         policy.old.begin_at op result core.old watch.old core.new watch.new }
 {
     let size = words_of(&op.action);

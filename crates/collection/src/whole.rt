@@ -72,8 +72,7 @@ pub(crate) fn pause_all<W: Watch>(core: &mut Core, policy: &mut Policy, watch: &
 }
 
 /// A whole collection, of at most four steps and a pause for each region in use. What is kept then is what roots reach. Where two regions
-/// were free and no more are, what roots reach has more than half of the words of all regions in use; of all but one, if that alone is
-/// ordinary.
+/// were free, what roots reach has more than half of the words of all regions in use; of all but one, if that alone is ordinary.
 ///
 /// ```rust
 /// collect(&mut core, &mut policy, &mut Unwatched);
