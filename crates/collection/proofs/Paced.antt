@@ -42,7 +42,8 @@ module _ {W : Type 0} (sees : W → Event → W → Type 0) where
 
   -- the same with names for what is due, and for what was left
   pub asked_as : (due due' : Bool) (left left' was begin_at begin' : ℕ) (op : Op) (reply : Reply) (c : CoreState) (x : W) (c' : CoreState)
-      (x' : W) → MakesByPolicy sees due left was begin_at op reply c x c' x' → due ≡ due' → (due' ≡ false → left ≡ left') → begin_at ≡ begin'
+      (x' : W) → MakesByPolicy sees due left was begin_at op reply c x c' x' → due ≡ due' → (due' ≡ false → left ≡ left')
+      → begin_at ≡ begin'
       → MakesByPolicy sees due' left' was begin' op reply c x c' x'
   asked_as due due' left left' was begin_at begin' op reply c x c' x' m same before begins =
       let m' = subst (λ (b : Bool). MakesByPolicy sees b left was begin_at op reply c x c' x') same m in

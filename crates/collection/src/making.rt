@@ -213,8 +213,8 @@ fn make_apart<W: Watch>(
 pub fn make<W: Watch>(core: &mut Core, policy: &mut Policy, op: Op, watch: &mut W) -> Reply
     requires op { IsOp core.old.config op }
     requires new { IsNew op.action }
-    ensures { MakesByPolicy W.sees (nat_le policy.old.left (asked_words op.action)) (policy.old.left - asked_words op.action) policy.new.left
-        policy.old.begin_at op result core.old watch.old core.new watch.new }
+    ensures { MakesByPolicy W.sees (nat_le policy.old.left (asked_words op.action)) (policy.old.left - asked_words op.action)
+        policy.new.left policy.old.begin_at op result core.old watch.old core.new watch.new }
 {
     let size = words_of(&op.action);
     let due = !policy.spends(size);
