@@ -1,6 +1,6 @@
 /* memory.h: registers and objects on one of four memories, so that the same program can be tried on each.
 
-     (no definition)   the heap behind g1heap.h, with its policy: the proved one, or tools/plain/plain_library.cpp
+     (no definition)   the heap behind g1heap.h, with its policy: the proved one, or plain/plain_library.cpp
      -DMEMORY_MALLOC   malloc, and nothing is ever freed
      -DMEMORY_BOEHM    Boehm's collector: Debian's package libgc-dev; link with -lgc
 

@@ -5,8 +5,7 @@ import subprocess
 import sys
 
 HERE = os.path.dirname(os.path.abspath(__file__))
-TOOLS = os.path.dirname(HERE)
-TOP = os.path.dirname(TOOLS)
+TOP = os.path.dirname(os.path.dirname(HERE))
 PROGRAM = os.path.join(TOP, "crates", "g1heap", "out", "g1heap")
 
 

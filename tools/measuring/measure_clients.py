@@ -254,7 +254,7 @@ def measure_live(libraries, chosen, folder):
 def memories_of(archive, folder):
     """Each memory with its compiler and what is linked: those behind g1heap.h, and all that clients can be on."""
     plain, tuned, recorded = (os.path.join(folder, name) for name in ("plain.o", "tuned.o", "recorded.a"))
-    subprocess.run(["g++", "-O2", "-std=c++17", "-c", path("tools/plain/plain_library.cpp"), "-o", plain], check=True)
+    subprocess.run(["g++", "-O2", "-std=c++17", "-c", path("plain/plain_library.cpp"), "-o", plain], check=True)
     subprocess.run(["cc", "-O2", "-I" + path("include"), "-c", path("tools/measuring/tuned_heap.c"), "-o", tuned], check=True)
     subprocess.run([path("tools/recorded_library"), archive[0], recorded], check=True)
     inlined, cc = inlining(archive[0]), ["cc"]

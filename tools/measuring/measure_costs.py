@@ -30,7 +30,7 @@ import tempfile
 import time
 
 from measuring import cost_scripts
-from measuring.counting import HERE, PROGRAM, TOOLS, instructions, program_of, write_apart
+from measuring.counting import HERE, PROGRAM, TOP, instructions, program_of, write_apart
 
 
 def compile_program(source, program):
@@ -94,7 +94,7 @@ def main():
         names.append("long_pause_base")
     with tempfile.TemporaryDirectory(prefix="measure_costs.") as folder:
         plain = os.path.join(folder, "plain_heap")
-        compile_program(os.path.join(TOOLS, "plain", "plain_heap.cpp"), plain)
+        compile_program(os.path.join(TOP, "plain", "plain_heap.cpp"), plain)
         cost_scripts.write(folder, names)
         print("script | g1heap s | plain heap s | ratio")
         print("---|---|---|---")
@@ -191,7 +191,7 @@ def measure_parts(program):
     print("---|---|---|---")
     with tempfile.TemporaryDirectory(prefix="measure_costs.") as folder:
         plain, path = os.path.join(folder, "plain_heap"), os.path.join(folder, "parts.heap")
-        compile_program(os.path.join(TOOLS, "plain", "plain_heap.cpp"), plain)
+        compile_program(os.path.join(TOP, "plain", "plain_heap.cpp"), plain)
         for what, script, many, few, parts in PARTS:
             counts = []
             for times in (many, few):

@@ -30,7 +30,7 @@ import sys
 import tempfile
 
 from measuring import large_java, large_table
-from measuring.counting import HERE, PROGRAM, TOOLS, TOP, instructions
+from measuring.counting import HERE, PROGRAM, TOP, instructions
 from measuring.large_table import Row
 
 OURS, PLAIN = "g1heap", "plain"
@@ -179,7 +179,7 @@ def compile_large(folder, with_plain):
     subprocess.run([*compiled, os.path.join(TOP, "lib", "libg1heap.a"), "-o", programs[OURS]], check=True)
     if with_plain:
         plain, programs[PLAIN] = os.path.join(folder, "plain.o"), os.path.join(folder, "plain_costs")
-        source = os.path.join(TOOLS, "plain", "plain_library.cpp")
+        source = os.path.join(TOP, "plain", "plain_library.cpp")
         subprocess.run(["c++", "-O2", "-std=c++17", "-c", source, "-o", plain], check=True)
         subprocess.run([*compiled, plain, "-lstdc++", "-o", programs[PLAIN]], check=True)
     return programs
@@ -272,7 +272,7 @@ def measure_scripts(folder, words):
     programs = [words.program]
     if words.plain:
         programs.append(os.path.join(folder, "plain_heap"))
-        subprocess.run(["g++", "-O2", "-std=c++17", "-o", programs[1], os.path.join(TOOLS, "plain", "plain_heap.cpp")], check=True)
+        subprocess.run(["g++", "-O2", "-std=c++17", "-o", programs[1], os.path.join(TOP, "plain", "plain_heap.cpp")], check=True)
     sizes = []
     for name, part, make, counts in (script for script in SCRIPTS if script[0] in (words.only or [it[0] for it in SCRIPTS])):
         cells = []

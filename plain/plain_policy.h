@@ -3,7 +3,7 @@
 #ifndef PLAIN_POLICY_H
 #define PLAIN_POLICY_H
 
-#include "../../include/g1heap.h"
+#include "../include/g1heap.h"
 
 static inline uint32_t policy_least(uint32_t one, uint32_t other) { return one < other ? one : other; }
 static inline uint32_t policy_most(uint32_t one, uint32_t other) { return one > other ? one : other; }

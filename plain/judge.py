@@ -1,7 +1,7 @@
 #!/usr/bin/env python3
 """Judges a record of a script, by a graph of objects by name and by the script: it knows of no heap.
 
-    tools/plain/judge.py SCRIPT RECORD [--markers K] [--refiners K]
+    plain/judge.py SCRIPT RECORD [--markers K] [--refiners K]
 
 The record has the script's heap line. Each event's reply is one that the graph gives (a new object may be refused as
 full), each mutator's events and the collector's are its lines of the script in their order, and background actors are

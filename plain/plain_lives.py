@@ -1,4 +1,4 @@
-"""The lives of heaps by the plain heap: what tools/plain/plain_life.cpp prints, read. For tools/check_page and tools/check_views."""
+"""The lives of heaps by the plain heap: what plain/plain_life.cpp prints, read. For tools/check_page and tools/check_views."""
 import subprocess
 from pathlib import Path
 

@@ -1,6 +1,6 @@
 // plain_heap: does the lines of a heap script in order and prints the record, as `g1heap run` does.
 //
-//   g++ -O2 -std=c++17 -o plain_heap tools/plain/plain_heap.cpp
+//   g++ -O2 -std=c++17 -o plain_heap plain/plain_heap.cpp
 //   plain_heap run FILE
 //
 // FILE may be - for standard input.

@@ -1,6 +1,6 @@
 // plain_life: does the lines of a heap script in order on the plain heap, and prints all of the heap before the first and after each.
 //
-//   g++ -O2 -std=c++17 -o plain_life tools/plain/plain_life.cpp
+//   g++ -O2 -std=c++17 -o plain_life plain/plain_life.cpp
 //   plain_life FILE [EVENT ..]      after these events alone, where some are named
 //
 // The lines are those that crates/heap_life/page/README.md describes, from `m` to `x`, with each region after each event, and with nothing

@@ -4,7 +4,7 @@
 
 Unless told otherwise the scripts are of 16 mutators, 400 steps, with pauses and marking cycles, and are run by 32 workers
 with 8 markers and 8 refiners. Each run has to end within 60 seconds with status 0 and nothing on standard error. Each record
-is judged twice: by the graph and the script (tools/plain/judge.py), and by the plain heap, which does the record's events in their
+is judged twice: by the graph and the script (plain/judge.py), and by the plain heap, which does the record's events in their
 order and has to give the same replies. The first record that isn't right is kept; the status is then 1.
 
 Before that it runs a script that has something to do for each background actor, in two cycles of marking and between idle rounds. By one

@@ -1,14 +1,14 @@
 // Every call of include/g1heap.h over the plain heap. It stands in for lib/libg1heap.a where the two are compared, and where the proved one
 // isn't built yet.
 //
-//   g++ -O2 -std=c++17 -Iinclude -c tools/plain/plain_library.cpp -o plain_library.o
+//   g++ -O2 -std=c++17 -Iinclude -c plain/plain_library.cpp -o plain_library.o
 //   cc -Iinclude clients/hello.c plain_library.o -lstdc++
 
 #include <cstddef>
 #include <cstdint>
 #include <new>
 
-#include "../../include/g1heap.h"
+#include "../include/g1heap.h"
 #include "plain_heap.h"
 #include "plain_policy.h"
 

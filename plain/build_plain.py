@@ -1,5 +1,5 @@
 #!/usr/bin/env python3
-"""Builds the heap without proofs, with which other tools compare: tools/plain/build_plain.py FILE."""
+"""Builds the heap without proofs, with which other tools compare: plain/build_plain.py FILE."""
 import os
 import subprocess
 import sys
@@ -18,7 +18,7 @@ def build(program):
 
 def add_option(parser):
     """The option that names a plain heap; `plain_of` answers it, or builds one."""
-    parser.add_argument("--plain", metavar="FILE", help="the plain heap, where tools/plain/build_plain.py built it already")
+    parser.add_argument("--plain", metavar="FILE", help="the plain heap, where plain/build_plain.py built it already")
 
 
 def plain_of(words, folder):
@@ -27,7 +27,7 @@ def plain_of(words, folder):
 
 def main():
     if len(sys.argv) != 2:
-        sys.exit("usage: tools/plain/build_plain.py FILE")
+        sys.exit("usage: plain/build_plain.py FILE")
     build(sys.argv[1])
 
 
