@@ -9,7 +9,7 @@ where its module is beside the archive; Boehm's collector; malloc, where nothing
 tools/measuring/tuned_heap.c behind the same header, by calls and inlined, which says what such a heap takes at least and never frees either.
 
 `calls` counts the instructions of a call with the making of the question in C, by callgrind, from two runs that differ by 20,000 calls; there
-the archive that records is one more memory, while nothing is recorded. `programs` counts those of whole clients. `clients` takes the user
+the recorded library is one more memory, while nothing is recorded. `programs` counts those of whole clients. `clients` takes the user
 time of larger ones, the best of some runs in turns, and the peak memory; with a JDK also of GCBench and binary-trees on OpenJDK's G1, with
 as much heap, one thread for each of its tasks, and the time in which the virtual machine starts and compiles. `millions` runs a Scheme
 program of more than 10,000,000 objects in a heap of 2 MiB. `growth` counts the instructions of steps whose cost might grow with the heap, in
@@ -256,7 +256,7 @@ def memories_of(archive, folder):
     plain, tuned, recorded = (os.path.join(folder, name) for name in ("plain.o", "tuned.o", "recorded.a"))
     subprocess.run(["g++", "-O2", "-std=c++17", "-c", path("plain/plain_library.cpp"), "-o", plain], check=True)
     subprocess.run(["cc", "-O2", "-I" + path("include"), "-c", path("tools/measuring/tuned_heap.c"), "-o", tuned], check=True)
-    subprocess.run([path("tools/recorded_library"), archive[0], recorded], check=True)
+    subprocess.run([path("recorded_library/build"), archive[0], recorded], check=True)
     inlined, cc = inlining(archive[0]), ["cc"]
     module = [f"-Wl,{os.path.join(os.path.dirname(archive[0]), 'libg1heap.bc')}", *archive]
     first = {ARCHIVE: (cc, *archive), **({INLINED: (inlined, *module)} if inlined else {})}

@@ -1,4 +1,4 @@
-/* The calls of g1heap.h, each of which also writes its line of a record. tools/recorded_library links them with the heap's own calls, which
+/* The calls of g1heap.h, each of which also writes its line of a record. recorded_library/build links them with the heap's own calls, which
    are named g1raw_.. there. A g1_heap leads to a box here, with the heap's own g1_heap in it; so heaps don't know of each other. */
 #include <stdatomic.h>
 #include <stdio.h>
