@@ -295,7 +295,7 @@ def fault_of(script, record, markers=0, refiners=0):
 
 
 def main():
-    parser = argparse.ArgumentParser(description="Judges a record of a script.")
+    parser = argparse.ArgumentParser(description=__doc__, formatter_class=argparse.RawDescriptionHelpFormatter)
     parser.add_argument("script")
     parser.add_argument("record")
     parser.add_argument("--markers", type=int, default=0)

@@ -726,7 +726,7 @@ def options_of(words):
 
 
 def main():
-    parser = argparse.ArgumentParser(description="Draws a heap script from a seed, and prints it.")
+    parser = argparse.ArgumentParser(description=__doc__, formatter_class=argparse.RawDescriptionHelpFormatter)
     parser.add_argument("seed", type=int)
     add_options(parser)
     words = parser.parse_args()

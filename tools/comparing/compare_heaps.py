@@ -194,7 +194,7 @@ def compare(words, counts):
 
 
 def main():
-    parser = argparse.ArgumentParser(description="Compares a heap program with the plain heap on drawn scripts.")
+    parser = argparse.ArgumentParser(description=__doc__, formatter_class=argparse.RawDescriptionHelpFormatter)
     parser.add_argument("program", nargs="?", default=PROGRAM, help="the program (crates/g1heap/out/g1heap)")
     parser.add_argument("first", nargs="?", type=int, default=0, metavar="FIRST_SEED", help="the first seed (0)")
     parser.add_argument("count", nargs="?", type=int, default=50000, metavar="COUNT", help="how many scripts (50000)")

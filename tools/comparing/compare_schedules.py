@@ -79,7 +79,7 @@ def expected(plain, folder, script, turns):
 
 
 def main():
-    parser = argparse.ArgumentParser(description="Compares `sim` with the plain heap on drawn scripts and schedules.")
+    parser = argparse.ArgumentParser(description=__doc__, formatter_class=argparse.RawDescriptionHelpFormatter)
     parser.add_argument("program", nargs="?", default=PROGRAM, help="the program (crates/g1heap/out/g1heap)")
     parser.add_argument("first", nargs="?", type=int, default=0, metavar="FIRST_SEED", help="the first seed (0)")
     parser.add_argument("count", nargs="?", type=int, default=2000, metavar="COUNT", help="how many scripts (2000)")

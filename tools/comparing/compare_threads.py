@@ -114,7 +114,7 @@ def keep(what, fault, script, record):
 
 
 def main():
-    parser = argparse.ArgumentParser(description="Judges many runs in threads.")
+    parser = argparse.ArgumentParser(description=__doc__, formatter_class=argparse.RawDescriptionHelpFormatter)
     parser.add_argument("program", nargs="?", default=PROGRAM, help="the program (crates/g1heap/out/g1heap)")
     parser.add_argument("first", nargs="?", type=int, default=0, metavar="FIRST_SEED", help="the first seed (0)")
     parser.add_argument("count", nargs="?", type=int, default=1000, metavar="COUNT", help="how many runs (1000)")

@@ -74,7 +74,7 @@ class Script:
 
 
 def main():
-    parser = argparse.ArgumentParser(description=__doc__.splitlines()[0])
+    parser = argparse.ArgumentParser(description=__doc__, formatter_class=argparse.RawDescriptionHelpFormatter)
     parser.add_argument("--regions", type=int, default=64)
     parser.add_argument("--words", type=int, default=512)
     parser.add_argument("--buffer", type=int, default=64)

@@ -68,7 +68,7 @@ def ratio(one, other):
 
 
 def main():
-    parser = argparse.ArgumentParser(description="Measures a heap program against the plain heap.")
+    parser = argparse.ArgumentParser(description=__doc__, formatter_class=argparse.RawDescriptionHelpFormatter)
     parser.add_argument("program", nargs="?", default=PROGRAM, help="the program (crates/g1heap/out/g1heap)")
     parser.add_argument("--runs", type=int, default=5, help="runs of each script (5)")
     parser.add_argument("--actors", action="store_true", help="the subcommands against one another")

@@ -71,7 +71,7 @@ def used(words, source=None):
 
 
 def main():
-    parser = argparse.ArgumentParser(description="Measures check --follow beside check.")
+    parser = argparse.ArgumentParser(description=__doc__, formatter_class=argparse.RawDescriptionHelpFormatter)
     parser.add_argument("program", nargs="?", default=PROGRAM, help="the program (crates/g1heap/out/g1heap)")
     parser.add_argument("--runs", type=int, default=3, help="runs of each record (3)")
     parser.add_argument("--events", type=int, default=10000000, help="events of a record (10000000)")

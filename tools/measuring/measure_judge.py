@@ -29,7 +29,7 @@ def used(program, verb, file):
 
 
 def main():
-    parser = argparse.ArgumentParser(description="Measures a heap program's judge beside its runs.")
+    parser = argparse.ArgumentParser(description=__doc__, formatter_class=argparse.RawDescriptionHelpFormatter)
     parser.add_argument("program", nargs="?", default=PROGRAM, help="the program (crates/g1heap/out/g1heap)")
     parser.add_argument("--runs", type=int, default=5, help="runs of each script (5)")
     parser.add_argument("--only", nargs="+", choices=cost_scripts.SCRIPTS, metavar="SCRIPT", help="these scripts alone")

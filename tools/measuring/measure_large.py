@@ -293,7 +293,7 @@ def measure_scripts(folder, words):
 
 
 def main():
-    parser = argparse.ArgumentParser(description="Measures a heap program on the largest heaps.")
+    parser = argparse.ArgumentParser(description=__doc__, formatter_class=argparse.RawDescriptionHelpFormatter)
     parser.add_argument("program", nargs="?", default=PROGRAM)
     parser.add_argument("--runs", type=int, default=3, help="of which the best counts (3)")
     parser.add_argument("--plain", action="store_true", help="measure the plain heap too")
