@@ -1,4 +1,4 @@
-// Every call of include/g1heap.h over the plain heap. It stands in for lib/libg1heap.a where the two are compared, and where the proved one
+// Every call of include/g1heap.h over the plain heap, those that do a step or tell a number by plain_calls.h, which is made of that header. It stands in for lib/libg1heap.a where the two are compared, and where the proved one
 // isn't built yet.
 //
 //   g++ -O2 -std=c++17 -Iinclude -c plain/plain_library.cpp -o plain_library.o
@@ -30,10 +30,14 @@ public:
     Number globals() const { return sizes_.globals; }
     Number registers() const { return sizes_.registers; }
     Number free_regions() const { return free_count_; }
-    bool is_marking() const { return marking_; }
-    bool has_grey() { return marking_ && held_ != plain::nowhere; }
+    bool marking() const { return marking_; }
+    bool grey() const { return marking_ && held_ != plain::nowhere; }
     Number queued() const { return queue_count_; }
     plain::Reply name(Number mutator, Number number) const { return named(root(mutator, number)); }
+    plain::Reply new_object(Number mutator, Number to, Number pointers, Number values) { return make(mutator, to, pointers, 0, values); }
+    plain::Reply new_weak(Number mutator, Number to, Number pointers, Number weaks, Number values) {
+        return make(mutator, to, pointers, weaks, values);
+    }
     const plain::Sizes& sizes() const { return sizes_; }
     bool has_name() const { return next_name_ != ~Word(0); }
 
@@ -154,6 +158,8 @@ policy_of policy_for(g1_heap* heap, g1_policy* policy, const g1_sizes& sizes) {
 
 extern "C" {
 
+#include "plain_calls.h"
+
 std::uint32_t g1_new(g1_heap* heap, const g1_sizes* sizes) {
     if (heap->live) return G1_HEAP_LIVE;
     if (std::uint32_t fault = size_fault(*sizes)) return fault;
@@ -171,34 +177,6 @@ std::uint32_t g1_new(g1_heap* heap, const g1_sizes* sizes) {
 void g1_free(g1_heap* heap) {
     if (heap->live) delete &in(heap);
     *heap = G1_HEAP_NONE;
-}
-
-g1_answer g1_new_object(g1_heap* heap, std::uint32_t mutator, std::uint32_t to, std::uint32_t pointers, std::uint32_t values) {
-    return mutate(heap, mutator, to, to, [=](Heap& plain) { return plain.make(mutator, to, pointers, 0, values); });
-}
-
-g1_answer g1_new_weak(g1_heap* heap, std::uint32_t mutator, std::uint32_t to, std::uint32_t pointers, std::uint32_t weaks,
-                      std::uint32_t values) {
-    if (heap->live && weaks > largest_weaks) return answer(G1_NO_STEP);
-    return mutate(heap, mutator, to, to, [=](Heap& plain) { return plain.make(mutator, to, pointers, weaks, values); });
-}
-
-g1_answer g1_get(g1_heap* heap, std::uint32_t mutator, std::uint32_t to, std::uint32_t object, std::uint32_t field) {
-    return mutate(heap, mutator, to, object, [=](Heap& plain) { return plain.get(mutator, to, object, field); });
-}
-
-g1_answer g1_put(g1_heap* heap, std::uint32_t mutator, std::uint32_t object, std::uint32_t field, std::uint32_t from) {
-    if (from == G1_NIL_REGISTER)
-        return mutate(heap, mutator, object, object, [=](Heap& plain) { return plain.put_nil(mutator, object, field); });
-    return mutate(heap, mutator, object, from, [=](Heap& plain) { return plain.put(mutator, object, field, from); });
-}
-
-g1_answer g1_read(g1_heap* heap, std::uint32_t mutator, std::uint32_t object, std::uint32_t field) {
-    return mutate(heap, mutator, object, object, [=](Heap& plain) { return plain.read(mutator, object, field); });
-}
-
-g1_answer g1_write(g1_heap* heap, std::uint32_t mutator, std::uint32_t object, std::uint32_t field, std::uint64_t value) {
-    return mutate(heap, mutator, object, object, [=](Heap& plain) { return plain.write(mutator, object, field, value); });
 }
 
 // Whether an object has so many data words from one on: G1_DONE, or why it hasn't.
@@ -245,110 +223,10 @@ g1_answer g1_new_filled(g1_heap* heap, std::uint32_t mutator, std::uint32_t to, 
     return filled(g1_new_object(heap, mutator, to, Number(pointers), Number(values)), heap, mutator, to, from, pointers, words, values);
 }
 
-g1_answer g1_move(g1_heap* heap, std::uint32_t mutator, std::uint32_t to, std::uint32_t from) {
-    return mutate(heap, mutator, to, from, [=](Heap& plain) { return plain.move(mutator, to, from); });
-}
-
-g1_answer g1_drop(g1_heap* heap, std::uint32_t mutator, std::uint32_t to) {
-    return mutate(heap, mutator, to, to, [=](Heap& plain) { return plain.drop(mutator, to); });
-}
-
-g1_answer g1_load(g1_heap* heap, std::uint32_t mutator, std::uint32_t to, std::uint32_t global) {
-    if (heap->live && !in(heap).has_global(global)) return answer(G1_NO_STEP);
-    return mutate(heap, mutator, to, to, [=](Heap& plain) { return plain.load(mutator, to, global); });
-}
-
-g1_answer g1_save(g1_heap* heap, std::uint32_t mutator, std::uint32_t global, std::uint32_t from) {
-    if (heap->live && !in(heap).has_global(global)) return answer(G1_NO_STEP);
-    return mutate(heap, mutator, from, from, [=](Heap& plain) { return plain.save(mutator, global, from); });
-}
-
-g1_answer g1_shape(g1_heap* heap, std::uint32_t mutator, std::uint32_t object) {
-    return mutate(heap, mutator, object, object, [=](Heap& plain) { return plain.shape(mutator, object); });
-}
-
-g1_answer g1_get_weak(g1_heap* heap, std::uint32_t mutator, std::uint32_t to, std::uint32_t object, std::uint32_t slot) {
-    return mutate(heap, mutator, to, object, [=](Heap& plain) { return plain.get_weak(mutator, to, object, slot); });
-}
-
-g1_answer g1_put_weak(g1_heap* heap, std::uint32_t mutator, std::uint32_t object, std::uint32_t slot, std::uint32_t from) {
-    if (from == G1_NIL_REGISTER)
-        return mutate(heap, mutator, object, object, [=](Heap& plain) { return plain.put_weak_nil(mutator, object, slot); });
-    return mutate(heap, mutator, object, from, [=](Heap& plain) { return plain.put_weak(mutator, object, slot, from); });
-}
-
-g1_answer g1_weaks(g1_heap* heap, std::uint32_t mutator, std::uint32_t object) {
-    return mutate(heap, mutator, object, object, [=](Heap& plain) { return plain.weaks(mutator, object); });
-}
-
-g1_answer g1_scope(g1_heap* heap, std::uint32_t mutator, std::uint32_t first) {
-    return mutate(heap, mutator, first, first, [=](Heap& plain) { return plain.scope(mutator, first); });
-}
-
-g1_answer g1_begin(g1_heap* heap) {
-    return collect(heap, [](Heap& plain) { return plain.begin(); });
-}
-
 g1_answer g1_mark(g1_heap* heap, std::uint32_t objects) {
     g1_answer marked = collect(heap, [=](Heap& plain) { return plain.mark(objects); });
     if (marked.code == G1_DONE) marked.code = G1_SCANNED;
     return marked;
-}
-
-g1_answer g1_remark(g1_heap* heap) {
-    return collect(heap, [](Heap& plain) { return plain.remark(); });
-}
-
-g1_answer g1_cleanup(g1_heap* heap) {
-    return collect(heap, [](Heap& plain) { return plain.cleanup(); });
-}
-
-g1_answer g1_refine(g1_heap* heap, std::uint32_t cards) {
-    return collect(heap, [=](Heap& plain) { return plain.refine(cards); });
-}
-
-g1_answer g1_pause(g1_heap* heap, std::uint32_t words) {
-    return collect(heap, [=](Heap& plain) { return plain.pause(words); });
-}
-
-g1_answer g1_compact(g1_heap* heap, std::uint32_t words) {
-    return collect(heap, [=](Heap& plain) { return plain.compact(words); });
-}
-
-g1_answer g1_free_regions(const g1_heap* heap) {
-    return number(heap, [](const Heap& plain) { return plain.free_regions(); });
-}
-
-g1_answer g1_free_run(const g1_heap* heap) {
-    return number(heap, [](const Heap& plain) { return plain.free_run(); });
-}
-
-g1_answer g1_used_words(const g1_heap* heap) {
-    return number(heap, [](const Heap& plain) { return plain.used_words(); });
-}
-
-g1_answer g1_live_words(const g1_heap* heap) {
-    return number(heap, [](const Heap& plain) { return plain.live_words(); });
-}
-
-g1_answer g1_marking(const g1_heap* heap) {
-    return number(heap, [](const Heap& plain) { return plain.is_marking(); });
-}
-
-g1_answer g1_grey(const g1_heap* heap) {
-    return number(heap, [](Heap& plain) { return plain.has_grey(); });
-}
-
-g1_answer g1_queued(const g1_heap* heap) {
-    return number(heap, [](const Heap& plain) { return plain.queued(); });
-}
-
-g1_answer g1_globals(const g1_heap* heap) {
-    return number(heap, [](const Heap& plain) { return plain.globals(); });
-}
-
-g1_answer g1_registers(const g1_heap* heap) {
-    return number(heap, [](const Heap& plain) { return plain.registers(); });
 }
 
 g1_answer g1_name(const g1_heap* heap, std::uint32_t mutator, std::uint32_t of) {

@@ -3,6 +3,8 @@
 
 mod base;
 mod bulk;
+#[macro_use]
+mod calls;
 mod frame;
 mod heap;
 mod layout;

@@ -1,112 +1,7 @@
-//! The declarations of `src/sys.rs` against `include/g1heap.h`, where this crate is in a checkout.
+//! What the crate says of limits against `include/g1heap.h`, where this crate is in a checkout. Its declarations are made of that file, and
+//! `tools/write_calls --check` says whether they are.
 use g1heap::{BadSizes, Error};
 use std::fs;
-
-fn texts() -> Option<(String, String)> {
-    let here = env!("CARGO_MANIFEST_DIR");
-    let header = fs::read_to_string(format!("{here}/../../include/g1heap.h"));
-    let sys = fs::read_to_string(format!("{here}/src/sys.rs")).expect("src/sys.rs");
-    header.map(|header| (header, sys)).map_err(|_| eprintln!("there is no header: nothing is compared")).ok()
-}
-fn squeezed(text: &str) -> String {
-    text.split_whitespace().collect::<Vec<_>>().join(" ").replace("( ", "(").replace(", )", ")")
-}
-/// A declaration of C, in Rust.
-fn in_rust(name: &str, parameters: &str, result: &str) -> String {
-    let parameter = |it: &str| {
-        let (kind, name) = it.rsplit_once([' ', '*']).expect("a type and a name");
-        let base = kind.replace("const", "").replace('*', "");
-        let base = base.trim().replace("uint32_t", "u32").replace("uint64_t", "u64").replace("size_t", "usize");
-        let is_pointer = it.contains('*') || name.ends_with("[]");
-        let pointer = match (is_pointer, it.contains("const")) {
-            (false, _) => "",
-            (true, true) => "*const ",
-            (true, false) => "*mut ",
-        };
-        let name = name.trim_end_matches("[]");
-        format!("{}{name}: {pointer}{base}", if name == "in" { "r#" } else { "" })
-    };
-    let all = parameters.split(", ").map(parameter).collect::<Vec<_>>().join(", ");
-    let result = match result {
-        "void" => String::new(),
-        "uint32_t" => " -> u32".into(),
-        other => format!(" -> {other}"),
-    };
-    format!("fn {name}({all}){result};")
-}
-
-#[test]
-fn each_call_is_declared_as_in_the_header() {
-    let (header, sys) = match texts() {
-        Some(both) => both,
-        None => return,
-    };
-    let (header, sys) = (squeezed(&header), squeezed(&sys));
-    let mut calls = 0;
-    for (at, _) in sys.match_indices("fn g1_") {
-        let declared = &sys[at..at + sys[at..].find(';').expect("its end") + 1];
-        let name = &declared[3..declared.find('(').expect("its parameters")];
-        if name == "g1_record" {
-            continue; // of another header
-        }
-        let found = header.match_indices(&format!(" {name}(")).map(|it| it.0).find(|at| {
-            let before = header[..*at].rsplit([';', '/', '{']).next().expect("a result");
-            ["g1_answer", "uint32_t", "void"].contains(&before.trim())
-        });
-        let from = found.unwrap_or_else(|| panic!("the header has no {name}"));
-        let result = header[..from].rsplit(' ').next().expect("a result");
-        let end = from + header[from..].find(')').expect("its end");
-        assert_eq!(declared, in_rust(name, &header[from + name.len() + 2..end], result));
-        calls += 1;
-    }
-    assert!(calls >= 37, "{}", calls);
-}
-
-#[test]
-fn each_struct_has_the_fields_of_the_header() {
-    let (header, sys) = match texts() {
-        Some(both) => both,
-        None => return,
-    };
-    for name in ["g1_heap", "g1_sizes", "g1_answer", "g1_policy"] {
-        let body = |text: &str, open: &str| {
-            let from = text.find(open).unwrap_or_else(|| panic!("there is no {open}")) + open.len();
-            text[from..from + text[from..].find('}').expect("its end")].to_string()
-        };
-        let c = body(&header, &format!("typedef struct {name} {{"));
-        let c = c.split("/*").enumerate().map(|(i, it)| if i == 0 { it } else { it.split_once("*/").expect("a comment's end").1 });
-        let mut fields = Vec::new();
-        for field in c.collect::<String>().split(';').map(str::trim).filter(|it| !it.is_empty()) {
-            let (kind, names) = field.split_once(' ').expect("a type and names");
-            let kind = match kind {
-                "uint32_t" => "u32",
-                "uint64_t" => "u64",
-                "void" => "*mut c_void",
-                other => other,
-            };
-            fields.extend(names.split(',').map(|it| format!("{}: {kind}", it.trim().trim_start_matches('*'))));
-        }
-        let rust = body(&sys, &format!("pub struct {name} {{"));
-        let rust: Vec<_> = rust.split(',').map(|it| it.trim().trim_start_matches("pub ").to_string()).filter(|it| !it.is_empty()).collect();
-        assert_eq!(rust, fields, "{name}");
-    }
-}
-
-#[test]
-fn each_code_is_that_of_the_header() {
-    let (header, sys) = match texts() {
-        Some(both) => both,
-        None => return,
-    };
-    let mut codes = 0;
-    for line in sys.lines().filter(|it| it.starts_with("pub const ") && !it.contains("MAX")) {
-        let (name, number) = line["pub const ".len()..].trim_end_matches(';').split_once(": u32 = ").expect("a number");
-        let c = format!("G1_{name} = {number}");
-        assert!(header.match_indices(&c).any(|(at, _)| !header[at + c.len()..].starts_with(|it: char| it.is_ascii_digit())), "{c}");
-        codes += 1;
-    }
-    assert!(codes >= 18, "{}", codes);
-}
 
 /// A limit of the header, as a text names it.
 fn limit(header: &str, name: &str) -> String {
@@ -126,11 +21,12 @@ fn document(source: &str, line: &str) -> String {
 
 #[test]
 fn each_limit_is_that_of_the_header() {
-    let header = match texts() {
-        Some((header, _)) => header,
-        None => return,
+    let here = env!("CARGO_MANIFEST_DIR");
+    let header = match fs::read_to_string(format!("{here}/../../include/g1heap.h")) {
+        Ok(header) => header,
+        Err(_) => return eprintln!("there is no header: nothing is compared"),
     };
-    let source = fs::read_to_string(format!("{}/src/heap.rs", env!("CARGO_MANIFEST_DIR"))).expect("src/heap.rs");
+    let source = fs::read_to_string(format!("{here}/src/heap.rs")).expect("src/heap.rs");
     let told: [(&str, Option<String>, &[&str]); 12] = [
         ("TooBig", Some(Error::TooBig.to_string()), &["OBJECT_WORDS", "WEAKS"]),
         ("Regions", Some(BadSizes::Regions.to_string()), &["REGIONS"]),
