@@ -10,27 +10,14 @@ below the counts given: a marker's step is `mark 4`, a refiner's `refine 2`. Pri
 import argparse
 import re
 import sys
+from pathlib import Path
 
-LARGEST = 2 ** 64 - 1
-FORMS = {
-    "begin": r"ok|refused 6 MarkRunning",
-    "mark": r"ok|refused 7 NotMarking",
-    "remark": r"marked \d+|refused 7 NotMarking",
-    "cleanup": r"reclaimed \d+|refused 6 MarkRunning",
-    "refine": r"refined \d+",
-    "pause": r"moved \d+ \d+",
-    "compact": r"moved \d+ \d+",
-}
-# The same for a reader.
-GIVEN = {
-    "begin": "ok or refused 6 MarkRunning",
-    "mark": "ok or refused 7 NotMarking",
-    "remark": "marked N or refused 7 NotMarking",
-    "cleanup": "reclaimed N or refused 6 MarkRunning",
-    "refine": "refined N",
-    "pause": "moved N W",
-    "compact": "moved N W",
-}
+sys.dont_write_bytecode = True
+sys.path.append(str(Path(__file__).resolve().parent.parent))
+from plain import verbs  # noqa: E402
+
+# The replies that a step of the collector may have, as a pattern.
+FORMS = {step.verb: "|".join(map(verbs.pattern_of, step.replies())) for step in verbs.COLLECTOR}
 
 
 class Told(str):
@@ -86,7 +73,7 @@ class Graph:
     def given(self, actor, words, reply):
         """What may come in place of a reply with which an event may not come now. The graph is of no use after it."""
         if not actor.isdigit():
-            return GIVEN[words[0]]
+            return " or ".join(next(step.replies() for step in verbs.COLLECTOR if step.verb == words[0]))
         told = Told(reply)
         self.allows(actor, words, told)
         makes = words[0] in ("new", "newweak") and told.given.startswith("#")
@@ -109,7 +96,7 @@ class Graph:
         pointers, weaks, data = int(pointers), int(weaks), int(data)
         if 2 + pointers + weaks + data > self.limit:
             return reply == "refused 4 TooBig"
-        if self.next == LARGEST:
+        if self.next == verbs.LARGEST:
             return reply == "refused 5 NamesSpent"
         if reply == "refused 3 Full":
             return True

@@ -1,30 +1,21 @@
 """Reads a record's text by the rules of docs/TEXTS.md: its lines, or its first fault."""
 import re
 
+from plain import verbs
+
 NUMBER = r"(0|[1-9][0-9]*)"
-SMALL, LARGE = 2 ** 32 - 1, 2 ** 64 - 1
-# The largest numbers of a form: N has 32 bits, L 64, W is a count of weak slots.
-LIMITS = {"N": SMALL, "L": LARGE, "W": 255}
+SMALL, LARGE = verbs.LIMITS["N"], verbs.LIMITS["L"]
 
 
 def form_of(text):
-    """A form as a pattern, and the letters of its numbers: R and G stand for a register and a global, the others for numbers."""
-    pattern = re.sub("[NLWRG]", lambda found: {"R": "r", "G": "g"}.get(found[0], "") + NUMBER, text)
-    return re.compile(pattern.encode()), re.findall("[NLWRG]", text)
+    """A form as a pattern, and the kinds of its numbers."""
+    return re.compile(verbs.pattern_of(text, NUMBER).encode()), re.findall(r"\b[A-Z]\b", text)
 
 
 HEAPS = [form_of(text) for text in ("heap N N N N L", "heap2 N N N N L N", "heap3 N N N N L N N N")]
-MUTATOR_TEXTS = (
-    "new R N N", "get R R N", "put R N (?:R|nil)", "read R N", "write R N L", "move R R", "drop R", "load R G", "save G R", "shape R",
-    "newweak R N W N", "getweak R R N", "putweak R N (?:R|nil)", "weaks R")
-COLLECTOR_TEXTS = ("begin", "mark N", "remark", "cleanup", "refine N", "pause N")
-MUTATOR = [form_of(text) for text in MUTATOR_TEXTS]
-THIRD_MUTATOR = MUTATOR + [form_of("scope R")]
-MARK, REFINE = form_of("mark N"), form_of("refine N")
-COLLECTOR = [form_of(text) for text in COLLECTOR_TEXTS]
-THIRD_COLLECTOR = COLLECTOR + [form_of("compact N")]
-WORDS = re.compile(rb"ok|nil|refused (?:1 Nil|2 NoField|3 Full|4 TooBig|5 NamesSpent|6 MarkRunning|7 NotMarking)")
-REPLIES = [(WORDS, [])] + [form_of(text) for text in ("#L", "L", "N N", "marked N", "reclaimed N", "refined N", "moved N N")]
+FORMS = {(actor, third): [form_of(step.form()) for step in verbs.steps_of(actor, third)]
+         for actor in ("gc", "m", "f", "mutator") for third in (False, True)}
+REPLIES = [form_of(text) for text in sorted({reply for step in verbs.MUTATOR + verbs.COLLECTOR for reply in step.replies()})]
 
 
 def numbers_of(text, form, limits):
@@ -51,29 +42,23 @@ class Sizes:
     def __init__(self, third, regions, words, buffer, mutators, first, card=None, globals=16, registers=8):
         self.third, self.regions, self.words, self.buffer, self.mutators, self.card = third, regions, words, buffer, mutators, card
         self.globals, self.registers = globals, registers
-        self.limits = {**LIMITS, "R": registers - 1, "G": globals - 1}
+        self.limits = {**verbs.LIMITS, "R": registers - 1, "S": registers - 1, "G": globals - 1}
 
 
 def sizes_of(line):
     """The sizes that a heap line tells, or None where it is none."""
     for form in HEAPS:
-        numbers = numbers_of(line, form, LIMITS)
+        numbers = numbers_of(line, form, verbs.LIMITS)
         if numbers is not None:
             return Sizes(form is HEAPS[2], *numbers)
     return None
 
 
-def steps_of(actor, sizes):
-    """The forms of an actor's steps, or None where the word is no actor."""
-    if actor == b"gc":
-        return THIRD_COLLECTOR if sizes.third else COLLECTOR
-    if re.fullmatch(rb"m[0-7]", actor):
-        return [MARK]
-    if re.fullmatch(rb"f[0-7]", actor):
-        return [REFINE]
-    if not is_number(actor, SMALL) or int(actor) >= sizes.mutators:
-        return None
-    return THIRD_MUTATOR if sizes.third else MUTATOR
+def kind_of(actor, sizes):
+    """Whose steps an actor takes, or None where the word is no actor."""
+    if actor == b"gc" or re.fullmatch(rb"[mf][0-7]", actor):
+        return "gc" if actor == b"gc" else chr(actor[0])
+    return "mutator" if is_number(actor, SMALL) and int(actor) < sizes.mutators else None
 
 
 def event_fault(line, count, sizes):
@@ -81,11 +66,11 @@ def event_fault(line, count, sizes):
     number, *rest = line.split(b" ")
     if not is_number(number, LARGE) or int(number) != count:
         return "6 BadCount"
-    forms = steps_of(rest[0], sizes) if rest else None
-    if forms is None:
+    kind = kind_of(rest[0], sizes) if rest else None
+    if kind is None:
         return "4 BadActor"
     step, equals, reply = line[len(number) + 1 + len(rest[0]):].partition(b" = ")
-    if not step.startswith(b" ") or not has_form(step[1:], forms, sizes.limits):
+    if not step.startswith(b" ") or not has_form(step[1:], FORMS[kind, sizes.third], sizes.limits):
         return "5 BadStep"
     return None if equals and has_form(reply, REPLIES, sizes.limits) else "7 BadReply"
 
@@ -137,30 +122,8 @@ def read(text):
 
 # What a line with a fault lacks, as `check --explain` says it.
 
-VERBS = "new, newweak, get, getweak, put, putweak, read, write, move, drop, load, save, shape or weaks"
-THIRD_VERBS = VERBS.replace("shape", "scope, shape")
-COLLECTOR_VERBS = "begin, mark, remark, cleanup, refine or pause"
-THIRD_COLLECTOR_VERBS = "begin, mark, remark, cleanup, refine, pause or compact"
 SIZES = ["REGIONS", "WORDS", "BUFFER", "MUTATORS", "FIRST", "CARD", "GLOBALS", "REGISTERS"]
 HEAP_WORDS = {b"heap": 5, b"heap2": 6, b"heap3": 8}
-
-
-def places_of(texts):
-    """The forms of the words after each verb."""
-    return {words[0].encode(): words[1:] for words in (text.split(" ") for text in texts)}
-
-
-def verbs_of(actor, sizes):
-    """The verbs of an actor with the forms of the words after them, and what tells them to a reader."""
-    if actor == b"gc":
-        third = ["compact N"] if sizes.third else []
-        return places_of([*COLLECTOR_TEXTS, *third]), THIRD_COLLECTOR_VERBS if sizes.third else COLLECTOR_VERBS
-    if actor[:1] == b"m":
-        return places_of(["mark N"]), "mark"
-    if actor[:1] == b"f":
-        return places_of(["refine N"]), "refine"
-    third = ["scope R"] if sizes.third else []
-    return places_of([*MUTATOR_TEXTS, *third]), THIRD_VERBS if sizes.third else VERBS
 
 
 def stop_of(line, count, sizes):
@@ -168,18 +131,19 @@ def stop_of(line, count, sizes):
     words = line.split(b" ")
     if not is_number(words[0], LARGE) or int(words[0]) != count:
         return 1, f"the count {count}"
-    if len(words) < 2 or steps_of(words[1], sizes) is None:
+    kind = kind_of(words[1], sizes) if len(words) > 1 else None
+    if kind is None:
         return 2, f"gc, m0 to m7, f0 to f7, or a mutator below {sizes.mutators}"
-    verbs, told = verbs_of(words[1], sizes)
-    if len(words) < 3 or words[2] not in verbs:
-        return 3, told
-    texts = {"R": f"a register below r{sizes.limits['R'] + 1}", "G": f"a global below g{sizes.limits['G'] + 1}",
-             "(?:R|nil)": f"nil or a register below r{sizes.limits['R'] + 1}", "N": f"a number up to {SMALL}",
-             "L": f"a number up to {LARGE}", "W": "a number up to 255"}
+    steps = verbs.steps_of(kind, sizes.third)
+    found = [step for step in steps if words[2:3] == [step.verb.encode()]]
+    if not found:
+        return 3, verbs.told(steps)
+    register = f"a register below r{sizes.limits['R'] + 1}"
+    texts = {"R": register, "G": f"a global below g{sizes.limits['G'] + 1}", "S": f"nil or {register}"}
     place = 3
-    for form in verbs[words[2]]:
+    for form in found[0].words.split():
         if len(words) <= place or numbers_of(words[place], form_of(form), sizes.limits) is None:
-            return place + 1, texts[form]
+            return place + 1, texts.get(form) or f"a number up to {sizes.limits[form]}"
         place += 1
     if len(words) <= place or words[place] != b"=":
         return place + 1, "= and a reply"
@@ -201,8 +165,8 @@ def heap_stop_of(line):
 def is_script_line(line, sizes):
     """Whether a line is a step of a script of these sizes."""
     actor, _, step = line.partition(b" ")
-    forms = None if actor[:1] in b"mf" else steps_of(actor, sizes)
-    return forms is not None and has_form(step, forms, sizes.limits)
+    kind = None if actor[:1] in b"mf" else kind_of(actor, sizes)
+    return kind is not None and has_form(step, FORMS[kind, sizes.third], sizes.limits)
 
 
 def mistake_of(text, line, number, kind, sizes):

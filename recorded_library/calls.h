@@ -45,6 +45,10 @@ g1_answer g1_make_filled_noted(g1_heap *heap, g1_policy *policy, uint32_t mutato
 g1_answer g1_collect_noted(g1_heap *heap, g1_policy *policy, entry *entries, size_t room, uint32_t *count);
 g1_answer g1_collect_all_noted(g1_heap *heap, g1_policy *policy, entry *entries, size_t room, uint32_t *count);
 
+/* The lines of the collector's steps, by the numbers of entries. */
+static const char *const collector_forms[] = {"gc begin", "gc mark %", "gc remark", "gc cleanup", "gc refine %", "gc pause %",
+                                              "gc compact %"};
+
 g1_answer g1_new_object(g1_heap *heap, uint32_t mutator, uint32_t to, uint32_t pointers, uint32_t values)
 {
     box *in = box_of(heap);

@@ -8,8 +8,8 @@
 
 #include "g1heap_record.h"
 
-/* A step that a call of the policy took: 0 begin, 1 mark, 2 remark, 3 cleanup, 4 refine, 5 pause, 6 compact, each with its number, and 7
-   the mutator's own. The library writes as many of the first ones as there is room for, and counts all. */
+/* A step that a call of the policy took: one of the collector's, counted from 0 in the header's order, with its number; or, by the number
+   after these, the mutator's own. The library writes as many of the first ones as there is room for, and counts all. */
 typedef struct entry {
     uint32_t step, number;
     g1_answer answer;
@@ -237,11 +237,10 @@ g1_answer g1_write_words(g1_heap *heap, uint32_t mutator, uint32_t object, uint3
 /* Notes the steps of the collector that a call of the policy took. Answers whether the mutator's own step was the last. */
 static int note_all(box *in, uint32_t count)
 {
-    static const char *const forms[] = {"gc begin", "gc mark %", "gc remark", "gc cleanup", "gc refine %", "gc pause %", "gc compact %"};
     for (uint32_t i = 0; i < count && i < in->room; i++) {
         const entry *of = &in->entries[i];
-        if (of->step >= sizeof forms / sizeof *forms) return 1;
-        note(in, of->answer, forms[of->step], (uint64_t[]){of->number});
+        if (of->step >= sizeof collector_forms / sizeof *collector_forms) return 1;
+        note(in, of->answer, collector_forms[of->step], (uint64_t[]){of->number});
     }
     return 0;
 }

@@ -26,7 +26,7 @@ CHUNK = 50
 AT_ONCE = 5
 ENOUGH = 10
 SLOT_LINE = re.compile(rb"^\d+ \d+ getweak [ \w]+ = (nil|#)", re.M)
-COLLECTOR_LINE = re.compile(rb"^\d+ gc (begin|remark|cleanup|refine|pause|compact)[ \d]* = (\w+)(?: (\d+))?(?: (\d+))?$", re.M)
+COLLECTOR_LINE = re.compile(rb"^\d+ gc (\w+)[ \d]* = (\w+)(?: (\d+))?(?: (\d+))?$", re.M)
 
 
 # The programs that this process started and hasn't waited for.
@@ -109,7 +109,7 @@ def tally(record):
             counts["compactions"] += 1
             counts["compacted"] += int(first)
             counts["compacted_words"] += int(second)
-        else:
+        elif step == b"pause":
             counts["pauses"] += 1
             counts["paused"] += int(first)
             if second != b"0":

@@ -6,6 +6,8 @@ import re
 import urllib.parse
 from pathlib import Path
 
+from plain import verbs
+
 TOP = Path(__file__).resolve().parents[2]
 MOST_CARDS, MOST_ROOTS, MOST_FIELDS, MOST_TILES = 512, 64, 16, 400
 TOLD_WORDS, TOLD_BYTES, TOLD_EVENTS = 65536, 8_000_000, 100_000
@@ -120,7 +122,8 @@ def is_collectors(line):
 
 
 def is_small(line):
-    return line.split()[2] in ("mark", "refine")
+    """Whether a step of the collector is one that background actors take too."""
+    return line.split()[2] in [it.verb for it in verbs.COLLECTOR if it.background]
 
 
 def due_events(record, pace):
