@@ -2,6 +2,8 @@
 use Rattle.std.specs.Prelude.{◌≡◌, ◌≢◌, ◌⊎◌, ◌≤◌, ◌<◌, ◌+◌, ◌*◌, ◌/◌, if◌then◌else◌}
 use Rattle.std.specs.Prelude.{ℕ, zero, suc, Bool, true, false, List, Option, Some, None, length, slice_get}
 use Rattle.heap_model.specs.Heap.{Stored, fields}
+use Rattle.heap_model.specs.Relocation.{Relocates}
+use Rattle.heap_model.specs.Evacuation.{IsReached, place_after, released}
 use Rattle.regions.specs.Tiles.{Tile, Object, Forwarded, tile_size}
 use Rattle.regions.specs.Table.{Table, EachForwardedIn, HasNoForwarded, is_free, kind_of, moved_to}
 use Rattle.regions.specs.Table.{object_at, nth_region, tile_in, used_of, free_count}
@@ -10,9 +12,12 @@ use Rattle.regions.specs.declared.row.Kind.TheVariants as kinds
 use Rattle.mark_bitmap.specs.Tops.{Tops}
 use Rattle.mark_bitmap.specs.Kept.{MarksObjects, heap_in, kept_in}
 use Rattle.object_copy.specs.Copies.{Places}
-use Rattle.evacuation.specs.Evacuates.{IsSameBut, stored_words}
+use Rattle.evacuation.specs.Evacuates.{AreReachedWords, IsSameBut, stored_words}
 use Rattle.refinement.specs.Remembering.{field_word}
-use Rattle.evacuation.specs.Space.{Layout, Plan, Space, IsAfter, IsCopying, IsPlan, IsSettled, IsTaken, flag, set_of}
+use Rattle.evacuation.specs.Space.{Layout, Plan, Space, AllVisited, IsAfter, IsCopying, IsPlan, IsSettled, IsTaken, flag, set_of}
+use Rattle.evacuation.specs.declared.room.Context.{Context}
+use Rattle.evacuation.specs.declared.outside.Kept.{Kept}
+use Rattle.evacuation.specs.declared.fields.CardPlace.{CardPlace}
 
 -- the heap at the start, and what was chosen
 pub record Pause : Type 0 where
@@ -111,6 +116,35 @@ After p noted noted' t t' d d' = IsAfter (layout p) noted noted' (space p t) (sp
 abbrev pub EachCard : Pause → List Bool → Type 0
 EachCard p noted = length noted ≡ length p.start.regions * p.cards_per_region
 
+-- The pause stands: its premises hold, the turn is one of it, the flags are its set, its cards have so many words, and each of them can be
+-- noted
+pub record PauseStands (p : Pause) (t : Table) (c : Context) : Type 0 where
+  pub premises : IsPause p
+  pub turn : IsTurn p t c.destinations
+  pub flags : c.chosen.items ≡ p.chosen
+  pub card : c.card_words ≡ p.card_words
+  pub each_card : EachCard p c.noted
+
+-- the pause went on by some turns, and stands
+pub record PauseGoesOn (p : Pause) (t t' : Table) (c c' : Context) : Type 0 where
+  pub stands : PauseStands p t' c'
+  pub after : After p c.noted c'.noted t t' c.destinations c'.destinations
+
+-- the tops at mark start and the marks are those of the start
+pub record AreKept (p : Pause) (kept : Kept) : Type 0 where
+  pub tams : kept.tams.now ≡ p.tams
+  pub marks : kept.marks.now ≡ p.previous
+
+-- a card of the heap, and its region
+pub record IsCardPlace (p : Pause) (place : CardPlace) : Type 0 where
+  pub known : place.card < length p.start.regions * p.cards_per_region
+  pub home : place.card / p.cards_per_region ≡ place.home
+
+-- a flag for each card, and each card that has to be visited is flagged
+pub record AreVisited (p : Pause) (visited : List Bool) : Type 0 where
+  pub each_card : EachCard p visited
+  pub all : AllVisited (layout p) (plan p) visited
+
 -- a field of a kept object was this at the start
 abbrev pub WasField : Pause → ℕ → ℕ → Option ℕ → Type 0
 WasField p b i w = (x : Stored) × ((plan p).heap.kept b ≡ Some x) × (slice_get (fields x) i ≡ Some w)
@@ -125,3 +159,13 @@ pub record AreFieldsNoted (p : Pause) (noted : List Bool) (t : Table) : Type 0 w
 abbrev pub AreFieldsClean : Pause → Table → Type 0
 AreFieldsClean p t =
     (b i a : ℕ) (y : Stored) → kept_now p t b ≡ Some y → in_set p b ≡ false → slice_get (fields y) i ≡ Some (Some a) → in_set p a ≡ false
+
+-- All that is reached of the set is copied, so many words in all, and roots and fields follow; each field outside that leads to another
+-- region is noted or was there, and none names the set
+pub record HasCopied (p : Pause) (t : Table) (c : Context) (roots : List (Option ℕ)) : Type 0 where
+  pub moved : Relocates (place_after (in_set p) (space p t).forward) (plan p).heap
+      (released (in_set p) (record { kept = kept_now p t; roots = roots }))
+  pub reached : (a : ℕ) → IsReached (in_set p) (plan p).heap a → (b : ℕ) × ((space p t).forward a ≡ Some b)
+  pub words : AreReachedWords (in_set p) (plan p).heap c.destinations.words
+  pub noted : AreFieldsNoted p c.noted t
+  pub clean : AreFieldsClean p t

@@ -5,10 +5,12 @@ ghost use Rattle.heap_model.specs.Heap.{Stored};
 ghost use Rattle.regions.specs.Table.{fields_at, tile_in, moved_to};
 ghost use Rattle.refinement.specs.Remembering.{field_word};
 ghost use Rattle.evacuation.specs.Space.{IsField, IsNamed, IsNewWord, IsFieldClean, IsFieldSettled, IsTaken, NotesWord};
-ghost use Rattle.evacuation.specs.Turns.{Pause, IsPause, IsTurn, After, EachCard, in_set, layout, plan, space, kept_now};
+ghost use Rattle.evacuation.specs.Turns.{Pause, IsPause, IsTurn, PauseStands, After, PauseGoesOn, EachCard, IsCardPlace};
+ghost use Rattle.evacuation.specs.Turns.{in_set, layout, plan, space, kept_now};
 
+use crate::room::Context;
 use bit_sets::bounded::BoundedBits;
-use heap_words::addr::{Addr, Ptr, RegionNo};
+use heap_words::addr::{Addr, Ptr};
 use heap_words::powers::quotient;
 use object_copy::{Destinations, copy};
 use regions::RegionTable;
@@ -94,18 +96,25 @@ fn note(table: &RegionTable, noted: &mut BoundedBits, card_words: u32, word: u32
     }
 }
 
-/// The same for a word of a card that is known, as its region is, `home`.
-fn note_card(table: &RegionTable, noted: &mut BoundedBits, card: u32, home: RegionNo, target: Addr)
+/// The numbers of a card, and of the region that it is in.
+#[derive(Clone, Copy)]
+pub(crate) struct CardPlace {
+    pub(crate) card: u32,
+    pub(crate) home: u32,
+}
+
+/// The same for a word of a card that is known.
+fn note_card(table: &RegionTable, noted: &mut BoundedBits, place: CardPlace, target: Addr)
     ghost pause: { Pause }
     requires words { table.now.words_per_region ≡ pause.start.words_per_region }
     requires each_card { EachCard pause noted.old }
-    requires known { card < length pause.start.regions * pause.cards_per_region }
-    ensures notes { (word : ℕ) → word / pause.card_words ≡ card → word / pause.start.words_per_region ≡ home
+    requires place { IsCardPlace pause place }
+    ensures notes { (word : ℕ) → word / pause.card_words ≡ place.card → word / pause.start.words_per_region ≡ place.home
         → NotesWord (layout pause) noted.old noted.new word target }
     ensures each_card { EachCard pause noted.new }
 {
-    if table.region_of(target).number() != home.number() {
-        noted.set(card);
+    if table.region_of(target).number() != place.home {
+        noted.set(place.card);
     }
 }
 
@@ -138,74 +147,51 @@ fn redirect(
 }
 
 /// A field of an object outside the set, which names `target`, names its new place, and its card is noted if it leads into another
-/// region than `home`, the card's own. A field that names nothing of the set stays as it is.
+/// region than the card's own. A field that names nothing of the set stays as it is.
 pub(crate) fn update_field(
     table: &mut RegionTable,
-    destinations: &mut Destinations,
-    set: &[bool],
-    noted: &mut BoundedBits,
-    card: u32,
-    home: RegionNo,
+    context: &mut Context,
+    place: CardPlace,
     at: Addr,
     field: u32,
     target: Addr,
 )
     ghost pause: { Pause }
-    requires premises { IsPause pause }
-    requires turn { IsTurn pause table.old destinations.old }
-    requires flags { set.now ≡ pause.chosen }
-    requires each_card { EachCard pause noted.old }
-    requires known { card < length pause.start.regions * pause.cards_per_region }
-    requires in_card { field_word at field / pause.card_words ≡ card }
-    requires home { field_word at field / pause.start.words_per_region ≡ home }
+    requires stands { PauseStands pause table.old context.old }
+    requires place { IsCardPlace pause place }
+    requires in_card { field_word at field / pause.card_words ≡ place.card }
     requires outside { in_set pause at ≡ false }
     requires field { IsField (space pause table.old) at field }
     requires names { slice_get (fields_at table.old at) field ≡ Some (Some target) }
-    ensures turn { IsTurn pause table.new destinations.new }
-    ensures after { After pause noted.old noted.new table.old table.new destinations.old destinations.new }
-    ensures each_card { EachCard pause noted.new }
+    ensures goes_on { PauseGoesOn pause table.old table.new context.old context.new }
     ensures clean { IsFieldClean (layout pause) (space pause table.new) at field }
 {
-    if !is_inside(table, set, target) {
+    if !is_inside(table, &context.chosen, target) {
         return;
     }
-    let to = redirect(table, destinations, at, field, target);
-    note_card(table, noted, card, home, to);
+    let to = redirect(table, &mut context.destinations, at, field, target);
+    note_card(table, &mut context.noted, place, to);
 }
 
 /// A copied field names the new place of its target, and its card is noted if it leads into another region. Its word is read once.
-pub(crate) fn settle_field(
-    table: &mut RegionTable,
-    destinations: &mut Destinations,
-    set: &[bool],
-    noted: &mut BoundedBits,
-    card_words: u32,
-    at: Addr,
-    field: u32,
-)
+pub(crate) fn settle_field(table: &mut RegionTable, context: &mut Context, at: Addr, field: u32)
     ghost pause: { Pause }
-    requires premises { IsPause pause }
-    requires turn { IsTurn pause table.old destinations.old }
-    requires flags { set.now ≡ pause.chosen }
-    requires card { card_words ≡ pause.card_words }
-    requires each_card { EachCard pause noted.old }
+    requires stands { PauseStands pause table.old context.old }
     requires outside { in_set pause at ≡ false }
     requires field { IsField (space pause table.old) at field }
-    requires taken { IsTaken destinations.old (at / pause.start.words_per_region) }
-    ensures turn { IsTurn pause table.new destinations.new }
-    ensures after { After pause noted.old noted.new table.old table.new destinations.old destinations.new }
-    ensures each_card { EachCard pause noted.new }
-    ensures settled { IsFieldSettled (layout pause) noted.new (space pause table.new) at field }
+    requires taken { IsTaken context.old.destinations (at / pause.start.words_per_region) }
+    ensures goes_on { PauseGoesOn pause table.old table.new context.old context.new }
+    ensures settled { IsFieldSettled (layout pause) context.new.noted (space pause table.new) at field }
 {
     table.law();
     let Some(target) = table.get_field(at, field) else {
         return;
     };
     let word = at.field(field) as u32;
-    if is_inside(table, set, target) {
-        let to = redirect(table, destinations, at, field, target);
-        note(table, noted, card_words, word, to);
+    if is_inside(table, &context.chosen, target) {
+        let to = redirect(table, &mut context.destinations, at, field, target);
+        note(table, &mut context.noted, context.card_words, word, to);
         return;
     }
-    note(table, noted, card_words, word, target);
+    note(table, &mut context.noted, context.card_words, word, target);
 }

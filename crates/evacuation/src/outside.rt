@@ -4,69 +4,50 @@
 //! is walked from the tile that holds its first word. Copies may come to other regions meanwhile, so a cursor walks, no
 //! iterator.
 
-ghost use Rattle.std.specs.Prelude.{◌≡◌, ◌<◌, ◌+◌, ◌*◌, ◌/◌, ℕ, Bool, List, Some, IsSome, false, length};
+ghost use Rattle.std.specs.Prelude.{◌≡◌, ◌<◌, ◌+◌, ◌*◌, ◌/◌, ℕ, Bool, List, IsSome, false, length};
 ghost use Rattle.regions.specs.Table.{tile_in};
 ghost use Rattle.regions.specs.Walks.{IsHolder, IsPlacedTile};
 ghost use Rattle.refinement.specs.Remembering.{field_word};
 ghost use Rattle.evacuation.specs.Space.{IsFieldClean, IsObject, IsVisited, AreClean};
-ghost use Rattle.evacuation.specs.Turns.{Pause, IsPause, IsTurn, After, EachCard, in_set, layout, plan, space};
+ghost use Rattle.evacuation.specs.Turns.{Pause, PauseStands, PauseGoesOn, AreKept, EachCard, IsCardPlace, in_set, layout, plan, space};
 ghost use Rattle.evacuation.specs.Cursors.{AreCardsFieldsClean, IsCardClean};
 
-use crate::fields::{is_inside, update_field};
+use crate::fields::{CardPlace, is_inside, update_field};
+use crate::room::Context;
 use bit_sets::bounded::BoundedBits;
-use heap_words::addr::{Addr, RegionNo};
+use heap_words::addr::Addr;
 use mark_bitmap::marks::Marks;
 use mark_bitmap::tams::Tams;
-use object_copy::Destinations;
 use refinement::{is_kept, next_link};
 use regions::{RegionTable, Shape};
 
-/// Each field of an object that lies in a card names the new place of its target. `home` is the card's region.
-fn update_object(
-    table: &mut RegionTable,
-    destinations: &mut Destinations,
-    set: &[bool],
-    noted: &mut BoundedBits,
-    card_words: u32,
-    card: u32,
-    home: RegionNo,
-    at: Addr,
-)
+/// What tells which objects are kept: the tops at mark start, and the marks of the marking that is over.
+#[derive(Clone, Copy)]
+pub(crate) struct Kept<'a> {
+    pub(crate) tams: &'a Tams,
+    pub(crate) marks: &'a Marks,
+}
+
+/// Each field of an object that lies in a card names the new place of its target.
+fn update_object(table: &mut RegionTable, context: &mut Context, place: CardPlace, at: Addr)
     ghost pause: { Pause }
-    requires premises { IsPause pause }
-    requires turn { IsTurn pause table.old destinations.old }
-    requires flags { set.now ≡ pause.chosen }
-    requires card { card_words ≡ pause.card_words }
-    requires each_card { EachCard pause noted.old }
-    requires known { card < length pause.start.regions * pause.cards_per_region }
-    requires home { card / pause.cards_per_region ≡ home }
+    requires stands { PauseStands pause table.old context.old }
+    requires place { IsCardPlace pause place }
     requires outside { in_set pause at ≡ false }
     requires object { IsObject (space pause table.old) at }
-    ensures turn { IsTurn pause table.new destinations.new }
-    ensures after { After pause noted.old noted.new table.old table.new destinations.old destinations.new }
-    ensures each_card { EachCard pause noted.new }
-    ensures clean { AreCardsFieldsClean pause table.new card at }
+    ensures goes_on { PauseGoesOn pause table.old table.new context.old context.new }
+    ensures clean { AreCardsFieldsClean pause table.new place.card at }
 {
     table.law();
     let first = at.word() + 2;
-    let from = card * card_words;
-    let to = from + card_words;
+    let from = place.card * context.card_words;
+    let to = from + context.card_words;
     let count = table.field_count(at);
     let start = from.saturating_sub(first);
     let end = to.saturating_sub(first).min(count);
     let mut next = start;
     'fields: while let Some(link) = next_link(table, at, next, end) {
-        update_field(
-            table,
-            destinations,
-            set,
-            noted,
-            card,
-            home,
-            at,
-            link.0,
-            link.1,
-        );
+        update_field(table, context, place, at, link.0, link.1);
         next = link.0 + 1;
     }
 }
@@ -74,38 +55,25 @@ fn update_object(
 /// The fields of one tile that lie in a card, if the tile is a kept object.
 fn update_tile(
     table: &mut RegionTable,
-    destinations: &mut Destinations,
-    set: &[bool],
-    noted: &mut BoundedBits,
-    card_words: u32,
-    tams: &Tams,
-    marks: &Marks,
-    card: u32,
-    home: RegionNo,
+    context: &mut Context,
+    kept: Kept,
+    place: CardPlace,
     at: Addr,
     shape: Shape,
 )
     ghost pause: { Pause }
-    requires premises { IsPause pause }
-    requires turn { IsTurn pause table.old destinations.old }
-    requires flags { set.now ≡ pause.chosen }
-    requires card { card_words ≡ pause.card_words }
-    requires each_card { EachCard pause noted.old }
-    requires tams { tams.now ≡ pause.tams }
-    requires marks { marks.now ≡ pause.previous }
-    requires known { card < length pause.start.regions * pause.cards_per_region }
-    requires home { card / pause.cards_per_region ≡ home }
+    requires stands { PauseStands pause table.old context.old }
+    requires kept { AreKept pause kept }
+    requires place { IsCardPlace pause place }
     requires outside { in_set pause at ≡ false }
     requires tile { IsPlacedTile table.old at shape }
-    ensures turn { IsTurn pause table.new destinations.new }
-    ensures after { After pause noted.old noted.new table.old table.new destinations.old destinations.new }
-    ensures each_card { EachCard pause noted.new }
+    ensures goes_on { PauseGoesOn pause table.old table.new context.old context.new }
     ensures tile { IsSome (tile_in table.new at) }
     ensures clean { (visited : List Bool) (i : ℕ) → IsVisited (layout pause) (plan pause) visited at i
-        → field_word at i / pause.card_words ≡ card → IsFieldClean (layout pause) (space pause table.new) at i }
+        → field_word at i / pause.card_words ≡ place.card → IsFieldClean (layout pause) (space pause table.new) at i }
 {
-    if is_kept(table, tams, marks, at, shape) {
-        update_object(table, destinations, set, noted, card_words, card, home, at);
+    if is_kept(table, kept.tams, kept.marks, at, shape) {
+        update_object(table, context, place, at);
     }
 }
 
@@ -113,34 +81,21 @@ fn update_tile(
 /// the set.
 fn update_tiles(
     table: &mut RegionTable,
-    destinations: &mut Destinations,
-    set: &[bool],
-    noted: &mut BoundedBits,
-    card_words: u32,
-    tams: &Tams,
-    marks: &Marks,
-    card: u32,
-    home: RegionNo,
+    context: &mut Context,
+    kept: Kept,
+    place: CardPlace,
     first: Addr,
     end: u32,
 )
     ghost pause: { Pause }
-    requires premises { IsPause pause }
-    requires turn { IsTurn pause table.old destinations.old }
-    requires flags { set.now ≡ pause.chosen }
-    requires card { card_words ≡ pause.card_words }
-    requires each_card { EachCard pause noted.old }
-    requires tams { tams.now ≡ pause.tams }
-    requires marks { marks.now ≡ pause.previous }
-    requires known { card < length pause.start.regions * pause.cards_per_region }
-    requires home { card / pause.cards_per_region ≡ home }
+    requires stands { PauseStands pause table.old context.old }
+    requires kept { AreKept pause kept }
+    requires place { IsCardPlace pause place }
     requires outside { in_set pause first ≡ false }
-    requires holder { IsHolder table.old first (card * card_words) }
-    requires end { end ≡ card * card_words + card_words }
-    ensures turn { IsTurn pause table.new destinations.new }
-    ensures after { After pause noted.old noted.new table.old table.new destinations.old destinations.new }
-    ensures each_card { EachCard pause noted.new }
-    ensures clean { (visited : List Bool) → IsCardClean pause visited table.new card }
+    requires holder { IsHolder table.old first (place.card * pause.card_words) }
+    requires end { end ≡ place.card * pause.card_words + pause.card_words }
+    ensures goes_on { PauseGoesOn pause table.old table.new context.old context.new }
+    ensures clean { (visited : List Bool) → IsCardClean pause visited table.new place.card }
 {
     table.law();
     let mut at = first;
@@ -148,19 +103,7 @@ fn update_tiles(
         table.law();
         let shape = table.tile(at);
         let past = at.word() + shape.size();
-        update_tile(
-            table,
-            destinations,
-            set,
-            noted,
-            card_words,
-            tams,
-            marks,
-            card,
-            home,
-            at,
-            shape,
-        );
+        update_tile(table, context, kept, place, at, shape);
         if past >= end {
             break 'tiles;
         }
@@ -173,93 +116,46 @@ fn update_tiles(
 
 /// The fields of one card. Where the tile of its first word starts in a region of the set, the card has no field of an object outside,
 /// and none of its tiles is looked at.
-fn update_card(
-    table: &mut RegionTable,
-    destinations: &mut Destinations,
-    set: &[bool],
-    noted: &mut BoundedBits,
-    card_words: u32,
-    tams: &Tams,
-    marks: &Marks,
-    card: u32,
-)
+fn update_card(table: &mut RegionTable, context: &mut Context, kept: Kept, card: u32)
     ghost pause: { Pause }
-    requires premises { IsPause pause }
-    requires turn { IsTurn pause table.old destinations.old }
-    requires flags { set.now ≡ pause.chosen }
-    requires card { card_words ≡ pause.card_words }
-    requires each_card { EachCard pause noted.old }
-    requires tams { tams.now ≡ pause.tams }
-    requires marks { marks.now ≡ pause.previous }
+    requires stands { PauseStands pause table.old context.old }
+    requires kept { AreKept pause kept }
     requires known { card < length pause.start.regions * pause.cards_per_region }
-    ensures turn { IsTurn pause table.new destinations.new }
-    ensures after { After pause noted.old noted.new table.old table.new destinations.old destinations.new }
-    ensures each_card { EachCard pause noted.new }
+    ensures goes_on { PauseGoesOn pause table.old table.new context.old context.new }
     ensures clean { (visited : List Bool) → IsCardClean pause visited table.new card }
 {
     table.law();
-    let from = card * card_words;
+    let from = card * context.card_words;
     let bottom = Addr::new(from);
     let Some(first) = table.first_tile(bottom) else {
         return;
     };
-    if is_inside(table, set, first) {
+    if is_inside(table, &context.chosen, first) {
         return;
     }
-    let home = table.region_of(bottom);
-    update_tiles(
-        table,
-        destinations,
-        set,
-        noted,
-        card_words,
-        tams,
-        marks,
-        card,
-        home,
-        first,
-        from + card_words,
-    );
+    let home = table.region_of(bottom).number();
+    let end = from + context.card_words;
+    update_tiles(table, context, kept, CardPlace { card, home }, first, end);
 }
 
 /// The fields of all cards that are to be visited, by rising number.
 pub(crate) fn update_cards(
     table: &mut RegionTable,
-    destinations: &mut Destinations,
-    set: &[bool],
-    noted: &mut BoundedBits,
-    card_words: u32,
-    tams: &Tams,
-    marks: &Marks,
+    context: &mut Context,
+    kept: Kept,
     visited: &BoundedBits,
 )
     ghost pause: { Pause }
-    requires premises { IsPause pause }
-    requires turn { IsTurn pause table.old destinations.old }
-    requires flags { set.now ≡ pause.chosen }
-    requires card { card_words ≡ pause.card_words }
-    requires each_card { EachCard pause noted.old }
-    requires tams { tams.now ≡ pause.tams }
-    requires marks { marks.now ≡ pause.previous }
+    requires stands { PauseStands pause table.old context.old }
+    requires kept { AreKept pause kept }
     requires visited { EachCard pause visited.now }
-    ensures turn { IsTurn pause table.new destinations.new }
-    ensures after { After pause noted.old noted.new table.old table.new destinations.old destinations.new }
-    ensures each_card { EachCard pause noted.new }
+    ensures goes_on { PauseGoesOn pause table.old table.new context.old context.new }
     ensures clean { AreClean (layout pause) (plan pause) visited.now (space pause table.new) (length visited.now) }
 {
     visited.law();
     let mut start = 0;
     while let Some(card) = visited.next(start) {
-        update_card(
-            table,
-            destinations,
-            set,
-            noted,
-            card_words,
-            tams,
-            marks,
-            card,
-        );
+        update_card(table, context, kept, card);
         start = card + 1;
     }
 }

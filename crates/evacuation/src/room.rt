@@ -4,9 +4,11 @@
 //!                  in a pause                                    one entry for
 //!   destinations   where copies go                               a region
 //!   chosen         whether a region is evacuated                 a region
-//!   visited        cards to look at, in regions in use           a card, as a bit
 //!   noted          cards with a field that crosses regions now   a card, as a bit
+//!   visited        cards to look at, in regions in use           a card, as a bit
 //! ```
+//!
+//! All but the last, and how many words a card has, are a pause's context, which its functions pass on.
 //!
 //! Sets of cards are bits, so that a pause goes from one member to the next, and clears a set by words of 64 cards.
 
@@ -24,13 +26,21 @@ use region_choice::LiveRow;
 use std::alloc::{AllocError, Global};
 use std::marker::Model;
 
-/// The destinations, a flag for each region that is evacuated, and the sets of the cards that are visited and noted. What it holds
-/// counts within a pause alone: clauses see how many regions and cards it has room for.
-pub struct PauseRoom {
+/// A pause's context: the destinations, a flag for each region that is evacuated, the set of the cards that are noted, and how many
+/// words a card has.
+#[derive(Drop)]
+pub(crate) struct Context {
     pub(crate) destinations: Destinations,
     pub(crate) chosen: Vec<bool>,
-    pub(crate) visited: BoundedBits,
     pub(crate) noted: BoundedBits,
+    pub(crate) card_words: u32,
+}
+
+/// The context of a pause, and the set of the cards that it visits. What it holds counts within a pause alone: clauses see how many
+/// regions and cards it has room for.
+pub struct PauseRoom {
+    pub(crate) context: Context,
+    pub(crate) visited: BoundedBits,
 }
 
 impl Model for PauseRoom {
@@ -47,10 +57,8 @@ impl Model for PauseRoom {
 impl Drop for PauseRoom {
     fn drop(self) {
         let PauseRoom {
-            destinations: _,
-            chosen: _,
+            context: _,
             visited: _,
-            noted: _,
         } = self;
     }
 }
@@ -67,10 +75,13 @@ impl PauseRoom {
         ensures { IfOk result (λ room. room ≡ record { regions = regions; cards = cards }) }
     {
         Ok(PauseRoom {
-            destinations: Destinations::new(alloc, regions)?,
-            chosen: flags(alloc, regions)?,
+            context: Context {
+                destinations: Destinations::new(alloc, regions)?,
+                chosen: flags(alloc, regions)?,
+                noted: BoundedBits::new(alloc, cards)?,
+                card_words: 0,
+            },
             visited: BoundedBits::new(alloc, cards)?,
-            noted: BoundedBits::new(alloc, cards)?,
         })
     }
 }

@@ -11,31 +11,38 @@ use Rattle.regions.specs.declared.row.Kind.TheVariants as kinds
 use Rattle.object_copy.specs.Copies.{Places}
 use Rattle.object_copy.proofs.Copied.{tile_of_object}
 use Rattle.evacuation.specs.Space.{IsObject, IsObjectSettled, IsRegionSettled, IsTaken, flag}
-use Rattle.evacuation.specs.Turns.{Pause, IsPause, IsTurn, After, in_set, kept_now, layout, space}
+use Rattle.evacuation.specs.Turns.{Pause, IsPause, IsTurn, PauseStands, PauseGoesOn, in_set, kept_now, layout, space}
+use Rattle.evacuation.specs.declared.room.Context.{Context}
 use Rattle.regions.specs.Walks.{IsNext, IsLast}
 use Rattle.regions.proofs.Tiles.Steps.{tile_low, tile_there}
 use Rattle.evacuation.specs.Cursors.{AreSettledBelow}
 use Rattle.evacuation.proofs.Lists.{get_within, get_before}
 use Rattle.evacuation.proofs.Turns.KeptObjects.{kept_fresh, kept_object, object_of}
-use Rattle.evacuation.proofs.Turns.Following.{object_settled_after}
+use Rattle.evacuation.proofs.Turns.Following.{settled_after}
 
 -- what stands in a destination is a kept object
-pub copy_there : (p : Pause) → IsPause p → (t : Table) (d : Places) → IsTurn p t d → (k : ℕ) → IsTaken d k → (a : ℕ)
+pub copy_there : (p : Pause) (t : Table) (c : Context) → PauseStands p t c → (k : ℕ) → IsTaken c.destinations k → (a : ℕ)
     → a / p.start.words_per_region ≡ k → IsSome (tile_in t a) → IsObject (space p t) a
-copy_there p q t d turn k w a r s =
+copy_there p t c stands k w a r s =
     let (u, e) = tile_there t a s in
-    let free : kind_of p.start (a / p.start.words_per_region) ≡ kinds.Free = ap (kind_of p.start) r ∙ (turn.taken k w).0 in
-    let (x, same) = turn.table.live a u free e in
+    let free : kind_of p.start (a / p.start.words_per_region) ≡ kinds.Free = ap (kind_of p.start) r ∙ (stands.turn.taken k w).0 in
+    let (x, same) = stands.turn.table.live a u free e in
     let known : a / p.start.words_per_region < length p.start.regions =
-    subst (λ (m : ℕ). m < length p.start.regions) (sym r) (turn.taken k w).2 in
-    (x, kept_fresh p t a q turn.table.size known free ∙ object_of t a (Some (Object x)) (e ∙ ap Some same))
+    subst (λ (m : ℕ). m < length p.start.regions) (sym r) (stands.turn.taken k w).2 in
+    (x, kept_fresh p t a stands.premises stands.turn.table.size known free ∙ object_of t a (Some (Object x)) (e ∙ ap Some same))
 
-module _ (p : Pause) (q : IsPause p) (t : Table) (d : Places) (turn : IsTurn p t d) (g : IsShaped t) (k : ℕ) (w : IsTaken d k) where
+module _ (p : Pause) (t : Table) (c : Context) (stands : PauseStands p t c) (g : IsShaped t) (k : ℕ) (w : IsTaken c.destinations k) where
+  abbrev q : IsPause p
+  q = stands.premises
+
+  abbrev turn : IsTurn p t c.destinations
+  turn = stands.turn
+
   words : t.words_per_region ≡ p.start.words_per_region
   words = turn.table.size
 
   pub copy_object : (a : ℕ) → a / p.start.words_per_region ≡ k → IsSome (tile_in t a) → IsObject (space p t) a
-  copy_object a r s = copy_there p q t d turn k w a r s
+  copy_object a r s = copy_there p t c stands k w a r s
 
   pub copy_outside : (a : ℕ) → a / p.start.words_per_region ≡ k → in_set p a ≡ false
   copy_outside a r = ap (flag p.chosen) r ∙ turn.copying.taken k w
@@ -63,14 +70,12 @@ module _ (p : Pause) (q : IsPause p) (t : Table) (d : Places) (turn : IsTurn p t
       )
 
   -- the copy at an address was settled: those below the next one are
-  module _ (t' : Table) (d' : Places) (noted noted' : List Bool) (turn' : IsTurn p t' d') (after : After p noted noted' t t' d d') (at : ℕ)
-      (r : at / p.start.words_per_region ≡ k) (o : IsObject (space p t) at)
-      (done : AreSettledBelow p noted t k at) (settled : IsObjectSettled (layout p) noted' (space p t') at) where
+  module _ (t' : Table) (c' : Context) (on : PauseGoesOn p t t' c c') (at : ℕ) (r : at / p.start.words_per_region ≡ k) (o : IsObject (space p t) at)
+      (done : AreSettledBelow p c.noted t k at) (settled : IsObjectSettled (layout p) c'.noted (space p t') at) where
     below_at : (b : ℕ) (y : Stored) → b / p.start.words_per_region ≡ k → b < at → kept_now p t' b ≡ Some y
-        → IsObjectSettled (layout p) noted' (space p t') b
-    below_at b y rb h e = elim (after.new_above b y (copy_outside b rb) e) [
-      | inl was ↦ object_settled_after (layout p) noted noted' (space p t) (space p t') d d' b after
-          (copy_outside b rb) was (done b was.0 rb h was.1)
+        → IsObjectSettled (layout p) c'.noted (space p t') b
+    below_at b y rb h e = elim (on.after.new_above b y (copy_outside b rb) e) [
+      | inl was ↦ λ i. settled_after on b i (copy_outside b rb) was (done b was.0 rb h was.1 i)
       | inr high ↦ absurd (
           let low = kept_low at o.0 r o.1 in
           let s : b / p.start.words_per_region * p.start.words_per_region + used_of t (b / p.start.words_per_region)
@@ -80,22 +85,22 @@ module _ (p : Pause) (q : IsPause p) (t : Table) (d : Places) (turn : IsTurn p t
           )
     ]
 
-    pub done_next : (next : ℕ) → IsNext t' at next → AreSettledBelow p noted' t' k next
+    pub done_next : (next : ℕ) → IsNext t' at next → AreSettledBelow p c'.noted t' k next
     done_next next n b y rb h e = elim (cases_lt b at) [
       | inl low ↦ below_at b y rb low e
       | inr high ↦ elim (cases_eq b at) [
-        | inl same ↦ subst (IsObjectSettled (layout p) noted' (space p t')) (sym same) settled
+        | inl same ↦ subst (IsObjectSettled (layout p) c'.noted (space p t')) (sym same) settled
         | inr other ↦ absurd (n.between b (Object y) (omega arith) h (tile_of_object t' b y (kept_object p t' b y e)))
       ]
     ]
 
-    pub done_last : IsLast t' at → IsRegionSettled (layout p) noted' (space p t') k
+    pub done_last : IsLast t' at → IsRegionSettled (layout p) c'.noted (space p t') k
     done_last n b y rb e = elim (cases_lt b at) [
       | inl low ↦ below_at b y rb low e
       | inr high ↦ elim (cases_eq b at) [
-        | inl same ↦ subst (IsObjectSettled (layout p) noted' (space p t')) (sym same) settled
+        | inl same ↦ subst (IsObjectSettled (layout p) c'.noted (space p t')) (sym same) settled
         | inr other ↦ absurd (n b (Object y) (omega arith) (
-            let z = turn'.table.size in
+            let z = on.stands.turn.table.size in
             let e1 : b / t'.words_per_region ≡ k = subst (λ (m : ℕ). b / m ≡ k) (sym z) rb in
             let e2 : at / t'.words_per_region ≡ k = subst (λ (m : ℕ). at / m ≡ k) (sym z) r in
             e1 ∙ sym e2
@@ -107,33 +112,32 @@ module _ (p : Pause) (q : IsPause p) (t : Table) (d : Places) (turn : IsTurn p t
 pub record AreRegionsSettled (p : Pause) (noted : List Bool) (t : Table) (d : Places) (n : ℕ) : Type 0 where
   pub each : (m k : ℕ) → m < n → slice_get d.regions m ≡ Some k → IsRegionSettled (layout p) noted (space p t) k
 
-module _ (p : Pause) (t t' : Table) (d d' : Places) (noted noted' : List Bool) (turn : IsTurn p t d) (turn' : IsTurn p t' d')
-    (after : After p noted noted' t t' d d') (n k : ℕ) (at : slice_get d.regions n ≡ Some k) where
-  still : (m j : ℕ) → m < n → slice_get d.regions m ≡ Some j → IsRegionSettled (layout p) noted (space p t) j
-      → IsRegionSettled (layout p) noted' (space p t') j
+module _ (p : Pause) (t t' : Table) (c c' : Context) (stands : PauseStands p t c) (on : PauseGoesOn p t t' c c') (n k : ℕ)
+    (at : slice_get c.destinations.regions n ≡ Some k) where
+  still : (m j : ℕ) → m < n → slice_get c.destinations.regions m ≡ Some j → IsRegionSettled (layout p) c.noted (space p t) j
+      → IsRegionSettled (layout p) c'.noted (space p t') j
   still m j h e settled b y r here =
-      let w : IsTaken d j = record { at = m; is = e } in
+      let w : IsTaken c.destinations j = record { at = m; is = e } in
       let closed =
-      after.closed j w (λ l. let z = turn.copying.last_at j m l e in let v = get_within d.regions n k at in absurd (omega arith)) in
+      on.after.closed j w (λ l. let z = stands.turn.copying.last_at j m l e in let v = get_within c.destinations.regions n k at in absurd (omega arith)) in
       let was = closed.0 b y r here in
-      object_settled_after (layout p) noted noted' (space p t) (space p t') d d' b after
-      (ap (flag p.chosen) r ∙ turn.copying.taken j w) was (settled b was.0 r was.1)
+      λ i. settled_after on b i (ap (flag p.chosen) r ∙ stands.turn.copying.taken j w) was (settled b was.0 r was.1 i)
 
-  before : (m j : ℕ) → m < n → slice_get d'.regions m ≡ Some j → slice_get d.regions m ≡ Some j
-  before m j h e = go (slice_get d.regions m) refl
+  before : (m j : ℕ) → m < n → slice_get c'.destinations.regions m ≡ Some j → slice_get c.destinations.regions m ≡ Some j
+  before m j h e = go (slice_get c.destinations.regions m) refl
     where
-      go : (o : Option ℕ) → slice_get d.regions m ≡ o → slice_get d.regions m ≡ Some j
-      go None f = absurd (let z = get_before d.regions m n k f at in omega arith)
-      go (Some i) f = let g = after.taken_grows m i f in f ∙ (let same : i ≡ j = cc in ap Some same)
+      go : (o : Option ℕ) → slice_get c.destinations.regions m ≡ o → slice_get c.destinations.regions m ≡ Some j
+      go None f = absurd (let z = get_before c.destinations.regions m n k f at in omega arith)
+      go (Some i) f = let g = on.after.taken_grows m i f in f ∙ (let same : i ≡ j = cc in ap Some same)
 
-  pub regions_more : AreRegionsSettled p noted t d n → IsRegionSettled (layout p) noted' (space p t') k
-      → AreRegionsSettled p noted' t' d' (n + 1)
+  pub regions_more : AreRegionsSettled p c.noted t c.destinations n → IsRegionSettled (layout p) c'.noted (space p t') k
+      → AreRegionsSettled p c'.noted t' c'.destinations (n + 1)
   regions_more done settled = record {
     each = λ m j h e. elim (cases_eq m n) [
-      | inl same ↦ (let f = after.taken_grows n k at in
-          let g = ap (slice_get d'.regions) same in
+      | inl same ↦ (let f = on.after.taken_grows n k at in
+          let g = ap (slice_get c'.destinations.regions) same in
           let s : k ≡ j = cc in
-          subst (IsRegionSettled (layout p) noted' (space p t')) s settled)
+          subst (IsRegionSettled (layout p) c'.noted (space p t')) s settled)
       | inr other ↦ let e' = before m j (omega arith) e in still m j (omega arith) e' (done.each m j (omega arith) e')
     ];
   }

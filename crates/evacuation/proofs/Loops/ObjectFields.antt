@@ -4,9 +4,9 @@ use Rattle.std.specs.Prelude.{false}
 use Rattle.std.proofs.lemmas.Bool.{cases_eq}
 use Rattle.heap_model.specs.Heap.{Stored, fields}
 use Rattle.regions.specs.Table.{Table}
-use Rattle.object_copy.specs.Copies.{Places}
 use Rattle.evacuation.specs.Space.{IsField, IsFieldSettled, IsObject, IsObjectSettled, IsStill}
-use Rattle.evacuation.specs.Turns.{Pause, After, in_set, layout, space}
+use Rattle.evacuation.specs.Turns.{Pause, PauseGoesOn, in_set, layout, space}
+use Rattle.evacuation.specs.declared.room.Context.{Context}
 use Rattle.evacuation.specs.Cursors.{AreFieldsSettled}
 use Rattle.evacuation.proofs.Lists.{get_below}
 use Rattle.evacuation.proofs.Turns.Following.{settled_after}
@@ -14,12 +14,12 @@ use Rattle.evacuation.proofs.Turns.Following.{settled_after}
 pub still_field : (p : Pause) (t : Table) (at n i : ℕ) → IsStill (space p t) at n → i < n → IsField (space p t) at i
 still_field p t at n i s h = let (y, e, c) = s in record { object = y; at = e; within = omega arith }
 
-pub fields_more : (p : Pause) (noted noted' : List Bool) (t t' : Table) (d d' : Places) (at n : ℕ) → After p noted noted' t t' d d'
-    → in_set p at ≡ false → IsObject (space p t) at → AreFieldsSettled p noted t at n → IsFieldSettled (layout p) noted' (space p t') at n
-    → AreFieldsSettled p noted' t' at (n + 1)
-fields_more p noted noted' t t' d d' at n a out o settled last i k = elim (cases_eq i n) [
-  | inl q ↦ subst (IsFieldSettled (layout p) noted' (space p t') at) (sym q) last
-  | inr q ↦ settled_after (layout p) noted noted' (space p t) (space p t') d d' at i a out o (settled i (omega arith))
+pub fields_more : {p : Pause} {t t' : Table} {c c' : Context} (at n : ℕ) → PauseGoesOn p t t' c c' → in_set p at ≡ false
+    → IsObject (space p t) at → AreFieldsSettled p c.noted t at n → IsFieldSettled (layout p) c'.noted (space p t') at n
+    → AreFieldsSettled p c'.noted t' at (n + 1)
+fields_more {p} {t} {t'} {c} {c'} at n on out o settled last i k = elim (cases_eq i n) [
+  | inl q ↦ subst (IsFieldSettled (layout p) c'.noted (space p t') at) (sym q) last
+  | inr q ↦ settled_after on at i out o (settled i (omega arith))
 ]
 
 pub fields_all : (p : Pause) (noted : List Bool) (t : Table) (at m n : ℕ) → AreFieldsSettled p noted t at n → IsStill (space p t) at m

@@ -19,7 +19,9 @@ use Rattle.object_copy.specs.Copies.{Places}
 use Rattle.object_copy.proofs.Copied.{tile_of_object}
 use Rattle.refinement.specs.Remembering.{field_word}
 use Rattle.evacuation.specs.Space.{IsField, IsFieldClean, IsObject, IsStill, IsVisited, AreClean, flag}
-use Rattle.evacuation.specs.Turns.{Pause, IsPause, IsTurn, After, in_set, kept_now, layout, plan, space}
+use Rattle.evacuation.specs.declared.outside.Kept.{Kept}
+use Rattle.evacuation.specs.declared.room.Context.{Context}
+use Rattle.evacuation.specs.Turns.{Pause, IsPause, IsTurn, PauseStands, PauseGoesOn, AreKept, in_set, kept_now, layout, plan, space}
 use Rattle.regions.specs.Walks.{IsNext, IsLast}
 use Rattle.evacuation.specs.Cursors.{AreCleanBelow, IsCardClean}
 use Rattle.mark_bitmap.specs.Tops.{Tops}
@@ -105,8 +107,7 @@ module _ (p : Pause) (q : IsPause p) (card : ℕ) where
         cc)
 
   -- one tile after another
-  module _ (t t' : Table) (d d' : Places) (noted noted' : List Bool) (turn : IsTurn p t d) (turn' : IsTurn p t' d')
-      (after : After p noted noted' t t' d d') (visited : List Bool) (at : ℕ)
+  module _ (t t' : Table) (c c' : Context) (stands : PauseStands p t c) (on : PauseGoesOn p t t' c c') (visited : List Bool) (at : ℕ)
       (done : AreCleanBelow p visited t card at)
       (clean : (i : ℕ) → IsVisited (layout p) (plan p) visited at i → field_word at i / p.card_words ≡ card
       → IsFieldClean (layout p) (space p t') at i) where
@@ -117,14 +118,13 @@ module _ (p : Pause) (q : IsPause p) (card : ℕ) where
           IsVisited (layout p) (plan p) visited m i → field_word m i / p.card_words ≡ card → IsFieldClean (layout p) (space p t') m i)
           (sym same) (clean i) v e
       | inr other ↦
-          let f = visited_field p t d visited b i turn v in
-          clean_after (layout p) noted noted' (space p t) (space p t') d d' b i after v.outside
-          (f.object, f.at) (done b i v e (omega arith))
+          let f = visited_field p t c.destinations visited b i stands.turn v in
+          clean_after on b i v.outside (f.object, f.at) (done b i v e (omega arith))
     ]
 
     tile' : (b i : ℕ) → IsVisited (layout p) (plan p) visited b i → (y : Stored) × (tile_in t' b ≡ Some (Object y))
     tile' b i v =
-        let f = visited_field p t' d' visited b i turn' v in
+        let f = visited_field p t' c'.destinations visited b i on.stands.turn v in
         (f.object, tile_of_object t' b f.object (kept_object p t' b f.object f.at))
 
     pub clean_next : (next : ℕ) → IsNext t' at next → AreCleanBelow p visited t' card next
@@ -138,7 +138,7 @@ module _ (p : Pause) (q : IsPause p) (card : ℕ) where
         → IsCardClean p visited t' card
     clean_over g u is over b i v e = elim (cases_lt at b) [
       | inl above ↦ absurd (
-          let h = visited_holder p t d visited b i turn v in
+          let h = visited_holder p t c.destinations visited b i stands.turn v in
           let l = h.low in
           let w = high (field_word b i) e in
           let here : IsHolder t at (field_word b i) =
@@ -159,14 +159,18 @@ module _ (p : Pause) (q : IsPause p) (card : ℕ) where
 pub cards_none : (p : Pause) (visited : List Bool) (t : Table) → AreClean (layout p) (plan p) visited (space p t) 0
 cards_none p visited t b i v h = absurd (omega arith)
 
-pub cards_more : (p : Pause) (t t' : Table) (d d' : Places) (noted noted' visited : List Bool) (n : ℕ) → IsTurn p t d
-    → After p noted noted' t t' d d' → AreClean (layout p) (plan p) visited (space p t) n → IsCardClean p visited t' n
+pub clean_on : (p : Pause) (t t' : Table) (c c' : Context) (visited : List Bool) (n : ℕ) → PauseStands p t c → PauseGoesOn p t t' c c'
+    → AreClean (layout p) (plan p) visited (space p t) n → AreClean (layout p) (plan p) visited (space p t') n
+clean_on p t t' c c' visited n stands on clean b i v h =
+    let f = visited_field p t c.destinations visited b i stands.turn v in
+    clean_after on b i v.outside (f.object, f.at) (clean b i v h)
+
+pub cards_more : (p : Pause) (t t' : Table) (c c' : Context) (visited : List Bool) (n : ℕ) → PauseStands p t c → PauseGoesOn p t t' c c'
+    → AreClean (layout p) (plan p) visited (space p t) n → IsCardClean p visited t' n
     → AreClean (layout p) (plan p) visited (space p t') (n + 1)
-cards_more p t t' d d' noted noted' visited n turn after clean card b i v h = elim (cases_eq (field_word b i / p.card_words) n) [
+cards_more p t t' c c' visited n stands on clean card b i v h = elim (cases_eq (field_word b i / p.card_words) n) [
   | inl e ↦ card b i v e
-  | inr o ↦
-      let f = visited_field p t d visited b i turn v in
-      clean_after (layout p) noted noted' (space p t) (space p t') d d' b i after v.outside (f.object, f.at) (clean b i v (omega arith))
+  | inr o ↦ clean_on p t t' c c' visited n stands on clean b i v (omega arith)
 ]
 
 -- cards that aren't visited are passed over
@@ -182,11 +186,12 @@ pub card_small : (p : Pause) (card : ℕ) → IsPause p → card < length p.star
     → card * p.card_words + p.card_words ≤ length p.start.regions * p.start.words_per_region
 card_small p card q h = card_within card p.card_words p.start.words_per_region p.cards_per_region (length p.start.regions) q.whole_cards h
 
-pub object_now : (p : Pause) (t : Table) (tams : Tops) (marks : List Bool) (at : ℕ) → tams ≡ p.tams → marks ≡ p.previous
-    → IsSome (kept_in t tams marks at) → IsObject (space p t) at
+pub object_now : (p : Pause) (t : Table) (kept : Kept) (at : ℕ) → AreKept p kept
+    → IsSome (kept_in t kept.tams.now kept.marks.now at) → IsObject (space p t) at
 unfolding kept_now
-object_now p t tams marks at e f s = some_of (kept_in t p.tams p.previous at)
-    (subst (λ (m : List Bool). IsSome (kept_in t p.tams m at)) f (subst (λ (u : Tops). IsSome (kept_in t u marks at)) e s))
+object_now p t kept at are s = some_of (kept_in t p.tams p.previous at)
+    (subst (λ (m : List Bool). IsSome (kept_in t p.tams m at)) are.marks
+    (subst (λ (u : Tops). IsSome (kept_in t u kept.marks.now at)) are.tams s))
 
 pub object_tile : (p : Pause) (t : Table) (at : ℕ) → IsObject (space p t) at → IsSome (tile_in t at)
 object_tile p t at o = some_tile (tile_in t at) (Object o.0) (tile_of_object t at o.0 (kept_object p t at o.0 o.1))
@@ -202,10 +207,3 @@ placed_tile t at shape s e = go (tile_in t at) refl s e
 -- regions of the start are those of each table
 pub region_by : (a b m n : ℕ) → m ≡ n → a / n ≡ b / n → a / m ≡ b / m
 region_by a b m n e f = subst (λ (k : ℕ). a / k ≡ b / k) (sym e) f
-
-pub clean_on : (p : Pause) (t t' : Table) (d d' : Places) (noted noted' visited : List Bool) (n : ℕ) → IsTurn p t d
-    → After p noted noted' t t' d d' → AreClean (layout p) (plan p) visited (space p t) n
-    → AreClean (layout p) (plan p) visited (space p t') n
-clean_on p t t' d d' noted noted' visited n turn after clean b i v h =
-    let f = visited_field p t d visited b i turn v in
-    clean_after (layout p) noted noted' (space p t) (space p t') d d' b i after v.outside (f.object, f.at) (clean b i v h)

@@ -13,11 +13,12 @@ use Rattle.heap_model.proofs.Lists.{AllZip-get_right}
 use Rattle.heap_model.proofs.Evacuated.{evacuated_relocates, word_was, reached_exactly}
 use Rattle.regions.specs.Table.{Table}
 use Rattle.refinement.proofs.Holders.{object_within}
-use Rattle.object_copy.specs.Copies.{Places}
 use Rattle.evacuation.specs.Evacuates.{AreReachedWords}
 use Rattle.refinement.specs.Remembering.{field_word}
-use Rattle.evacuation.specs.Space.{AllVisited, AreClean, IsRegionSettled, IsTaken, seen_as}
-use Rattle.evacuation.specs.Turns.{Pause, IsPause, IsTurn, After, AreFieldsNoted, EachCard, in_set, kept_now, layout, plan, space}
+use Rattle.evacuation.specs.Space.{AreClean, IsRegionSettled, IsTaken, seen_as}
+use Rattle.evacuation.specs.Turns.{Pause, IsPause, IsTurn, PauseGoesOn, AreFieldsNoted, AreVisited, HasCopied}
+use Rattle.evacuation.specs.Turns.{in_set, kept_now, layout, plan, space}
+use Rattle.evacuation.specs.declared.room.Context.{Context}
 use Rattle.evacuation.proofs.Lists.{get_below}
 use Rattle.evacuation.proofs.Turns.KeptObjects.{kept_object}
 use Rattle.evacuation.proofs.FieldUpdates.FieldCards.{card_within}
@@ -32,16 +33,21 @@ start_kept : (p : Pause) (a : ℕ) → kept_now p p.start a ≡ (plan p).heap.ke
 unfolding kept_now
 start_kept p a = refl
 
-module _ (p : Pause) (q : IsPause p) (noted visited : List Bool) (t : Table) (d : Places) (roots : List (Option ℕ)) (turn : IsTurn p t d)
-    (moved : AllZip (IsMoved (place_after (in_set p) (space p t).forward)) p.roots roots)
-    (copies : (k : ℕ) → IsTaken d k → IsRegionSettled (layout p) noted (space p t) k)
-    (each : EachCard p visited) (outside : AreClean (layout p) (plan p) visited (space p t) (length visited))
-    (remembered : AllVisited (layout p) (plan p) visited) where
+module _ (p : Pause) (visited : List Bool) (t t' : Table) (c c' : Context) (roots : List (Option ℕ)) (on : PauseGoesOn p t t' c c')
+    (started : t ≡ p.start) (moved : AllZip (IsMoved (place_after (in_set p) (space p t').forward)) p.roots roots)
+    (copies : (k : ℕ) → IsTaken c'.destinations k → IsRegionSettled (layout p) c'.noted (space p t') k)
+    (are : AreVisited p visited) (outside : AreClean (layout p) (plan p) visited (space p t') (length visited)) where
+  abbrev q : IsPause p
+  q = on.stands.premises
+
+  abbrev turn : IsTurn p t' c'.destinations
+  turn = on.stands.turn
+
   abbrev set : ℕ → Bool
   set = in_set p
 
   abbrev forward : ℕ → Option ℕ
-  forward = (space p t).forward
+  forward = (space p t').forward
 
   zip_map : (xs ys : List (Option ℕ)) → AllZip (IsMoved (place_after set forward)) xs ys → AllZip (IsWord (place_after set forward)) xs ys
   zip_map [] [] z = tt
@@ -50,18 +56,18 @@ module _ (p : Pause) (q : IsPause p) (noted visited : List Bool) (t : Table) (d 
   zip_map (x ∷ xs) (y ∷ ys) z = (inr z.0, zip_map xs ys z.1)
 
   abbrev now : Heap
-  now = record { kept = kept_now p t; roots = roots }
+  now = record { kept = kept_now p t'; roots = roots }
 
   -- with the roots as they are now
   evacuating : IsEvacuating set (plan p).heap forward now
-  evacuating = let c = turn.copying.heap in record {
+  evacuating = let h = turn.copying.heap in record {
     roots = zip_map p.roots roots moved;
-    objects = λ a b x e f. let k = c.objects a b x e f in
+    objects = λ a b x e f. let k = h.objects a b x e f in
         record { part = k.part; at = k.at; name = k.name; values = k.values; shape = k.shape; words = k.words };
-    came = c.came;
-    untouched = c.untouched;
-    reached = c.reached;
-    out = c.out;
+    came = h.came;
+    untouched = h.untouched;
+    reached = h.reached;
+    out = h.out;
   }
 
   place_out : (a b : ℕ) → place_after set forward a ≡ Some b → set b ≡ false
@@ -80,7 +86,7 @@ module _ (p : Pause) (q : IsPause p) (noted visited : List Bool) (t : Table) (d 
       clean_word a w m
 
   -- a field of an object that stood outside: where it named the set, it was visited
-  outside_clean : (b i a : ℕ) (y : Stored) → kept_now p t b ≡ Some y → set b ≡ false → (x : Stored) → (plan p).heap.kept b ≡ Some x
+  outside_clean : (b i a : ℕ) (y : Stored) → kept_now p t' b ≡ Some y → set b ≡ false → (x : Stored) → (plan p).heap.kept b ≡ Some x
       → slice_get (fields y) i ≡ Some (Some a) → set a ≡ false
   outside_clean b i a y at out x here e = elim (cases_Bool (set a)) [
     | inl inside ↦
@@ -88,21 +94,21 @@ module _ (p : Pause) (q : IsPause p) (noted visited : List Bool) (t : Table) (d 
         let same : y ≡ k.part = let e1 = k.at in cc in
         let e' = subst (λ (z : Stored). slice_get (fields z) i ≡ Some (Some a)) same e in
         let (w, is, v) = AllZip-get_right (IsWord (place_after set forward)) (fields x) (fields k.part) k.words i (Some a) e' in
-        let was = word_was set (plan p).heap forward (seen_as (space p t) (plan p).heap) turn.copying.heap w a v inside in
+        let was = word_was set (plan p).heap forward (seen_as (space p t') (plan p).heap) turn.copying.heap w a v inside in
         let named = is ∙ ap Some was in
         let within = get_below (fields x) i (Some a) named in
         let big = object_within p.start b x q.shaped (kept_object p p.start b x (start_kept p b ∙ here)) in
-        let card = card_within p visited (field_word b i) p.card_words q refl each (omega (arith, length-append x.pointers x.weaks)) in
-        outside b i (record { object = x; at = here; outside = out; within = within; card = remembered b i a x here out named inside }) card
+        let card = card_within p visited (field_word b i) p.card_words q refl are.each_card (omega (arith, length-append x.pointers x.weaks)) in
+        outside b i (record { object = x; at = here; outside = out; within = within; card = are.all b i a x here out named inside }) card
         y (Some a) at e
     | inr k ↦ k
   ]
 
-  copy_clean : (b i a : ℕ) (y : Stored) → kept_now p t b ≡ Some y → IsTaken d (b / p.start.words_per_region)
+  copy_clean : (b i a : ℕ) (y : Stored) → kept_now p t' b ≡ Some y → IsTaken c'.destinations (b / p.start.words_per_region)
       → slice_get (fields y) i ≡ Some (Some a) → set a ≡ false
   copy_clean b i a y at w e = (copies (b / p.start.words_per_region) w b y refl at i y (Some a) at e).0
 
-  pub evacuated : IsEvacuated set now
+  evacuated : IsEvacuated set now
   evacuated = record {
     roots = roots_clean;
     objects = λ b y at out i a e.
@@ -115,23 +121,23 @@ module _ (p : Pause) (q : IsPause p) (noted visited : List Bool) (t : Table) (d 
         ];
   }
 
-  pub relocated : Relocates (place_after set forward) (plan p).heap (released set now)
+  relocated : Relocates (place_after set forward) (plan p).heap (released set now)
   relocated = evacuated_relocates set (plan p).heap forward now evacuating evacuated
 
-  pub each_copied : (a : ℕ) → IsReached set (plan p).heap a → (b : ℕ) × (forward a ≡ Some b)
+  each_copied : (a : ℕ) → IsReached set (plan p).heap a → (b : ℕ) × (forward a ≡ Some b)
   each_copied a r = let (i, b, e) = (reached_exactly set (plan p).heap forward now evacuating evacuated a).0 r in (b, e)
 
-  pub reached_words : AreReachedWords set (plan p).heap d.words
-  reached_words = let c = turn.copying in record {
-    addresses = c.tally.from;
-    distinct = c.tally.distinct;
-    reached = λ i a e. let (k, b, f) = c.tally.forwarded i a e in c.heap.reached a b k f;
-    each = λ a r. let (b, f) = each_copied a r in c.tally.each a b (reached_inside set (plan p).heap a r) f;
-    total = c.tally.total;
+  reached_words : AreReachedWords set (plan p).heap c'.destinations.words
+  reached_words = let n = turn.copying in record {
+    addresses = n.tally.from;
+    distinct = n.tally.distinct;
+    reached = λ i a e. let (k, b, f) = n.tally.forwarded i a e in n.heap.reached a b k f;
+    each = λ a r. let (b, f) = each_copied a r in n.tally.each a b (reached_inside set (plan p).heap a r) f;
+    total = n.tally.total;
   }
 
-  pub all_noted : (noted0 : List Bool) (d0 : Places) → After p noted0 noted p.start t d0 d → AreFieldsNoted p noted t
-  all_noted noted0 d0 after = record {
+  all_noted : AreFieldsNoted p c'.noted t'
+  all_noted = record {
     field = λ b i y w at out e.
         let o = turn.copying.heap.came b y at out in
         elim (cases_Bool (set o.from)) [
@@ -143,9 +149,18 @@ module _ (p : Pause) (q : IsPause p) (noted visited : List Bool) (t : Table) (d 
               let f : Some o.from ≡ Some b = rw k at o.placed in
               let same : b ≡ o.from = cc in
               let here : (plan p).heap.kept b ≡ Some o.object = ap (plan p).heap.kept same ∙ o.at in
-              elim (after.fields b o.object y i w out (start_kept p b ∙ here) at e) [
+              elim (on.after.fields b o.object y i w out (ap (λ (u : Table). kept_now p u b) started ∙ start_kept p b ∙ here) at e) [
                 | inl h ↦ inl (o.object, here, h)
                 | inr h ↦ inr h.2.settled
               ]
         ];
+  }
+
+  pub all_copied : HasCopied p t' c' roots
+  all_copied = record {
+    moved = relocated;
+    reached = each_copied;
+    words = reached_words;
+    noted = all_noted;
+    clean = λ b i a y at out e. evacuated.objects b y at out i a e;
   }

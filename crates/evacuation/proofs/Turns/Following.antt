@@ -5,10 +5,13 @@ use Rattle.std.specs.Prelude.{slice_get}
 use Rattle.std.proofs.lemmas.Option.{slice_get-get_or}
 use Rattle.evacuation.proofs.Lists.{get_below}
 use Rattle.heap_model.specs.Heap.{Stored, fields}
+use Rattle.regions.specs.Table.{Table}
 use Rattle.object_copy.specs.Copies.{Places}
 use Rattle.refinement.specs.Remembering.{field_word}
 use Rattle.evacuation.specs.Space.{Layout, Space, IsTaken, IsAfter, NewCrossing, IsObject, IsClean, IsNoted, IsSettled, IsUpdated}
-use Rattle.evacuation.specs.Space.{IsFieldClean, IsFieldSettled, IsObjectSettled, flag, set_of}
+use Rattle.evacuation.specs.Space.{IsFieldClean, IsFieldSettled, flag}
+use Rattle.evacuation.specs.Turns.{Pause, PauseStands, PauseGoesOn, in_set, layout, space}
+use Rattle.evacuation.specs.declared.room.Context.{Context}
 
 pub noted_grows : (l : Layout) (t t' : List Bool) (at : ℕ) (w : Option ℕ)
     → ((c : ℕ) → flag t c ≡ true → flag t' c ≡ true) → IsNoted l t at w → IsNoted l t' at w
@@ -155,24 +158,32 @@ after_after l t t' t'' s s' s'' d d' d'' a b = record {
       ];
 }
 
--- what is clean or settled stays so
-pub clean_after : (l : Layout) (t t' : List Bool) (s s' : Space) (d d' : Places) (b i : ℕ) → IsAfter l t t' s s' d d' → set_of l b ≡ false
-    → IsObject s b → IsFieldClean l s b i → IsFieldClean l s' b i
-clean_after l t t' s s' d d' b i a out o clean z w e g =
-    elim (a.fields b o.0 z i w out o.1 e g) [ inl q ↦ clean o.0 w o.1 q | inr q ↦ q.2.settled.0 ]
+-- ---- the pause goes on
+pub stays_on : {p : Pause} {t : Table} {c : Context} → PauseStands p t c → PauseGoesOn p t t c c
+stays_on {p} {t} {c} s = record { stands = s; after = same_after (layout p) c.noted (space p t) c.destinations }
 
-pub settled_after : (l : Layout) (t t' : List Bool) (s s' : Space) (d d' : Places) (b i : ℕ) → IsAfter l t t' s s' d d' → set_of l b ≡ false
-    → IsObject s b → IsFieldSettled l t s b i → IsFieldSettled l t' s' b i
-settled_after l t t' s s' d d' b i a out o settled z w e g =
-    elim (a.fields b o.0 z i w out o.1 e g) [
-      | inl q ↦ settled_grows l t t' (field_word b i) w a.noted_grows (settled o.0 w o.1 q)
-      | inr q ↦ q.2.settled
-    ]
+pub goes_further : {p : Pause} {t t' t'' : Table} {c c' c'' : Context} → PauseGoesOn p t t' c c' → PauseGoesOn p t' t'' c' c''
+    → PauseGoesOn p t t'' c c''
+goes_further {p} {t} {t'} {t''} {c} {c'} {c''} a b = record {
+  stands = b.stands;
+  after = after_after (layout p) c.noted c'.noted c''.noted (space p t) (space p t') (space p t'') c.destinations c'.destinations
+      c''.destinations a.after b.after;
+}
 
-pub object_settled_after : (l : Layout) (t t' : List Bool) (s s' : Space) (d d' : Places) (b : ℕ) → IsAfter l t t' s s' d d'
-    → set_of l b ≡ false → IsObject s b → IsObjectSettled l t s b → IsObjectSettled l t' s' b
-object_settled_after l t t' s s' d d' b a out o settled i = settled_after l t t' s s' d d' b i a out o (settled i)
+module _ {p : Pause} {t t' : Table} {c c' : Context} (on : PauseGoesOn p t t' c c') where
+  -- what is clean or settled stays so
+  pub clean_after : (b i : ℕ) → in_set p b ≡ false → IsObject (space p t) b → IsFieldClean (layout p) (space p t) b i
+      → IsFieldClean (layout p) (space p t') b i
+  clean_after b i out o clean z w e g =
+      elim (on.after.fields b o.0 z i w out o.1 e g) [ inl q ↦ clean o.0 w o.1 q | inr q ↦ q.2.settled.0 ]
 
-pub taken_after : (l : Layout) (t t' : List Bool) (s s' : Space) (d d' : Places) (k : ℕ)
-    → IsAfter l t t' s s' d d' → IsTaken d k → IsTaken d' k
-taken_after l t t' s s' d d' k a w = record { at = w.at; is = a.taken_grows w.at k w.is }
+  pub settled_after : (b i : ℕ) → in_set p b ≡ false → IsObject (space p t) b → IsFieldSettled (layout p) c.noted (space p t) b i
+      → IsFieldSettled (layout p) c'.noted (space p t') b i
+  settled_after b i out o settled z w e g =
+      elim (on.after.fields b o.0 z i w out o.1 e g) [
+        | inl q ↦ settled_grows (layout p) c.noted c'.noted (field_word b i) w on.after.noted_grows (settled o.0 w o.1 q)
+        | inr q ↦ q.2.settled
+      ]
+
+  pub taken_after : (k : ℕ) → IsTaken c.destinations k → IsTaken c'.destinations k
+  taken_after k w = record { at = w.at; is = on.after.taken_grows w.at k w.is }

@@ -31,7 +31,8 @@ use Rattle.object_copy.specs.Copies.{no_places}
 use Rattle.object_copy.proofs.Copied.{tile_of_object}
 use Rattle.evacuation.specs.Evacuates.{Layers, CanEvacuate, IsRow, is_chosen, stored_words}
 use Rattle.evacuation.specs.Space.{AllVisited, flag}
-use Rattle.evacuation.specs.Turns.{Pause, IsPause, IsTurn, kept_now, layout, left_words, plan}
+use Rattle.evacuation.specs.Turns.{Pause, IsPause, IsTurn, PauseStands, AreVisited, kept_now, layout, left_words, plan}
+use Rattle.evacuation.specs.declared.room.Context.{Context}
 use Rattle.evacuation.proofs.Turns.KeptObjects.{kept_object}
 use Rattle.evacuation.proofs.Lists.{get_below}
 use Rattle.evacuation.proofs.WholePause.Beginning.{no_tile, start_turn}
@@ -174,14 +175,25 @@ module _ (h : Layers) (rows : List LiveRow) (cw : ℕ) (can : CanEvacuate h rows
     ordinary = ordinary;
   }
 
-  pub start_is : (n : ℕ) → n ≡ length h.table.regions → IsTurn pause h.table (no_places n)
+  start_is : (n : ℕ) → n ≡ length h.table.regions → IsTurn pause h.table (no_places n)
   start_is n e = start_turn pause is_pause
       (let w = within_bounds in let r = can.room in let s = kept_now_is pause in rw s (omega (arith, w, r)))
       (let s = kept_now_is pause in rw s (omega arith)) n e
 
-  pub cards_are : (n : ℕ) → n ≡ card_count h.sets → n ≡ length h.table.regions * (words / cw)
+  cards_are : (n : ℕ) → n ≡ card_count h.sets → n ≡ length h.table.regions * (words / cw)
   cards_are n e =
       e ∙ ap (λ (m : ℕ). m * h.sets.cards_per_region) can.fit.each_region ∙ ap (λ (m : ℕ). length h.table.regions * m) (sym per_region)
+
+  -- it stands where there is no destination yet
+  pub stands : (n : ℕ) (c : Context) → c.destinations ≡ no_places n → n ≡ length h.table.regions → c.chosen.items ≡ flags
+      → c.card_words ≡ cw → length c.noted ≡ card_count h.sets → PauseStands pause h.table c
+  stands n c none room set card each = record {
+    premises = is_pause;
+    turn = subst (IsTurn pause h.table) (sym none) (start_is n room);
+    flags = set;
+    card = card;
+    each_card = cards_are (length c.noted) each;
+  }
 
   apart : (c w : ℕ) → IsHolder h.table c w → flag flags (c / words) ≡ false → flag flags (w / words) ≡ true → ⊥
   apart c w holder out' in' =
@@ -211,7 +223,7 @@ module _ (h : Layers) (rows : List LiveRow) (cw : ℕ) (can : CanEvacuate h rows
   module _ (visited : List Bool)
       (marked : (card : ℕ) → kind_of h.table (card * cw / words) ≢ kinds.Free
       → flag visited card ≡ list_any (λ row. may_lead h.sets row.region card) rows) where
-    pub all_visited : AllVisited (layout pause) (plan pause) visited
+    all_visited : AllVisited (layout pause) (plan pause) visited
     all_visited b i a x at out e inside =
         let o = object b x at in
         let n = get_below (fields x) i (Some a) e in
@@ -247,3 +259,6 @@ module _ (h : Layers) (rows : List LiveRow) (cw : ℕ) (can : CanEvacuate h rows
                   let e = holder.tile_is in
                   absurd cc)
             ]
+
+    pub visits_all : length visited ≡ card_count h.sets → AreVisited pause visited
+    visits_all each = record { each_card = cards_are (length visited) each; all = all_visited }

@@ -25,11 +25,11 @@ use Rattle.mark_bitmap.specs.Tops.{Tops, is_below}
 use Rattle.mark_bitmap.specs.Kept.{MarksObjects, kept_in}
 use Rattle.mark_bitmap.proofs.KeptLaws.{gone_kept}
 use Rattle.region_choice.specs.declared.LiveRow.{LiveRow}
-use Rattle.object_copy.specs.Copies.{Places}
+use Rattle.evacuation.specs.declared.room.Context.{Context}
 use Rattle.evacuation.specs.Evacuates.{AreReachedWords, CanEvacuate, Layers, MarksAfter, RegionsAfter, SparesRegions}
 use Rattle.evacuation.specs.Evacuates.{heap_of, kept_of, is_chosen, set_by, IsNewCrossing}
 use Rattle.evacuation.specs.Space.{flag, filled, AreSpared, NewCrossing}
-use Rattle.evacuation.specs.Turns.{Pause, IsTurn, in_set, kept_now, plan, space, layout}
+use Rattle.evacuation.specs.Turns.{Pause, IsTurn, in_set, kept_now, space, layout}
 use Rattle.evacuation.specs.Releasing.{AreReleased}
 use Rattle.heap_model.specs.Marking.{Marking}
 use Rattle.heap_model.specs.Relocation.{KeepsOld}
@@ -41,7 +41,7 @@ use Rattle.remembered_sets.proofs.Laws.{leads_alike}
 use Rattle.refinement.specs.Remembering.{Remembers, field_card, field_word}
 use Rattle.evacuation.specs.Evacuates.{HasEvacuated, IsNewSet}
 use Rattle.evacuation.specs.Space.{IsTaken}
-use Rattle.evacuation.specs.Turns.{AreFieldsClean, AreFieldsNoted}
+use Rattle.evacuation.specs.Turns.{HasCopied}
 use Rattle.evacuation.specs.Releasing.{AreCleared}
 use Rattle.evacuation.proofs.Turns.AllCopied.{reached_inside}
 use Rattle.evacuation.proofs.Turns.KeptObjects.{not_below, kept_object, cases_free, free_used, object_of}
@@ -99,7 +99,8 @@ none_moved t g f = regions_none t.regions
 
 module _ (h : Layers) (rows : List LiveRow) (cw : ℕ) (can : CanEvacuate h rows cw) (shaped : IsShaped h.table) (flags : List Bool)
     (flags_are : (k : ℕ) → flag flags k ≡ is_chosen rows k) (len : length flags ≡ length h.table.regions)
-    (t1 : Table) (d1 : Places) (turn : IsTurn (asked.pause h rows cw can shaped flags flags_are len) t1 d1)
+    (t1 : Table) (c1 : Context)
+    (turn : IsTurn (asked.pause h rows cw can shaped flags flags_are len) t1 c1.destinations)
     (t2 : Table) (rel : AreReleased rows t1 t2) (more : free_count t2 ≡ free_count t1 + length rows) where
   abbrev p : Pause
   p = asked.pause h rows cw can shaped flags flags_are len
@@ -265,12 +266,12 @@ module _ (h : Layers) (rows : List LiveRow) (cw : ℕ) (can : CanEvacuate h rows
     }
 
   -- ---- the destinations
-  pub spares : SparesRegions rows d1.words h.table t2
+  pub spares : SparesRegions rows c1.destinations.words h.table t2
   spares = record {
-    taken = length d1.regions;
+    taken = length c1.destinations.regions;
     count = (let f = turn.copying.frees in let m = more in omega arith);
-    none = λ z. unused words (length d1.regions) (filled (space p t1) d1.last) d1.words turn.copying.spared z;
-    full = λ two. half words (length d1.regions) (filled (space p t1) d1.last) d1.words turn.copying.spared two;
+    none = λ z. unused words (length c1.destinations.regions) (filled (space p t1) c1.destinations.last) c1.destinations.words turn.copying.spared z;
+    full = λ two. half words (length c1.destinations.regions) (filled (space p t1) c1.destinations.last) c1.destinations.words turn.copying.spared two;
   }
     where
       unused : (w n : ℕ) (fill : Option ℕ) (copied : ℕ) → AreSpared w n fill copied → copied ≡ 0 → n ≡ 0
@@ -283,16 +284,13 @@ module _ (h : Layers) (rows : List LiveRow) (cw : ℕ) (can : CanEvacuate h rows
 
   -- ---- all together
   module _ (tams' : Tops) (previous' next' : List Bool) (cards' : Cards) (sets' : Sets)
-      (roots' : List (Option ℕ)) (noted : List Bool) (g : IsShaped t2)
+      (roots' : List (Option ℕ)) (g : IsShaped t2)
       (previous : MarksAfter words rows h.tams.previous tams'.previous h.previous previous')
       (next : MarksAfter words rows h.tams.next tams'.next h.next next')
-      (cleared : AreCleared rows h.sets sets') (dirty : (card : ℕ) → is_dirty cards' card ≡ flag noted card)
+      (cleared : AreCleared rows h.sets sets') (dirty : (card : ℕ) → is_dirty cards' card ≡ flag c1.noted card)
       (logs : cards'.logs ≡ h.cards.logs) (rising : IsStrictlyIncreasing cards'.queue) (each : length cards'.dirty ≡ length h.cards.dirty)
-      (moved : Relocates (place_after (in_set p) (space p t1).forward) (plan p).heap
-      (released (in_set p) (record { kept = kept_now p t1; roots = roots' })))
-      (reached : (a : ℕ) → IsReached (in_set p) (plan p).heap a → (b : ℕ) × ((space p t1).forward a ≡ Some b))
-      (copied_words : AreReachedWords (in_set p) (plan p).heap d1.words) (fields : AreFieldsNoted p noted t1) (clean : AreFieldsClean p t1)
-      (only : (c : ℕ) → flag noted c ≡ true → NewCrossing (layout p) (space p h.table) (space p t1) d1 c) where
+      (done : HasCopied p t1 c1 roots')
+      (only : (c : ℕ) → flag c1.noted c ≡ true → NewCrossing (layout p) (space p h.table) (space p t1) c1.destinations c) where
     abbrev h' : Layers
     h' = record { table = t2; tams = tams'; previous = previous'; next = next'; cards = cards'; sets = sets'; roots = roots' }
 
@@ -312,12 +310,12 @@ module _ (h : Layers) (rows : List LiveRow) (cw : ℕ) (can : CanEvacuate h rows
 
     relocates : Relocates (place_after (set_by h rows) forward) (heap_of h) (heap_of h')
     relocates = subst (λ (s : ℕ → Bool). Relocates (place_after s forward) (heap_of h) (heap_of h')) (sym sets_same)
-        (subst (Relocates (place_after (in_set p) forward) (heap_of h)) (sym same_heap) moved)
+        (subst (Relocates (place_after (in_set p) forward) (heap_of h)) (sym same_heap) done.moved)
 
     copied : (a : ℕ) → IsReached (set_by h rows) (heap_of h) a ↔ ((set_by h rows a ≡ true) × (b : ℕ) × (forward a ≡ Some b))
     copied = subst (λ (s : ℕ → Bool). (a : ℕ) → IsReached s (heap_of h) a ↔ ((s a ≡ true) × (b : ℕ) × (forward a ≡ Some b))) (sym sets_same)
         (λ a.
-        (λ r. let (b, e) = reached a r in (reached_inside (in_set p) (heap_of h) a r, b, e), λ q. turn.copying.heap.reached a q.1 q.0 q.2))
+        (λ r. let (b, e) = done.reached a r in (reached_inside (in_set p) (heap_of h) a r, b, e), λ q. turn.copying.heap.reached a q.1 q.0 q.2))
 
     kept_there : (b : ℕ) (y : Stored) → kept_in t2 tams' previous' b ≡ Some y → (in_set p b ≡ false) × (kept_now p t1 b ≡ Some y)
     kept_there b y e = elim (cases_Bool (in_set p b)) [
@@ -345,8 +343,8 @@ module _ (h : Layers) (rows : List LiveRow) (cw : ℕ) (can : CanEvacuate h rows
     remembers = subst (λ (n : ℕ). Remembers n (kept_in t2 tams' previous') cw (is_dirty cards') (may_lead sets')) (sym size) (record {
       each = λ b i a x.
           let (out, here) = kept_there b x.object x.kept_is in
-          let outside' = clean b i a x.object here out x.field_is in
-          elim (fields.field b i x.object (Some a) here out x.field_is) [
+          let outside' = done.clean b i a x.object here out x.field_is in
+          elim (done.noted.field b i x.object (Some a) here out x.field_is) [
             | inl was ↦ (let (y, at, f) = was in
                 elim (can.remembers.each b i a (record { object = y; kept_is = at; field_is = f; leaves = x.leaves })) [
                   | inl d ↦ absurd (let c = can.clean (field_card cw b i) in cc)
@@ -387,7 +385,7 @@ module _ (h : Layers) (rows : List LiveRow) (cw : ℕ) (can : CanEvacuate h rows
             subst (λ (r : LiveRow). get_or h.tams.next r.region 0 ≡ r.region * words) is t in
             bottom_of row.region a (sym g') t'
 
-        fresh : (b : ℕ) → IsTaken d1 (b / words) → below_next h.table h.tams b ≡ false
+        fresh : (b : ℕ) → IsTaken c1.destinations (b / words) → below_next h.table h.tams b ≡ false
         fresh b w =
             let r = turn.taken (b / words) w in
             let low = can.next.bottom (b / words) r.2 in
@@ -428,14 +426,14 @@ module _ (h : Layers) (rows : List LiveRow) (cw : ℕ) (can : CanEvacuate h rows
         let (n, f) = moved_tile (tile_in t1 a) b e in
         (turn.taken (b / words) (turn.copying.placed a b (turn.table.moved a b n f) e)).0
 
-    pub evacuated : HasEvacuated rows cw d1.words h h'
+    pub evacuated : HasEvacuated rows cw c1.destinations.words h h'
     evacuated = record {
       forward = forward;
       placed = λ a b e. place_free a b e;
       relocates = relocates;
       copied = copied;
       keeps_old = keeps_old;
-      words_are = subst (λ (s : ℕ → Bool). AreReachedWords s (heap_of h) d1.words) (sym sets_same) copied_words;
+      words_are = subst (λ (s : ℕ → Bool). AreReachedWords s (heap_of h) c1.destinations.words) (sym sets_same) done.words;
       within = (let a = turn.copying.limit in let b = asked.within_bounds h rows cw can shaped flags flags_are len in omega (arith, a, b));
       regions = regions;
       spares = spares;

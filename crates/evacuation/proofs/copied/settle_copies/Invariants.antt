@@ -1,5 +1,5 @@
 use Rattle.std.proofs.Common.{◌-◌, ◌^◌}
-use Rattle.evacuation.specs.Turns.{IsTurn, After, EachCard}
+use Rattle.evacuation.specs.Turns.{PauseGoesOn}
 use Rattle.evacuation.proofs.Loops.Destinations.{AreRegionsSettled}
 use Rattle.evacuation.proofs.copied.settle_copies.Given as goal
 
@@ -8,10 +8,8 @@ ghost-settle_region g a = g.pause
 
 abbrev pub invariant-loop-region : goal.invariant-loop-region
 invariant-loop-region g l = record {
-  turn : IsTurn g.pause l.table l.destinations;
-  after : After g.pause l.initial.noted l.noted l.initial.table l.table l.initial.destinations l.destinations;
-  each : EachCard g.pause l.noted;
-  done : AreRegionsSettled g.pause l.noted l.table l.destinations l.n;
+  on : PauseGoesOn g.pause l.initial.table l.table l.initial.context l.context;
+  done : AreRegionsSettled g.pause l.context.noted l.table l.context.destinations l.n;
 }
 
 abbrev pub decreases-loop-region : goal.decreases-loop-region

@@ -1,5 +1,5 @@
 use Rattle.evacuation.specs.Space.{IsStill}
-use Rattle.evacuation.specs.Turns.{IsTurn, After, EachCard, space}
+use Rattle.evacuation.specs.Turns.{PauseGoesOn, space}
 use Rattle.evacuation.specs.Cursors.{AreFieldsSettled}
 use Rattle.evacuation.proofs.copied.settle_object.Given as goal
 
@@ -8,9 +8,7 @@ ghost-settle_field g a = g.pause
 
 abbrev pub invariant-loop-field : goal.invariant-loop-field
 invariant-loop-field g l = record {
-  turn : IsTurn g.pause l.table l.destinations;
-  after : After g.pause l.initial.noted l.noted l.initial.table l.table l.initial.destinations l.destinations;
-  each : EachCard g.pause l.noted;
+  on : PauseGoesOn g.pause l.initial.table l.table l.initial.context l.context;
   still : IsStill (space g.pause l.table) l.at l.count;
-  settled : AreFieldsSettled g.pause l.noted l.table l.at l.field;
+  settled : AreFieldsSettled g.pause l.context.noted l.table l.at l.field;
 }

@@ -1,33 +1,48 @@
-use Rattle.std.proofs.Common.{◌∙◌, sym, Some}
+use Rattle.std.proofs.Common.{◌≡◌, ◌∙◌, ◌/◌, ℕ, sym, ap, Some}
 use Rattle.refinement.specs.Remembering.{field_word}
+use Rattle.refinement.proofs.Fields.{region_of_card}
+use Rattle.evacuation.proofs.Turns.Following.{stays_on}
 use Rattle.evacuation.proofs.FieldUpdates.InTable as updates
 use Rattle.evacuation.proofs.fields.update_field.Goals as goal
 
-pub returns-then-not-is_inside-clause-clean : goal.returns-then-not-is_inside-clause-clean
-returns-then-not-is_inside-clause-clean g c =
-    let (premises, (turn, (flags, (each, (known, (in_card, (home, (outside, (field, names))))))))) = c.requires in
-    updates.unchanged g.pause premises c.args.table.now c.args.destinations.now turn c.args.at c.args.field outside field
-    (Some c.args.target) names (sym c.is_inside.ensures ∙ c.if-not-is_inside.true)
+pub returns-then-not-is_inside : goal.returns-then-not-is_inside
+returns-then-not-is_inside g c =
+    let (stands, (place, (in_card, (outside, (field, names))))) = c.requires in
+    record {
+      goes_on = stays_on stands;
+      clean = updates.unchanged g.pause stands.premises c.args.table.now c.args.context.now.destinations stands.turn c.args.at c.args.field
+          outside field (Some c.args.target) names (sym c.is_inside.ensures ∙ c.if-not-is_inside.true);
+    }
 
 pub redirect-to-requires : goal.redirect-to-requires
 redirect-to-requires g c =
-    let (premises, (turn, (flags, (each, (known, (in_card, (home, (outside, (field, names))))))))) = c.requires in
-    (premises, (turn, (outside, (field, (names, sym c.is_inside.ensures ∙ c.if-not-is_inside.false)))))
+    let (stands, (place, (in_card, (outside, (field, names))))) = c.requires in
+    (stands.premises, (stands.turn, (outside, (field, (names, sym c.is_inside.ensures ∙ c.if-not-is_inside.false)))))
 
 pub note_card-requires : goal.note_card-requires
 note_card-requires g c =
-    let (premises, (turn, (flags, (each, (known, (in_card, (home, (outside, (field, names))))))))) = c.requires in
-    (c.redirect-to.ensures.turn.table.size, (each, known))
+    let (stands, (place, (in_card, (outside, (field, names))))) = c.requires in
+    (c.redirect-to.ensures.turn.table.size, (stands.each_card, place))
 
-pub returns-clause-after : goal.returns-clause-after
-returns-clause-after g c =
-    let (premises, (turn, (flags, (each, (known, (in_card, (home, (outside, (field, names))))))))) = c.requires in
-    c.redirect-to.ensures.after c.args.noted.now c.note_card.new.noted
-    (c.note_card.ensures.notes (field_word c.args.at c.args.field) in_card home)
-
-pub returns-clause-clean : goal.returns-clause-clean
-returns-clause-clean g c =
-    let (premises, (turn, (flags, (each, (known, (in_card, (home, (outside, (field, names))))))))) = c.requires in
-    λ y w here is.
-    (c.redirect-to.ensures.settled c.args.noted.now c.note_card.new.noted
-    (c.note_card.ensures.notes (field_word c.args.at c.args.field) in_card home) y w here is).0
+pub returns : goal.returns
+returns g c =
+    let (stands, (place, (in_card, (outside, (field, names))))) = c.requires in
+    let word = field_word c.args.at c.args.field in
+    let home : word / g.pause.start.words_per_region ≡ c.args.place.home =
+    sym (region_of_card g.pause.start.words_per_region g.pause.card_words g.pause.cards_per_region word
+    stands.premises.shaped.positive stands.premises.whole_cards)
+    ∙ ap (λ (n : ℕ). n / g.pause.cards_per_region) in_card ∙ place.home in
+    let notes = c.note_card.ensures.notes word in_card home in
+    record {
+      goes_on = record {
+        stands = record {
+          premises = stands.premises;
+          turn = c.redirect-to.ensures.turn;
+          flags = stands.flags;
+          card = stands.card;
+          each_card = c.note_card.ensures.each_card;
+        };
+        after = c.redirect-to.ensures.after c.args.context.now.noted c.note_card.new.noted notes;
+      };
+      clean = λ y w here is. (c.redirect-to.ensures.settled c.args.context.now.noted c.note_card.new.noted notes y w here is).0;
+    }

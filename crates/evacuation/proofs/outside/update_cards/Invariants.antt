@@ -1,6 +1,6 @@
 use Rattle.std.proofs.Common.{◌≤◌, ◌-◌, length}
 use Rattle.evacuation.specs.Space.{AreClean}
-use Rattle.evacuation.specs.Turns.{IsTurn, After, EachCard, layout, plan, space}
+use Rattle.evacuation.specs.Turns.{PauseGoesOn, layout, plan, space}
 use Rattle.evacuation.proofs.outside.update_cards.Given as goal
 
 abbrev pub ghost-update_card : goal.ghost-update_card
@@ -8,9 +8,7 @@ ghost-update_card g a = g.pause
 
 abbrev pub invariant-loop-card : goal.invariant-loop-card
 invariant-loop-card g l = record {
-  turn : IsTurn g.pause l.table l.destinations;
-  after : After g.pause l.initial.noted l.noted l.initial.table l.table l.initial.destinations l.destinations;
-  each : EachCard g.pause l.noted;
+  on : PauseGoesOn g.pause l.initial.table l.table l.initial.context l.context;
   inside : l.start ≤ length l.visited;
   clean : AreClean (layout g.pause) (plan g.pause) l.visited (space g.pause l.table) l.start;
 }

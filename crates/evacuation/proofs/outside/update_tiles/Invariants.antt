@@ -1,7 +1,7 @@
 use Rattle.std.proofs.Common.{◌≡◌, ◌/◌, ◌+◌, ◌*◌, ◌-◌, List, Bool}
 use Rattle.std.specs.Prelude.{IsSome}
 use Rattle.regions.specs.Table.{tile_in}
-use Rattle.evacuation.specs.Turns.{IsTurn, After, EachCard}
+use Rattle.evacuation.specs.Turns.{PauseGoesOn}
 use Rattle.evacuation.specs.Cursors.{AreCleanBelow}
 use Rattle.evacuation.proofs.outside.update_tiles.Given as goal
 
@@ -10,12 +10,10 @@ ghost-update_tile g a = g.pause
 
 abbrev pub invariant-tiles : goal.invariant-tiles
 invariant-tiles g l = record {
-  turn : IsTurn g.pause l.table l.destinations;
-  after : After g.pause l.initial.noted l.noted l.initial.table l.table l.initial.destinations l.destinations;
-  each : EachCard g.pause l.noted;
+  on : PauseGoesOn g.pause l.initial.table l.table l.initial.context l.context;
   tile : IsSome (tile_in l.table l.at);
   region : l.at / g.pause.start.words_per_region ≡ l.fn.first / g.pause.start.words_per_region;
-  clean : (visited : List Bool) → AreCleanBelow g.pause visited l.table l.card l.at;
+  clean : (visited : List Bool) → AreCleanBelow g.pause visited l.table l.place.card l.at;
 }
 
 abbrev pub decreases-tiles : goal.decreases-tiles
