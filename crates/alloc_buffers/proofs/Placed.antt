@@ -3,7 +3,8 @@ use Rattle.std.proofs.Common.{◌≡◌, ◌≢◌, ◌+◌, ◌-◌, ◌*◌, �
 use Rattle.std.proofs.Common.{ℕ, zero, suc, Option, Some, None, List, [], length, refl, sym, ap, subst, arith, inl, inr}
 use Rattle.std.specs.Prelude.{slice_get, slice_set, slice_index_or}
 use Rattle.std.proofs.lemmas.Bool.Decides.{leb_tells}
-use Rattle.std.proofs.lemmas.List.{length-set, get_or-set_other}
+use Rattle.std.proofs.lemmas.List.{length-set, set-set, get_or-set_other}
+use Rattle.std.proofs.lemmas.Option.{slice_get-get_or}
 use Rattle.std.proofs.Common.{replicate}
 use Rattle.std.proofs.lemmas.Bool.{cases_lt, cases_eq, le-leb}
 use Rattle.heap_model.proofs.Lists.{get-set_cases, get-set_same, get-set_other}
@@ -22,7 +23,7 @@ use Rattle.alloc_buffers.specs.declared.buffers.Buffer.{Buffer}
 use Rattle.alloc_buffers.specs.declared.placement.Place.TheVariants as places
 use Rattle.alloc_buffers.specs.Placement.{Buffers, BuffersStand, HasFiller, IsPlaced, HasRoom, with_buffer, IsAbove, AreAbove}
 use Rattle.alloc_buffers.specs.OpenBuffers.{buffer_of}
-use Rattle.alloc_buffers.specs.Placement.{alone, room_for, in_new_buffer, with_filler, closed, in_buffer, place_of, CanPlace, IsMadeAt}
+use Rattle.alloc_buffers.specs.Placement.{alone, room_for, in_new_buffer, closed, in_buffer, place_of, CanPlace, IsMadeAt}
 
 -- an open buffer is at its address
 buffer_at : (next rest : ℕ) (x : Buffer) → buffer_of next rest ≡ Some x → (x.next ≡ next) × (x.rest ≡ rest) × (0 < rest)
@@ -66,15 +67,12 @@ set_cases xs i j v w e = elim (cases_eq j i) [
   | inr n ↦ inr (n, sym (get-set_other xs i j v (λ h. n (sym h))) ∙ e)
 ]
 
--- an object's filler at a region's top
-pub top_placed : (t t1 t2 : Table) (b : Buffers) (opens : List (Option Buffer)) (k w size a : ℕ) → BuffersStand t b → HasNoForwarded t
-    → HasRoom t t1 k w → Pushed t1 t2 k a (Filler size)
-    → ((m : ℕ) (x : Buffer) → slice_get opens m ≡ Some (Some x) → slice_get b.open_buffers m ≡ Some (Some x))
-    → length opens ≡ length b.open_buffers
-    → IsPlaced t t2 b (record { words = b.words; current = Some k; open_buffers = opens }) size a
-top_placed t t1 t2 b opens k w size a s none r p old count =
-    let apart : (m : ℕ) (x : Buffer) → slice_get opens m ≡ Some (Some x) → x.next ≢ a = λ m x e h.
-    let f = s.fillers m x (old m x e) in
+-- a filler at a region's top
+top_placed : (t t1 t2 : Table) (b : Buffers) (k size a : ℕ) → BuffersStand t b → HasNoForwarded t → HasRoom t t1 k size
+    → Pushed t1 t2 k a (Filler size) → IsPlaced t t2 b (record b { current = Some k }) size a
+top_placed t t1 t2 b k size a s none r p =
+    let apart : (m : ℕ) (x : Buffer) → slice_get b.open_buffers m ≡ Some (Some x) → x.next ≢ a = λ m x e h.
+    let f = s.fillers m x e in
     let here : tile_in t a ≡ Some (Filler x.rest) = subst (λ (y : ℕ). tile_in t y ≡ Some (Filler x.rest)) h f.filler in
     let void : tile_in t a ≡ None = sym (r.tiles a) ∙ p.was in cc in
     record {
@@ -89,11 +87,11 @@ top_placed t t1 t2 b opens k w size a s none r p old count =
       stand = record {
         known = λ j e. let same : k ≡ j = cc in rw (← same, p.count) r.known;
         ordinary = λ j e. let same : k ≡ j = cc in rw (← same) (p.kinds_same k ∙ r.ordinary);
-        fillers = λ m x e. let f = s.fillers m x (old m x e) in
+        fillers = λ m x e. let f = s.fillers m x e in
             record { positive = f.positive; filler = p.others x.next (apart m x e) ∙ r.tiles x.next ∙ f.filler };
-        apart = λ m n x y ex ey h. s.apart m n x y (old m x ex) (old n y ey) h;
+        apart = s.apart;
       };
-      open_count = count;
+      open_count = refl;
       words = refl;
       count = p.count ∙ r.count;
       in_use = λ j n h. r.in_use j n (sym (p.kinds_same j) ∙ h);
@@ -102,73 +100,7 @@ top_placed t t1 t2 b opens k w size a s none r p old count =
           let same = above_same t t1 b limit r.region_size r.count r.used h in
           let more = above_pushed t1 t2 b k a (Filler size) limit p same in (
             subst (λ (n : ℕ). IsAbove n limit a) r.region_size more.0,
-            above_buffers t2 b _ limit (λ m x e. more.1.buffers m x (old m x e)) more.1,
-          );
-    }
-
--- the rest of a new buffer after it
-pub rest_placed : (t t2 t3 : Table) (b b2 : Buffers) (m k size rest a a2 : ℕ) → IsPlaced t t2 b b2 size a → Pushed t2 t3 k a2 (Filler rest)
-    → 0 < rest
-    → IsPlaced t t3 b (record {
-      words = b2.words;
-      current = b2.current;
-      open_buffers = slice_set b2.open_buffers m (Some (record { next = a2; rest = rest }));
-    }) size a
-rest_placed t t2 t3 b b2 m k size rest a a2 s p z =
-    let buffer : Buffer = record { next = a2; rest = rest } in
-    let away : a ≢ a2 = λ h.
-    let here : tile_in t2 a2 ≡ Some (Filler size) = subst (λ (y : ℕ). tile_in t2 y ≡ Some (Filler size)) h s.filler in
-    let void = p.was in cc in
-    let next_is : (x : Buffer) → Some x ≡ Some buffer
-    → x.next ≡ a2 = λ x e. let same : x ≡ buffer = cc in ap (λ (y : Buffer). y.next) same in
-    let other : (n : ℕ) (x : Buffer) → slice_get b2.open_buffers n ≡ Some (Some x) → x.next ≢ a2 = λ n x e h.
-    let f = s.stand.fillers n x e in
-    let here : tile_in t2 a2 ≡ Some (Filler x.rest) = subst (λ (y : ℕ). tile_in t2 y ≡ Some (Filler x.rest)) h f.filler in
-    let void = p.was in cc in
-    record {
-      filler = p.others a away ∙ s.filler;
-      spare = λ n x e. elim (set_cases b2.open_buffers m n (Some buffer) (Some x) e) [
-        | inl q ↦ λ h. away (sym h ∙ next_is x q.1)
-        | inr q ↦ s.spare n x q.1
-      ];
-      objects = λ y. elim (cases_eq y a2) [
-        | inl q ↦ rw q (object_none t3 a2 rest p.is ∙ sym (sym (s.objects a2) ∙ void_object t2 a2 p.was))
-        | inr n ↦ object_same t2 t3 y (p.others y n) ∙ s.objects y
-      ];
-      unmoved = p.unmoved s.unmoved;
-      region_size = p.size ∙ s.region_size;
-      stand = record {
-        known = λ j e. rw p.count (s.stand.known j e);
-        ordinary = λ j e. p.kinds_same j ∙ s.stand.ordinary j e;
-        fillers = λ n x e. elim (set_cases b2.open_buffers m n (Some buffer) (Some x) e) [
-          | inl q ↦ let same : buffer ≡ x = (let h = q.1 in cc) in subst (HasFiller t3) same (record { positive = z; filler = p.is })
-          | inr q ↦ let f = s.stand.fillers n x q.1 in record { positive = f.positive; filler = p.others x.next (other n x q.1) ∙ f.filler }
-        ];
-        apart = λ i j x y ex ey h. elim (set_cases b2.open_buffers m i (Some buffer) (Some x) ex) [
-          | inl q ↦ elim (set_cases b2.open_buffers m j (Some buffer) (Some y) ey) [
-            | inl u ↦ q.0 ∙ sym u.0
-            | inr u ↦ absurd (other j y u.1 (sym h ∙ next_is x q.1))
-          ]
-          | inr q ↦ elim (set_cases b2.open_buffers m j (Some buffer) (Some y) ey) [
-            | inl u ↦ absurd (other i x q.1 (h ∙ next_is y u.1))
-            | inr u ↦ s.stand.apart i j x y q.1 u.1 h
-          ]
-        ];
-      };
-      open_count = length-set b2.open_buffers m (Some buffer) ∙ s.open_count;
-      words = s.words;
-      count = p.count ∙ s.count;
-      in_use = λ j n h. s.in_use j n (sym (p.kinds_same j) ∙ h);
-      kinds_stay = λ j n. p.kinds_same j ∙ s.kinds_stay j n;
-      above = λ limit h.
-          let first = s.above limit h in
-          let more = above_pushed t2 t3 b2 k a2 (Filler rest) limit p first.1 in
-          let fresh : IsAbove t3.words_per_region limit a2 = subst (λ (n : ℕ). IsAbove n limit a2) (sym p.size) more.0 in (
-            first.0,
-            above_buffers t3 b2 _ limit (λ n x e. elim (set_cases b2.open_buffers m n (Some buffer) (Some x) e) [
-              | inl q ↦ subst (λ (j : ℕ). IsAbove t3.words_per_region limit j) (sym (next_is x q.1)) fresh
-              | inr q ↦ more.1.buffers n x q.1
-            ]) more.1,
+            above_buffers t2 b _ limit more.1.buffers more.1,
           );
     }
 
@@ -329,7 +261,7 @@ alone_placed t t1 t2 c b n k size a e s none r same z fitting p at is =
     subst (λ (j : ℕ). Pushed t1 t2 k j (Filler size)) at'
     (subst (λ (u : Table). Pushed t1 u k (k * t1.words_per_region + used_of t1 k) (Filler size)) is' push) in
     subst (λ (d : Buffers). IsPlaced t t2 b (record { words = d.words; current = Some k; open_buffers = d.open_buffers }) size a) (sym e)
-    (top_placed t t1 t2 b b.open_buffers k size size a s none r pushed (λ m x h. h) refl)
+    (top_placed t t1 t2 b k size a s none r pushed)
 
 pub alone_is : (t t1 t2 : Table) (c b : Buffers) (n k size a : ℕ) → c ≡ b → n ≡ k
     → room_for t c.current size ≡ Some (record { region = k; table = t1 }) → a ≡ n * t1.words_per_region + used_of t1 n
@@ -360,79 +292,97 @@ inside_placed t t' c b m size at next a x v e s none z fitting here p le at_is i
     subst (λ (d : Buffers). IsPlaced t t' b (with_buffer d d.current m v) size x.next) (sym e) w1 in
     subst (λ (j : ℕ). IsPlaced t t' b (with_buffer c c.current m v) size j) (sym a_is) w2
 
-pub pushed_by : (t t1 t2 : Table) (n k w size a : ℕ) → HasRoom t t1 k w → size ≤ w → n ≡ k → 0 < t1.words_per_region → AreFitting t1
-    → 0 < size → a ≡ n * t1.words_per_region + used_of t1 n → t2 ≡ push_tile t1 n (Filler size) → Pushed t1 t2 k a (Filler size)
-pushed_by t t1 t2 n k w size a r le same z fitting p at is =
-    let push = filler_push t1 k (Filler size) z fitting r.known r.ordinary p (let room = r.room in omega arith) tt in
-    let at' : k * t1.words_per_region + used_of t1 k ≡ a = ap (λ (j : ℕ). j * t1.words_per_region + used_of t1 j) (sym same) ∙ sym at in
-    let is' : push_tile t1 k (Filler size) ≡ t2 = ap (λ (j : ℕ). push_tile t1 j (Filler size)) (sym same) ∙ sym is in
-    subst (λ (j : ℕ). Pushed t1 t2 k j (Filler size)) at'
-    (subst (λ (u : Table). Pushed t1 u k (k * t1.words_per_region + used_of t1 k) (Filler size)) is' push)
+-- a filler that is no buffer's becomes one
+module _ (u : Table) (b : Buffers) (m a rest : ℕ) (some : 0 < rest) (filler : tile_in u a ≡ Some (Filler rest))
+    (spare : (j : ℕ) (x : Buffer) → slice_get b.open_buffers j ≡ Some (Some x) → x.next ≢ a) where
+  abbrev fresh : Buffer
+  fresh = record { next = a; rest = rest }
 
--- the room that is left behind the object
-pub record NextRoom (t2 : Table) (k rest : ℕ) : Type 0 where
-  pub known : k < length t2.regions
-  pub ordinary : kind_of t2 k ≡ kinds.Ordinary
-  pub unmoved : HasNoForwarded t2
-  pub room : used_of t2 k + rest ≤ t2.words_per_region
+  abbrev opened : Buffers
+  opened = with_buffer b b.current m (Some fresh)
 
-pub next_room : (t t1 t2 : Table) (k n w size a : ℕ) → HasNoForwarded t → HasRoom t t1 k w → size ≤ w → Pushed t1 t2 k a (Filler size)
-    → n ≡ k → NextRoom t2 n (w - size)
-next_room t t1 t2 k n w size a none r le p same = rw same (record {
-  known = rw p.count r.known;
-  ordinary = p.kinds_same k ∙ r.ordinary;
-  unmoved = p.unmoved (r.unmoved none);
-  room = (let used = p.used in let size_is = p.size in let room = r.room in omega arith);
-})
+  -- an open buffer is that one, or it was open
+  open_cases : (j : ℕ) (x : Buffer) → slice_get opened.open_buffers j ≡ Some (Some x)
+      → ((j ≡ m) × (fresh ≡ x)) ⊎ (slice_get b.open_buffers j ≡ Some (Some x))
+  open_cases j x e = elim (set_cases b.open_buffers m j (Some fresh) (Some x) e) [
+    | inl q ↦ inl (q.0, let h = q.1 in cc)
+    | inr q ↦ inr q.1
+  ]
 
-less : (b : Buffers) (i m : ℕ) (x : Buffer) → slice_get (slice_set b.open_buffers i None) m ≡ Some (Some x)
-    → slice_get b.open_buffers m ≡ Some (Some x)
-less b i m x e = elim (set_cases b.open_buffers i m None (Some x) e) [ inl q ↦ absurd (let h = q.1 in cc) | inr q ↦ q.1 ]
+  opened_stand : BuffersStand u b → BuffersStand u opened
+  opened_stand s = record {
+    known = s.known;
+    ordinary = s.ordinary;
+    fillers = λ j x e. elim (open_cases j x e) [
+      | inl q ↦ subst (HasFiller u) q.1 (record { positive = some; filler = filler })
+      | inr q ↦ s.fillers j x q
+    ];
+    apart = λ i j x y ex ey h. elim (open_cases i x ex) [
+      | inl p ↦ elim (open_cases j y ey) [
+        | inl q ↦ p.0 ∙ sym q.0
+        | inr q ↦ absurd (spare j y q (sym h ∙ sym (ap (λ (z : Buffer). z.next) p.1)))
+      ]
+      | inr p ↦ elim (open_cases j y ey) [
+        | inl q ↦ absurd (spare i x p (h ∙ sym (ap (λ (z : Buffer). z.next) q.1)))
+        | inr q ↦ s.apart i j x y p q h
+      ]
+    ];
+  }
 
-pub whole_placed : (t t1 t2 : Table) (c b : Buffers) (m k w size a : ℕ) → c ≡ b → BuffersStand t b → HasNoForwarded t → HasRoom t t1 k w
-    → Pushed t1 t2 k a (Filler size)
-    → IsPlaced t t2 b (record { words = c.words; current = Some k; open_buffers = slice_set c.open_buffers m None }) size a
-whole_placed t t1 t2 c b m k w size a e s none r p =
-    subst (λ (d : Buffers). IsPlaced t t2 b
-    (record { words = d.words; current = Some k; open_buffers = slice_set d.open_buffers m None }) size a) (sym e)
-    (top_placed t t1 t2 b (slice_set b.open_buffers m None) k w size a s none r p (less b m) (length-set b.open_buffers m None))
+  opened_above : (limit : ℕ → ℕ) → IsAbove u.words_per_region limit a → AreAbove u b limit → AreAbove u opened limit
+  opened_above limit at above = above_buffers u b opened limit (λ j x e. elim (open_cases j x e) [
+    | inl q ↦ subst (λ (y : Buffer). IsAbove u.words_per_region limit y.next) q.1 at
+    | inr q ↦ above.buffers j x q
+  ]) above
 
-some_buffer : (next rest : ℕ) → 0 < rest → buffer_of next rest ≡ Some (record { next = next; rest = rest })
-some_buffer next zero z = absurd (omega arith)
-some_buffer next (suc n) z = refl
+-- an object's filler at the start of a new buffer, which was placed as one filler
+pub new_placed : (t u t' : Table) (b b1 : Buffers) (m w size a next : ℕ) (v : Option Buffer) → IsPlaced t u b b1 w a
+    → m < length b1.open_buffers → 0 < u.words_per_region → AreFitting u → 0 < size → size ≤ w
+    → t' ≡ replace_tile u a (Filler size ∷ remainder (w - size)) → next ≡ a + size → v ≡ buffer_of next (w - size)
+    → IsPlaced t t' b (with_buffer b1 b1.current m v) size a
+new_placed t u t' b b1 m w size a next v first known z fitting p le is next_is v_is =
+    let some : 0 < w = omega arith in
+    let x : Buffer = record { next = a; rest = w } in
+    let b2 : Buffers = with_buffer b1 b1.current m (Some x) in
+    let here : slice_get b2.open_buffers m ≡ Some (Some x) =
+    get-set_same b1.open_buffers m (Some x) _ (slice_get-get_or b1.open_buffers m None known) in
+    let v' : buffer_of (a + size) (w - size) ≡ v = sym (v_is ∙ ap (λ (j : ℕ). buffer_of j (w - size)) next_is) in
+    let s = split_placed u t' b2 m size x (opened_stand u b1 m a w some first.filler first.spare first.stand) first.unmoved z fitting here p
+    le is in
+    let all : IsPlaced t t' b (with_buffer b2 b2.current m (buffer_of (a + size) (w - size))) size a = record {
+      filler = s.filler;
+      spare = s.spare;
+      objects = λ y. s.objects y ∙ first.objects y;
+      unmoved = s.unmoved;
+      region_size = s.region_size ∙ first.region_size;
+      stand = s.stand;
+      open_count = s.open_count ∙ length-set b1.open_buffers m (Some x) ∙ first.open_count;
+      words = first.words;
+      count = s.count ∙ first.count;
+      in_use = λ j n. s.in_use j (first.in_use j n);
+      kinds_stay = λ j n. s.kinds_stay j (first.in_use j n) ∙ first.kinds_stay j n;
+      above = λ limit h.
+          let old = first.above limit h in
+          let at : IsAbove u.words_per_region limit a = subst (λ (n : ℕ). IsAbove n limit a) (sym first.region_size) old.0 in
+          (old.0, (s.above limit (opened_above u b1 m a w some first.filler first.spare limit at old.1)).1);
+    } in
+    subst (λ (opens : List (Option Buffer)).
+    IsPlaced t t' b (record { words = b1.words; current = b1.current; open_buffers = opens }) size a)
+    (set-set b1.open_buffers m (Some x) (buffer_of (a + size) (w - size)) ∙ ap (slice_set b1.open_buffers m) v') all
 
-pub part_placed : (t t1 t2 t3 : Table) (c b : Buffers) (m k n w size rest a a2 next : ℕ) (v : Option Buffer) → c ≡ b → BuffersStand t b
-    → HasNoForwarded t → HasRoom t t1 k w → size ≤ w → Pushed t1 t2 k a (Filler size) → n ≡ k → rest ≡ w - size → 0 < rest
-    → 0 < t2.words_per_region → AreFitting t2 → a2 ≡ n * t2.words_per_region + used_of t2 n → t3 ≡ push_tile t2 n (Filler rest) → next ≡ a2
-    → v ≡ buffer_of next rest
-    → IsPlaced t t3 b (record { words = c.words; current = Some k; open_buffers = slice_set c.open_buffers m v }) size a
-part_placed t t1 t2 t3 c b m k n w size rest a a2 next v e s none r le p same rest_is z big fitting at is next_is v_is =
-    let nr = next_room t t1 t2 k n w size a none r le p same in
-    let push = filler_push t2 n (Filler rest) big fitting nr.known nr.ordinary z (let room = nr.room in omega arith) tt in
-    let pushed : Pushed t2 t3 n a2 (Filler rest) =
-    subst (λ (j : ℕ). Pushed t2 t3 n j (Filler rest)) (sym at)
-    (subst (λ (u : Table). Pushed t2 u n (n * t2.words_per_region + used_of t2 n) (Filler rest)) (sym is) push) in
-    let base = top_placed t t1 t2 b b.open_buffers k w size a s none r p (λ m x h. h) refl in
-    let done = rest_placed t t2 t3 b _ m n size rest a a2 base pushed z in
-    let v' : v ≡ Some (record { next = a2; rest = rest }) = v_is ∙ ap (λ (j : ℕ). buffer_of j rest) next_is ∙ some_buffer a2 rest z in
-    subst (λ (d : Buffers). IsPlaced t t3 b
-    (record { words = d.words; current = Some k; open_buffers = slice_set d.open_buffers m v }) size a) (sym e)
-    (subst (λ (u : Option Buffer). IsPlaced t t3 b
-    (record { words = b.words; current = Some k; open_buffers = slice_set b.open_buffers m u }) size a) (sym v') done)
-
-pub in_new_is : (t t1 t2 t3 : Table) (c b : Buffers) (m n k size a : ℕ) (v : Option Buffer) → c ≡ b → n ≡ k
+pub in_new_is : (t t1 u t' : Table) (c b : Buffers) (m n k size a next : ℕ) (v : Option Buffer) → c ≡ b → n ≡ k
     → room_for t c.current c.words ≡ Some (record { region = k; table = t1 }) → a ≡ n * t1.words_per_region + used_of t1 n
-    → t2 ≡ push_tile t1 n (Filler size)
-    → t3 ≡ with_filler t2 k (c.words - size) → v ≡ buffer_of (a + size) (c.words - size)
+    → u ≡ push_tile t1 n (Filler c.words) → t' ≡ replace_tile u a (Filler size ∷ remainder (c.words - size)) → next ≡ a + size
+    → v ≡ buffer_of next (c.words - size)
     → in_new_buffer b m size (room_for t b.current b.words) ≡ Some
     (record {
       place = places.Filler a;
-      table = t3;
+      table = t';
       buffers = record { words = c.words; current = Some k; open_buffers = slice_set c.open_buffers m v };
     })
-in_new_is t t1 t2 t3 c b m n k size a v e same is at push more v_is =
+in_new_is t t1 u t' c b m n k size a next v e same is at push split next_is v_is =
     ap (λ (d : Buffers). in_new_buffer d m size (room_for t d.current d.words)) (sym e) ∙ ap (in_new_buffer c m size) is
-    ∙ rw (v_is, more, push, at, same) refl
+    ∙ rw (v_is, next_is, split, push, at, same) refl
 
 none_open : (n m : ℕ) (x : Buffer) → slice_get (replicate {A = Option Buffer} n None) m ≡ Some (Some x) → ⊥
 none_open zero m x e = cc
@@ -466,13 +416,13 @@ placed_open : (t : Table) (b : Buffers) (m size : ℕ) (x : Buffer) → 2 * size
 placed_open t b m size x half here room = rw (le-leb (2 * size) t.words_per_region half, here, le-leb size x.rest room) refl
 
 -- an object made over the start of an open buffer's filler is made in its place
-pub inside_made : (t t' : Table) (b b' : Buffers) (m size name p weak d : ℕ) (x : Buffer) → 0 < t.words_per_region → AreFitting t
-    → CanPlace t b size → slice_get b.open_buffers m ≡ Some (Some x) → size ≤ x.rest → 2 * size ≤ t.words_per_region → size ≡ 2 + p + weak
-    + d
-    → t' ≡ replace_tile t x.next (Object (new_object name p weak d) ∷ remainder (x.rest - size))
+pub inside_made : (t t' : Table) (b b' : Buffers) (m size name p weak d a n : ℕ) (x : Buffer) → 0 < t.words_per_region → AreFitting t
+    → CanPlace t b size → slice_get b.open_buffers m ≡ Some (Some x) → size ≤ x.rest → 2 * size ≤ t.words_per_region
+    → size ≡ 2 + p + weak + d → a ≡ x.next → n ≡ x.rest
+    → t' ≡ replace_tile t a (Object (new_object name p weak d) ∷ remainder (n - (2 + p + weak + d)))
     → b' ≡ with_buffer b b.current m (buffer_of (x.next + size) (x.rest - size))
-    → IsMadeAt t t' b b' m size (new_object name p weak d) x.next (in_buffer t b m size x)
-inside_made t t' b b' m size name p weak d x z fitting ready opened room half long made cut =
+    → IsMadeAt t t' b b' m size (new_object name p weak d) a (in_buffer t b m size x)
+inside_made t t' b b' m size name p weak d a n x z fitting ready opened room half long at_is n_is made cut =
     let f = ready.stand.fillers m x opened in
     let some = ready.positive in
     let split : List Tile = Filler size ∷ remainder (x.rest - size) in
@@ -481,29 +431,16 @@ inside_made t t' b b' m size name p weak d x z fitting ready opened room half lo
     let w = filler_replaced t x.next x.rest split z fitting f.filler f.positive (some, remainder_positive (x.rest - size)) total
     (remainder_unmoved (x.rest - size)) in
     let here : slice_index_or b.open_buffers m None ≡ Some x = get_or-get b.open_buffers m None (Some x) opened in
+    let rest : n - (2 + p + weak + d) ≡ x.rest - size = omega (arith, long, n_is) in
     record {
       place = placed_open t b m size x half here room;
-      at = refl;
-      made = made ∙ sym (replaced_twice t x.next x.rest (remainder (x.rest - size)) (Filler size) (Object (new_object name p weak d))
-          f.filler);
+      at = at_is;
+      made = made ∙ ap (λ (r : ℕ). replace_tile t a (Object (new_object name p weak d) ∷ remainder r)) rest
+          ∙ ap (λ (i : ℕ). replace_tile t i (Object (new_object name p weak d) ∷ remainder (x.rest - size))) at_is
+          ∙ sym (replaced_twice t x.next x.rest (remainder (x.rest - size)) (Filler size) (Object (new_object name p weak d)) f.filler);
       buffers = cut;
       placed = (half, split_placed t (replace_tile t x.next split) b m size x ready.stand ready.unmoved z fitting opened some room refl);
       positive = omega (arith, w.size, z);
       fitting = filler_fitting t x.next x.rest split z fitting f.filler f.positive (some, remainder_positive (x.rest - size)) total
           (remainder_unmoved (x.rest - size));
     }
-
--- the same by other names of its address and of the filler's size
-pub inside_made_by : (t t' : Table) (b b' : Buffers) (m size name p weak d a n : ℕ) (x : Buffer) → 0 < t.words_per_region → AreFitting t
-    → CanPlace t b size → slice_get b.open_buffers m ≡ Some (Some x) → size ≤ x.rest → 2 * size ≤ t.words_per_region
-    → size ≡ 2 + p + weak + d → a ≡ x.next → n ≡ x.rest
-    → t' ≡ replace_tile t a (Object (new_object name p weak d) ∷ remainder (n - (2 + p + weak + d)))
-    → b' ≡ with_buffer b b.current m (buffer_of (x.next + size) (x.rest - size))
-    → IsMadeAt t t' b b' m size (new_object name p weak d) a (in_buffer t b m size x)
-inside_made_by t t' b b' m size name p weak d a n x z fitting ready opened room half long at_is n_is made cut =
-    let rest : n - (2 + p + weak + d) ≡ x.rest - size = omega (arith, long, n_is) in
-    let made' : t' ≡ replace_tile t x.next (Object (new_object name p weak d) ∷ remainder (x.rest - size)) =
-    made ∙ ap (λ (r : ℕ). replace_tile t a (Object (new_object name p weak d) ∷ remainder r)) rest
-    ∙ ap (λ (i : ℕ). replace_tile t i (Object (new_object name p weak d) ∷ remainder (x.rest - size))) at_is in
-    subst (λ (i : ℕ). IsMadeAt t t' b b' m size (new_object name p weak d) i (in_buffer t b m size x)) (sym at_is)
-    (inside_made t t' b b' m size name p weak d x z fitting ready opened room half long made' cut)

@@ -1,6 +1,6 @@
 -- Where an object goes.
 use Rattle.std.specs.Prelude.{◌≡◌, ◌≢◌, ◌∷◌, ◌+◌, ◌-◌, ◌*◌, ◌/◌, ◌<◌, ◌≤◌, if◌then◌else◌}
-use Rattle.std.specs.Prelude.{[], ℕ, zero, suc, Option, Some, None, List, replicate, slice_get, slice_set, slice_index_or, length, nat_le}
+use Rattle.std.specs.Prelude.{[], ℕ, Option, Some, None, List, replicate, slice_get, slice_set, slice_index_or, length, nat_le}
 use Rattle.heap_model.specs.Heap.{Stored}
 use Rattle.regions.specs.Tiles.{Filler, Object}
 use Rattle.regions.specs.declared.row.Kind.TheVariants as kinds
@@ -40,20 +40,22 @@ room_for t None w = fresh_room t (first_free t)
 room_for t (Some k) w = if nat_le (used_of t k + w) t.words_per_region then Some (record { region = k; table = t }) else fresh_room t
     (first_free t)
 
-abbrev pub with_filler : Table → ℕ → ℕ → Table
-with_filler t k zero = t
-with_filler t k (suc n) = push_tile t k (Filler (suc n))
-
 abbrev pub with_buffer : Buffers → Option ℕ → ℕ → Option Buffer → Buffers
 with_buffer b current m buffer = record { words = b.words; current = current; open_buffers = slice_set b.open_buffers m buffer }
 
+-- at the start of an open buffer, which is a filler
+abbrev pub in_buffer : Table → Buffers → ℕ → ℕ → Buffer → Placement
+in_buffer t b m size x = record {
+  place = places.Filler x.next;
+  table = replace_tile t x.next (Filler size ∷ remainder (x.rest - size));
+  buffers = with_buffer b b.current m (buffer_of (x.next + size) (x.rest - size));
+}
+
+-- at the start of a new one, which is pushed at a region's top
 abbrev pub in_new_buffer : Buffers → ℕ → ℕ → Option Room → Option Placement
 in_new_buffer b m size None = None
-in_new_buffer b m size (Some r) = Some (record {
-  place = places.Filler (top_of r.table r.region);
-  table = with_filler (push_tile r.table r.region (Filler size)) r.region (b.words - size);
-  buffers = with_buffer b (Some r.region) m (buffer_of (top_of r.table r.region + size) (b.words - size));
-})
+in_new_buffer b m size (Some r) = Some (in_buffer (push_tile r.table r.region (Filler b.words)) (record b { current = Some r.region }) m size
+    (record { next = top_of r.table r.region; rest = b.words }))
 
 abbrev pub alone : Buffers → ℕ → Option Room → Option Placement
 alone b size None = None
@@ -66,13 +68,6 @@ alone b size (Some r) = Some (record {
 abbrev pub outside : Table → Buffers → ℕ → ℕ → Option Placement
 outside t b m size = if nat_le size b.words then in_new_buffer b m size (room_for t b.current b.words) else alone b size
     (room_for t b.current size)
-
-abbrev pub in_buffer : Table → Buffers → ℕ → ℕ → Buffer → Placement
-in_buffer t b m size x = record {
-  place = places.Filler x.next;
-  table = replace_tile t x.next (Filler size ∷ remainder (x.rest - size));
-  buffers = with_buffer b b.current m (buffer_of (x.next + size) (x.rest - size));
-}
 
 abbrev pub place_by : Table → Buffers → ℕ → ℕ → Option Buffer → Option Placement
 place_by t b m size None = outside t b m size

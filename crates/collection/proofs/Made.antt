@@ -15,7 +15,7 @@ use Rattle.regions.specs.Table.{push_tile, replace_tile, region_with_tile, regio
 use Rattle.object_copy.proofs.Frees.{fewer_free}
 use Rattle.alloc_buffers.specs.declared.buffers.Buffer.{Buffer}
 use Rattle.alloc_buffers.specs.Placement.{Buffers, Placement, Room, room_for, fresh_room, in_new_buffer, in_buffer, alone, outside}
-use Rattle.alloc_buffers.specs.Placement.{place_by, place_of, small_place_of, run_place_of, with_filler, made_at}
+use Rattle.alloc_buffers.specs.Placement.{place_by, place_of, small_place_of, run_place_of, made_at}
 
 set_free : (rs : List Region) (k : ℕ) (r : Region) → is_free r ≡ is_free (get_or rs k Free)
     → sum_by (λ (x : Region). cond (is_free x) 1 0) (set rs k r) ≡ sum_by (λ (x : Region). cond (is_free x) 1 0) rs
@@ -54,9 +54,8 @@ replaced_free t a us =
     (a % t.words_per_region) us)
     (other_free (get_or t.regions (a / t.words_per_region) Free) (a % t.words_per_region) us)
 
-filler_free : (t : Table) (k n : ℕ) → free_count (with_filler t k n) ≡ free_count t
-filler_free t k zero = refl
-filler_free t k (suc n) = pushed_free t k (Filler (suc n))
+twice_free : (t : Table) (a : ℕ) (us vs : List Tile) → free_count (replace_tile (replace_tile t a us) a vs) ≡ free_count t
+twice_free t a us vs = replaced_free (replace_tile t a us) a vs ∙ replaced_free t a us
 
 some_is : {A : Type 0} (x y : A) → Some x ≡ Some y → x ≡ y
 some_is x y e = cc
@@ -96,11 +95,10 @@ module _ (t : Table) where
   new_near b m size (Some r) h x f s =
       subst (λ (q : Placement). free_count t ≤ free_count (made_at q.table q.place s) + 1) (some_is _ x f)
       (let a = h r refl in
-      let d = pushed_free r.table r.region (Filler size) in
-      let e = filler_free (push_tile r.table r.region (Filler size)) r.region (b.words - size) in
-      let g = replaced_free (with_filler (push_tile r.table r.region (Filler size)) r.region (b.words - size))
-      (top_of r.table r.region) (Object s ∷ []) in
-      omega (arith, a, d, e, g))
+      let d = pushed_free r.table r.region (Filler b.words) in
+      let e = twice_free (push_tile r.table r.region (Filler b.words)) (top_of r.table r.region) (Filler size ∷ remainder (b.words - size))
+      (Object s ∷ []) in
+      omega (arith, a, d, e))
 
   alone_near : (b : Buffers) (size : ℕ) (r : Option Room) → IsRoom t r → IsNear t (alone b size r)
   alone_near b size None h x f s = absurd (no_some x f)
@@ -119,9 +117,8 @@ module _ (t : Table) where
   by_near b m size None = outside_near b m size
   by_near b m size (Some y) = if_near t (nat_le size y.rest) _ _ (λ x f s.
       subst (λ (q : Placement). free_count t ≤ free_count (made_at q.table q.place s) + 1) (some_is _ x f)
-      (let a = replaced_free t y.next (Filler size ∷ remainder (y.rest - size)) in
-      let g = replaced_free (in_buffer t b m size y).table y.next (Object s ∷ []) in
-      omega (arith, a, g))) (outside_near b m size)
+      (let a = twice_free t y.next (Filler size ∷ remainder (y.rest - size)) (Object s ∷ []) in omega (arith, a)))
+      (outside_near b m size)
 
   pub place_near : (b : Buffers) (m size : ℕ) → 2 * size ≤ t.words_per_region → IsNear t (place_of t b m size)
   place_near b m size small =
@@ -129,9 +126,6 @@ module _ (t : Table) where
       (sym (le-leb (2 * size) t.words_per_region small)) (by_near b m size (slice_index_or b.open_buffers m None))
 
 -- ---- no region is taken
-abbrev IsHere : Table → Option Room → Type 0
-IsHere t o = (r : Room) → o ≡ Some r → free_count r.table ≡ free_count t
-
 -- as many regions are free once an object is made in the place
 abbrev pub IsInside : Table → Option Placement → Type 0
 IsInside t o = (x : Placement) → o ≡ Some x → (s : Stored) → free_count (made_at x.table x.place s) ≡ free_count t
@@ -150,11 +144,10 @@ module _ (t : Table) where
   new_as b m size n (Some r) h x f s =
       subst (λ (q : Placement). free_count (made_at q.table q.place s) + n ≡ free_count t) (some_is _ x f)
       (let a = h r refl in
-      let d = pushed_free r.table r.region (Filler size) in
-      let e = filler_free (push_tile r.table r.region (Filler size)) r.region (b.words - size) in
-      let g = replaced_free (with_filler (push_tile r.table r.region (Filler size)) r.region (b.words - size)) (top_of r.table r.region)
+      let d = pushed_free r.table r.region (Filler b.words) in
+      let e = twice_free (push_tile r.table r.region (Filler b.words)) (top_of r.table r.region) (Filler size ∷ remainder (b.words - size))
       (Object s ∷ []) in
-      omega (arith, a, d, e, g))
+      omega (arith, a, d, e))
 
   pub alone_as : (b : Buffers) (size n : ℕ) (o : Option Room) → ((r : Room) → o ≡ Some r → free_count r.table + n ≡ free_count t)
       → (x : Placement) → alone b size o ≡ Some x → (s : Stored) → free_count (made_at x.table x.place s) + n ≡ free_count t
@@ -173,10 +166,7 @@ module _ (t : Table) where
 
   pub inside_buffer : (b : Buffers) (m size : ℕ) (y : Buffer) (s : Stored)
       → free_count (made_at (in_buffer t b m size y).table (in_buffer t b m size y).place s) ≡ free_count t
-  inside_buffer b m size y s =
-      let a = replaced_free t y.next (Filler size ∷ remainder (y.rest - size)) in
-      let g = replaced_free (in_buffer t b m size y).table y.next (Object s ∷ []) in
-      omega (arith, a, g)
+  inside_buffer b m size y s = twice_free t y.next (Filler size ∷ remainder (y.rest - size)) (Object s ∷ [])
 
 -- ---- a run
 take_most : (m : ℕ) (rs : List Region) → length (take m rs) ≤ m

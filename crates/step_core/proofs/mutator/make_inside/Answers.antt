@@ -1,7 +1,7 @@
 use Rattle.std.proofs.Common.{arith}
 use Rattle.regions.proofs.Tiles.Released.{filler_short}
 use Rattle.alloc_buffers.specs.Placement.{in_buffer}
-use Rattle.alloc_buffers.proofs.Placed.{inside_made_by}
+use Rattle.alloc_buffers.proofs.Placed.{inside_made}
 use Rattle.step_core.proofs.mutator.make_inside.Goals as goal
 
 pub new-requires-clause-small : goal.new-requires-clause-small
@@ -14,7 +14,7 @@ new-requires-clause-small c =
 pub returns-clause-made : goal.returns-clause-made
 returns-clause-made c = (
   in_buffer c.args.table.now c.args.buffers.now c.args.mutator c.args.size c.in_ok-open.open,
-  inside_made_by c.args.table.now _ c.args.buffers.now _ c.args.mutator c.args.size c.args.name c.args.counts.pointers c.args.weaks
+  inside_made c.args.table.now _ c.args.buffers.now _ c.args.mutator c.args.size c.args.name c.args.counts.pointers c.args.weaks
       c.args.counts.values _ _ c.in_ok-open.open c.law.ensures.positive c.law.ensures.fitting c.requires.ready c.in_ok-open.ensures.opened
       c.in_ok-open.ensures.room c.requires.half c.requires.size
       c.new-at.ensures c.new.ensures (rw (c.header_counts.ensures.pointers, c.header_counts.ensures.weaks, c.header_counts.ensures.values)
