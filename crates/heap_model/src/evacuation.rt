@@ -35,6 +35,7 @@ pub fn named_law()
 {}
 
 /// Once no word names the set any more, the copying was a move, and what is copied is what is reached.
+#[tactic(auto, using(crate::proofs::Evacuated::evacuated_relocates, crate::proofs::Evacuated::reached_exactly))]
 pub fn evacuation_law()
     ensures moves { (set : ℕ → Bool) (h now : Heap) (forward : ℕ → Option ℕ) → IsEvacuating set h forward now → IsEvacuated set now
         → Relocates (place_after set forward) h (released set now) }

@@ -9,6 +9,7 @@ ghost use Rattle.heap_model.specs.Kept.{kept_by};
 ghost use Rattle.heap_model.specs.Count.{IsReachableCount, ListsMarked};
 
 /// Marking begins with the present graph as its snapshot.
+#[tactic(auto, using(crate::proofs::Begin::begins))]
 pub fn begin_law()
     ensures { (g : Graph) (h : Heap) (m : Marking) → Shows g h → Begins h m → KeepsSnapshot g h m }
 {}
@@ -70,6 +71,7 @@ pub fn count_law()
 
 /// When the new marks and tops at mark start take the place of the previous ones, and are above them, they keep
 /// what marking keeps, its weak slots cleared, where those of the objects that are marked or new were cleared before.
+#[tactic(auto, using(crate::proofs::Kept::kept_by_marks))]
 pub fn kept_law()
     ensures { (s : Graph) (tiles cleared_tiles : ℕ → Option Stored) (below marked : ℕ → Bool) (roots : List (Option ℕ)) (m : Marking)
         → KeepsSnapshot s (record { kept = kept_by tiles below marked; roots = roots }) m

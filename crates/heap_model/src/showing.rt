@@ -7,6 +7,7 @@ ghost use Rattle.heap_model.specs.Heap.{Heap, Stored, Shows, IsShown, StandsOnce
 ghost use Rattle.heap_model.specs.Heap.{fields, with_field};
 
 /// Each object that a root reaches is in the heap once, with the graph's contents.
+#[tactic(auto, using(crate::proofs::Shown::stands_once))]
 pub fn stands_law()
     ensures { (g : Graph) (h : Heap) → Shows g h → (n : ℕ) → IsReachable g n → StandsOnce g h n }
 {}
@@ -32,6 +33,7 @@ pub fn read_law()
 {}
 
 /// Setting a field sets it in the list of the fields; there are as many pointers as before, and the rest stays.
+#[tactic(auto, using(crate::proofs::Fields::field_set))]
 pub fn field_law()
     ensures field { (x : Stored) (i : ℕ) (v : Option ℕ) → fields (with_field x i v) ≡ slice_set (fields x) i v }
     ensures shape { (x : Stored) (i : ℕ) (v : Option ℕ) → length (with_field x i v).pointers ≡ length x.pointers }

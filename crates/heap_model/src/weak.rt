@@ -35,6 +35,7 @@ pub fn unreached_law()
 
 /// What is reachable while marking runs was reachable in the snapshot, or is new. So no name that the clearing at its end takes
 /// from a weak slot is reachable then.
+#[tactic(auto, using(crate::proofs::Touched::reached_known))]
 pub fn reached_law()
     ensures { (s g : Graph) (h : Heap) (m : Marking) → Shows g h → KeepsSnapshot s h m → (n : ℕ) → IsReachable g n
         → IsReachable s n ⊎ (next_name s ≤ n) }
