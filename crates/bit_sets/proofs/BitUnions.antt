@@ -13,7 +13,7 @@ use Rattle.bit_sets.specs.BitWords.{bit_of, flags_of}
 use Rattle.bit_sets.specs.Bounded.{AreWithin}
 use Rattle.bit_sets.proofs.BitWords.{and-false, bit_of-set_here, bit_of-set_there, length-flags_of, has-flags_of, has_past}
 use Rattle.bit_sets.proofs.BitWords.{div_ceil_reaches}
-use Rattle.bit_sets.proofs.BitRanges.{IsMask, between_yes, between_no_below, between_no_above, between_same}
+use Rattle.bit_sets.proofs.BitRanges.{IsMask, between_no_below, between_no_above, between_same}
 use Rattle.bit_sets.proofs.LowestBits.{one_or_zero}
 use Rattle.bit_sets.proofs.Bounds.{AreWide, still}
 
@@ -129,22 +129,6 @@ flags_joined flags others members initial ws n m from to view other even short d
     ⊎_elim inside past (cases_lt a n)
 
 -- ---- with bounds of the members
--- no member is passed over where it begins at the first one
-pub joined_from : (member : ℕ → Bool) (old : Bool) (from first to a : ℕ) → from ≤ first
-    → ((k : ℕ) → from ≤ k → k < first → member k ≡ false)
-    → (old || (is_between first to a && member a)) ≡ (old || (is_between from to a && member a))
-joined_from member old from first to a h none = elim (cases_lt a from) [
-  | inl b ↦ ap (λ (x : Bool). old || (x && member a)) (between_no_below first to a (omega arith) ∙ sym (between_no_below from to a b))
-  | inr b ↦ elim (cases_lt a first) [
-    | inl c ↦ ap (λ (x : Bool). old || (is_between first to a && x)) (none a b c)
-        ∙ ap (λ (x : Bool). old || x) (and-false (is_between first to a) ∙ sym (and-false (is_between from to a)))
-        ∙ sym (ap (λ (x : Bool). old || (is_between from to a && x)) (none a b c))
-    | inr c ↦ elim (cases_lt a to) [
-      | inl d ↦ ap (λ (x : Bool). old || (x && member a)) (between_yes first to a c d ∙ sym (between_yes from to a b d))
-      | inr d ↦ ap (λ (x : Bool). old || (x && member a)) (between_no_above first to a d ∙ sym (between_no_above from to a d))
-    ]
-  ]
-]
 
 -- where the range has none, none comes
 pub joined_nothing : (member : ℕ → Bool) (old : Bool) (from to a : ℕ) → ((k : ℕ) → from ≤ k → k < to → member k ≡ false)

@@ -111,8 +111,20 @@ flags_of-remove ws n w a h inside e =
 pub bit_read : (ws : List ℕ) (w a : ℕ) → w ≡ get_or ws (a / 64) 0 → eqb (bit_and (w / 2 ^ (a % 64)) 1) 1 ≡ bit_of ws a
 bit_read ws w a e = rw (shr_and_one, e) refl
 
+pub len_is : (flags : List Bool) (ws : List ℕ) (n : ℕ) → flags_of ws n ≡ flags → n ≡ length flags
+len_is flags ws n view = sym (length-flags_of ws n) ∙ ap length view
+
 pub number_inside : (flags : List Bool) (ws : List ℕ) (n a : ℕ) → flags_of ws n ≡ flags → a < length flags → a < n
-number_inside flags ws n a view h = omega (arith, length-flags_of ws n, ap length view)
+number_inside flags ws n a view h = omega (arith, len_is flags ws n view)
+
+-- the word of a number is there, where the words are enough
+pub word_inside : (flags : List Bool) (ws : List ℕ) (n a : ℕ) → flags_of ws n ≡ flags → n ≤ 64 * length ws → a < length flags
+    → a / 64 < length ws
+word_inside flags ws n a view enough h = omega (arith, number_inside flags ws n a view h)
+
+pub group_inside : (flags : List Bool) (ws : List ℕ) (n i : ℕ) → flags_of ws n ≡ flags → n ≤ 64 * length ws → 64 * i < length flags
+    → i < length ws
+group_inside flags ws n i view enough h = omega (arith, len_is flags ws n view)
 
 pub min_one : (x y : ℕ) → y ≡ 1 → x < 2 → min x y ≡ x
 min_one x y e h = omega arith

@@ -1,10 +1,11 @@
 -- The lowest number of a set, word by word.
 use Rattle.std.proofs.Common.{◌≡◌, ◌+◌, ◌-◌, ◌*◌, ◌/◌, ◌%◌, ◌^◌, ◌<◌, ◌≤◌, ◌⊎◌, ◌∙◌}
 use Rattle.std.proofs.Common.{ℕ, Bool, true, false, List, length, slice_index, eqb, min, bit_and}
-use Rattle.std.proofs.Common.{w64, not, inl, inr, refl, sym, ap, ⊎_elim, arith}
-use Rattle.std.specs.Prelude.{◌&&◌, Option, Some, None, MatchOption}
+use Rattle.std.proofs.Common.{w64, not, inl, inr, refl, sym, ap, subst, ⊎_elim, arith}
+use Rattle.std.specs.Prelude.{◌&&◌, Option, Some, None, MatchOption, IfSome}
 use Rattle.std.specs.Int.{bit_at, trailing_zeros}
 use Rattle.std.proofs.lemmas.Bool.{cases_lt, eqb-true, eqb-false, ne_eqb}
+use Rattle.std.proofs.lemmas.Nat.{and_le_r}
 use Rattle.std.proofs.lemmas.Nat.Bits.{bit_at-zero, bit_at-lt, bit_at_and, bit_at_not, bit_at-trailing_zeros}
 use Rattle.bit_sets.specs.Bits.{has, has_alone, HasNone, HasNoneBelow, IsLowest}
 use Rattle.bit_sets.specs.BitWords.{bit_of, flags_of}
@@ -73,6 +74,20 @@ found_inside is_in has n from i m g w before some inside = record {
   lowest = λ a h k. g.inside a (omega arith) ∙ none_before has from i m w before some a h k;
 }
 
+-- what the lowest number of a word says of the set: where it is below the end, it is the set's lowest
+pub lowest_found : (is_in has : ℕ → Bool) (n from to end i m : ℕ) (found : Option ℕ) → Agree is_in has n → IsWord has from i m
+    → HasNoneBelow has from (64 * i) → 0 < m → min to n ≤ end → end ≤ n
+    → MatchOption found (end ≤ 64 * i + trailing_zeros w64 m) (λ x. x ≡ 64 * i + trailing_zeros w64 m) → IfSome found (λ x. x < end)
+    → MatchOption found (HasNoneBelow is_in from to) (IsLowest is_in from)
+lowest_found is_in has n from to end i m None g w before some all inside past low =
+    found_past is_in has n from to i m g w before some (omega (arith, past))
+lowest_found is_in has n from to end i m (Some x) g w before some all inside e low =
+    subst (λ (y : ℕ). IsLowest is_in from y) (sym e) (found_inside is_in has n from i m g w before some (omega (arith, e, low)))
+
+pub some_below : (found : Option ℕ) (a b : ℕ) → IfSome found (λ x. x < a) → a ≤ b → IfSome found (λ x. x < b)
+some_below None a b low le = tt
+some_below (Some x) a b low le = omega (arith, low)
+
 -- none below the length is none at all
 pub none_at_all : (flags : List Bool) (from n : ℕ) (found : Option ℕ) → n ≡ length flags
     → MatchOption found (HasNoneBelow (has flags) from n) (IsLowest (has flags) from)
@@ -126,8 +141,11 @@ only ws vs a = bit_of ws a && not (bit_of vs a)
 pub only_none : (ws vs : List ℕ) (a : ℕ) → bit_of ws a ≡ false → only ws vs a ≡ false
 only_none ws vs a e = ap (λ (b : Bool). b && not (bit_of vs a)) e
 
+abbrev pub left_of : ℕ → ℕ → ℕ
+left_of w v = bit_and w (2 ^ 64 - 1 - v)
+
 abbrev pub left_part : ℕ → ℕ → ℕ → ℕ
-left_part w v low = bit_and (bit_and w (2 ^ 64 - 1 - v)) (high_mask low)
+left_part w v low = bit_and (left_of w v) (high_mask low)
 
 pub one_or_zero : (x : ℕ) → x < 2 → (x ≡ 0) ⊎ (x ≡ 1)
 one_or_zero x h = elim (eqb x 0) as (λ b. eqb x 0 ≡ b → (x ≡ 0) ⊎ (x ≡ 1))
@@ -184,14 +202,7 @@ pub none_yet : (has : ℕ → Bool) (from : ℕ) → HasNoneBelow has from from
 none_yet has from a h k = absurd (omega arith)
 
 pub group_word : (ws : List ℕ) (i w : ℕ) → w ≡ slice_index ws i → w < 2 ^ 64 → IsWord (bit_of ws) (64 * i) i w
-group_word ws i w read fits = record {
-  low = 0;
-  start = omega arith;
-  near = omega arith;
-  fits = fits;
-  same = λ a h e. ap (λ q. eqb (bit_at (slice_index ws q) (a % 64)) 1) e ∙ ap (λ v. eqb (bit_at v (a % 64)) 1) (sym read);
-  below = λ j h. absurd (omega arith);
-}
+group_word ws i w read fits = later_word ws (64 * i) i w (omega arith) read fits
 
 pub group_left : (ws vs : List ℕ) (i w v : ℕ) → w ≡ slice_index ws i → v ≡ slice_index vs i → v < 2 ^ 64
     → bit_and w (2 ^ 64 - 1 - v) < 2 ^ 64 → IsWord (only ws vs) (64 * i) i (bit_and w (2 ^ 64 - 1 - v))
@@ -213,28 +224,56 @@ group_left ws vs i w v read other fits less = record {
   below = λ j h. absurd (omega arith);
 }
 
+-- what the lowest number of a group's word says of the set
+pub group_found : (is_in has : ℕ → Bool) (n i m : ℕ) (found : Option ℕ) → Agree is_in has n → IsWord has (64 * i) i m
+    → MatchOption found ((m ≡ 0) ⊎ ((0 < m) × (n ≤ 64 * i + trailing_zeros w64 m))) (λ x. (0 < m) × (x ≡ 64 * i + trailing_zeros w64 m))
+    → IfSome found (λ x. x < n) → MatchOption found (HasNoneBelow is_in (64 * i) (64 * i + 64)) (IsLowest is_in (64 * i))
+group_found is_in has n i m None g w (inl none) low =
+    none_left is_in has n (64 * i) (64 * i + 64) (64 * (i + 1)) g (none_in_word has (64 * i) i m w (none_yet has (64 * i)) none) (omega arith)
+group_found is_in has n i m None g w (inr past) low =
+    found_past is_in has n (64 * i) (64 * i + 64) i m g w (none_yet has (64 * i)) past.0 (omega (arith, past.1))
+group_found is_in has n i m (Some x) g w is low = subst (λ (y : ℕ). IsLowest is_in (64 * i) y) (sym is.1)
+    (found_inside is_in has n (64 * i) i m g w (none_yet has (64 * i)) is.0 (omega (arith, is.1, low)))
+
 -- where the group has one of the set, the word isn't 0, and its lowest bit is of the set
-pub some_word : (is_in has : ℕ → Bool) (n i m : ℕ) → Agree is_in has n → IsWord has (64 * i) i m
-    → (HasNoneBelow is_in (64 * i) (64 * i + 64) → ⊥) → 0 < m
-some_word is_in has n i m g w some =
-    ⊎_elim (λ (h : 0 < m). h)
-    (λ (h : m ≤ 0). absurd (some (none_left is_in has n (64 * i) (64 * i + 64) (64 * (i + 1)) g
-    (none_in_word has (64 * i) i m w (none_yet has (64 * i)) (omega arith)) (omega arith))))
-    (cases_lt 0 m)
+pub record IsFirst (is_in : ℕ → Bool) (n i m : ℕ) : Type 0 where
+  pub near : trailing_zeros w64 m < 64
+  pub inside : 64 * i + trailing_zeros w64 m < n
+  pub lowest : IsLowest is_in (64 * i) (64 * i + trailing_zeros w64 m)
 
-pub some_inside : (is_in has : ℕ → Bool) (n i m : ℕ) → Agree is_in has n → IsWord has (64 * i) i m
-    → (HasNoneBelow is_in (64 * i) (64 * i + 64) → ⊥) → 64 * i + trailing_zeros w64 m < n
-some_inside is_in has n i m g w some =
-    ⊎_elim (λ (h : 64 * i + trailing_zeros w64 m < n). h)
-    (λ (h : n ≤ 64 * i + trailing_zeros w64 m). absurd (some (found_past is_in has n (64 * i) (64 * i + 64) i m g w
-    (none_yet has (64 * i)) (some_word is_in has n i m g w some) (omega arith))))
-    (cases_lt (64 * i + trailing_zeros w64 m) n)
+pub first_of_group : (flags : List Bool) (ws : List ℕ) (n i m : ℕ) → flags_of ws n ≡ flags → m ≡ slice_index ws i → m < 2 ^ 64
+    → (HasNoneBelow (has flags) (64 * i) (64 * i + 64) → ⊥) → IsFirst (has flags) n i m
+first_of_group flags ws n i m view read fits some =
+    let g = bits_agree flags ws n view in
+    let w = group_word ws i m read fits in
+    let yet = none_yet (bit_of ws) (64 * i) in
+    let one : 0 < m = ⊎_elim (λ (h : 0 < m). h)
+    (λ (h : m ≤ 0). absurd (some (none_left (has flags) (bit_of ws) n (64 * i) (64 * i + 64) (64 * (i + 1)) g
+    (none_in_word (bit_of ws) (64 * i) i m w yet (omega arith)) (omega arith))))
+    (cases_lt 0 m) in
+    let inside : 64 * i + trailing_zeros w64 m < n = ⊎_elim (λ (h : 64 * i + trailing_zeros w64 m < n). h)
+    (λ (h : n ≤ 64 * i + trailing_zeros w64 m). absurd (some (found_past (has flags) (bit_of ws) n (64 * i) (64 * i + 64) i m g w yet one
+    (omega arith))))
+    (cases_lt (64 * i + trailing_zeros w64 m) n) in
+    let lowest = bit_at-trailing_zeros w64 m one fits in
+    record {
+      near = lowest.0;
+      inside = inside;
+      lowest = found_inside (has flags) (bit_of ws) n (64 * i) i m g w yet one inside;
+    }
 
-pub lowest_of_some : (is_in has : ℕ → Bool) (n i m : ℕ) → Agree is_in has n → IsWord has (64 * i) i m
-    → (HasNoneBelow is_in (64 * i) (64 * i + 64) → ⊥) → IsLowest is_in (64 * i) (64 * i + trailing_zeros w64 m)
-lowest_of_some is_in has n i m g w some =
-    found_inside is_in has n (64 * i) i m g w (none_yet has (64 * i)) (some_word is_in has n i m g w some)
-    (some_inside is_in has n i m g w some)
+-- the lowest number of a group that is in the one set and not in the other
+pub alone_found : (flags others : List Bool) (ws vs : List ℕ) (n k i w v : ℕ) (found : Option ℕ) → flags_of ws n ≡ flags
+    → flags_of vs k ≡ others → length others ≡ length flags → w ≡ slice_index ws i → v ≡ slice_index vs i → w < 2 ^ 64 → v < 2 ^ 64
+    → MatchOption found ((left_of w v ≡ 0) ⊎ ((0 < left_of w v) × (n ≤ 64 * i + trailing_zeros w64 (left_of w v))))
+    (λ x. (0 < left_of w v) × (x ≡ 64 * i + trailing_zeros w64 (left_of w v)))
+    → IfSome found (λ x. x < n)
+    → MatchOption found (HasNoneBelow (has_alone flags others) (64 * i) (64 * i + 64)) (IsLowest (has_alone flags others) (64 * i))
+alone_found flags others ws vs n k i w v found view other even read other_read fits other_fits is low =
+    let less = and_le_r w (2 ^ 64 - 1 - v) in
+    group_found (has_alone flags others) (only ws vs) n i (left_of w v) found
+    (only_agree flags others ws vs n k view other (same_len flags others ws vs n k view other even))
+    (group_left ws vs i w v read other_read other_fits (omega (arith, less))) is low
 
 -- where a number is in the set, its word isn't 0
 pub some_there : (flags : List Bool) (ws : List ℕ) (n a : ℕ) → flags_of ws n ≡ flags → a < length flags → has flags a ≡ true

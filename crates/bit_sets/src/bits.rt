@@ -17,7 +17,7 @@ ghost use Rattle.std.specs.Prelude.{◌≡◌, ◌+◌, ◌*◌, ◌/◌, ◌^�
 ghost use Rattle.std.specs.Prelude.{ℕ, false, true, IfOk, IfSome, length, MatchOption, not, replicate, slice_set};
 ghost use Rattle.bit_sets.specs.Bits.{has, has_alone, is_between, is_passing, HasNone, HasNoneBelow, IsLowest};
 
-use crate::groups::{clear_bits, join_bits, set_bits, whole_word};
+use crate::groups::{clear_bits, join_bits, lowest_if_any, lowest_of, set_bits, whole_word};
 use crate::pages::PagedWords;
 use std::alloc::{AllocError, Global};
 use std::marker::Model;
@@ -252,14 +252,12 @@ impl Bits {
         let group = from / 64;
         let word = self.words.get(group) & u64::MAX << (from % 64);
         if word != 0 {
-            let found = 64 * group + word.trailing_zeros();
-            return if found < end { Some(found) } else { None };
+            return lowest_of(word, group, end);
         }
         let past = end.div_ceil(64);
         let next = self.words.next_written(group + 1, past);
         if next < past {
-            let found = 64 * next + self.words.get_some(next).trailing_zeros();
-            return if found < end { Some(found) } else { None };
+            return lowest_of(self.words.get_some(next), next, end);
         }
         None
     }
@@ -280,11 +278,7 @@ impl Bits {
         self.law();
         let group = number / 64;
         let word = self.words.get(group) & !other.words.get_some(group);
-        if word == 0 {
-            return None;
-        }
-        let found = 64 * group + word.trailing_zeros();
-        if found < self.len { Some(found) } else { None }
+        lowest_if_any(word, group, self.len)
     }
 
     /// The lowest number of a group that is in this set and not in `other`. It looks at one word of each.
@@ -299,11 +293,7 @@ impl Bits {
     {
         self.law();
         let word = self.words.get(group) & !other.words.get(group);
-        if word == 0 {
-            return None;
-        }
-        let found = 64 * group + word.trailing_zeros();
-        if found < self.len { Some(found) } else { None }
+        lowest_if_any(word, group, self.len)
     }
 
     /// The lowest number at or above `from` and below `to` that is in this set and not in `other`. It looks at the words
@@ -325,8 +315,7 @@ impl Bits {
                 let low = from.saturating_sub(64 * index);
                 let word = self.words.get_some(index) & !other.words.get(index) & u64::MAX << low;
                 if word != 0 {
-                    let found = 64 * index + word.trailing_zeros();
-                    return if found < end { Some(found) } else { None };
+                    return lowest_of(word, index, end);
                 }
                 index += 1;
             }

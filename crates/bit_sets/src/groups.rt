@@ -9,9 +9,9 @@
 //! The words are in pages (`pages`). What brings numbers into a set takes the pages of their groups. What takes numbers out of it, and what
 //! looks for some, takes none.
 
-ghost use Rattle.std.specs.Prelude.{◌≡◌, ◌+◌, ◌*◌, ◌<◌, ◌≤◌, ◌||◌, ◌&&◌, if◌then◌else◌};
-ghost use Rattle.std.specs.Prelude.{ℕ, true, false, length};
-ghost use Rattle.std.specs.Int.{bit_at, div_ceil};
+ghost use Rattle.std.specs.Prelude.{◌≡◌, ◌+◌, ◌*◌, ◌^◌, ◌<◌, ◌≤◌, ◌⊎◌, ◌||◌, ◌&&◌, if◌then◌else◌};
+ghost use Rattle.std.specs.Prelude.{ℕ, true, false, length, IfSome, MatchOption};
+ghost use Rattle.std.specs.Int.{bit_at, div_ceil, trailing_zeros, w64};
 ghost use Rattle.bit_sets.specs.Bits.{is_between};
 ghost use Rattle.bit_sets.specs.BitWords.{bit_of};
 
@@ -73,4 +73,33 @@ pub(crate) fn join_bits(words: &mut PagedWords, members: &PagedWords, from: u32,
         }
         words.join(index, more);
     }
+}
+
+/// The lowest number of a group that its word has, where it is below `end`. The word isn't 0.
+#[inline(always)]
+pub(crate) fn lowest_of(word: u64, group: u32, end: u32) -> Option<u32>
+    requires some { 0 < word }
+    requires small { 64 * group < 2 ^ 32 }
+    ensures lowest { MatchOption result (end ≤ 64 * group + trailing_zeros w64 word)
+        (λ found. found ≡ 64 * group + trailing_zeros w64 word) }
+    ensures near { IfSome result (λ found. found < 64 * group + 64) }
+    ensures below { IfSome result (λ found. found < end) }
+{
+    let found = 64 * group + word.trailing_zeros();
+    if found < end { Some(found) } else { None }
+}
+
+/// The same of a word that may be 0.
+#[inline(always)]
+pub(crate) fn lowest_if_any(word: u64, group: u32, end: u32) -> Option<u32>
+    requires small { 64 * group < 2 ^ 32 }
+    ensures lowest { MatchOption result ((word ≡ 0) ⊎ ((0 < word) × (end ≤ 64 * group + trailing_zeros w64 word)))
+        (λ found. (0 < word) × (found ≡ 64 * group + trailing_zeros w64 word)) }
+    ensures near { IfSome result (λ found. found < 64 * group + 64) }
+    ensures below { IfSome result (λ found. found < end) }
+{
+    if word == 0 {
+        return None;
+    }
+    lowest_of(word, group, end)
 }

@@ -13,6 +13,7 @@ ghost use Rattle.std.specs.Prelude.{◌≡◌, ◌+◌, ◌*◌, ◌^◌, ◌<�
 ghost use Rattle.std.specs.Prelude.{false, true, IfOk, IfSome, length, MatchOption, replicate, slice_set};
 ghost use Rattle.bit_sets.specs.Bits.{has, HasNone, HasNoneBelow, IsLowest};
 
+use crate::groups::{lowest_if_any, lowest_of};
 use crate::pages::fill_all;
 use std::alloc::{AllocError, Global};
 use std::marker::Model;
@@ -25,14 +26,14 @@ pub struct SmallBits {
 }
 
 impl Model for SmallBits {
-    ghost use Rattle.std.specs.Prelude.{List, Bool, ◌≤◌, ◌*◌, vec_len};
+    ghost use Rattle.std.specs.Prelude.{List, Bool, ◌≤◌, ◌*◌, length};
     ghost use Rattle.bit_sets.specs.BitWords.{flags_of};
 
     ghost Value = { List Bool };
 
     ghost view = { λ s. flags_of s.words.items s.len };
 
-    ghost invariant = { λ s. s.len ≤ 64 * vec_len s.words };
+    ghost invariant = { λ s. s.len ≤ 64 * length s.words.items };
 }
 
 impl SmallBits {
@@ -98,8 +99,7 @@ impl SmallBits {
             let low = from.saturating_sub(64 * index);
             let word = self.words[index as usize] & u64::MAX << low;
             if word != 0 {
-                let found = 64 * index + word.trailing_zeros();
-                return if found < self.len { Some(found) } else { None };
+                return lowest_of(word, index, self.len);
             }
         }
         None
@@ -114,12 +114,7 @@ impl SmallBits {
         ensures within { IfSome result (λ found. found < length self.now) }
     {
         self.law();
-        let word = self.words[group as usize];
-        if word == 0 {
-            return None;
-        }
-        let found = 64 * group + word.trailing_zeros();
-        if found < self.len { Some(found) } else { None }
+        lowest_if_any(self.words[group as usize], group, self.len)
     }
 
     /// The lowest number of the set in a group that has one. It looks at one word, and tests nothing.

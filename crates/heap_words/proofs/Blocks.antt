@@ -6,7 +6,6 @@ use Rattle.std.proofs.lemmas.List.{length-append, length-take, length-drop, appe
 use Rattle.std.proofs.lemmas.List.{take-append-drop, drop-drop}
 use Rattle.std.proofs.lemmas.List.{length-replicate}
 use Rattle.std.proofs.lemmas.List.{take_at, take-append-le, drop-append-le}
-use lib.Seq.{paste}
 use Rattle.heap_words.specs.Contents.{put}
 
 pub put_none : (ws : List ℕ) (n : ℕ) → put ws n [] ≡ ws
@@ -76,14 +75,6 @@ put_whole [] (suc n) block h = absurd (omega arith)
 put_whole (w ∷ ws) (suc n) block h =
     let e : suc n + length block ≡ suc (n + length block) = omega arith in
     rw e (ap (λ xs. w ∷ xs) (put_whole ws n block (omega arith)))
-
--- what a copy within writes
-pub paste_put : (ws : List ℕ) (from to m : ℕ) → from + m ≤ length ws → to + m ≤ length ws
-    → paste ws to (drop from ws) m ≡ put ws to (take m (drop from ws))
-paste_put ws from to m h l =
-    let len : length (take m (drop from ws)) ≡ m = simp (length-take, length-drop) (omega arith) in
-    append_assoc (take to ws) (take m (drop from ws)) (drop (to + m) ws)
-    ∙ sym (put_whole ws to (take m (drop from ws)) (omega arith) ∙ rw len refl)
 
 -- ---- words in front of others
 put_length : (ws : List ℕ) (n : ℕ) (block : List ℕ) → n + length block ≤ length ws → length (put ws n block) ≡ length ws

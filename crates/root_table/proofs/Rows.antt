@@ -7,7 +7,7 @@ use Rattle.std.proofs.lemmas.Bool.{cases_lt, cases_eq}
 use Rattle.std.proofs.lemmas.Grind.{get_or_default_zero}
 use Rattle.std.proofs.lemmas.List.{get_or-replicate, length-replicate}
 use Rattle.heap_model.specs.Graph.{Places, root_places, register_place}
-use Rattle.root_table.specs.Roots.{row_start, row_length, AreNil, IsNextNamed}
+use Rattle.root_table.specs.Roots.{row_start, row_length, AreNil}
 use Rattle.root_table.specs.Bounds.{AreBounded}
 
 -- a row ends where the next one starts
@@ -123,19 +123,6 @@ past_row p words used from row b known before inside place low high =
         | inr past ↦ b.nil row known place past (omega (arith, high, end))
       ]
     ]
-
--- what is named first from a later place on is so from an earlier one on, where nothing between is named
-pub named_before : (words : List (Option ℕ)) (from start later place : ℕ) → AreNil words from start → from ≤ later
-    → ((q : ℕ) → from ≤ q → q < later → q < start) → IsNextNamed words later place → IsNextNamed words from place
-named_before words from start later place nil low between n = record {
-  from_on = omega (arith, low, n.from_on);
-  nil_before = λ q l h. elim (cases_lt q later) [
-    | inl less ↦ nil q l (between q l less)
-    | inr more ↦ n.nil_before q more h
-  ];
-  address = n.address;
-  holds = n.holds;
-}
 
 -- a bound that was read
 pub bound_read : (used : List ℕ) (row x : ℕ) → row < length used → x ≡ get_or used row x → x ≡ get_or used row 0

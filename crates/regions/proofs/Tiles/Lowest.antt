@@ -1,12 +1,10 @@
 -- The lowest tile of a region.
-use Rattle.std.proofs.Common.{◌≡◌, ℕ, ◌+◌, ◌*◌, ◌/◌, ◌%◌, ◌<◌, ◌≤◌, Some, inl, inr, sym, ap, ◌∙◌, arith}
+use Rattle.std.proofs.Common.{◌≡◌, ℕ, ◌+◌, ◌*◌, ◌/◌, ◌%◌, ◌<◌, ◌≤◌, Some, sym, ap, ◌∙◌, arith}
 use Rattle.std.proofs.lemmas.Nat.{div-mul-add}
-use Rattle.std.proofs.lemmas.Bool.{cases_lt}
 use Rattle.regions.specs.Tiles.{Tile, tile_size, tile_at, total_size}
 use Rattle.regions.specs.Table.{Table, tile_in}
-use Rattle.regions.specs.Walks.{tiles_of, IsWalk, StartsIn, IsNext, IsLast}
+use Rattle.regions.specs.Walks.{tiles_of, IsWalk, StartsIn}
 use Rattle.regions.specs.Shaped.{IsShaped}
-use Rattle.regions.proofs.Tiles.Steps.{tile_there}
 use Rattle.regions.proofs.Walks.WalkFrom.{cut_at, tile_listed, listed_tile}
 use Rattle.regions.proofs.Walks.WalkMade.{cut_tile, positive_at}
 
@@ -47,23 +45,3 @@ some_lowest t k end g w z =
     let region : k * t.words_per_region / t.words_per_region ≡ k =
     ap (λ n. n / t.words_per_region) (sym none) ∙ div-mul-add k t.words_per_region 0 g.positive in
     (record { tile = first.0; tile_is = here; region = region }, λ b s. let a = at_of t k b s in omega (arith, a.place))
-
--- the tile behind another one of its region is the next that starts there
-pub next_starts : (t : Table) (k a n : ℕ) → StartsIn t k a → IsNext t a n
-    → StartsIn t k n × (a < n) × ((b : ℕ) → StartsIn t k b → a < b → n ≤ b)
-next_starts t k a n s m =
-    let (u, e) = tile_there t n m.tile in (
-      record { tile = u; tile_is = e; region = m.region ∙ s.region },
-      m.above,
-      λ b x low. elim (cases_lt b n) [
-        | inl h ↦ absurd (m.between b x.tile low h x.tile_is)
-        | inr h ↦ h
-      ],
-    )
-
--- and none starts behind the last
-pub last_starts : (t : Table) (k a : ℕ) → StartsIn t k a → IsLast t a → (b : ℕ) → StartsIn t k b → b ≤ a
-last_starts t k a s m b x = elim (cases_lt a b) [
-  | inl h ↦ absurd (m b x.tile h (x.region ∙ sym s.region) x.tile_is)
-  | inr h ↦ h
-]

@@ -1,8 +1,8 @@
 -- Where objects with weak slots start, over each change of the table.
 use Rattle.std.proofs.Common.{◌≡◌, ◌≢◌, ◌+◌, ◌-◌, ◌*◌, ◌/◌, ◌%◌, ◌<◌, ◌≤◌, ◌⊎◌, ◌∷◌, ◌∙◌}
-use Rattle.std.proofs.Common.{ℕ, zero, suc, Bool, true, false, Option, Some, None, List, length, length-set, drop, get_or}
+use Rattle.std.proofs.Common.{ℕ, zero, suc, Bool, true, false, Some, None, List, length, length-set, drop, get_or}
 use Rattle.std.proofs.Common.{replicate, inl, inr, refl, sym, ap, subst, arith}
-use Rattle.std.specs.Prelude.{MatchOption, if◌then◌else◌}
+use Rattle.std.specs.Prelude.{if◌then◌else◌}
 use Rattle.std.proofs.lemmas.Bool.{cases_lt, cases_eq}
 use Rattle.std.proofs.lemmas.List.{get_or-set_same, get_or-set_other, get_or-drop}
 use Rattle.std.proofs.lemmas.Nat.{div-mul-add, mul-le, row_fits}
@@ -12,7 +12,7 @@ use Rattle.regions.specs.Tiles.{Tile, Object, Filler, Forwarded, tile_size, tile
 use Rattle.regions.specs.Table.{Table, Region, Free, Ordinary, First, Rest, kind_of, region_kind, tile_in, tile_object, object_at}
 use Rattle.regions.specs.Table.{remainder, free_table, region_at, region_tile, nth_region, is_rest, run_length}
 use Rattle.regions.specs.declared.row.Kind.TheVariants as kinds
-use Rattle.regions.specs.WeakStarts.{Starts, AreRegions, HasWeaks, AreStarts, IsNextWithWeaks, noted, forgotten}
+use Rattle.regions.specs.WeakStarts.{Starts, AreRegions, HasWeaks, AreStarts, noted, forgotten}
 use Rattle.regions.proofs.Words.Parse.{past}
 use Rattle.regions.proofs.Tiles.Laws.{object_tile}
 use Rattle.regions.proofs.Tiles.Changes.{WritesObject, object_same}
@@ -416,10 +416,3 @@ run_later t k y low high =
     let is : is_rest (nth_region t q) ≡ true =
     ap (λ (j : ℕ). is_rest (get_or t.regions j Free)) (sym at) ∙ ap is_rest (sym (get_or-drop (suc k) t.regions (q - suc k) Free)) ∙ rest in
     tile_of_region t y (nth_region t q) refl ∙ rest_no_tile (nth_region t q) (y % t.words_per_region) is
-
--- what the next address of the set says
-pub next_weaks : (t : Table) (flags : List Bool) (from : ℕ) (found : Option ℕ) → AreStarts t flags
-    → MatchOption found (HasNone (has flags) from) (IsLowest (has flags) from) → IsNextWithWeaks t from found
-next_weaks t flags from None g lowest = λ a low h. absurd (let yes = g.each a h in let no = lowest a low in cc)
-next_weaks t flags from (Some x) g lowest =
-    (lowest.at_least, g.only x lowest.is_in, λ a low high h. absurd (let yes = g.each a h in let no = lowest.lowest a low high in cc))

@@ -1,8 +1,8 @@
 -- Words written in the place of others.
 use Rattle.std.proofs.Common.{◌≡◌, ◌+◌, ◌-◌, ◌≤◌, ◌∷◌, ◌++◌, ◌∙◌}
-use Rattle.std.proofs.Common.{ℕ, zero, suc, List, [], length, take, drop, refl, sym, ap, arith, zero-add, replicate}
+use Rattle.std.proofs.Common.{ℕ, zero, suc, List, [], length, take, drop, refl, sym, ap, arith, zero-add}
 use Rattle.std.proofs.lemmas.List.{length-append, length-take, length-drop, append_assoc, drop-drop}
-use Rattle.std.proofs.lemmas.List.{take-append-drop, take_at, drop_at, length-replicate, drop-take}
+use Rattle.std.proofs.lemmas.List.{take-append-drop, take_at, drop_at, drop-take}
 use Rattle.heap_words.specs.Contents.{put}
 
 pub record IsPut (ws : List ℕ) (n : ℕ) (block : List ℕ) : Type 0 where
@@ -74,10 +74,3 @@ put_extend [] (suc n) m block h = absurd (omega arith)
 put_extend (w ∷ ws) (suc n) m block h =
     let e : suc n + length block ≡ suc (n + length block) = omega arith in
     rw e (ap (λ xs. w ∷ xs) (put_extend ws n m block (omega arith)))
-
--- an object's words, written within the heap
-pub put_object_length : (ws : List ℕ) (n w name p weak d : ℕ) → n + (2 + p + weak + d) ≤ length ws
-    → length (put ws n (w ∷ name ∷ replicate (p + weak + d) 0)) ≡ length ws
-put_object_length ws n w name p weak d h =
-    let x = put_is ws n (w ∷ name ∷ replicate (p + weak + d) 0) (omega (arith, length-replicate {A = ℕ} (p + weak + d) 0)) in
-    x.length_is

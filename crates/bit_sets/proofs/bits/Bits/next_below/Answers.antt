@@ -1,12 +1,6 @@
-use Rattle.std.proofs.Common.{arith, length, ap}
-use Rattle.bit_sets.proofs.BitWords.{length-flags_of}
+use Rattle.std.proofs.Common.{arith}
+use Rattle.bit_sets.proofs.BitWords.{len_is}
 use Rattle.bit_sets.proofs.bits.Bits.next_below.Goals as goal
 
 pub get-requires : goal.get-requires
-get-requires c = omega (
-  arith,
-  c.if-from-end.true,
-  c.min-end.ensures,
-  length-flags_of c.self.inside.words c.self.inside.len,
-  ap length c.self.view_is,
-)
+get-requires c = omega (arith, c.if-from-end.true, c.min-end.ensures, len_is _ _ _ c.self.view_is)

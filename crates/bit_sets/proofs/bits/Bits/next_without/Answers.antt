@@ -1,7 +1,7 @@
-use Rattle.std.proofs.Common.{◌≡◌, ◌*◌, ℕ, arith, length, ap}
-use Rattle.bit_sets.proofs.BitWords.{length-flags_of, div_ceil_reaches}
-use Rattle.bit_sets.proofs.LowestBits.{IsWord, only, left_part, left_word, only_agree, same_len}
-use Rattle.bit_sets.proofs.LowestBits.{none_in_word, none_left, none_passed, only_none, found_past, found_inside}
+use Rattle.std.proofs.Common.{◌≡◌, ◌*◌, arith}
+use Rattle.bit_sets.proofs.BitWords.{len_is, div_ceil_reaches}
+use Rattle.bit_sets.proofs.LowestBits.{only, left_word, only_agree, same_len, none_in_word, none_left, none_passed, only_none}
+use Rattle.bit_sets.proofs.LowestBits.{lowest_found, some_below}
 use Rattle.bit_sets.proofs.bits.Bits.next_without.Goals as goal
 
 pub loop-index-init : goal.loop-index-init
@@ -9,23 +9,13 @@ loop-index-init c = record { begun = omega arith; none = λ a h k. absurd (omega
 
 pub get-requires : goal.get-requires
 get-requires c =
-    omega (
-      arith,
-      c.requires,
-      c.if-index-past.true,
-      c.div_ceil-past.ensures,
-      c.min-end.ensures,
-      c.other.invariant,
-      same_len _ _ _ _ _ _ c.self.view_is c.other.view_is c.requires,
-    )
+    let even = same_len _ _ _ _ _ _ c.self.view_is c.other.view_is c.requires in
+    omega (arith, c.if-index-past.true, c.div_ceil-past.ensures, c.min-end.ensures, c.other.invariant, even)
 
 pub loop-index-preserved-then-index-past : goal.loop-index-preserved-then-index-past
 loop-index-preserved-then-index-past c =
-    let low : ℕ = c.saturating_sub-low.result in
-    let w : IsWord (only c.self.inside.words c.other.inside.words) c.args.from c.next_written-index.result
-    (left_part c.get_some.result c.get.result low) =
-    left_word c.self.inside.words c.other.inside.words c.args.from c.next_written-index.result low c.get_some.result
-    c.get.result c.get_some.ensures c.get.ensures c.get.type_inv (omega (arith, c.saturating_sub-low.ensures))
+    let w = left_word c.self.inside.words c.other.inside.words c.args.from c.next_written-index.result c.saturating_sub-low.result
+    c.get_some.result c.get.result c.get_some.ensures c.get.ensures c.get.type_inv (omega (arith, c.saturating_sub-low.ensures))
     (omega (arith, c.saturating_sub-low.ensures, c.loop-index.invariant.begun, c.next_written-index.ensures.within.0)) in
     let before = none_passed (only c.self.inside.words c.other.inside.words) c.self.inside.words c.args.from c.loop-index.index
     c.next_written-index.result (λ a none. only_none c.self.inside.words c.other.inside.words a none) c.next_written-index.ensures.none
@@ -43,48 +33,21 @@ loop-index-preserved c = record {
       c.loop-index.invariant.none;
 }
 
-pub returns-then-found-end : goal.returns-then-found-end
-returns-then-found-end c =
+pub returns-then-word-ne0 : goal.returns-then-word-ne0
+returns-then-word-ne0 c =
     let even : c.other.inside.len ≡ c.self.inside.len = same_len _ _ _ _ _ _ c.self.view_is c.other.view_is c.requires in
-    let low : ℕ = c.saturating_sub-low.result in
-    let w : IsWord (only c.self.inside.words c.other.inside.words) c.args.from c.next_written-index.result
-    (left_part c.get_some.result c.get.result low) =
-    left_word c.self.inside.words c.other.inside.words c.args.from c.next_written-index.result low c.get_some.result
-    c.get.result c.get_some.ensures c.get.ensures c.get.type_inv (omega (arith, c.saturating_sub-low.ensures))
+    let w = left_word c.self.inside.words c.other.inside.words c.args.from c.next_written-index.result c.saturating_sub-low.result
+    c.get_some.result c.get.result c.get_some.ensures c.get.ensures c.get.type_inv (omega (arith, c.saturating_sub-low.ensures))
     (omega (arith, c.saturating_sub-low.ensures, c.loop-index.invariant.begun, c.next_written-index.ensures.within.0)) in
     let before = none_passed (only c.self.inside.words c.other.inside.words) c.self.inside.words c.args.from c.loop-index.index
     c.next_written-index.result (λ a none. only_none c.self.inside.words c.other.inside.words a none) c.next_written-index.ensures.none
     c.loop-index.invariant.none in
     record {
-      lowest = found_inside _ _ c.self.inside.len _ _ _ (only_agree _ _ _ _ _ _ c.self.view_is c.other.view_is even) w
-          before (omega arith) (omega (arith, c.if-found-end.true, c.min-end.ensures));
-      below = omega (arith, c.if-found-end.true, c.min-end.ensures);
-      within = omega (
-        arith,
-        c.if-found-end.true,
-        c.min-end.ensures,
-        length-flags_of c.self.inside.words c.self.inside.len,
-        ap length c.self.view_is,
-      );
-    }
-
-pub returns-else-found-end : goal.returns-else-found-end
-returns-else-found-end c =
-    let even : c.other.inside.len ≡ c.self.inside.len = same_len _ _ _ _ _ _ c.self.view_is c.other.view_is c.requires in
-    let low : ℕ = c.saturating_sub-low.result in
-    let w : IsWord (only c.self.inside.words c.other.inside.words) c.args.from c.next_written-index.result
-    (left_part c.get_some.result c.get.result low) =
-    left_word c.self.inside.words c.other.inside.words c.args.from c.next_written-index.result low c.get_some.result
-    c.get.result c.get_some.ensures c.get.ensures c.get.type_inv (omega (arith, c.saturating_sub-low.ensures))
-    (omega (arith, c.saturating_sub-low.ensures, c.loop-index.invariant.begun, c.next_written-index.ensures.within.0)) in
-    let before = none_passed (only c.self.inside.words c.other.inside.words) c.self.inside.words c.args.from c.loop-index.index
-    c.next_written-index.result (λ a none. only_none c.self.inside.words c.other.inside.words a none) c.next_written-index.ensures.none
-    c.loop-index.invariant.none in
-    record {
-      lowest = found_past _ _ c.self.inside.len _ c.args.to _ _ (only_agree _ _ _ _ _ _ c.self.view_is c.other.view_is even) w
-          before (omega arith) (omega (arith, c.if-found-end.false, c.min-end.ensures));
-      below = tt;
-      within = tt;
+      lowest = lowest_found _ _ c.self.inside.len _ c.args.to c.min-end.result _ _ _
+          (only_agree _ _ _ _ _ _ c.self.view_is c.other.view_is even) w before (omega arith) (omega (arith, c.min-end.ensures))
+          (omega (arith, c.min-end.ensures)) c.lowest_of.ensures.lowest c.lowest_of.ensures.below;
+      below = some_below _ _ _ c.lowest_of.ensures.below (omega (arith, c.min-end.ensures));
+      within = some_below _ _ _ c.lowest_of.ensures.below (omega (arith, c.min-end.ensures, len_is _ _ _ c.self.view_is));
     }
 
 pub returns : goal.returns

@@ -1,17 +1,10 @@
-use Rattle.std.proofs.Common.{◌≤◌, length, arith, sym, ap, ◌∙◌, true}
-use Rattle.bit_sets.proofs.BitWords.{length-flags_of}
+use Rattle.std.proofs.Common.{◌≤◌, arith, sym, ◌∙◌, true}
+use Rattle.bit_sets.proofs.BitWords.{len_is, length-flags_of}
 use Rattle.bit_sets.proofs.BitRanges.{flags_put}
 use Rattle.bit_sets.proofs.bits.Bits.set_part.Goals as goal
 
 pub set_bits-requires : goal.set_bits-requires
-set_bits-requires c =
-    omega (
-      arith,
-      c.requires,
-      c.self.invariant,
-      length-flags_of c.self.inside.words c.self.inside.len,
-      ap length c.self.view_is,
-    )
+set_bits-requires c = omega (arith, c.requires, c.self.invariant, len_is _ _ _ c.self.view_is)
 
 pub returns-clause-len : goal.returns-clause-len
 returns-clause-len c = rw (← c.self.view_is) (length-flags_of _ _ ∙ sym (length-flags_of _ _))
@@ -19,6 +12,6 @@ returns-clause-len c = rw (← c.self.view_is) (length-flags_of _ _ ∙ sym (len
 pub returns-clause-flags : goal.returns-clause-flags
 returns-clause-flags c =
     let short : c.args.to ≤ c.self.inside.len =
-    omega (arith, c.requires, length-flags_of c.self.inside.words c.self.inside.len, ap length c.self.view_is) in
+    omega (arith, c.requires, len_is _ _ _ c.self.view_is) in
     flags_put true c.args.self.now c.self.inside.words _ c.self.inside.len c.args.from c.args.to c.self.view_is short
     c.set_bits.ensures.bits

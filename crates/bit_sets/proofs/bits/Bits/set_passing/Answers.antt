@@ -3,45 +3,22 @@ use Rattle.std.specs.Int.Bits.{or_zero_r}
 use Rattle.std.proofs.lemmas.List.{set-get_or}
 use Rattle.bit_sets.specs.Bits.{has}
 use Rattle.bit_sets.specs.BitWords.{flags_of}
-use Rattle.bit_sets.proofs.BitWords.{length-flags_of}
+use Rattle.bit_sets.proofs.BitWords.{len_is, length-flags_of}
 use Rattle.bit_sets.proofs.LowestBits.{same_len}
 use Rattle.bit_sets.proofs.BitFilters.{passing_put}
 use Rattle.bit_sets.proofs.bits.Bits.set_passing.Goals as goal
 
 pub get-requires : goal.get-requires
-get-requires c =
-    omega (
-      arith,
-      c.requires.first,
-      c.filter.invariant,
-      length-flags_of c.filter.inside.words c.filter.inside.len,
-      ap length c.filter.view_is,
-    )
+get-requires c = omega (arith, c.requires.first, c.filter.invariant, len_is _ _ _ c.filter.view_is)
 
 pub get-requires-2 : goal.get-requires-2
-get-requires-2 c =
-    omega (
-      arith,
-      c.requires.second,
-      c.filter.invariant,
-      length-flags_of c.filter.inside.words c.filter.inside.len,
-      ap length c.filter.view_is,
-    )
+get-requires-2 c = omega (arith, c.requires.second, c.filter.invariant, len_is _ _ _ c.filter.view_is)
 
 pub get-requires-3 : goal.get-requires-3
-get-requires-3 c =
-    omega (
-      arith,
-      c.requires.within,
-      c.requires.even,
-      c.members.invariant,
-      length-flags_of c.members.inside.words c.members.inside.len,
-      ap length c.members.view_is,
-    )
+get-requires-3 c = omega (arith, c.requires.within, c.requires.even, c.members.invariant, len_is _ _ _ c.members.view_is)
 
 pub join-requires : goal.join-requires
-join-requires c =
-    omega (arith, c.requires.within, c.self.invariant, length-flags_of c.self.inside.words c.self.inside.len, ap length c.self.view_is)
+join-requires c = omega (arith, c.requires.within, c.self.invariant, len_is _ _ _ c.self.view_is)
 
 pub returns-then-more-ne0-clause-len : goal.returns-then-more-ne0-clause-len
 returns-then-more-ne0-clause-len c = rw (← c.self.view_is) (length-flags_of _ _ ∙ sym (length-flags_of _ _))

@@ -1,80 +1,19 @@
-use Rattle.std.proofs.Common.{◌<◌, ◌+◌, ◌*◌, arith, length, ap, w64}
+use Rattle.std.proofs.Common.{arith}
 use Rattle.std.proofs.lemmas.List.{get_or_read}
-use Rattle.std.proofs.lemmas.Nat.Bits.{bit_at-trailing_zeros}
-use Rattle.bit_sets.specs.BitWords.{bit_of}
-use Rattle.bit_sets.proofs.BitWords.{length-flags_of}
-use Rattle.bit_sets.proofs.LowestBits.{IsWord, group_word, none_yet, bits_agree, none_in_word, none_left, found_past, found_inside}
+use Rattle.bit_sets.proofs.BitWords.{len_is, group_inside}
+use Rattle.bit_sets.proofs.LowestBits.{group_word, bits_agree, group_found, some_below}
 use Rattle.bit_sets.proofs.small_bits.SmallBits.lowest_in.Goals as goal
 
-pub index-word-requires : goal.index-word-requires
-index-word-requires c =
-    let known : 64 * c.args.group < length c.args.self.now = c.requires in
-    omega (arith, known, c.self.invariant, length-flags_of c.self.inside.words.items c.self.inside.len, ap length c.self.view_is)
+pub index-requires : goal.index-requires
+index-requires c =
+    omega (arith, group_inside _ _ _ c.args.group c.self.view_is c.self.invariant c.requires, c.self.inside.words.ok.0)
 
-pub returns-then-word-eq0-clause-lowest : goal.returns-then-word-eq0-clause-lowest
-returns-then-word-eq0-clause-lowest c =
-    let known : 64 * c.args.group < length c.args.self.now = c.requires in
-    let inside : c.args.group < length c.self.inside.words.items =
-    omega (
-      arith,
-      known,
-      c.self.invariant,
-      c.self.inside.words.ok.0,
-      length-flags_of c.self.inside.words.items c.self.inside.len,
-      ap length c.self.view_is,
-    ) in
-    let w : IsWord (bit_of c.self.inside.words.items) (64 * c.args.group) c.args.group c.index-word.result.now =
-    group_word c.self.inside.words.items c.args.group c.index-word.result.now
-    (get_or_read c.self.inside.words.items _ _ inside c.index-word.ensures 0) (omega arith) in
-    none_left _ _ c.self.inside.len (64 * c.args.group) (64 * c.args.group + 64) (64 * (c.args.group + 1)) (bits_agree _ _ _ c.self.view_is)
-    (none_in_word _ _ _ _ w (none_yet _ _) c.if-word-eq0.true) (omega arith)
+pub returns-clause-lowest : goal.returns-clause-lowest
+returns-clause-lowest c =
+    let inside = group_inside _ _ _ c.args.group c.self.view_is c.self.invariant c.requires in
+    let w = group_word c.self.inside.words.items c.args.group c.index.result.now
+    (get_or_read c.self.inside.words.items _ _ inside c.index.ensures 0) (omega arith) in
+    group_found _ _ _ _ _ _ (bits_agree _ _ _ c.self.view_is) w c.lowest_if_any.ensures.lowest c.lowest_if_any.ensures.below
 
-pub overflow_mul-found : goal.overflow_mul-found
-overflow_mul-found c =
-    let known : 64 * c.args.group < length c.args.self.now = c.requires in
-    omega (arith, known, c.law.ensures, length-flags_of c.self.inside.words.items c.self.inside.len, ap length c.self.view_is)
-
-pub overflow_add-found : goal.overflow_add-found
-overflow_add-found c =
-    let known : 64 * c.args.group < length c.args.self.now = c.requires in
-    let lowest = bit_at-trailing_zeros w64 c.index-word.result.now (omega arith) (omega arith) in
-    omega (arith, known, lowest.0, c.law.ensures, length-flags_of c.self.inside.words.items c.self.inside.len, ap length c.self.view_is)
-
-pub returns-then-found-self-clause-lowest : goal.returns-then-found-self-clause-lowest
-returns-then-found-self-clause-lowest c =
-    let known : 64 * c.args.group < length c.args.self.now = c.requires in
-    let inside : c.args.group < length c.self.inside.words.items =
-    omega (
-      arith,
-      known,
-      c.self.invariant,
-      c.self.inside.words.ok.0,
-      length-flags_of c.self.inside.words.items c.self.inside.len,
-      ap length c.self.view_is,
-    ) in
-    let w : IsWord (bit_of c.self.inside.words.items) (64 * c.args.group) c.args.group c.index-word.result.now =
-    group_word c.self.inside.words.items c.args.group c.index-word.result.now
-    (get_or_read c.self.inside.words.items _ _ inside c.index-word.ensures 0) (omega arith) in
-    found_inside _ _ c.self.inside.len _ _ _ (bits_agree _ _ _ c.self.view_is) w (none_yet _ _) (omega arith) c.if-found-self.true
-
-pub returns-then-found-self-clause-within : goal.returns-then-found-self-clause-within
-returns-then-found-self-clause-within c =
-    omega (arith, c.if-found-self.true, length-flags_of c.self.inside.words.items c.self.inside.len, ap length c.self.view_is)
-
-pub returns-else-found-self-clause-lowest : goal.returns-else-found-self-clause-lowest
-returns-else-found-self-clause-lowest c =
-    let known : 64 * c.args.group < length c.args.self.now = c.requires in
-    let inside : c.args.group < length c.self.inside.words.items =
-    omega (
-      arith,
-      known,
-      c.self.invariant,
-      c.self.inside.words.ok.0,
-      length-flags_of c.self.inside.words.items c.self.inside.len,
-      ap length c.self.view_is,
-    ) in
-    let w : IsWord (bit_of c.self.inside.words.items) (64 * c.args.group) c.args.group c.index-word.result.now =
-    group_word c.self.inside.words.items c.args.group c.index-word.result.now
-    (get_or_read c.self.inside.words.items _ _ inside c.index-word.ensures 0) (omega arith) in
-    found_past _ _ c.self.inside.len _ (64 * c.args.group + 64) _ _ (bits_agree _ _ _ c.self.view_is) w (none_yet _ _)
-    (omega arith) (omega (arith, c.if-found-self.false))
+pub returns-clause-within : goal.returns-clause-within
+returns-clause-within c = some_below _ _ _ c.lowest_if_any.ensures.below (omega (arith, len_is _ _ _ c.self.view_is))
