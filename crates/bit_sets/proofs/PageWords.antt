@@ -199,23 +199,36 @@ word_written places pool len g v pages h there =
           ])
     ])
 
-pub here_read : (ws places pool : List ℕ) (n g at : ℕ) → words_of places pool n ≡ ws → g < n → 0 < slice_index places (g / 512)
-    → at ≡ index_of places g → slice_index pool at ≡ slice_index ws g
-here_read ws places pool n g at view h there e =
-    ap (slice_index pool) e ∙ sym (word_read ws places pool n g view h ∙ word_there places pool g there)
+-- where the word of a group is, if its page is taken
+pub record IsAt (ws places pool : List ℕ) (n g at : ℕ) : Type 0 where
+  pub inside : at < length pool
+  pub read : slice_index pool at ≡ slice_index ws g
+  pub written : (v : ℕ) → words_of places (set pool at v) n ≡ set ws g v
 
-pub here_written : (ws places pool : List ℕ) (n g at v : ℕ) → ArePages places pool n → words_of places pool n ≡ ws → g < n
-    → 0 < slice_index places (g / 512) → at ≡ index_of places g → words_of places (set pool at v) n ≡ set ws g v
-here_written ws places pool n g at v pages view h there e =
-    ap (λ (i : ℕ). words_of places (set pool i v) n) e ∙ word_written places pool n g v pages h there ∙ ap (λ (l : List ℕ). set l g v) view
+pub word_at : (ws places pool : List ℕ) (n g at : ℕ) → ArePages places pool n → words_of places pool n ≡ ws → g < length ws
+    → 0 < slice_index places (g / 512) → at ≡ index_of places g → IsAt ws places pool n g at
+word_at ws places pool n g at pages view h there e =
+    let known = group_known ws places pool n g view h in
+    record {
+      inside = omega (arith, e, place_inside places pool n g pages known there);
+      read = ap (slice_index pool) e ∙ sym (word_read ws places pool n g view known ∙ word_there places pool g there);
+      written = λ v. ap (λ (i : ℕ). words_of places (set pool i v) n) e ∙ word_written places pool n g v pages known there
+          ∙ ap (λ (l : List ℕ). set l g v) view;
+    }
+
+pub page_known : (ws places pool : List ℕ) (n g : ℕ) → ArePages places pool n → words_of places pool n ≡ ws → g < length ws
+    → g / 512 < length places
+page_known ws places pool n g pages view h = omega (arith, group_known ws places pool n g view h, pages.all)
 
 -- the page of a word that isn't 0 is taken
-pub taken_where_some : (ws places pool : List ℕ) (n g : ℕ) → words_of places pool n ≡ ws → g < n → 0 < slice_index ws g
+pub taken_where_some : (ws places pool : List ℕ) (n g : ℕ) → words_of places pool n ≡ ws → g < length ws → 0 < slice_index ws g
     → 0 < slice_index places (g / 512)
-taken_where_some ws places pool n g view h some = elim (cases_lt 0 (slice_index places (g / 512))) [
-  | inl there ↦ there
-  | inr none ↦ absurd (omega (arith, some, word_read ws places pool n g view h, word_none places pool g (omega arith)))
-]
+taken_where_some ws places pool n g view h some =
+    let known = group_known ws places pool n g view h in
+    elim (cases_lt 0 (slice_index places (g / 512))) [
+      | inl there ↦ there
+      | inr none ↦ absurd (omega (arith, some, word_read ws places pool n g view known, word_none places pool g (omega arith)))
+    ]
 
 -- a word that is 0 and stays so
 pub none_kept : (ws places pool : List ℕ) (n g bits : ℕ) → words_of places pool n ≡ ws → g < n → slice_index places (g / 512) ≡ 0

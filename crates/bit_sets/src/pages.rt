@@ -62,15 +62,6 @@ impl Drop for PagedWords {
     }
 }
 
-/// All of these words hold this value.
-pub(crate) fn fill_all(words: &mut [u64], value: u64)
-    ensures { words.new ≡ replicate (length words.old) value }
-{
-    for word in words.iter_mut() {
-        *word = value;
-    }
-}
-
 /// The words from one up to another, which is not one of them, hold this value.
 fn fill_words(words: &mut [u64], from: usize, to: usize, value: u64)
     requires order { from ≤ to }
@@ -78,7 +69,7 @@ fn fill_words(words: &mut [u64], from: usize, to: usize, value: u64)
     ensures len { length words.new ≡ length words.old }
     ensures each { (i : ℕ) → slice_index words.new i ≡ (if is_between from to i then value else slice_index words.old i) }
 {
-    fill_all(&mut words[from..to], value);
+    words[from..to].fill(value);
 }
 
 /// The lowest one of the words that isn't 0, or how many there are.
@@ -93,15 +84,6 @@ fn first_written(words: &[u64]) -> usize
         }
     }
     words.len()
-}
-
-/// No page is taken.
-fn forget_all(places: &mut [u32])
-    ensures { places.new ≡ replicate (length places.old) 0 }
-{
-    for place in places.iter_mut() {
-        *place = 0;
-    }
 }
 
 /// So many words are written, the new ones as 0.
@@ -343,7 +325,7 @@ impl PagedWords {
         if self.pool.is_empty() {
             return;
         }
-        forget_all(&mut self.places);
+        self.places.fill(0);
         self.pool.clear();
     }
 

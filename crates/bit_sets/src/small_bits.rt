@@ -14,7 +14,6 @@ ghost use Rattle.std.specs.Prelude.{false, true, IfOk, IfSome, length, MatchOpti
 ghost use Rattle.bit_sets.specs.Bits.{has, HasNone, HasNoneBelow, IsLowest};
 
 use crate::groups::{lowest_if_any, lowest_of};
-use crate::pages::fill_all;
 use std::alloc::{AllocError, Global};
 use std::marker::Model;
 
@@ -87,7 +86,7 @@ impl SmallBits {
     pub fn clear(&mut self)
         ensures { self.new ≡ replicate (length self.old) false }
     {
-        fill_all(&mut self.words, 0);
+        self.words.fill(0);
     }
 
     /// The lowest number of the set at or above `from`.
