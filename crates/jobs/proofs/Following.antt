@@ -177,15 +177,6 @@ found_short c j start first now next waits left n e suits f taken given head giv
     let so_far = read_next c f.es given now next waits left n e f.count (f.read given head gives read) taken in
     (so_far.0 ++ left, so_far.1, (so_far.0, (left, refl), (made c (f.es ++ e ∷ []), so_far.2, suits)))
 
--- memory was refused for a longer count
-pub found_many : (c : Config) (j : Judging) (start : Reader) (first : List ℕ) (now : Reader) (waits : List ℕ) (n : ℕ) → Suits c
-    → IsFollowing c j start first now waits n →
-    (given : Reader) (head : List ℕ) → Gives given start (head ++ first) → record_of head ≡ Ok (made c [])
-    → FindsBy given now (Err (faults.Judge judges.NoMemory))
-found_many c j start first now waits n suits f given head gives read =
-    let so_far = f.read given head gives read in
-    (so_far.0 ++ waits, so_far.1, (so_far.0, (waits, refl), (made c f.es, so_far.2, suits)))
-
 -- the heap line was taken
 pub head_read : (given left : Reader) (waits : List ℕ) (c : Config) → IsNext heap_line_of [] waits given left (Ok (Some c))
     → HasRead c [] given left waits

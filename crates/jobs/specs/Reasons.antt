@@ -8,6 +8,7 @@ use Rattle.heap_words.specs.declared.config.Format.TheVariants.{V1, V2, V3}
 use Rattle.heap_words.specs.declared.config.NewFault.{NewFault}
 use Rattle.heap_words.specs.declared.config.NewFault.TheVariants as sizes
 use Rattle.heap_steps.specs.declared.fault.RunFault.TheVariants as runs
+use Rattle.script_text.specs.declared.fault.ReadFault.TheVariants as reads
 use Rattle.script_text.specs.declared.fault.WriteFault.TheVariants as writes
 use Rattle.script_text.specs.declared.places.TextKind.{TextKind}
 use Rattle.script_text.specs.Faults.{shown}
@@ -65,6 +66,7 @@ counts_text (Some workers) refiners markers =
 
 -- what is told of a fault that nothing in the text has brought about
 abbrev pub reason_words : JobFault → List ℕ
+reason_words (faults.Read reads.NoMemory) = codes "the system has too little memory to hold the text twice\n"
 reason_words (faults.Run runs.NoMemory) = codes "the system has too little memory for the heap, the record or the page\n"
 reason_words (faults.Write writes.NoMemory) = codes "the system has too little memory for the heap, the record or the page\n"
 reason_words (faults.Run runs.NoWorker) = codes "the system lets the program start no thread\n"

@@ -134,6 +134,9 @@ fn reason_words(fault: JobFault) -> &'static [u8]
     ensures short { length result.now ≤ 120 }
 {
     match fault {
+        JobFault::Read(ReadFault::NoMemory) => {
+            b"the system has too little memory to hold the text twice\n"
+        }
         JobFault::Run(RunFault::NoMemory) | JobFault::Write(WriteFault::NoMemory) => {
             b"the system has too little memory for the heap, the record or the page\n"
         }
