@@ -35,14 +35,6 @@ pub record HasFilled (c : CoreState) (step : ℕ → Step) (a count : ℕ) (d : 
   pub weaks : length (weaks_at d.table a) ≡ length (weaks_at c.table a)
   pub values : length (values_at d.table a) ≡ length (values_at c.table a)
 
-pub none_filled_yet : (c : CoreState) (step : ℕ → Step) (a : ℕ) → HasFilled c step a 0 c
-none_filled_yet c step a = record {
-  taken = record { run = refl; config = refl; roots = refl };
-  pointers = refl;
-  weaks = refl;
-  values = refl;
-}
-
 run_more : (c b d : CoreState) (step : ℕ → Step) (i : ℕ) (taken : Step) (reply : Reply) → HasRun c step i b → taken ≡ step i
     → Takes b taken reply d → d.config ≡ b.config → d.roots ≡ b.roots → HasRun c step (i + 1) d
 run_more c b d step i taken reply h e t same roots =

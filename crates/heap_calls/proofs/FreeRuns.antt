@@ -12,19 +12,6 @@ pub record IsSeen (t : Table) (n last longest : ℕ) : Type 0 where
   pub edge : (at m : ℕ) → at + m ≡ n → AreFree t at m → m ≤ last
   pub among : IsLongest t n longest
 
-pub none_seen : (t : Table) → IsSeen t 0 0 0
-none_seen t = record {
-  within = omega arith;
-  free = λ k low high. absurd (omega (arith, low, high));
-  edge = λ at m e f. omega (arith, e);
-  among = record {
-    at = 0;
-    within = omega arith;
-    free = λ k low high. absurd (omega (arith, low, high));
-    most = λ other m w f. omega (arith, w);
-  };
-}
-
 shorter : (t : Table) (at m : ℕ) → AreFree t at (suc m) → AreFree t at m
 shorter t at m f k low high = f k low (omega (arith, high))
 

@@ -99,12 +99,6 @@ takes_line d e End a k turn actor some =
     let row : k < length d.scripts = omega (arith, length-lefts d.scripts d.places) in
     absurd (line_is d k row some (sym h.0 ∙ ap (λ (y : Actor). next_step d y) (sym actor) ∙ turn.1))
 
--- whatever a turn came to, it was one
-pub has_turn : (d e : JournalState) (t : Turn) (a b : Actor) → a ≡ b → TurnIs t d e a → HasTurn d e b
-has_turn d e Done a b same takes = inl (subst (λ (y : Actor). Takes d e y) same takes)
-has_turn d e Idle a b same turn = inr (ap (λ (y : Actor). next_step d y) (sym same) ∙ turn.1, turn.2)
-has_turn d e End a b same turn = inr (ap (λ (y : Actor). next_step d y) (sym same) ∙ turn.1, turn.2)
-
 -- the words of a round with background actors
 two_words : (next : Lcg → ℕ × Lcg) (markers refiners : ℕ) (g g' h : Lcg) → g' ≡ (next g).1 → h ≡ (next g').1 → 0 < markers + refiners
     → h ≡ after_round next (has_background markers refiners) g
