@@ -1,6 +1,8 @@
 -- What releasing the chosen regions changes.
-use Rattle.std.specs.Prelude.{◌≡◌, ℕ, ◌/◌, true, false, List, length, if◌then◌else◌}
+use Rattle.std.specs.Prelude.{◌≡◌, ℕ, ◌*◌, ◌/◌, true, false, List, length, if◌then◌else◌}
 use Rattle.regions.specs.Table.{Table, Free, nth_region, EachForwardedIn}
+use Rattle.mark_bitmap.specs.declared.bitmaps.Bitmaps.{Bitmaps}
+use Rattle.mark_bitmap.specs.Tops.{Tops}
 use Rattle.bit_sets.specs.Bits.{has}
 use Rattle.remembered_sets.specs.Sets.{Sets, emptied, set_of}
 use Rattle.region_choice.specs.declared.LiveRow.{LiveRow}
@@ -24,3 +26,11 @@ pub record AreCleared (rows : List LiveRow) (s s' : Sets) : Type 0 where
 -- nothing moved into the rows' regions
 abbrev pub NoneForwardedInto : List LiveRow → ℕ → Table → Type 0
 NoneForwardedInto rows words t = EachForwardedIn (λ to. is_chosen rows (to / words) ≡ false) t.regions
+
+-- the marks, the tops at mark start and the remembered sets are those of the table's regions
+pub record AreOfTable (t : Table) (tops : Tops) (marks : Bitmaps) (s : Sets) : Type 0 where
+  pub previous : length marks.previous ≡ length t.regions * t.words_per_region
+  pub next : length marks.next ≡ length t.regions * t.words_per_region
+  pub previous_tops : length tops.previous ≡ length t.regions
+  pub next_tops : length tops.next ≡ length t.regions
+  pub each_set : length s.sets ≡ length t.regions

@@ -4,7 +4,7 @@
 ghost use Rattle.std.specs.Prelude.{◌≡◌, ◌≢◌, ◌+◌, ◌*◌, ◌/◌, ◌<◌, ℕ, All, false, if◌then◌else◌, length};
 ghost use Rattle.regions.specs.declared.row.Kind.TheVariants as kinds;
 ghost use Rattle.evacuation.specs.Evacuates.{AreDistinct, MarksAfter};
-ghost use Rattle.evacuation.specs.Releasing.{AreCleared, AreReleased, NoneForwardedInto};
+ghost use Rattle.evacuation.specs.Releasing.{AreCleared, AreOfTable, AreReleased, NoneForwardedInto};
 ghost use Rattle.regions.specs.Table.{free_count, kind_of, released, EachForwardedIn};
 ghost use Rattle.mark_bitmap.specs.Marks.{is_marked};
 ghost use Rattle.mark_bitmap.specs.Tops.{is_in_region, with_bottom};
@@ -28,11 +28,7 @@ fn release_region(
     requires known { region < length table.old.regions }
     requires ordinary { kind_of table.old region ≡ kinds.Ordinary }
     requires unmoved { EachForwardedIn (λ to. region ≢ to / table.old.words_per_region) table.old.regions }
-    requires previous { length bitmaps.old.previous ≡ length table.old.regions * table.old.words_per_region }
-    requires next { length bitmaps.old.next ≡ length table.old.regions * table.old.words_per_region }
-    requires previous_tops { length tams.old.previous ≡ length table.old.regions }
-    requires next_tops { length tams.old.next ≡ length table.old.regions }
-    requires sets { length sets.old.sets ≡ length table.old.regions }
+    requires layers { AreOfTable table.old tams.old bitmaps.old sets.old }
     ensures table { table.new ≡ released table.old region }
     ensures tams { tams.new ≡ with_bottom tams.old region (region * table.old.words_per_region) }
     ensures previous { (a : ℕ) → is_marked bitmaps.new.previous a
@@ -67,11 +63,7 @@ pub(crate) fn release_chosen(
     requires ordinary { All (λ row. kind_of table.old row.region ≡ kinds.Ordinary) rows.now }
     requires distinct { AreDistinct rows.now }
     requires unmoved { NoneForwardedInto rows.now table.old.words_per_region table.old }
-    requires previous { length bitmaps.old.previous ≡ length table.old.regions * table.old.words_per_region }
-    requires next { length bitmaps.old.next ≡ length table.old.regions * table.old.words_per_region }
-    requires previous_tops { length tams.old.previous ≡ length table.old.regions }
-    requires next_tops { length tams.old.next ≡ length table.old.regions }
-    requires sets { length sets.old.sets ≡ length table.old.regions }
+    requires layers { AreOfTable table.old tams.old bitmaps.old sets.old }
     ensures table { AreReleased rows.now table.old table.new }
     ensures count { free_count table.new ≡ free_count table.old + length rows.now }
     ensures unmoved { NoneForwardedInto rows.now table.old.words_per_region table.new }

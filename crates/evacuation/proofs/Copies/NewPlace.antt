@@ -128,19 +128,24 @@ module _ (p : Pause) (q : IsPause p) (t : Table) (d : Places) (turn : IsTurn p t
       to_space : CopiesTo (layout p) (space p t) (space p t') d d' from to x
       to_space = copies_to p q t t' d d' turn shaped from to x named.inside kept halves copy (changes x)
 
-      pub placed_turn : IsTurn p t' d'
+      placed_turn : IsTurn p t' d'
       placed_turn = record {
         copying = copied_copying (layout p) (plan p) (space p t) (space p t') d d' from to x turn.copying to_space named kept un halves;
         table = copy_stays p q t t' d d' turn shaped from to x named.inside kept halves copy (changes x);
         taken = copy_taken p q t t' d d' turn shaped from to x named.inside kept halves copy (changes x);
       }
 
-      pub placed_at : moved_to (tile_in t' from) ≡ Some to
-      placed_at = to_space.forwarded
-
-      pub placed_after : (noted : List Bool) → After p noted noted t t' d d'
-      placed_after noted =
-          copied_after (layout p) (plan p) (space p t) (space p t') d d' from to x turn.copying to_space named kept un halves noted
-
-      pub placed_frame : (b : ℕ) (y : Stored) → in_set p b ≡ false → kept_now p t b ≡ Some y → kept_now p t' b ≡ Some y
-      placed_frame b y = frame (layout p) (plan p) (space p t) (space p t') d d' from to x turn.copying to_space named kept un halves b y
+      -- the turn after the copy, where the copy is, and what stays
+      pub placed : IsTurn p t' d' × ((moved_to (tile_in t' from) ≡ Some to) × (((noted : List Bool) → After p noted noted t t' d d')
+          × ((b : ℕ) (y : Stored) → in_set p b ≡ false → kept_now p t b ≡ Some y → kept_now p t' b ≡ Some y)))
+      placed = (
+        placed_turn,
+        (
+          to_space.forwarded,
+          (
+            λ noted. copied_after (layout p) (plan p) (space p t) (space p t') d d' from to x turn.copying to_space named kept un
+            halves noted,
+            λ b y. frame (layout p) (plan p) (space p t) (space p t') d d' from to x turn.copying to_space named kept un halves b y,
+          ),
+        ),
+      )

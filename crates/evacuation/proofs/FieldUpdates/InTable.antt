@@ -5,7 +5,7 @@ use Rattle.heap_model.specs.Heap.{Stored, fields}
 use Rattle.regions.specs.Table.{Table, moved_to, fields_at, set_field, tile_in}
 use Rattle.object_copy.specs.Copies.{Places}
 use Rattle.refinement.specs.Remembering.{field_word}
-use Rattle.evacuation.specs.Space.{IsClean, IsField, IsFieldClean, IsFieldSettled, IsNamed, IsNoted, SetsField, flag}
+use Rattle.evacuation.specs.Space.{IsClean, IsField, IsFieldClean, IsFieldSettled, IsNamed, IsNoted, NotesWord, SetsField}
 use Rattle.evacuation.specs.Turns.{Pause, IsPause, IsTurn, After, in_set, kept_now, layout, plan, space}
 use Rattle.evacuation.proofs.Turns.Following.{after_after}
 use Rattle.evacuation.proofs.FieldUpdates.Updated.{field_named, updated_after, updated_copying, updated_settled}
@@ -42,7 +42,7 @@ module _ (p : Pause) (q : IsPause p) (t : Table) (d : Places) (turn : IsTurn p t
       sets : SetsField (space p t1) (space p t2) at i (Some b) y
       sets = sets_field p q t1 t2 d1 turn1 positive at i (Some b) y out here is
 
-      pub update_turn : IsTurn p t2 d1
+      update_turn : IsTurn p t2 d1
       update_turn = record {
         copying = updated_copying (layout p) (plan p) (space p t1) (space p t2) d1 turn1.copying at i a
             b y out here named_there inside place sets;
@@ -50,22 +50,19 @@ module _ (p : Pause) (q : IsPause p) (t : Table) (d : Places) (turn : IsTurn p t
         taken = write_taken p q t1 t2 d1 turn1 positive at i (Some b) y out here is;
       }
 
-      module _ (noted noted' : List Bool) (is_noted : IsNoted (layout p) noted' (field_word at i) (Some b))
-          (grows : (c : ℕ) → flag noted c ≡ true → flag noted' c ≡ true) (same : length noted' ≡ length noted)
-          (only : (c : ℕ) → flag noted' c ≡ true → (flag noted c ≡ true)
-          ⊎ ((c ≡ field_word at i / p.card_words) × (b / p.start.words_per_region ≢ field_word at i / p.start.words_per_region))) where
-        pub update_after : After p noted noted' t t2 d d1
-        update_after =
-            after_after (layout p) noted noted noted' (space p t) (space p t1) (space p t2) d d1 d1 (after1 noted)
-            (updated_after (layout p) (plan p) (space p t1) (space p t2) d1 turn1.copying at i a b y out here named_there inside place
-            sets noted noted' is_noted grows same only)
-
-        pub update_settled : IsFieldSettled (layout p) noted' (space p t2) at i
-        update_settled = updated_settled (layout p) (plan p) (space p t1) (space p t2) d1 turn1.copying at i a b y out here named_there
-            inside place sets noted noted' is_noted grows same only
-
-        pub update_clean : IsFieldClean (layout p) (space p t2) at i
-        update_clean z w e f = (update_settled z w e f).0
+      -- what stays once the word's card is noted, and that the field is settled then
+      pub updated : IsTurn p t2 d1 × ((noted noted' : List Bool) → NotesWord (layout p) noted noted' (field_word at i) b
+          → After p noted noted' t t2 d d1 × IsFieldSettled (layout p) noted' (space p t2) at i)
+      updated = (
+        update_turn,
+        λ noted noted' notes. (
+          after_after (layout p) noted noted noted' (space p t) (space p t1) (space p t2) d d1 d1 (after1 noted)
+              (updated_after (layout p) (plan p) (space p t1) (space p t2) d1 turn1.copying at i a b y out here named_there inside place
+              sets noted noted' notes),
+          updated_settled (layout p) (plan p) (space p t1) (space p t2) d1 turn1.copying at i a b y out here named_there
+              inside place sets noted noted' notes,
+        ),
+      )
 
 -- a clean field whose card is noted
 pub noted_settled : (p : Pause) (t : Table) (at i : ℕ) (noted : List Bool) (v : Option ℕ) → slice_get (fields_at t at) i ≡ Some v
@@ -75,11 +72,3 @@ noted_settled p t at i noted v e c n y w here f =
     let k = pointer_is p t at i y v here e in
     let same : v ≡ w = cc in
     (c y w here f, subst (IsNoted (layout p) noted (field_word at i)) same n)
-
--- the field of an object that stays
-pub field_after : (p : Pause) (noted noted' : List Bool) (t t' : Table) (d d' : Places) (at i : ℕ) → After p noted noted' t t' d d'
-    → in_set p at ≡ false → IsField (space p t) at i → IsField (space p t') at i
-field_after p noted noted' t t' d d' at i a out f =
-    let (y, e, n) = a.stays at f.object out f.at in
-    let w = f.within in
-    record { object = y; at = e; within = omega arith }

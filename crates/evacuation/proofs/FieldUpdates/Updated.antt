@@ -12,7 +12,7 @@ use Rattle.heap_model.proofs.Evacuated.{field_reached, field_updated}
 use Rattle.object_copy.specs.Copies.{Places}
 use Rattle.refinement.specs.Remembering.{field_word}
 use Rattle.evacuation.specs.Space.{Layout, Plan, Space, SetsField, IsPlan, IsCopying, IsNamed, IsAfter, IsObject, IsSettled}
-use Rattle.evacuation.specs.Space.{IsUpdated, IsFieldSettled, filled, flag, set_of, seen_as}
+use Rattle.evacuation.specs.Space.{IsUpdated, IsFieldSettled, NotesWord, filled, set_of, seen_as}
 use Rattle.evacuation.proofs.Copies.ObjectCopied.{same_evacuating, same_tally}
 
 -- what is reached stands there
@@ -74,13 +74,10 @@ module _ (l : Layout) (p : Plan) (s s' : Space) (d : Places) (c : IsCopying l p 
   new_outside : set_of l b ≡ false
   new_outside = c.heap.out a b inside f
 
-  module _ (t t' : List Bool) (noted : (b / l.words ≡ field_word at i / l.words) ⊎ (flag t' (field_word at i / l.card_words) ≡ true))
-      (grows : (x : ℕ) → flag t x ≡ true → flag t' x ≡ true) (same : length t' ≡ length t)
-      (only : (c : ℕ) → flag t' c ≡ true
-      → (flag t c ≡ true) ⊎ ((c ≡ field_word at i / l.card_words) × (b / l.words ≢ field_word at i / l.words))) where
+  module _ (t t' : List Bool) (notes : NotesWord l t t' (field_word at i) b) where
     word_settled : (w : Option ℕ) → w ≡ Some b → IsSettled l t' (field_word at i) w
     word_settled None e = cc
-    word_settled (Some x) e = let k : b ≡ x = cc in subst (λ (m : ℕ). IsSettled l t' (field_word at i) (Some m)) k (new_outside, noted)
+    word_settled (Some x) e = let k : b ≡ x = cc in subst (λ (m : ℕ). IsSettled l t' (field_word at i) (Some m)) k (new_outside, notes.is_noted)
 
     place_cases : (j : ℕ) (w : Option ℕ) → slice_get (slice_set (fields y) i (Some b)) j ≡ Some w
         → ((i ≡ j) × (w ≡ Some b)) ⊎ (slice_get (fields y) j ≡ Some w)
@@ -112,9 +109,9 @@ module _ (l : Layout) (p : Plan) (s s' : Space) (d : Places) (c : IsCopying l p 
 
     pub updated_after : IsAfter l t t' s s' d d
     updated_after = record {
-      noted_grows = grows;
-      noted_length = same;
-      noted_for = λ c e. elim (only c e) [
+      noted_grows = notes.grows;
+      noted_length = notes.count;
+      noted_for = λ c e. elim (notes.only c e) [
         | inl o ↦ inl o
         | inr o ↦ inr (record {
           at = at;

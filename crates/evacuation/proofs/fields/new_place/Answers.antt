@@ -23,30 +23,11 @@ copy-requires g c =
       count = places.count g.pause premises c.args.table.now c.args.destinations.now turn c.law.ensures c.args.from named un;
     }
 
-pub returns-in-None-clause-turn : goal.returns-in-None-clause-turn
-returns-in-None-clause-turn g c =
+pub returns-in-None : goal.returns-in-None
+returns-in-None g c =
     let (premises, (turn, named)) = c.requires in
-    let un = sym c.target.ensures ∙ c.in-None.is in
-    places.placed_turn g.pause premises c.args.table.now c.args.destinations.now turn c.law.ensures c.args.from named un c.copy.new.table
-    c.copy.new.destinations c.copy.result c.copy.ensures.copies c.copy.ensures.changes
-
-pub returns-in-None-clause-place : goal.returns-in-None-clause-place
-returns-in-None-clause-place g c =
-    let (premises, (turn, named)) = c.requires in
-    let un = sym c.target.ensures ∙ c.in-None.is in
-    places.placed_at g.pause premises c.args.table.now c.args.destinations.now turn c.law.ensures c.args.from named un c.copy.new.table
-    c.copy.new.destinations c.copy.result c.copy.ensures.copies c.copy.ensures.changes
-
-pub returns-in-None-clause-after : goal.returns-in-None-clause-after
-returns-in-None-clause-after g c =
-    let (premises, (turn, named)) = c.requires in
-    let un = sym c.target.ensures ∙ c.in-None.is in
-    places.placed_after g.pause premises c.args.table.now c.args.destinations.now turn c.law.ensures c.args.from named un c.copy.new.table
-    c.copy.new.destinations c.copy.result c.copy.ensures.copies c.copy.ensures.changes
-
-pub returns-in-None-clause-frame : goal.returns-in-None-clause-frame
-returns-in-None-clause-frame g c =
-    let (premises, (turn, named)) = c.requires in
-    let un = sym c.target.ensures ∙ c.in-None.is in
-    places.placed_frame g.pause premises c.args.table.now c.args.destinations.now turn c.law.ensures c.args.from named un c.copy.new.table
-    c.copy.new.destinations c.copy.result c.copy.ensures.copies c.copy.ensures.changes
+    let (now, (at, (after, frame))) =
+    places.placed g.pause premises c.args.table.now c.args.destinations.now turn c.law.ensures c.args.from named
+    (sym c.target.ensures ∙ c.in-None.is) c.copy.new.table c.copy.new.destinations c.copy.result c.copy.ensures.copies
+    c.copy.ensures.changes in
+    record { turn = now; place = at; after = after; frame = frame }

@@ -1,4 +1,4 @@
-use Rattle.std.proofs.Common.{◌≡◌, ◌∙◌, ◌+◌, ◌/◌, ◌∷◌}
+use Rattle.std.proofs.Common.{◌≡◌, ◌∙◌, ◌+◌, ◌*◌, ◌/◌, ◌∷◌}
 use Rattle.std.proofs.Common.{ℕ, sym, ap, refl, subst, length, false, zero, suc, inl, inr, true, List, [], Bool, replicate, arith}
 use Rattle.std.specs.Prelude.{Vec, vec_len}
 use Rattle.std.specs.Vec.{with_items}
@@ -78,6 +78,21 @@ release_chosen-requires-clause-unmoved c =
     (λ to. in_set (asked.pause h c.args.chosen.now c.args.card_words c.requires.can c.law.ensures flags are len) to ≡ false)
     (λ to. is_chosen c.args.chosen.now (to / c.copy_reached.new.table.words_per_region) ≡ false) c.copy_reached.new.table.regions
     (λ to o. ap (λ (n : ℕ). is_chosen c.args.chosen.now (to / n)) s.size ∙ sym (are (to / c.args.table.now.words_per_region)) ∙ o) s.targets
+
+pub release_chosen-requires-clause-layers : goal.release_chosen-requires-clause-layers
+release_chosen-requires-clause-layers c =
+    let can = c.requires.can in
+    let s = c.copy_reached.ensures.goes_on.stands.turn.table in
+    let words : length c.args.table.now.regions * c.args.table.now.words_per_region
+    ≡ length c.copy_reached.new.table.regions * c.copy_reached.new.table.words_per_region =
+    rw (s.count, s.size) refl in
+    record {
+      previous = can.previous.each_word ∙ words;
+      next = can.next.each_word ∙ words;
+      previous_tops = can.previous.each_region ∙ sym s.count;
+      next_tops = can.next.each_region ∙ sym s.count;
+      each_set = can.fit.each_region ∙ sym s.count;
+    }
 
 pub returns-clause-evacuated : goal.returns-clause-evacuated
 returns-clause-evacuated c =

@@ -1,4 +1,4 @@
-use Rattle.std.proofs.Common.{◌≡◌, ◌≢◌, ◌∙◌, ℕ, sym, ap, subst, arith, ◌<◌, ◌+◌, ◌*◌, ◌/◌, length, take, Some, false, set}
+use Rattle.std.proofs.Common.{◌≡◌, ◌≢◌, ◌∙◌, ℕ, refl, sym, ap, subst, arith, ◌<◌, ◌+◌, ◌*◌, ◌/◌, length, take, Some, false, set}
 use Rattle.std.specs.Prelude.{◌||◌, ◌==◌, if◌then◌else◌}
 use Rattle.std.proofs.lemmas.Option.{slice_get-get_or}
 use Rattle.regions.specs.Table.{free_count, kind_of}
@@ -63,7 +63,7 @@ loop-row-preserved c =
       previous = step_marks xs ys row.region more c.args.table.now.words_per_region c.args.tams.now.previous c.loop-row.tams.previous
           c.release_region.new.tams.previous c.args.bitmaps.now.previous c.loop-row.bitmaps.previous
           c.release_region.new.bitmaps.previous c.law.ensures.positive
-          (let e = v.previous.count in let l = c.requires.previous_tops in omega arith)
+          (let e = v.previous.count in let l = c.requires.layers.previous_tops in omega arith)
           (ap (λ (t : Tops). t.previous) c.release_region.ensures.tams ∙ ap (λ (n : ℕ). set c.loop-row.tams.previous row.region n) w)
           c.release_region.ensures.previous_len
           (subst (λ (n : ℕ). (a : ℕ) → is_marked c.release_region.new.bitmaps.previous a
@@ -72,12 +72,27 @@ loop-row-preserved c =
       next = step_marks xs ys row.region more c.args.table.now.words_per_region c.args.tams.now.next
           c.loop-row.tams.next c.release_region.new.tams.next c.args.bitmaps.now.next c.loop-row.bitmaps.next
           c.release_region.new.bitmaps.next c.law.ensures.positive
-          (let e = v.next.count in let l = c.requires.next_tops in omega arith)
+          (let e = v.next.count in let l = c.requires.layers.next_tops in omega arith)
           (ap (λ (t : Tops). t.next) c.release_region.ensures.tams ∙ ap (λ (n : ℕ). set c.loop-row.tams.next row.region n) w)
           c.release_region.ensures.next_len
           (subst (λ (n : ℕ). (a : ℕ) → is_marked c.release_region.new.bitmaps.next a
           ≡ (if is_in_region n row.region a then false else is_marked c.loop-row.bitmaps.next a)) v.table.size
           c.release_region.ensures.next) v.next;
       sets = step_cleared xs ys row.region more c.args.sets.now c.loop-row.sets c.release_region.new.sets
-          (let e = v.sets.count in let l = c.requires.sets in omega arith) c.release_region.ensures.sets v.sets;
+          (let e = v.sets.count in let l = c.requires.layers.each_set in omega arith) c.release_region.ensures.sets v.sets;
+    }
+
+pub release_region-requires-clause-layers : goal.release_region-requires-clause-layers
+release_region-requires-clause-layers c =
+    let v = c.loop-row.invariant in
+    let all = c.requires.layers in
+    let words : length c.args.table.now.regions * c.args.table.now.words_per_region
+    ≡ length c.loop-row.table.regions * c.loop-row.table.words_per_region =
+    rw (v.table.count, v.table.size) refl in
+    record {
+      previous = v.previous.each_word ∙ all.previous ∙ words;
+      next = v.next.each_word ∙ all.next ∙ words;
+      previous_tops = v.previous.count ∙ all.previous_tops ∙ sym v.table.count;
+      next_tops = v.next.count ∙ all.next_tops ∙ sym v.table.count;
+      each_set = v.sets.count ∙ all.each_set ∙ sym v.table.count;
     }
