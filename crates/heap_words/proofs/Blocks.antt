@@ -7,6 +7,7 @@ use Rattle.std.proofs.lemmas.List.{take-append-drop, drop-drop}
 use Rattle.std.proofs.lemmas.List.{length-replicate}
 use Rattle.std.proofs.lemmas.List.{take_at, take-append-le, drop-append-le}
 use Rattle.heap_words.specs.Contents.{put}
+use Rattle.heap_words.specs.Memory.{Memory, memory}
 
 pub put_none : (ws : List ℕ) (n : ℕ) → put ws n [] ≡ ws
 put_none ws zero = refl
@@ -137,6 +138,14 @@ put_back ws new count len n block e is h =
     let all : take len (new ++ drop (length new) ws) ≡ new = take_at new (drop (length new) ws) len (long ∙ sym e) in
     let zeros : List ℕ = replicate {A = ℕ} (count - length ws) 0 in
     rw (all, long) (ap (λ (xs : List ℕ). xs ++ zeros) is ∙ sym (put_front ws zeros n block (omega arith)))
+
+-- the same of a heap's words
+pub memory_put : (ws new : List ℕ) (count len n : ℕ) (block : List ℕ) (m : Memory) → memory ws count ≡ m → len ≡ length ws
+    → new ≡ put ws n block → n + length block ≤ m.written
+    → (memory (take len (new ++ drop (length new) ws)) count).all ≡ put m.all n block
+memory_put ws new count len n block m view e is h =
+    put_back ws new count len n block e is (omega (arith, e, ap (λ (u : Memory). u.written) view))
+    ∙ ap (λ (u : Memory). put u.all n block) view
 
 -- a block copied into the middle of words
 pub copied_in : (ws new block : List ℕ) (at n : ℕ) → at + length block ≤ length ws → n ≡ length block → new ≡ block
