@@ -8,6 +8,7 @@ use Rattle.std.proofs.lemmas.Nat.{mul-le, pow_pos}
 use Rattle.std.proofs.lemmas.List.{length-append, length-replicate, get_or-append_right, get_or_append_left, get_or_past, take_at}
 use Rattle.heap_words.specs.Memory.{memory}
 use Rattle.bit_sets.proofs.BitWords.{all_zeros}
+use Rattle.regions.proofs.Cards.FirstTiles.{cards_fit}
 
 -- a card's entry, written or not
 pub entry_is : (xs : List ℕ) (n i : ℕ) → get_or (memory xs n).all i 0 ≡ get_or xs i 0
@@ -30,3 +31,13 @@ pub end_written : (end shift n past : ℕ) → past ≡ div_ceil end (2 ^ shift)
 end_written end shift n past e h =
     let reached : end ≤ div_ceil end (2 ^ shift) * 2 ^ shift = (div_ceil_times end (2 ^ shift) (pow_pos shift)).0 in
     omega (arith, rw (sym e) at reached, mul-le past (2 ^ shift) n (2 ^ shift) h (omega arith))
+
+pub cards_reached : (end shift n past : ℕ) → past ≡ div_ceil end (2 ^ shift) → end ≤ n * 2 ^ shift → past ≤ n
+cards_reached end shift n past e h = rw e (cards_fit end (2 ^ shift) n (pow_pos shift) h)
+
+-- what a write to those that are written makes of all
+pub entries_put : (f : ℕ → ℕ) (old items lent new rest : List ℕ) (len n i : ℕ) → length new ≡ len → lent ≡ items
+    → (memory items n).all ≡ (memory old n).all → get_or new i 0 ≡ f (get_or lent i 0)
+    → get_or (memory (take len (new ++ rest)) n).all i 0 ≡ f (get_or (memory old n).all i 0)
+entries_put f old items lent new rest len n i h same all e = entry_lent new rest len n i h ∙ e
+    ∙ ap f (ap (λ (l : List ℕ). get_or l i 0) same ∙ sym (entry_is items n i) ∙ ap (λ (l : List ℕ). get_or l i 0) all)

@@ -29,6 +29,12 @@ use Rattle.regions.specs.declared.row.Kind.TheVariants as kinds
 abbrev pub rest : Row → Bool
 rest row = kind_is_rest row.kind
 
+-- what a count of them from the next row on says
+pub rests_counted : (rows : List Row) (n k count : ℕ) → n ≡ k → count ≡ front_count rest (drop (n + 1) rows)
+    → count ≡ front_count rest (drop (suc k) rows)
+rests_counted rows n k count e is =
+    let next : n + 1 ≡ suc k = omega (arith, e) in is ∙ ap (λ (j : ℕ). front_count rest (drop j rows)) next
+
 pub front_more : (i n : ℕ) (rows : List Row) → i < length rows → kind_is_rest (get_or rows i free_row).kind ≡ true → n ≡ i + 1
     → front_count rest (drop i rows) ≡ suc (front_count rest (drop n rows))
 front_more i n rows h f e =

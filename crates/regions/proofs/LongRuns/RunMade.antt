@@ -12,8 +12,8 @@ use Rattle.heap_model.specs.Heap.{Stored}
 use Rattle.regions.specs.Tiles.{Object, tile_size, stored_of}
 use Rattle.heap_words.specs.Contents.{put}
 use Rattle.regions.specs.Table.{Region, Free, Table, region_at, tile_in, object_at, EachForwardedIn, HasObject, rests}
-use Rattle.regions.specs.Table.{run_regions, with_regions, new_object, first_run}
-use Rattle.regions.proofs.Rows.Search.{free, run_found}
+use Rattle.regions.specs.Table.{run_regions, with_regions, new_object, first_run, is_free}
+use Rattle.regions.proofs.Rows.Search.{free, run_found, first_run-is}
 use Rattle.regions.proofs.Words.Parse.{stored_of-append}
 use Rattle.regions.specs.Rows.{object_size, sizes_in, first_stored, region_by, regions_of, IsObject, AreRows, free_row, kind_is_free}
 use Rattle.regions.specs.Rows.{run_kind, run_row, run_rows, table_of, table_by, IsTable}
@@ -211,6 +211,11 @@ run_here_is size words rows k m g h =
     run_ends k m l size h =
         let at : l ≡ k + m + (l - (k + m)) = omega arith in
         rw at (omega arith)
+
+pub run_there : (size : ℕ) (words : List ℕ) (rows : List Row) (t : Table) (k m : ℕ) → IsTable size words rows → table_of size words rows ≡ t
+    → first_run is_free m t.regions ≡ Some k → (first_run free m rows ≡ Some k) × IsRunFound size words rows k m
+run_there size words rows t k m g e h =
+    let found = sym (first_run-is size words rows t m e) ∙ h in (found, run_here_is size words rows k m g found)
 
 -- an object's block, put at the run's bottom
 first_put : (words : List ℕ) (n w name p weak d : ℕ) → n + (2 + p + weak + d) ≤ length words

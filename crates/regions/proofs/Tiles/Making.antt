@@ -6,7 +6,7 @@ use Rattle.std.proofs.Common.{sym, ap, subst, arith, true, replicate, position}
 use Rattle.regions.specs.Table.{Region, Free, Ordinary, First, Rest, Table, with_region, is_free, first_free}
 use Rattle.regions.specs.Table.{taken, region_used, nth_region, used_of, region_kind, kind_of, free_table}
 use Rattle.regions.specs.Table.{HasNoForwarded, EachForwarded, EachForwardedIn, HasTargets}
-use Rattle.std.proofs.lemmas.List.{length-take, length-drop, length-replicate}
+use Rattle.std.proofs.lemmas.List.{length-take, length-drop, length-replicate, get_or_read}
 use Rattle.heap_words.specs.Headers.{header_of}
 use Rattle.regions.specs.Tiles.{Tile, Object, Filler, Forwarded, total_size, size_by, tiles, IsTiled}
 use Rattle.regions.specs.Rows.{sizes_in, region_by, region_of, regions_of, IsRow, AreRows, table_of, IsTable, free_row, kind_is_free}
@@ -46,6 +46,12 @@ known size words rows t k e h =
       in_rows = p;
       region_is = rw (← e) (regions-at (sizes_in words) size rows k (k * size) words free_row refl p);
     }
+
+-- the row of a region, as a call read it
+pub row_read : (size : ℕ) (words : List ℕ) (rows : List Row) (t : Table) (k n : ℕ) (row : Row) → IsKnown size words rows t k → n ≡ k
+    → row ≡ get_or rows n row → row ≡ get_or rows k free_row
+row_read size words rows t k n row i e read =
+    get_or_read rows n row (omega (arith, i.in_rows, e)) read free_row ∙ ap (λ (j : ℕ). get_or rows j free_row) e
 
 kind_by : (sizes : ℕ → ℕ) (ws : List ℕ) (used : ℕ) (kind : Kind) → region_kind (region_by sizes ws used kind) ≡ kind
 kind_by sizes ws used kinds.Free = refl
@@ -180,6 +186,15 @@ top_is size words rows t k g e h o =
     let u = used_by (sizes_in words) size (get_or rows k free_row).used (get_or rows k free_row).kind (drop (k * size) words)
     (omega (arith, length-drop (k * size) words)) p st.0.row_is in
     record { used_is = rw (← n.size_is, n.region_is) (sym u.0); used_le = u.1; room = fits }
+
+pub known_top : (size : ℕ) (words : List ℕ) (rows : List Row) (t : Table) (k : ℕ) → IsTable size words rows → table_of size words rows ≡ t
+    → k < length t.regions → kind_of t k ≡ kinds.Ordinary → IsKnown size words rows t k × IsTop size words rows t k
+known_top size words rows t k g e h o = (known size words rows t k e h, top_is size words rows t k g e h o)
+
+-- the top's address
+pub top_at : (size : ℕ) (words : List ℕ) (rows : List Row) (t : Table) (k top : ℕ) → IsKnown size words rows t k
+    → top ≡ k * t.words_per_region + used_of t k → top ≡ k * size + used_of t k
+top_at size words rows t k top i e = e ∙ ap (λ (m : ℕ). k * m + used_of t k) (sym i.size_is)
 
 no_targets : (P : ℕ → Type 0) (n : ℕ) → EachForwardedIn P (replicate n Free)
 no_targets P zero = tt

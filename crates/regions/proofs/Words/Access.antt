@@ -1,7 +1,7 @@
 -- What a read or a write of a field does, as callers see the table.
 -- the object whose pointer is asked for
-use Rattle.std.proofs.Common.{◌≡◌, ◌+◌, ◌-◌, ◌*◌, ◌/◌, ◌<◌, ◌∙◌}
-use Rattle.std.proofs.Common.{ℕ, suc, Option, Some, None, List, length, take, drop, map, get_or, set, refl, sym, ap, arith, inl, inr}
+use Rattle.std.proofs.Common.{◌≡◌, ◌+◌, ◌*◌, ◌/◌, ◌<◌, ◌≤◌, ◌∙◌}
+use Rattle.std.proofs.Common.{ℕ, suc, Option, Some, None, List, length, take, drop, map, get_or, set, refl, ap, arith, inl, inr}
 use Rattle.std.proofs.lemmas.List.{length-take, length-drop, length-map, length-set, drop-drop, get_or-drop, get_or-take, get_or-map}
 use Rattle.heap_words.specs.Headers.{header_of, pointer_of}
 use Rattle.std.specs.Prelude.{IsSome}
@@ -20,37 +20,45 @@ use Rattle.regions.proofs.Tiles.Kept.{put_kept}
 use Rattle.regions.proofs.Tiles.Targets.{IsWrittenTable}
 use Rattle.regions.proofs.Words.Written.{write_ordinary}
 use Rattle.regions.proofs.LongRuns.RunWritten.{write_first}
-use Rattle.regions.proofs.Words.Fields.{with_pointer, turns_pointer, with_weak, turns_weak}
+use Rattle.regions.proofs.Words.Fields.{Turns, with_pointer, turns_pointer, with_weak, turns_weak}
 
-pub record HasPointer (t : Table) (x i : ℕ) : Type 0 where
+pub record HasPart (t : Table) (x i : ℕ) (long : Stored → ℕ) : Type 0 where
   pub object : Stored
   pub object_is : object_at t x ≡ Some object
-  pub within : i < length object.pointers
+  pub within : i < long object
 
-pub has_pointer : (t : Table) (x i : ℕ) → i < length (pointers_at t x) → HasPointer t x i
-unfolding pointers_at
-has_pointer t x i h = go (object_at t x) refl h
+-- one part of an object, of so many: where there is no object there is none
+pub has_part : (t : Table) (x i : ℕ) (long : Stored → ℕ) (count : Option Stored → ℕ) → ((s : Stored) → count (Some s) ≡ long s)
+    → count None ≡ 0 → i < count (object_at t x) → HasPart t x i long
+has_part t x i long count some none h = go (object_at t x) refl h
   where
-    go : (o : Option Stored) → object_at t x ≡ o → i < length (object_pointers o) → HasPointer t x i
-    go None e l = absurd (omega arith)
-    go (Some s) e l = record { object = s; object_is = e; within = l }
+    go : (o : Option Stored) → object_at t x ≡ o → i < count o → HasPart t x i long
+    go None e l = absurd (omega (arith, none))
+    go (Some s) e l = record { object = s; object_is = e; within = omega (arith, some s) }
+
+pub has_pointer : (t : Table) (x i : ℕ) → i < length (pointers_at t x) → HasPart t x i (λ s. length s.pointers)
+unfolding pointers_at
+has_pointer t x i h = has_part t x i (λ s. length s.pointers) (λ o. length (object_pointers o)) (λ s. refl) refl h
+
+-- one of some words of an object, read as pointers
+part_at : (words : List ℕ) (x start k i : ℕ) (ps : List (Option ℕ)) → ps ≡ map pointer_of (take k (drop start (drop (x + 1) words))) → i < k
+    → x + 1 + start + k ≤ length words → slice_get ps i ≡ Some (pointer_of (get_or words (x + 1 + start + i) 0))
+part_at words x start k i ps are h fits =
+    let at : drop start (drop (x + 1) words) ≡ drop (x + 1 + start) words = drop-drop start (x + 1) words in
+    let le : i < length (take k (drop (x + 1 + start) words)) =
+    simp length-take (omega (arith, fits, length-drop (x + 1 + start) words)) in
+    let le' : i < length (map pointer_of (take k (drop (x + 1 + start) words))) = rw length-map le in
+    ap (λ (qs : List (Option ℕ)). slice_get qs i) (are ∙ rw at refl)
+    ∙ slice_get-get_or (map pointer_of (take k (drop (x + 1 + start) words))) i None le'
+    ∙ ap Some (get_or-map pointer_of (take k (drop (x + 1 + start) words)) i 0 None le
+    ∙ ap pointer_of (get_or-take k (drop (x + 1 + start) words) i 0 h ∙ get_or-drop (x + 1 + start) words i 0))
 
 pointer_word_at : (words : List ℕ) (x i : ℕ) (s : Stored) → IsIn words x s → i < length s.pointers
     → slice_get s.pointers i ≡ Some (pointer_of (get_or words (x + 2 + i) 0))
 pointer_word_at words x i s g h =
-    let p : ℕ = length s.pointers in
-    let are : s.pointers ≡ map pointer_of (take p (drop 1 (drop (x + 1) words))) = ap (λ (r : Stored). r.pointers) g.stored_is in
-    let at : drop 1 (drop (x + 1) words) ≡ drop (x + 1 + 1) words = drop-drop 1 (x + 1) words in
-    let room : length (drop (x + 1 + 1) words) ≡ length words - (x + 1 + 1) = length-drop (x + 1 + 1) words in
-    let le : i < length (take p (drop (x + 1 + 1) words)) = simp length-take (omega (arith, g.fits)) in
-    let le' : i < length (map pointer_of (take p (drop (x + 1 + 1) words))) = rw length-map le in
-    let e1 = slice_get-get_or (map pointer_of (take p (drop (x + 1 + 1) words))) i None le' in
-    let e2 = get_or-map pointer_of (take p (drop (x + 1 + 1) words)) i 0 None le in
-    let e3 = get_or-take p (drop (x + 1 + 1) words) i 0 h in
-    let e4 = get_or-drop (x + 1 + 1) words i 0 in
     let place : x + 1 + 1 + i ≡ x + 2 + i = omega arith in
-    ap (λ (ps : List (Option ℕ)). slice_get ps i) (are ∙ rw at refl) ∙ e1
-    ∙ ap Some (e2 ∙ ap pointer_of (e3 ∙ e4 ∙ ap (λ a. get_or words a 0) place))
+    part_at words x 1 (length s.pointers) i s.pointers (ap (λ (r : Stored). r.pointers) g.stored_is) h (omega (arith, g.fits))
+    ∙ ap (λ (a : ℕ). Some (pointer_of (get_or words a 0))) place
 
 pub record IsPointerRead (words : List ℕ) (t : Table) (x i : ℕ) : Type 0 where
   pub in_words : x + 2 + i < length words
@@ -85,56 +93,39 @@ not_first size words rows x s q o =
     rw q.kind_is refl in
     rw (e, f) at o
 
+-- one word of an object is written
+pub part_written : (size : ℕ) (words : List ℕ) (rows : List Row) (t : Table) (x place j v : ℕ) (o o' : Stored) → IsTable size words rows
+    → table_of size words rows ≡ t → object_at (table_of size words rows) x ≡ Some o → place ≡ x + suc j
+    → j < 1 + length o.pointers + length o.weaks + length o.values → Turns o j v o' → tile_size (Object o') ≡ tile_size (Object o)
+    → IsWrittenTable size (set words place v) rows (put_object t x o')
+part_written size words rows t x place j v o o' g e at there bound turns same =
+    let kept = put_kept (table_of size words rows) x o o' g.region_size.0 at same g.targets in
+    elim (object_place (sizes_in words) size words rows x o at) [
+      | inl q ↦ rw (there, ← e) (write_ordinary size words rows x j v o o' g q bound turns kept)
+      | inr q ↦ rw (there, ← e) (write_first size words rows x j v o o' g q bound turns kept)
+    ]
+
 pub pointer_written : (size : ℕ) (words : List ℕ) (rows : List Row) (t : Table) (x i v : ℕ) → IsTable size words rows
     → table_of size words rows ≡ t → i < length (pointers_at t x)
     → IsWrittenTable size (set words (x + 2 + i) v) rows (set_pointer t x i (pointer_of v))
 pointer_written size words rows t x i v g e h =
     let p = has_pointer t x i h in
-    let u : Table = table_of size words rows in
-    let s' : Stored = with_pointer p.object i (pointer_of v) in
-    let at : object_at u x ≡ Some p.object = ap (λ (u : Table). object_at u x) e ∙ p.object_is in
-    let place : x + 2 + i ≡ x + suc (suc i) = omega arith in
-    let is : put_object u x s' ≡ set_pointer t x i (pointer_of v) = rw e (sym (set_pointer-is t x i (pointer_of v) p.object p.object_is)) in
-    let same : tile_size (Object s') ≡ tile_size (Object p.object) = simp length-set in
-    let kept = put_kept u x p.object s' g.region_size.0 at same g.targets in
-    elim (object_place (sizes_in words) size words rows x p.object at) [
-      | inl q ↦ rw (place, ← is) (write_ordinary size words rows x (suc i) v p.object s' g q (omega (arith, p.within))
-          (turns_pointer p.object i v p.within) kept)
-      | inr q ↦ rw (place, ← is) (write_first size words rows x (suc i) v p.object s' g q (omega (arith, p.within))
-          (turns_pointer p.object i v p.within) kept)
-    ]
+    rw (set_pointer-is t x i (pointer_of v) p.object p.object_is)
+    (part_written size words rows t x (x + 2 + i) (suc i) v p.object (with_pointer p.object i (pointer_of v)) g e
+    (ap (λ (u : Table). object_at u x) e ∙ p.object_is) (omega arith) (omega (arith, p.within))
+    (turns_pointer p.object i v p.within) (simp length-set))
 
--- the object whose weak slot is asked for
-pub record HasWeak (t : Table) (x i : ℕ) : Type 0 where
-  pub object : Stored
-  pub object_is : object_at t x ≡ Some object
-  pub within : i < length object.weaks
-
-pub has_weak : (t : Table) (x i : ℕ) → i < length (weaks_at t x) → HasWeak t x i
+pub has_weak : (t : Table) (x i : ℕ) → i < length (weaks_at t x) → HasPart t x i (λ s. length s.weaks)
 unfolding weaks_at
-has_weak t x i h = go (object_at t x) refl h
-  where
-    go : (o : Option Stored) → object_at t x ≡ o → i < length (object_weaks o) → HasWeak t x i
-    go None e l = absurd (omega arith)
-    go (Some s) e l = record { object = s; object_is = e; within = l }
+has_weak t x i h = has_part t x i (λ s. length s.weaks) (λ o. length (object_weaks o)) (λ s. refl) refl h
 
 weak_word_at : (words : List ℕ) (x i : ℕ) (s : Stored) → IsIn words x s → i < length s.weaks
     → slice_get s.weaks i ≡ Some (pointer_of (get_or words (x + 2 + (length s.pointers + i)) 0))
 weak_word_at words x i s g h =
     let p : ℕ = length s.pointers in
-    let k : ℕ = length s.weaks in
-    let are : s.weaks ≡ map pointer_of (take k (drop (suc p) (drop (x + 1) words))) = ap (λ (r : Stored). r.weaks) g.stored_is in
-    let at : drop (suc p) (drop (x + 1) words) ≡ drop (x + 1 + suc p) words = drop-drop (suc p) (x + 1) words in
-    let room : length (drop (x + 1 + suc p) words) ≡ length words - (x + 1 + suc p) = length-drop (x + 1 + suc p) words in
-    let le : i < length (take k (drop (x + 1 + suc p) words)) = simp length-take (omega (arith, g.fits)) in
-    let le' : i < length (map pointer_of (take k (drop (x + 1 + suc p) words))) = rw length-map le in
-    let e1 = slice_get-get_or (map pointer_of (take k (drop (x + 1 + suc p) words))) i None le' in
-    let e2 = get_or-map pointer_of (take k (drop (x + 1 + suc p) words)) i 0 None le in
-    let e3 = get_or-take k (drop (x + 1 + suc p) words) i 0 h in
-    let e4 = get_or-drop (x + 1 + suc p) words i 0 in
     let place : x + 1 + suc p + i ≡ x + 2 + (p + i) = omega arith in
-    ap (λ (ps : List (Option ℕ)). slice_get ps i) (are ∙ rw at refl) ∙ e1
-    ∙ ap Some (e2 ∙ ap pointer_of (e3 ∙ e4 ∙ ap (λ a. get_or words a 0) place))
+    part_at words x (suc p) (length s.weaks) i s.weaks (ap (λ (r : Stored). r.weaks) g.stored_is) h (omega (arith, g.fits))
+    ∙ ap (λ (a : ℕ). Some (pointer_of (get_or words a 0))) place
 
 pub record IsWeakRead (words : List ℕ) (t : Table) (x i : ℕ) : Type 0 where
   pub at : IsInObject t x x
@@ -169,19 +160,10 @@ pub weak_written : (size : ℕ) (words : List ℕ) (rows : List Row) (t : Table)
     → IsWrittenTable size (set words (x + 2 + (pointer_count (header_of (get_or words x 0)) + i)) v) rows (set_weak t x i (pointer_of v))
 weak_written size words rows t x i v g e h =
     let p = has_weak t x i h in
-    let u : Table = table_of size words rows in
-    let s' : Stored = with_weak p.object i (pointer_of v) in
-    let j : ℕ = suc (length p.object.pointers) + i in
-    let at : object_at u x ≡ Some p.object = ap (λ (u : Table). object_at u x) e ∙ p.object_is in
+    let at : object_at (table_of size words rows) x ≡ Some p.object = ap (λ (u : Table). object_at u x) e ∙ p.object_is in
     let is_in = object_is_in (sizes_in words) size words rows x p.object (table_right g) at in
     let count : pointer_count (header_of (get_or words x 0)) ≡ length p.object.pointers = ap pointer_count is_in.header_is in
-    let place : x + 2 + (pointer_count (header_of (get_or words x 0)) + i) ≡ x + suc j = omega arith in
-    let is : put_object u x s' ≡ set_weak t x i (pointer_of v) = rw e (sym (set_weak-is t x i (pointer_of v) p.object p.object_is)) in
-    let same : tile_size (Object s') ≡ tile_size (Object p.object) = simp length-set in
-    let kept = put_kept u x p.object s' g.region_size.0 at same g.targets in
-    elim (object_place (sizes_in words) size words rows x p.object at) [
-      | inl q ↦ rw (place, ← is) (write_ordinary size words rows x j v p.object s' g q
-          (omega (arith, p.within)) (turns_weak p.object i v p.within) kept)
-      | inr q ↦ rw (place, ← is) (write_first size words rows x j v p.object s' g q
-          (omega (arith, p.within)) (turns_weak p.object i v p.within) kept)
-    ]
+    rw (set_weak-is t x i (pointer_of v) p.object p.object_is)
+    (part_written size words rows t x (x + 2 + (pointer_count (header_of (get_or words x 0)) + i)) (suc (length p.object.pointers) + i) v
+    p.object (with_weak p.object i (pointer_of v)) g e at (omega (arith, count)) (omega (arith, p.within))
+    (turns_weak p.object i v p.within) (simp length-set))

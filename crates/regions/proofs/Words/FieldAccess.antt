@@ -1,6 +1,6 @@
 -- Fields: pointers, and weak slots behind them.
 use Rattle.std.proofs.Common.{◌≡◌, ◌+◌, ◌-◌, ◌<◌, ◌∷◌, ◌++◌, ◌∙◌}
-use Rattle.std.proofs.Common.{ℕ, zero, suc, Option, Some, None, List, [], length, get_or, set, refl, sym, ap, arith, inl, inr}
+use Rattle.std.proofs.Common.{ℕ, zero, suc, Option, Some, List, [], length, get_or, set, refl, sym, ap, arith, inl, inr}
 use Rattle.std.proofs.lemmas.List.{length-append}
 use Rattle.std.proofs.lemmas.Bool.{cases_lt, lt-ltb}
 use Rattle.std.specs.List.{slice_get}
@@ -15,7 +15,7 @@ use Rattle.regions.specs.declared.row.Row.{Row}
 use Rattle.regions.proofs.Words.Places.{IsInObject}
 use Rattle.regions.proofs.Words.ObjectWords.{there, IsThere}
 use Rattle.regions.proofs.Tiles.Targets.{IsWrittenTable}
-use Rattle.regions.proofs.Words.Access.{pointer_read, weak_read, pointer_written, weak_written, set_pointer-is, set_weak-is}
+use Rattle.regions.proofs.Words.Access.{HasPart, has_part, pointer_read, weak_read, pointer_written, weak_written, set_pointer-is, set_weak-is}
 
 module _ {A : Type 0} where
   get-front : (xs ys : List A) (i : ℕ) → i < length xs → slice_get (xs ++ ys) i ≡ slice_get xs i
@@ -28,18 +28,9 @@ module _ {A : Type 0} where
   get-back (x ∷ xs) ys zero j e = absurd (omega arith)
   get-back (x ∷ xs) ys (suc i) j e = get-back xs ys i j (omega arith)
 
-pub record HasField (t : Table) (x i : ℕ) : Type 0 where
-  pub object : Stored
-  pub object_is : object_at t x ≡ Some object
-  pub within : i < length (fields object)
-
-pub has_field : (t : Table) (x i : ℕ) → i < length (fields_at t x) → HasField t x i
+pub has_field : (t : Table) (x i : ℕ) → i < length (fields_at t x) → HasPart t x i (λ s. length (fields s))
 unfolding fields_at
-has_field t x i h = go (object_at t x) refl h
-  where
-    go : (o : Option Stored) → object_at t x ≡ o → i < length (object_fields o) → HasField t x i
-    go None e l = absurd (omega arith)
-    go (Some s) e l = record { object = s; object_is = e; within = l }
+has_field t x i h = has_part t x i (λ s. length (fields s)) (λ o. length (object_fields o)) (λ s. refl) refl h
 
 pointers_are : (t : Table) (x : ℕ) (s : Stored) → object_at t x ≡ Some s → pointers_at t x ≡ s.pointers
 unfolding pointers_at

@@ -1,37 +1,26 @@
 -- Reads and writes of an object's data.
 use Rattle.std.proofs.Common.{◌≡◌, ◌+◌, ◌<◌, ◌≤◌, ◌∷◌, ◌∙◌}
-use Rattle.std.proofs.Common.{ℕ, suc, Option, Some, None, List, [], length, take, drop, get_or, set, refl, sym, ap, arith, inl, inr}
+use Rattle.std.proofs.Common.{ℕ, suc, Some, List, [], length, take, drop, get_or, set, refl, sym, ap, arith}
 use Rattle.std.proofs.lemmas.List.{length-set, drop-drop, drop-set-add, take-set-le, get_or-drop, get_or-take}
 use Rattle.std.specs.List.{slice_get}
 use Rattle.std.proofs.lemmas.Option.{slice_get-get_or}
 use Rattle.heap_words.specs.Headers.{header_of}
 use Rattle.heap_model.specs.Heap.{Stored}
-use Rattle.regions.specs.Tiles.{Object, tile_size, stored_of}
+use Rattle.regions.specs.Tiles.{stored_of}
 use Rattle.regions.specs.Table.{Table, object_at, values_at, object_values, set_value, put_object}
-use Rattle.regions.specs.Rows.{sizes_in, table_of, IsTable}
+use Rattle.regions.specs.Rows.{table_of, IsTable}
 use Rattle.std.specs.Prelude.{IsSome}
 use Rattle.heap_words.specs.Contents.{counts_of, field_count}
 use Rattle.regions.specs.declared.row.Row.{Row}
-use Rattle.regions.proofs.Words.Places.{IsInObject, IsIn, object_place}
+use Rattle.regions.proofs.Words.Places.{IsInObject, IsIn}
+use Rattle.regions.proofs.Words.Access.{HasPart, has_part, part_written}
 use Rattle.regions.proofs.Words.Fields.{Turns, take_set}
-use Rattle.regions.proofs.Words.Written.{write_ordinary}
-use Rattle.regions.proofs.LongRuns.RunWritten.{write_first}
 use Rattle.regions.proofs.Tiles.Targets.{IsWrittenTable}
-use Rattle.regions.proofs.Tiles.Kept.{put_kept}
 use Rattle.regions.proofs.Words.ObjectWords.{there}
 
-pub record HasValue (t : Table) (x i : ℕ) : Type 0 where
-  pub object : Stored
-  pub object_is : object_at t x ≡ Some object
-  pub within : i < length object.values
-
-pub has_value : (t : Table) (x i : ℕ) → i < length (values_at t x) → HasValue t x i
+pub has_value : (t : Table) (x i : ℕ) → i < length (values_at t x) → HasPart t x i (λ s. length s.values)
 unfolding values_at
-has_value t x i h = go (object_at t x) refl h
-  where
-    go : (o : Option Stored) → object_at t x ≡ o → i < length (object_values o) → HasValue t x i
-    go None e l = absurd (omega arith)
-    go (Some s) e l = record { object = s; object_is = e; within = l }
+has_value t x i h = has_part t x i (λ s. length s.values) (λ o. length (object_values o)) (λ s. refl) refl h
 
 value_word_at : (words : List ℕ) (x i : ℕ) (s : Stored) → IsIn words x s → i < length s.values
     → slice_get s.values i ≡ Some (get_or words (x + 2 + (length s.pointers + length s.weaks) + i) 0)
@@ -101,19 +90,10 @@ pub value_written : (size : ℕ) (words : List ℕ) (rows : List Row) (t : Table
 value_written size words rows t x i v g e h =
     let p = has_value t x i h in
     let o = there size words rows t x p.object g e p.object_is in
-    let u : Table = table_of size words rows in
-    let s' : Stored = with_value p.object i v in
-    let j : ℕ = suc (length p.object.pointers + length p.object.weaks) + i in
     let count : field_count (header_of (get_or words x 0)) ≡ length p.object.pointers + length p.object.weaks =
     ap field_count o.is_in.header_is in
-    let at : object_at u x ≡ Some p.object = ap (λ (u : Table). object_at u x) e ∙ p.object_is in
-    let place : x + 2 + field_count (header_of (get_or words x 0)) + i ≡ x + suc j = omega arith in
-    let is : put_object u x s' ≡ set_value t x i v = rw e (sym (set_value-is t x i v p.object p.object_is)) in
-    let same : tile_size (Object s') ≡ tile_size (Object p.object) = simp length-set in
-    let kept = put_kept u x p.object s' g.region_size.0 at same g.targets in
-    elim (object_place (sizes_in words) size words rows x p.object at) [
-      | inl q ↦
-          rw (place, ← is) (write_ordinary size words rows x j v p.object s' g q (omega (arith, p.within)) (turns_value p.object i v) kept)
-      | inr q ↦
-          rw (place, ← is) (write_first size words rows x j v p.object s' g q (omega (arith, p.within)) (turns_value p.object i v) kept)
-    ]
+    rw (set_value-is t x i v p.object p.object_is)
+    (part_written size words rows t x (x + 2 + field_count (header_of (get_or words x 0)) + i)
+    (suc (length p.object.pointers + length p.object.weaks) + i) v p.object (with_value p.object i v) g e
+    (ap (λ (u : Table). object_at u x) e ∙ p.object_is) (omega (arith, count)) (omega (arith, p.within))
+    (turns_value p.object i v) (simp length-set))

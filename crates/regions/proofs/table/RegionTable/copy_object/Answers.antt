@@ -1,9 +1,6 @@
-use Rattle.std.proofs.Common.{arith, ◌≡◌, ◌+◌, ◌*◌, ℕ, sym, ap, ◌∙◌, get_or}
-use Rattle.regions.specs.Table.{used_of}
-use Rattle.std.proofs.lemmas.List.{get_or_read}
+use Rattle.std.proofs.Common.{arith, ◌≡◌, ℕ, sym, ap, ◌∙◌}
 use Rattle.regions.specs.declared.row.Row.{Row}
-use Rattle.regions.specs.Rows.{free_row}
-use Rattle.regions.proofs.Tiles.Making.{known, top_is}
+use Rattle.regions.proofs.Tiles.Making.{known, known_top, top_at, row_read}
 use Rattle.regions.proofs.Words.ObjectWords.{object_there}
 use Rattle.regions.proofs.Words.Copies.{copy_pushed}
 use Rattle.std.proofs.Common.{refl}
@@ -22,18 +19,14 @@ use Rattle.regions.proofs.table.RegionTable.copy_object.Goals as goal
 
 pub overflow_add-end : goal.overflow_add-end
 overflow_add-end c =
-    let n = known _ _ _ _ _ c.self.view_is c.requires.known in
-    let t = top_is _ _ _ _ _ c.self.invariant.table c.self.view_is c.requires.known c.requires.ordinary in
-    let at : c.top-to.result ≡ c.args.region * c.self.inside.words_per_region + used_of c.args.self.now c.args.region =
-    c.top-to.ensures ∙ ap (λ (m : ℕ). c.args.region * m + used_of c.args.self.now c.args.region) (sym n.size_is) in
+    let (n, t) = known_top _ _ _ _ _ c.self.invariant.table c.self.view_is c.requires.known c.requires.ordinary in
+    let at = top_at _ _ _ _ _ _ n c.top-to.ensures in
     omega (arith, at, t.room, n.size_is, c.requires.room, c.object_size-size.ensures, c.word.ensures, c.self.invariant.table.small)
 
 pub reach-requires : goal.reach-requires
 reach-requires c =
-    let n = known _ _ _ _ _ c.self.view_is c.requires.known in
-    let t = top_is _ _ _ _ _ c.self.invariant.table c.self.view_is c.requires.known c.requires.ordinary in
-    let at : c.top-to.result ≡ c.args.region * c.self.inside.words_per_region + used_of c.args.self.now c.args.region =
-    c.top-to.ensures ∙ ap (λ (m : ℕ). c.args.region * m + used_of c.args.self.now c.args.region) (sym n.size_is) in
+    let (n, t) = known_top _ _ _ _ _ c.self.invariant.table c.self.view_is c.requires.known c.requires.ordinary in
+    let at = top_at _ _ _ _ _ _ n c.top-to.ensures in
     omega (arith, at, t.room, n.size_is, c.requires.room, c.object_size-size.ensures, c.word.ensures)
 
 pub copy_apart-requires-clause-source : goal.copy_apart-requires-clause-source
@@ -60,10 +53,8 @@ index-requires c =
 
 pub overflow_add-used : goal.overflow_add-used
 overflow_add-used c =
-    let n = known _ _ _ _ _ c.self.view_is c.requires.known in
-    let t = top_is _ _ _ _ _ c.self.invariant.table c.self.view_is c.requires.known c.requires.ordinary in
-    let read = get_or_read c.self.inside.rows.items _ _ (omega (arith, n.in_rows, c.number-number.ensures)) c.index.ensures free_row
-    ∙ ap (λ k. get_or c.self.inside.rows.items k free_row) c.number-number.ensures in
+    let (n, t) = known_top _ _ _ _ _ c.self.invariant.table c.self.view_is c.requires.known c.requires.ordinary in
+    let read = row_read _ _ _ _ _ _ _ n c.number-number.ensures c.index.ensures in
     rw read (omega (arith, t.used_is, n.size_is, c.requires.room, c.object_size-size.ensures, c.self.invariant.table.region_size.1))
 
 pub index_mut-requires : goal.index_mut-requires
@@ -71,48 +62,21 @@ index_mut-requires c =
     let n = known _ _ _ _ _ c.self.view_is c.requires.known in
     omega (arith, n.in_rows, c.number-number.ensures)
 
-pub put_object-requires-clause-within : goal.put_object-requires-clause-within
-put_object-requires-clause-within c =
-    let n = known _ _ _ _ _ c.self.view_is c.requires.known in
-    let t = top_is _ _ _ _ _ c.self.invariant.table c.self.view_is c.requires.known c.requires.ordinary in
-    let at : c.top-to.result ≡ c.args.region * c.self.inside.words_per_region + used_of c.args.self.now c.args.region =
-    c.top-to.ensures ∙ ap (λ (m : ℕ). c.args.region * m + used_of c.args.self.now c.args.region) (sym n.size_is) in
-    omega (
-      arith,
-      at,
-      t.room,
-      n.size_is,
-      c.requires.room,
-      c.object_size-size.ensures,
-      c.word-2.ensures,
-      c.self.invariant.table.small,
-      c.self.invariant.each_card,
-    )
-
-pub put_object-requires-clause-small : goal.put_object-requires-clause-small
-put_object-requires-clause-small c =
-    let n = known _ _ _ _ _ c.self.view_is c.requires.known in
-    let t = top_is _ _ _ _ _ c.self.invariant.table c.self.view_is c.requires.known c.requires.ordinary in
-    let at : c.top-to.result ≡ c.args.region * c.self.inside.words_per_region + used_of c.args.self.now c.args.region =
-    c.top-to.ensures ∙ ap (λ (m : ℕ). c.args.region * m + used_of c.args.self.now c.args.region) (sym n.size_is) in
-    omega (
-      arith,
-      at,
-      t.room,
-      n.size_is,
-      c.requires.room,
-      c.object_size-size.ensures,
-      c.word-2.ensures,
-      c.self.invariant.table.small,
-      c.self.invariant.each_card,
-    )
+pub put_object-requires : goal.put_object-requires
+put_object-requires c =
+    let (n, t) = known_top _ _ _ _ _ c.self.invariant.table c.self.view_is c.requires.known c.requires.ordinary in
+    let at = top_at _ _ _ _ _ _ n c.top-to.ensures in
+    let small = c.self.invariant.table.small in
+    record {
+      within = omega (arith, at, t.room, n.size_is, c.requires.room, c.object_size-size.ensures, c.word-2.ensures, c.self.invariant.each_card);
+      small = omega (arith, at, t.room, n.size_is, c.requires.room, c.object_size-size.ensures, c.word-2.ensures, small);
+    }
 
 pub invariant_of-self : goal.invariant_of-self
 invariant_of-self c =
     let n = known _ _ _ _ _ c.self.view_is c.requires.known in
     let o = object_there _ _ _ _ _ c.self.invariant.table c.self.view_is c.requires.object in
-    let read = get_or_read c.self.inside.rows.items _ _ (omega (arith, n.in_rows, c.number-number.ensures)) c.index.ensures free_row
-    ∙ ap (λ k. get_or c.self.inside.rows.items k free_row) c.number-number.ensures in
+    let read = row_read _ _ _ _ _ _ _ n c.number-number.ensures c.index.ensures in
     let w = copy_pushed _ _ _ _ _ c.args.from _ _ _ _ o.0 _ c.self.invariant.table c.self.view_is c.requires.known
     c.requires.ordinary o.1.is c.requires.room c.top-to.ensures (ap (λ (row : Row). row.used) read) c.object_size-size.ensures
     c.number-number.ensures (rw c.reach.ensures.all at c.copy_apart.ensures.all) in
@@ -135,18 +99,15 @@ invariant_of-self c =
 pub returns-clause-pushed : goal.returns-clause-pushed
 returns-clause-pushed c s is =
     let n = known _ _ _ _ _ c.self.view_is c.requires.known in
-    let read = get_or_read c.self.inside.rows.items _ _ (omega (arith, n.in_rows, c.number-number.ensures)) c.index.ensures free_row
-    ∙ ap (λ k. get_or c.self.inside.rows.items k free_row) c.number-number.ensures in
+    let read = row_read _ _ _ _ _ _ _ n c.number-number.ensures c.index.ensures in
     (copy_pushed _ _ _ _ _ c.args.from _ _ _ _ s _ c.self.invariant.table c.self.view_is c.requires.known
     c.requires.ordinary is c.requires.room c.top-to.ensures (ap (λ (row : Row). row.used) read)
     c.object_size-size.ensures c.number-number.ensures (rw c.reach.ensures.all at c.copy_apart.ensures.all)).table_is
 
 pub note-requires : goal.note-requires
 note-requires c =
-    let n = known _ _ _ _ _ c.self.view_is c.requires.known in
+    let (n, t) = known_top _ _ _ _ _ c.self.invariant.table c.self.view_is c.requires.known c.requires.ordinary in
     let o = object_there _ _ _ _ _ c.self.invariant.table c.self.view_is c.requires.object in
-    let t = top_is _ _ _ _ _ c.self.invariant.table c.self.view_is c.requires.known c.requires.ordinary in
-    let at : c.top-to.result ≡ c.args.region * c.self.inside.words_per_region + used_of c.args.self.now c.args.region =
-    c.top-to.ensures ∙ ap (λ (m : ℕ). c.args.region * m + used_of c.args.self.now c.args.region) (sym n.size_is) in
+    let at = top_at _ _ _ _ _ _ n c.top-to.ensures in
     let count = c.self.invariant.weak_count in
     omega (arith, at, t.room, n.size_is, c.requires.room, o.1.large, o.1.words_are, c.word-3.ensures, count)

@@ -1,18 +1,13 @@
 use Rattle.std.proofs.Common.{◌∙◌}
-use Rattle.regions.proofs.Words.ObjectWords.{header_in, object_there, is_counted}
+use Rattle.regions.proofs.Words.ObjectWords.{object_there}
 use Rattle.regions.proofs.Words.FieldAccess.{header_fields}
-use Rattle.regions.proofs.Tiles.Within.{word_within}
+use Rattle.regions.proofs.Tiles.Within.{header_there}
 use Rattle.regions.proofs.table.RegionTable.field_count.Goals as goal
 
-pub fields_in-requires-clause-within : goal.fields_in-requires-clause-within
-fields_in-requires-clause-within c =
-    let o = object_there _ _ _ _ _ c.self.invariant.table c.self.view_is c.requires in
-    word_within _ _ _ _ _ c.self.invariant.written c.self.view_is (header_in _ _ _ o.1.is)
-
-pub fields_in-requires-clause-object : goal.fields_in-requires-clause-object
-fields_in-requires-clause-object c =
-    let o = object_there _ _ _ _ _ c.self.invariant.table c.self.view_is c.requires in
-    is_counted _ _ _ _ o.1
+pub fields_in-requires : goal.fields_in-requires
+fields_in-requires c =
+    let h = header_there _ _ _ _ _ _ c.self.invariant.table c.self.invariant.written c.self.view_is c.requires in
+    record { within = h.0; object = h.1 }
 
 pub returns : goal.returns
 returns c =

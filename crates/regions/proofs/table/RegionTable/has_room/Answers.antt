@@ -1,8 +1,6 @@
-use Rattle.std.proofs.Common.{arith, refl, ap, ◌∙◌, get_or}
-use Rattle.std.proofs.lemmas.List.{get_or_read}
+use Rattle.std.proofs.Common.{arith, refl, ap, ◌∙◌}
 use Rattle.regions.specs.declared.row.Row.{Row}
-use Rattle.regions.specs.Rows.{free_row}
-use Rattle.regions.proofs.Tiles.Making.{known, top_is}
+use Rattle.regions.proofs.Tiles.Making.{row_read, known, top_is}
 use Rattle.regions.proofs.table.RegionTable.has_room.Goals as goal
 
 pub index-requires : goal.index-requires
@@ -14,7 +12,6 @@ pub returns : goal.returns
 returns c =
     let n = known _ _ _ _ _ c.self.view_is c.requires.known in
     let t = top_is _ _ _ _ _ c.self.invariant.table c.self.view_is c.requires.known c.requires.ordinary in
-    let read = get_or_read c.self.inside.rows.items _ _ (omega (arith, n.in_rows, c.number.ensures)) c.index.ensures free_row
-    ∙ ap (λ k. get_or c.self.inside.rows.items k free_row) c.number.ensures in
+    let read = row_read _ _ _ _ _ _ _ n c.number.ensures c.index.ensures in
     let used = ap (λ (row : Row). row.used) read ∙ t.used_is in
     rw (c.from.ensures, c.from-2.ensures, c.from-3.ensures, used, n.size_is) refl

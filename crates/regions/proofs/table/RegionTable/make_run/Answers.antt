@@ -1,9 +1,7 @@
-use Rattle.std.proofs.Common.{arith, ◌≡◌, ◌+◌, ◌*◌, ◌≤◌, length, Option, None, Some, sym, ap, ◌∙◌, ℕ}
+use Rattle.std.proofs.Common.{arith, ◌≡◌, ◌+◌, ◌*◌, ◌≤◌, length, Option, None, ap, ◌∙◌, ℕ}
 use Rattle.std.proofs.lemmas.List.{length-replicate}
 use Rattle.regions.specs.WeakStarts.{noted}
-use Rattle.regions.specs.Table.{first_run}
-use Rattle.regions.proofs.Rows.Search.{free, first_run-is}
-use Rattle.regions.proofs.LongRuns.RunMade.{run_taken, run_here_is}
+use Rattle.regions.proofs.LongRuns.RunMade.{run_taken, run_there}
 use Rattle.regions.proofs.Tiles.Making.{size_is_of}
 use Rattle.regions.proofs.Rows.UsedBelow.{used_written, used_le, front_free}
 use Rattle.regions.proofs.Rows.Counting.{count_run, run_counted}
@@ -13,25 +11,19 @@ use Rattle.regions.proofs.table.RegionTable.make_run.Goals as goal
 
 pub overflow_mul-bottom : goal.overflow_mul-bottom
 overflow_mul-bottom c =
-    let e : first_run free c.args.count c.self.inside.rows.items ≡ Some c.args.first =
-    sym (first_run-is _ _ _ _ c.args.count c.self.view_is) ∙ c.requires.lowest in
-    let f = run_here_is _ _ _ _ _ c.self.invariant.table e in
+    let (e, f) = run_there _ _ _ _ _ _ c.self.invariant.table c.self.view_is c.requires.lowest in
     rw c.number-number.ensures (omega (arith, f.ends, c.self.invariant.table.small))
 
 pub overflow_add-end : goal.overflow_add-end
 overflow_add-end c =
-    let e : first_run free c.args.count c.self.inside.rows.items ≡ Some c.args.first =
-    sym (first_run-is _ _ _ _ c.args.count c.self.view_is) ∙ c.requires.lowest in
-    let f = run_here_is _ _ _ _ _ c.self.invariant.table e in
+    let (e, f) = run_there _ _ _ _ _ _ c.self.invariant.table c.self.view_is c.requires.lowest in
     let covers : 2 + c.args.counts.pointers + c.args.counts.weaks + c.args.counts.values ≤ c.args.count * c.self.inside.words_per_region =
     rw (size_is_of _ _ _ _ c.self.view_is) c.requires.covers in
     rw c.number-number.ensures (omega (arith, f.ends, covers, c.size-size.ensures, c.self.invariant.table.small))
 
 pub reach-requires : goal.reach-requires
 reach-requires c =
-    let e : first_run free c.args.count c.self.inside.rows.items ≡ Some c.args.first =
-    sym (first_run-is _ _ _ _ c.args.count c.self.view_is) ∙ c.requires.lowest in
-    let f = run_here_is _ _ _ _ _ c.self.invariant.table e in
+    let (e, f) = run_there _ _ _ _ _ _ c.self.invariant.table c.self.view_is c.requires.lowest in
     let covers : 2 + c.args.counts.pointers + c.args.counts.weaks + c.args.counts.values ≤ c.args.count * c.self.inside.words_per_region =
     rw (size_is_of _ _ _ _ c.self.view_is) c.requires.covers in
     rw c.number-number.ensures (omega (arith, f.ends, covers, c.size-size.ensures))
@@ -41,49 +33,33 @@ write_object-requires c = rw c.new.ensures (omega (arith, c.size-size.ensures, c
 
 pub write_run-requires-clause-within : goal.write_run-requires-clause-within
 write_run-requires-clause-within c =
-    let e : first_run free c.args.count c.self.inside.rows.items ≡ Some c.args.first =
-    sym (first_run-is _ _ _ _ c.args.count c.self.view_is) ∙ c.requires.lowest in
-    let f = run_here_is _ _ _ _ _ c.self.invariant.table e in
+    let (e, f) = run_there _ _ _ _ _ _ c.self.invariant.table c.self.view_is c.requires.lowest in
     rw (c.deref_mut.ensures.value, c.number-number.ensures) f.room
 
 pub write_run-requires-clause-small : goal.write_run-requires-clause-small
 write_run-requires-clause-small c =
-    let e : first_run free c.args.count c.self.inside.rows.items ≡ Some c.args.first =
-    sym (first_run-is _ _ _ _ c.args.count c.self.view_is) ∙ c.requires.lowest in
-    let f = run_here_is _ _ _ _ _ c.self.invariant.table e in
+    let (e, f) = run_there _ _ _ _ _ _ c.self.invariant.table c.self.view_is c.requires.lowest in
     omega (arith, f.whole, c.self.invariant.table.small)
 
-pub put_object-requires-clause-within : goal.put_object-requires-clause-within
-put_object-requires-clause-within c =
-    let e : first_run free c.args.count c.self.inside.rows.items ≡ Some c.args.first =
-    sym (first_run-is _ _ _ _ c.args.count c.self.view_is) ∙ c.requires.lowest in
-    let f = run_here_is _ _ _ _ _ c.self.invariant.table e in
+pub put_object-requires : goal.put_object-requires
+put_object-requires c =
+    let (e, f) = run_there _ _ _ _ _ _ c.self.invariant.table c.self.view_is c.requires.lowest in
     let covers : 2 + c.args.counts.pointers + c.args.counts.weaks + c.args.counts.values ≤ c.args.count * c.self.inside.words_per_region =
     rw (size_is_of _ _ _ _ c.self.view_is) c.requires.covers in
-    rw c.number-number.ensures
-    (omega (arith, f.ends, covers, c.self.invariant.table.small, c.self.invariant.each_card, c.size-size.ensures))
-
-pub put_object-requires-clause-small : goal.put_object-requires-clause-small
-put_object-requires-clause-small c =
-    let e : first_run free c.args.count c.self.inside.rows.items ≡ Some c.args.first =
-    sym (first_run-is _ _ _ _ c.args.count c.self.view_is) ∙ c.requires.lowest in
-    let f = run_here_is _ _ _ _ _ c.self.invariant.table e in
-    let covers : 2 + c.args.counts.pointers + c.args.counts.weaks + c.args.counts.values ≤ c.args.count * c.self.inside.words_per_region =
-    rw (size_is_of _ _ _ _ c.self.view_is) c.requires.covers in
-    rw c.number-number.ensures
-    (omega (arith, f.ends, covers, c.self.invariant.table.small, c.self.invariant.each_card, c.size-size.ensures))
+    record {
+      within = rw c.number-number.ensures (omega (arith, f.ends, covers, c.self.invariant.each_card, c.size-size.ensures));
+      small = rw c.number-number.ensures (omega (arith, f.ends, covers, c.self.invariant.table.small, c.size-size.ensures));
+    }
 
 pub invariant_of-self : goal.invariant_of-self
 invariant_of-self c =
-    let e : first_run free c.args.count c.self.inside.rows.items ≡ Some c.args.first =
-    sym (first_run-is _ _ _ _ c.args.count c.self.view_is) ∙ c.requires.lowest in
+    let (e, f) = run_there _ _ _ _ _ _ c.self.invariant.table c.self.view_is c.requires.lowest in
     let number : c.self.inside.rows.len ≡ length c.self.inside.rows.items = omega arith in
     let size : c.size-size.result ≡ 2 + c.args.counts.pointers + c.args.counts.weaks + c.args.counts.values =
     omega (arith, c.size-size.ensures) in
     let bottom : c.new.result ≡ c.args.first * c.self.inside.words_per_region =
     c.new.ensures ∙ ap (λ (k : ℕ). k * c.self.inside.words_per_region) c.number-number.ensures in
     let rows = rw (c.deref_mut.ensures.value, c.number-number.ensures) at c.write_run.ensures in
-    let f = run_here_is _ _ _ _ _ c.self.invariant.table e in
     let w = run_taken _ _ _ _ _ _ c.args.name c.args.counts.pointers c.args.counts.weaks c.args.counts.values _ _ _ _ _
     c.self.invariant.table c.self.view_is e c.requires.positive c.requires.covers c.requires.tight (omega arith) (omega arith) (omega arith)
     bottom size number (rw c.reach.ensures.all at c.write_object.ensures.all) rows in
@@ -106,8 +82,7 @@ invariant_of-self c =
 
 pub returns : goal.returns
 returns c =
-    let e : first_run free c.args.count c.self.inside.rows.items ≡ Some c.args.first =
-    sym (first_run-is _ _ _ _ c.args.count c.self.view_is) ∙ c.requires.lowest in
+    let (e, f) = run_there _ _ _ _ _ _ c.self.invariant.table c.self.view_is c.requires.lowest in
     let number : c.self.inside.rows.len ≡ length c.self.inside.rows.items = omega arith in
     let size : c.size-size.result ≡ 2 + c.args.counts.pointers + c.args.counts.weaks + c.args.counts.values =
     omega (arith, c.size-size.ensures) in
@@ -120,9 +95,7 @@ returns c =
 
 pub note-requires : goal.note-requires
 note-requires c =
-    let e : first_run free c.args.count c.self.inside.rows.items ≡ Some c.args.first =
-    sym (first_run-is _ _ _ _ c.args.count c.self.view_is) ∙ c.requires.lowest in
-    let f = run_here_is _ _ _ _ _ c.self.invariant.table e in
+    let (e, f) = run_there _ _ _ _ _ _ c.self.invariant.table c.self.view_is c.requires.lowest in
     let covers : 2 + c.args.counts.pointers + c.args.counts.weaks + c.args.counts.values ≤ c.args.count * c.self.inside.words_per_region =
     rw (size_is_of _ _ _ _ c.self.view_is) c.requires.covers in
     let count = c.self.invariant.weak_count in
@@ -130,6 +103,5 @@ note-requires c =
 
 pub overflow_sub-self : goal.overflow_sub-self
 overflow_sub-self c =
-    let e : first_run free c.args.count c.self.inside.rows.items ≡ Some c.args.first =
-    sym (first_run-is _ _ _ _ c.args.count c.self.view_is) ∙ c.requires.lowest in
-    run_counted c.self.inside.rows.items c.args.first _ _ (run_here_is _ _ _ _ _ c.self.invariant.table e).free c.self.invariant.free_is
+    let (e, f) = run_there _ _ _ _ _ _ c.self.invariant.table c.self.view_is c.requires.lowest in
+    run_counted c.self.inside.rows.items c.args.first _ _ f.free c.self.invariant.free_is

@@ -1,9 +1,6 @@
-use Rattle.std.proofs.Common.{arith, ◌≡◌, ◌<◌, ◌+◌, ◌*◌, ℕ, sym, ap, ◌∙◌, get_or}
-use Rattle.regions.specs.Table.{used_of}
-use Rattle.std.proofs.lemmas.List.{get_or_read}
+use Rattle.std.proofs.Common.{arith, ◌<◌, ap, ◌∙◌}
 use Rattle.regions.specs.declared.row.Row.{Row}
-use Rattle.regions.specs.Rows.{free_row}
-use Rattle.regions.proofs.Tiles.Making.{known, top_is}
+use Rattle.regions.proofs.Tiles.Making.{known, known_top, top_at, row_read}
 use Rattle.regions.proofs.Tiles.Fillers.{filler_added}
 use Rattle.std.proofs.Common.{refl}
 use Rattle.regions.proofs.Rows.UsedBelow.{used_set}
@@ -14,18 +11,14 @@ use Rattle.regions.proofs.table.RegionTable.push_filler.Goals as goal
 
 pub overflow_add-end : goal.overflow_add-end
 overflow_add-end c =
-    let n = known _ _ _ _ _ c.self.view_is c.requires.known in
-    let t = top_is _ _ _ _ _ c.self.invariant.table c.self.view_is c.requires.known c.requires.ordinary in
-    let at : c.top-at.result ≡ c.args.region * c.self.inside.words_per_region + used_of c.args.self.now c.args.region =
-    c.top-at.ensures ∙ ap (λ (m : ℕ). c.args.region * m + used_of c.args.self.now c.args.region) (sym n.size_is) in
+    let (n, t) = known_top _ _ _ _ _ c.self.invariant.table c.self.view_is c.requires.known c.requires.ordinary in
+    let at = top_at _ _ _ _ _ _ n c.top-at.ensures in
     omega (arith, at, t.room, n.size_is, c.requires.room, c.get-more.ensures.value, c.word.ensures, c.self.invariant.table.small)
 
 pub reach-requires : goal.reach-requires
 reach-requires c =
-    let n = known _ _ _ _ _ c.self.view_is c.requires.known in
-    let t = top_is _ _ _ _ _ c.self.invariant.table c.self.view_is c.requires.known c.requires.ordinary in
-    let at : c.top-at.result ≡ c.args.region * c.self.inside.words_per_region + used_of c.args.self.now c.args.region =
-    c.top-at.ensures ∙ ap (λ (m : ℕ). c.args.region * m + used_of c.args.self.now c.args.region) (sym n.size_is) in
+    let (n, t) = known_top _ _ _ _ _ c.self.invariant.table c.self.view_is c.requires.known c.requires.ordinary in
+    let at = top_at _ _ _ _ _ _ n c.top-at.ensures in
     omega (arith, at, t.room, n.size_is, c.requires.room, c.get-more.ensures.value, c.word.ensures)
 
 pub write_filler-requires : goal.write_filler-requires
@@ -38,10 +31,8 @@ index-requires c =
 
 pub overflow_add-used : goal.overflow_add-used
 overflow_add-used c =
-    let n = known _ _ _ _ _ c.self.view_is c.requires.known in
-    let t = top_is _ _ _ _ _ c.self.invariant.table c.self.view_is c.requires.known c.requires.ordinary in
-    let read = get_or_read c.self.inside.rows.items _ _ (omega (arith, n.in_rows, c.number-number.ensures)) c.index.ensures free_row
-    ∙ ap (λ k. get_or c.self.inside.rows.items k free_row) c.number-number.ensures in
+    let (n, t) = known_top _ _ _ _ _ c.self.invariant.table c.self.view_is c.requires.known c.requires.ordinary in
+    let read = row_read _ _ _ _ _ _ _ n c.number-number.ensures c.index.ensures in
     rw read (omega (arith, t.used_le, c.self.invariant.table.region_size.1, c.get-more.ensures.small))
 
 pub index_mut-requires : goal.index_mut-requires
@@ -49,47 +40,21 @@ index_mut-requires c =
     let n = known _ _ _ _ _ c.self.view_is c.requires.known in
     omega (arith, n.in_rows, c.number-number.ensures)
 
-pub put_filler-requires-clause-within : goal.put_filler-requires-clause-within
-put_filler-requires-clause-within c =
-    let n = known _ _ _ _ _ c.self.view_is c.requires.known in
-    let t = top_is _ _ _ _ _ c.self.invariant.table c.self.view_is c.requires.known c.requires.ordinary in
-    let at : c.top-at.result ≡ c.args.region * c.self.inside.words_per_region + used_of c.args.self.now c.args.region =
-    c.top-at.ensures ∙ ap (λ (m : ℕ). c.args.region * m + used_of c.args.self.now c.args.region) (sym n.size_is) in
-    omega (
-      arith,
-      at,
-      t.room,
-      n.size_is,
-      c.requires.room,
-      c.get-more.ensures.value,
-      c.word-2.ensures,
-      c.self.invariant.table.small,
-      c.self.invariant.each_card,
-    )
-
-pub put_filler-requires-clause-small : goal.put_filler-requires-clause-small
-put_filler-requires-clause-small c =
-    let n = known _ _ _ _ _ c.self.view_is c.requires.known in
-    let t = top_is _ _ _ _ _ c.self.invariant.table c.self.view_is c.requires.known c.requires.ordinary in
-    let at : c.top-at.result ≡ c.args.region * c.self.inside.words_per_region + used_of c.args.self.now c.args.region =
-    c.top-at.ensures ∙ ap (λ (m : ℕ). c.args.region * m + used_of c.args.self.now c.args.region) (sym n.size_is) in
-    omega (
-      arith,
-      at,
-      t.room,
-      n.size_is,
-      c.requires.room,
-      c.get-more.ensures.value,
-      c.word-2.ensures,
-      c.self.invariant.table.small,
-      c.self.invariant.each_card,
-    )
+pub put_filler-requires : goal.put_filler-requires
+put_filler-requires c =
+    let (n, t) = known_top _ _ _ _ _ c.self.invariant.table c.self.view_is c.requires.known c.requires.ordinary in
+    let at = top_at _ _ _ _ _ _ n c.top-at.ensures in
+    let small = c.self.invariant.table.small in
+    record {
+      positive = omega (arith, c.get-more.ensures.positive);
+      within = omega (arith, at, t.room, n.size_is, c.requires.room, c.get-more.ensures.value, c.word-2.ensures, c.self.invariant.each_card);
+      small = omega (arith, at, t.room, n.size_is, c.requires.room, c.get-more.ensures.value, c.word-2.ensures, small);
+    }
 
 pub invariant_of-self : goal.invariant_of-self
 invariant_of-self c =
     let n = known _ _ _ _ _ c.self.view_is c.requires.known in
-    let read = get_or_read c.self.inside.rows.items _ _ (omega (arith, n.in_rows, c.number-number.ensures)) c.index.ensures free_row
-    ∙ ap (λ k. get_or c.self.inside.rows.items k free_row) c.number-number.ensures in
+    let read = row_read _ _ _ _ _ _ _ n c.number-number.ensures c.index.ensures in
     let w = filler_added _ _ _ _ _ c.args.size _ _ _ _ _ c.self.invariant.table c.self.view_is c.requires.known c.requires.ordinary
     c.requires.room (omega (arith, c.get-more.ensures.value, c.get-more.ensures.positive)) c.top-at.ensures
     (ap (λ (row : Row). row.used) read) c.get-more.ensures.value c.number-number.ensures
@@ -108,8 +73,7 @@ invariant_of-self c =
 pub returns-clause-pushed : goal.returns-clause-pushed
 returns-clause-pushed c =
     let n = known _ _ _ _ _ c.self.view_is c.requires.known in
-    let read = get_or_read c.self.inside.rows.items _ _ (omega (arith, n.in_rows, c.number-number.ensures)) c.index.ensures free_row
-    ∙ ap (λ k. get_or c.self.inside.rows.items k free_row) c.number-number.ensures in
+    let read = row_read _ _ _ _ _ _ _ n c.number-number.ensures c.index.ensures in
     (filler_added _ _ _ _ _ c.args.size _ _ _ _ _ c.self.invariant.table c.self.view_is c.requires.known c.requires.ordinary c.requires.room
     (omega (arith, c.get-more.ensures.value, c.get-more.ensures.positive)) c.top-at.ensures (ap (λ (row : Row). row.used) read)
     c.get-more.ensures.value c.number-number.ensures (rw c.reach.ensures.all at c.write_filler.ensures.all)).table_is

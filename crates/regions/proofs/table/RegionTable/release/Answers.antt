@@ -1,8 +1,7 @@
 use Rattle.std.proofs.lemmas.Nat.{row_fits}
-use Rattle.std.proofs.Common.{arith, ◌≡◌, ℕ, suc, List, ◌+◌, length, drop, ap, ◌∙◌}
-use Rattle.regions.specs.declared.row.Row.{Row}
+use Rattle.std.proofs.Common.{arith, ◌≡◌, suc, ◌+◌, length, drop}
 use Rattle.regions.specs.Table.{front_count}
-use Rattle.regions.proofs.LongRuns.RunGone.{rest, release_by, release_room, rows_small}
+use Rattle.regions.proofs.LongRuns.RunGone.{rest, rests_counted, release_by, release_room, rows_small}
 use Rattle.regions.proofs.Rows.UsedBelow.{used_written}
 use Rattle.regions.proofs.Tiles.Making.{known}
 use Rattle.regions.proofs.Rows.Counting.{count_released, few_released, release_used}
@@ -18,19 +17,15 @@ rests_from-rests-requires c =
 pub overflow_add-rests : goal.overflow_add-rests
 overflow_add-rests c =
     let room = release_room _ _ _ _ _ c.self.invariant.table c.self.view_is c.requires.known c.requires.releasable c.requires.untargeted in
-    let at : c.number-at.result + 1 ≡ suc c.args.region = omega (arith, c.number-at.ensures) in
-    let count : c.rests_from-rests.result ≡ front_count rest (drop (suc c.args.region) c.self.inside.rows.items) =
-    c.rests_from-rests.ensures ∙ ap (λ (rs : List Row). front_count rest (drop (c.number-at.result + 1) rs)) c.deref.ensures.value
-    ∙ ap (λ (j : ℕ). front_count rest (drop j c.self.inside.rows.items)) at in
+    let count = rests_counted c.self.inside.rows.items _ c.args.region _ c.number-at.ensures
+    (rw c.deref.ensures.value at c.rests_from-rests.ensures) in
     omega (arith, count, room, rows_small _ _ _ c.self.invariant.table)
 
 -- all free regions are among the rows
 pub overflow_add-self-2 : goal.overflow_add-self-2
 overflow_add-self-2 c =
-    let at : c.number-at.result + 1 ≡ suc c.args.region = omega (arith, c.number-at.ensures) in
-    let count : c.rests_from-rests.result ≡ front_count rest (drop (suc c.args.region) c.self.inside.rows.items) =
-    c.rests_from-rests.ensures ∙ ap (λ (rs : List Row). front_count rest (drop (c.number-at.result + 1) rs)) c.deref.ensures.value
-    ∙ ap (λ (j : ℕ). front_count rest (drop j c.self.inside.rows.items)) at in
+    let count = rests_counted c.self.inside.rows.items _ c.args.region _ c.number-at.ensures
+    (rw c.deref.ensures.value at c.rests_from-rests.ensures) in
     let total : c.rests_from-rests.result + 1 ≡ suc (front_count rest (drop (suc c.args.region) c.self.inside.rows.items)) =
     omega (arith, count) in
     let number : c.self.inside.rows.len ≡ length c.self.inside.rows.items = omega arith in
@@ -44,18 +39,14 @@ overflow_add-self-2 c =
 pub write_free-requires : goal.write_free-requires
 write_free-requires c =
     let room = release_room _ _ _ _ _ c.self.invariant.table c.self.view_is c.requires.known c.requires.releasable c.requires.untargeted in
-    let at : c.number-at.result + 1 ≡ suc c.args.region = omega (arith, c.number-at.ensures) in
-    let count : c.rests_from-rests.result ≡ front_count rest (drop (suc c.args.region) c.self.inside.rows.items) =
-    c.rests_from-rests.ensures ∙ ap (λ (rs : List Row). front_count rest (drop (c.number-at.result + 1) rs)) c.deref.ensures.value
-    ∙ ap (λ (j : ℕ). front_count rest (drop j c.self.inside.rows.items)) at in
+    let count = rests_counted c.self.inside.rows.items _ c.args.region _ c.number-at.ensures
+    (rw c.deref.ensures.value at c.rests_from-rests.ensures) in
     rw c.deref_mut.ensures.value (omega (arith, count, room, c.number-at.ensures))
 
 pub invariant_of-self : goal.invariant_of-self
 invariant_of-self c =
-    let at : c.number-at.result + 1 ≡ suc c.args.region = omega (arith, c.number-at.ensures) in
-    let count : c.rests_from-rests.result ≡ front_count rest (drop (suc c.args.region) c.self.inside.rows.items) =
-    c.rests_from-rests.ensures ∙ ap (λ (rs : List Row). front_count rest (drop (c.number-at.result + 1) rs)) c.deref.ensures.value
-    ∙ ap (λ (j : ℕ). front_count rest (drop j c.self.inside.rows.items)) at in
+    let count = rests_counted c.self.inside.rows.items _ c.args.region _ c.number-at.ensures
+    (rw c.deref.ensures.value at c.rests_from-rests.ensures) in
     let total : c.rests_from-rests.result + 1 ≡ suc (front_count rest (drop (suc c.args.region) c.self.inside.rows.items)) =
     omega (arith, count) in
     let number : c.self.inside.rows.len ≡ length c.self.inside.rows.items = omega arith in
@@ -78,10 +69,8 @@ invariant_of-self c =
 
 pub returns : goal.returns
 returns c =
-    let at : c.number-at.result + 1 ≡ suc c.args.region = omega (arith, c.number-at.ensures) in
-    let count : c.rests_from-rests.result ≡ front_count rest (drop (suc c.args.region) c.self.inside.rows.items) =
-    c.rests_from-rests.ensures ∙ ap (λ (rs : List Row). front_count rest (drop (c.number-at.result + 1) rs)) c.deref.ensures.value
-    ∙ ap (λ (j : ℕ). front_count rest (drop j c.self.inside.rows.items)) at in
+    let count = rests_counted c.self.inside.rows.items _ c.args.region _ c.number-at.ensures
+    (rw c.deref.ensures.value at c.rests_from-rests.ensures) in
     let total : c.rests_from-rests.result + 1 ≡ suc (front_count rest (drop (suc c.args.region) c.self.inside.rows.items)) =
     omega (arith, count) in
     let number : c.self.inside.rows.len ≡ length c.self.inside.rows.items = omega arith in

@@ -1,10 +1,8 @@
-use Rattle.std.proofs.Common.{arith, ◌≡◌, ℕ, suc, List, ◌+◌, drop, sym, ap, ◌∙◌}
+use Rattle.std.proofs.Common.{arith, ◌≡◌, suc, ◌+◌, drop, sym, ap, ◌∙◌}
 use Rattle.std.proofs.lemmas.List.{length-drop}
-use Rattle.regions.specs.declared.row.Row.{Row}
-use Rattle.regions.specs.Table.{front_count}
 use Rattle.regions.proofs.Rows.Fronts.{front_le}
 use Rattle.regions.proofs.Tiles.Making.{known}
-use Rattle.regions.proofs.LongRuns.RunGone.{rest, rows_small, run_length-is}
+use Rattle.regions.proofs.LongRuns.RunGone.{rests_counted, rest, rows_small, run_length-is}
 use Rattle.regions.proofs.table.RegionTable.run_length.Goals as goal
 
 pub rests_from-requires : goal.rests_from-requires
@@ -16,22 +14,17 @@ rests_from-requires c =
 pub overflow_cast-result : goal.overflow_cast-result
 overflow_cast-result c =
     let front = front_le rest (drop (c.number.result + 1) c.self.inside.rows.items) in
-    let count : c.rests_from.result ≡ front_count rest (drop (c.number.result + 1) c.self.inside.rows.items) =
-    c.rests_from.ensures ∙ ap (λ (rs : List Row). front_count rest (drop (c.number.result + 1) rs)) c.deref.ensures.value in
+    let count = rw c.deref.ensures.value at c.rests_from.ensures in
     omega (arith, count, front, length-drop (c.number.result + 1) c.self.inside.rows.items, rows_small _ _ _ c.self.invariant.table)
 
 pub overflow_add-result : goal.overflow_add-result
 overflow_add-result c =
     let front = front_le rest (drop (c.number.result + 1) c.self.inside.rows.items) in
-    let count : c.rests_from.result ≡ front_count rest (drop (c.number.result + 1) c.self.inside.rows.items) =
-    c.rests_from.ensures ∙ ap (λ (rs : List Row). front_count rest (drop (c.number.result + 1) rs)) c.deref.ensures.value in
+    let count = rw c.deref.ensures.value at c.rests_from.ensures in
     omega (arith, count, front, length-drop (c.number.result + 1) c.self.inside.rows.items, rows_small _ _ _ c.self.invariant.table)
 
 pub returns : goal.returns
 returns c =
-    let at : c.number.result + 1 ≡ suc c.args.region = omega (arith, c.number.ensures) in
-    let count : c.rests_from.result ≡ front_count rest (drop (suc c.args.region) c.self.inside.rows.items) =
-    c.rests_from.ensures ∙ ap (λ (rs : List Row). front_count rest (drop (c.number.result + 1) rs)) c.deref.ensures.value
-    ∙ ap (λ (j : ℕ). front_count rest (drop j c.self.inside.rows.items)) at in
+    let count = rests_counted c.self.inside.rows.items _ c.args.region _ c.number.ensures (rw c.deref.ensures.value at c.rests_from.ensures) in
     let one : 1 + c.rests_from.result ≡ suc c.rests_from.result = omega arith in
     one ∙ ap suc count ∙ sym (run_length-is _ _ _ _ c.args.region c.self.view_is)

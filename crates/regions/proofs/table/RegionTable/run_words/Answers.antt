@@ -1,10 +1,6 @@
-use Rattle.std.proofs.Common.{arith, ◌≡◌, sym, ap, ◌∙◌, get_or, inl, inr}
-use Rattle.std.proofs.lemmas.List.{get_or_read}
+use Rattle.std.proofs.Common.{arith, sym, ap, ◌∙◌, inl, inr}
 use Rattle.regions.specs.declared.row.Row.{Row}
-use Rattle.regions.specs.declared.row.Kind.TheVariants as kinds
-use Rattle.regions.specs.Table.{kind_of}
-use Rattle.regions.specs.Rows.{free_row}
-use Rattle.regions.proofs.Tiles.Making.{known, kind_is}
+use Rattle.regions.proofs.Tiles.Making.{row_read, known, kind_is}
 use Rattle.regions.proofs.Walks.WalkFrom.{walk_first, walk_free, walk_rests}
 use Rattle.regions.proofs.Tiles.Within.{first_stands}
 use Rattle.regions.proofs.table.RegionTable.run_words.Goals as goal
@@ -17,40 +13,32 @@ index-requires c =
 pub overflow_mul-number : goal.overflow_mul-number
 overflow_mul-number c =
     let n = known _ _ _ _ _ c.self.view_is c.requires.known in
-    let read = get_or_read c.self.inside.rows.items _ _ (omega (arith, n.in_rows, c.number.ensures)) c.index.ensures free_row
-    ∙ ap (λ k. get_or c.self.inside.rows.items k free_row) c.number.ensures in
-    let is : kind_of c.args.self.now c.args.region ≡ kinds.First =
-    kind_is _ _ _ _ _ n ∙ sym (ap (λ (row : Row). row.kind) read) ∙ c.in-First.is in
+    let read = row_read _ _ _ _ _ _ _ n c.number.ensures c.index.ensures in
+    let is = kind_is _ _ _ _ _ n ∙ sym (ap (λ (row : Row). row.kind) read) ∙ c.in-First.is in
     let w = walk_first _ _ _ _ _ c.self.invariant.table c.self.view_is c.requires.known is in
     rw c.number-in-First.ensures (omega (arith, w.1, c.self.invariant.table.small))
 
 pub size_at-requires : goal.size_at-requires
 size_at-requires c =
     let n = known _ _ _ _ _ c.self.view_is c.requires.known in
-    let read = get_or_read c.self.inside.rows.items _ _ (omega (arith, n.in_rows, c.number.ensures)) c.index.ensures free_row
-    ∙ ap (λ k. get_or c.self.inside.rows.items k free_row) c.number.ensures in
-    let is : kind_of c.args.self.now c.args.region ≡ kinds.First =
-    kind_is _ _ _ _ _ n ∙ sym (ap (λ (row : Row). row.kind) read) ∙ c.in-First.is in
+    let read = row_read _ _ _ _ _ _ _ n c.number.ensures c.index.ensures in
+    let is = kind_is _ _ _ _ _ n ∙ sym (ap (λ (row : Row). row.kind) read) ∙ c.in-First.is in
     let stands = first_stands _ _ _ _ _ _ c.self.invariant.table c.self.invariant.written c.self.view_is is in
     rw (c.new.ensures, c.number-in-First.ensures) stands
 
 pub returns-in-First : goal.returns-in-First
 returns-in-First c =
     let n = known _ _ _ _ _ c.self.view_is c.requires.known in
-    let read = get_or_read c.self.inside.rows.items _ _ (omega (arith, n.in_rows, c.number.ensures)) c.index.ensures free_row
-    ∙ ap (λ k. get_or c.self.inside.rows.items k free_row) c.number.ensures in
-    let is : kind_of c.args.self.now c.args.region ≡ kinds.First =
-    kind_is _ _ _ _ _ n ∙ sym (ap (λ (row : Row). row.kind) read) ∙ c.in-First.is in
+    let read = row_read _ _ _ _ _ _ _ n c.number.ensures c.index.ensures in
+    let is = kind_is _ _ _ _ _ n ∙ sym (ap (λ (row : Row). row.kind) read) ∙ c.in-First.is in
     rw (c.size_at.ensures, c.new.ensures, c.number-in-First.ensures)
     (walk_first _ _ _ _ _ c.self.invariant.table c.self.view_is c.requires.known is).0
 
 pub returns-in-Free : goal.returns-in-Free
 returns-in-Free c =
     let n = known _ _ _ _ _ c.self.view_is c.requires.known in
-    let read = get_or_read c.self.inside.rows.items _ _ (omega (arith, n.in_rows, c.number.ensures)) c.index.ensures free_row
-    ∙ ap (λ k. get_or c.self.inside.rows.items k free_row) c.number.ensures in
-    let is : kind_of c.args.self.now c.args.region ≡ c.index.result.now.kind =
-    kind_is _ _ _ _ _ n ∙ sym (ap (λ (row : Row). row.kind) read) in
+    let read = row_read _ _ _ _ _ _ _ n c.number.ensures c.index.ensures in
+    let is = kind_is _ _ _ _ _ n ∙ sym (ap (λ (row : Row). row.kind) read) in
     elim c.in-Free.is [
       | inl f ↦ walk_free _ _ c.requires.known (is ∙ f)
       | inr (inl f) ↦ walk_rests _ _ c.requires.known (is ∙ f)

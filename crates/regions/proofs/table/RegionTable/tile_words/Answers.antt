@@ -1,10 +1,8 @@
-use Rattle.std.proofs.Common.{arith, ◌≡◌, sym, ap, ◌∙◌, get_or, inl, inr}
-use Rattle.std.proofs.lemmas.List.{get_or_read}
+use Rattle.std.proofs.Common.{arith, ◌≡◌, sym, ap, ◌∙◌, inl, inr}
 use Rattle.regions.specs.declared.row.Row.{Row}
 use Rattle.regions.specs.declared.row.Kind.TheVariants as kinds
 use Rattle.regions.specs.Table.{kind_of}
-use Rattle.regions.specs.Rows.{free_row}
-use Rattle.regions.proofs.Tiles.Making.{known, kind_is}
+use Rattle.regions.proofs.Tiles.Making.{row_read, known, kind_is}
 use Rattle.regions.proofs.Walks.WalkMade.{walk_ordinary}
 use Rattle.regions.proofs.table.RegionTable.tile_words.Goals as goal
 
@@ -16,8 +14,7 @@ index-row-requires c =
 pub returns-in-Ordinary : goal.returns-in-Ordinary
 returns-in-Ordinary c =
     let n = known _ _ _ _ _ c.self.view_is c.requires in
-    let read = get_or_read c.self.inside.rows.items _ _ (omega (arith, n.in_rows, c.number.ensures)) c.index-row.ensures free_row
-    ∙ ap (λ k. get_or c.self.inside.rows.items k free_row) c.number.ensures in
+    let read = row_read _ _ _ _ _ _ _ n c.number.ensures c.index-row.ensures in
     let is : kind_of c.args.self.now c.args.region ≡ kinds.Ordinary =
     kind_is _ _ _ _ _ n ∙ sym (ap (λ (row : Row). row.kind) read) ∙ c.in-Ordinary.is in
     rw read (walk_ordinary _ _ _ _ _ c.self.invariant.table c.self.view_is c.requires is)
@@ -25,8 +22,7 @@ returns-in-Ordinary c =
 pub run_words-requires : goal.run_words-requires
 run_words-requires c =
     let n = known _ _ _ _ _ c.self.view_is c.requires in
-    let read = get_or_read c.self.inside.rows.items _ _ (omega (arith, n.in_rows, c.number.ensures)) c.index-row.ensures free_row
-    ∙ ap (λ k. get_or c.self.inside.rows.items k free_row) c.number.ensures in
+    let read = row_read _ _ _ _ _ _ _ n c.number.ensures c.index-row.ensures in
     let is : kind_of c.args.self.now c.args.region ≡ c.index-row.result.now.kind =
     kind_is _ _ _ _ _ n ∙ sym (ap (λ (row : Row). row.kind) read) in
     record {

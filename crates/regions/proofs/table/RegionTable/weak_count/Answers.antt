@@ -1,17 +1,12 @@
 use Rattle.std.proofs.Common.{◌∙◌}
-use Rattle.regions.proofs.Words.ObjectWords.{header_in, object_there, is_counted, weaks_counted}
-use Rattle.regions.proofs.Tiles.Within.{word_within}
+use Rattle.regions.proofs.Words.ObjectWords.{object_there, weaks_counted}
+use Rattle.regions.proofs.Tiles.Within.{header_there}
 use Rattle.regions.proofs.table.RegionTable.weak_count.Goals as goal
 
-pub weaks_in-requires-clause-within : goal.weaks_in-requires-clause-within
-weaks_in-requires-clause-within c =
-    let o = object_there _ _ _ _ _ c.self.invariant.table c.self.view_is c.requires in
-    word_within _ _ _ _ _ c.self.invariant.written c.self.view_is (header_in _ _ _ o.1.is)
-
-pub weaks_in-requires-clause-object : goal.weaks_in-requires-clause-object
-weaks_in-requires-clause-object c =
-    let o = object_there _ _ _ _ _ c.self.invariant.table c.self.view_is c.requires in
-    is_counted _ _ _ _ o.1
+pub weaks_in-requires : goal.weaks_in-requires
+weaks_in-requires c =
+    let h = header_there _ _ _ _ _ _ c.self.invariant.table c.self.invariant.written c.self.view_is c.requires in
+    record { within = h.0; object = h.1 }
 
 pub returns : goal.returns
 returns c =
