@@ -1,12 +1,13 @@
 -- Plans and records, and whose a step is.
-use Rattle.std.specs.Prelude.{◌≡◌, ◌<◌, List, All, Bool, true, false, ◌&&◌}
+use Rattle.std.specs.Prelude.{◌≡◌, ◌<◌, ℕ, List, All, Bool, true, false, ◌&&◌}
 use Rattle.heap_words.specs.declared.config.Config.{Config}
 use Rattle.heap_words.specs.declared.config.Format.{Format}
 use Rattle.heap_words.specs.declared.config.Format.TheVariants.{V3}
 use Rattle.root_table.specs.Roots.{places_of}
-use Rattle.heap_steps.specs.Roots.{IsOpAt, names_roots}
+use Rattle.heap_steps.specs.declared.form.Operand.{Operand}
+use Rattle.heap_steps.specs.Forms.{action_row, action_verb, collection_row, collection_verb}
+use Rattle.heap_steps.specs.Roots.{IsOpAt, is_there, names_roots}
 use Rattle.heap_steps.specs.declared.step.Action.{Action}
-use Rattle.heap_steps.specs.declared.step.Action.TheVariants as actions
 use Rattle.heap_steps.specs.declared.step.Op.{Op}
 use Rattle.heap_steps.specs.declared.step.Actor.{Actor}
 use Rattle.heap_steps.specs.declared.step.Actor.TheVariants as actors
@@ -35,24 +36,33 @@ abbrev pub IsThird : Format → Type 0
 IsThird (V3 card globals registers) = Unit {0}
 IsThird _ = ⊥
 
--- the format has the action
-abbrev pub HasAction : Format → Action → Type 0
-HasAction f (actions.Scope from) = IsThird f
-HasAction f _ = Unit {0}
+-- the format has what the third alone has, or every format
+abbrev pub HasRow : Format → Bool → Type 0
+HasRow f true = IsThird f
+HasRow f false = Unit {0}
 
--- the format has the collector's step
+-- the format has the action, or the collector's step
+abbrev pub HasAction : Format → Action → Type 0
+HasAction f a = HasRow f (action_row (action_verb a)).third
+
 abbrev pub HasCollection : Format → CollectorStep → Type 0
-HasCollection f (collector.Compact b) = IsThird f
-HasCollection f _ = Unit {0}
+HasCollection f k = HasRow f (collection_row (collection_verb k)).third
 
 -- the same as tests
 abbrev pub is_third : Format → Bool
 is_third (V3 card globals registers) = true
 is_third _ = false
 
+abbrev pub has_row : Format → Bool → Bool
+has_row f true = is_third f
+has_row f false = true
+
 abbrev pub has_action : Format → Action → Bool
-has_action f (actions.Scope from) = is_third f
-has_action f _ = true
+has_action f a = has_row f (action_row (action_verb a)).third
+
+-- whether a heap of these sizes has the root of an operand's number, if it names one
+abbrev pub has_root : Config → Operand → ℕ → Bool
+has_root c k n = is_there (places_of c) k n
 
 -- whether a heap of these sizes has each root that the action names, and their format the action
 abbrev pub allows : Config → Action → Bool

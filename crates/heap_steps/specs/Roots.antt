@@ -1,69 +1,82 @@
 -- Which roots a step may name.
-use Rattle.std.specs.Prelude.{◌<◌, Option, Some, None, Bool, true, nat_lt, ◌&&◌}
+use Rattle.std.specs.Prelude.{◌<◌, ℕ, suc, List, [], ◌∷◌, Option, Bool, true, false, nat_lt, ◌&&◌, if◌then◌else◌}
 use Rattle.heap_model.specs.Graph.{Places}
+use Rattle.heap_steps.specs.declared.form.Operand.{Operand}
+use Rattle.heap_steps.specs.declared.form.Operand.TheVariants as operands
 use Rattle.heap_steps.specs.declared.step.Register.{Register}
 use Rattle.heap_steps.specs.declared.step.GlobalRoot.{GlobalRoot}
 use Rattle.heap_steps.specs.declared.step.Action.{Action}
-use Rattle.heap_steps.specs.declared.step.Action.TheVariants as actions
 use Rattle.heap_steps.specs.declared.step.Op.{Op}
+use Rattle.heap_steps.specs.Forms.{action_row, action_verb, action_numbers, value_number}
 
--- a register that mutators have, and a global that there is
+-- a root, as an operand names it
+pub record Root : Type 0 where
+  pub operand : Operand
+  pub number : ℕ
+
+-- whether such an operand names a root, unless it is nil
+abbrev pub is_root : Operand → Bool
+is_root operands.Register = true
+is_root operands.Global = true
+is_root operands.Value = true
+is_root _ = false
+
+-- the roots among the numbers of a form
+abbrev pub roots_in : List Operand → List ℕ → List Root
+roots_in (k ∷ ks) (n ∷ ns) = if is_root k then record { operand = k; number = n } ∷ roots_in ks ns else roots_in ks ns
+roots_in _ _ = []
+
+abbrev pub action_roots : Action → List Root
+action_roots a = roots_in (action_row (action_verb a)).operands (action_numbers a)
+
+-- a register that mutators have, a global that there is, or nil
+abbrev pub IsThere : Places → Operand → ℕ → Type 0
+IsThere p operands.Register n = n < p.registers
+IsThere p operands.Global n = n < p.globals
+IsThere p operands.Value (suc n) = n < p.registers
+IsThere p _ n = Unit {0}
+
 abbrev pub IsRegister : Places → Register → Type 0
-IsRegister p r = r.number < p.registers
+IsRegister p r = IsThere p operands.Register r.number
 
 abbrev pub IsGlobal : Places → GlobalRoot → Type 0
-IsGlobal p g = g.number < p.globals
+IsGlobal p g = IsThere p operands.Global g.number
 
--- nil, or such a register
 abbrev pub IsValue : Places → Option Register → Type 0
-IsValue p None = Unit {0}
-IsValue p (Some r) = IsRegister p r
+IsValue p v = IsThere p operands.Value (value_number v)
+
+abbrev pub AreThere : Places → List Root → Type 0
+AreThere p [] = Unit {0}
+AreThere p (r ∷ []) = IsThere p r.operand r.number
+AreThere p (r ∷ s ∷ rs) = IsThere p r.operand r.number × AreThere p (s ∷ rs)
 
 -- there is each register and global that the action names
 abbrev pub NamesRoots : Places → Action → Type 0
-NamesRoots p (actions.New to counts) = IsRegister p to
-NamesRoots p (actions.Get to object i) = IsRegister p to × IsRegister p object
-NamesRoots p (actions.Put object i value) = IsRegister p object × IsValue p value
-NamesRoots p (actions.Read object j) = IsRegister p object
-NamesRoots p (actions.Write object j value) = IsRegister p object
-NamesRoots p (actions.Move to from) = IsRegister p to × IsRegister p from
-NamesRoots p (actions.Drop register) = IsRegister p register
-NamesRoots p (actions.Load to from) = IsRegister p to × IsGlobal p from
-NamesRoots p (actions.Save to from) = IsGlobal p to × IsRegister p from
-NamesRoots p (actions.Shape object) = IsRegister p object
-NamesRoots p (actions.NewWeak to counts weaks) = IsRegister p to
-NamesRoots p (actions.GetWeak to object i) = IsRegister p to × IsRegister p object
-NamesRoots p (actions.PutWeak object i value) = IsRegister p object × IsValue p value
-NamesRoots p (actions.Weaks object) = IsRegister p object
-NamesRoots p (actions.Scope from) = IsRegister p from
+NamesRoots p a = AreThere p (action_roots a)
 
 -- the same as tests
+abbrev pub is_there : Places → Operand → ℕ → Bool
+is_there p operands.Register n = nat_lt n p.registers
+is_there p operands.Global n = nat_lt n p.globals
+is_there p operands.Value (suc n) = nat_lt n p.registers
+is_there p _ n = true
+
 abbrev pub has_register : Places → Register → Bool
-has_register p r = nat_lt r.number p.registers
+has_register p r = is_there p operands.Register r.number
 
 abbrev pub has_global : Places → GlobalRoot → Bool
-has_global p g = nat_lt g.number p.globals
+has_global p g = is_there p operands.Global g.number
 
 abbrev pub has_value : Places → Option Register → Bool
-has_value p None = true
-has_value p (Some r) = has_register p r
+has_value p v = is_there p operands.Value (value_number v)
+
+abbrev pub are_there : Places → List Root → Bool
+are_there p [] = true
+are_there p (r ∷ []) = is_there p r.operand r.number
+are_there p (r ∷ s ∷ rs) = is_there p r.operand r.number && are_there p (s ∷ rs)
 
 abbrev pub names_roots : Places → Action → Bool
-names_roots p (actions.New to counts) = has_register p to
-names_roots p (actions.Get to object i) = has_register p to && has_register p object
-names_roots p (actions.Put object i value) = has_register p object && has_value p value
-names_roots p (actions.Read object j) = has_register p object
-names_roots p (actions.Write object j value) = has_register p object
-names_roots p (actions.Move to from) = has_register p to && has_register p from
-names_roots p (actions.Drop register) = has_register p register
-names_roots p (actions.Load to from) = has_register p to && has_global p from
-names_roots p (actions.Save to from) = has_global p to && has_register p from
-names_roots p (actions.Shape object) = has_register p object
-names_roots p (actions.NewWeak to counts weaks) = has_register p to
-names_roots p (actions.GetWeak to object i) = has_register p to && has_register p object
-names_roots p (actions.PutWeak object i value) = has_register p object && has_value p value
-names_roots p (actions.Weaks object) = has_register p object
-names_roots p (actions.Scope from) = has_register p from
+names_roots p a = are_there p (action_roots a)
 
 -- a mutator's step where roots are in these places: the mutator is one of theirs, and so is each root that it names
 pub record IsOpAt (p : Places) (o : Op) : Type 0 where

@@ -2,8 +2,9 @@
 
 ghost use Rattle.std.specs.Prelude.{◌≡◌, ◌↔◌, ◌<◌, ◌&&◌, ℕ, IsTrue};
 ghost use Rattle.heap_steps.specs.Roots.{has_register, has_global, has_value, names_roots, IsOpAt};
-ghost use Rattle.heap_steps.specs.Actors.{has_action, is_third, allows, HasCollection, IsOp, IsStep, IsEvent};
+ghost use Rattle.heap_steps.specs.Actors.{has_action, has_row, has_root, is_third, allows, HasCollection, IsOp, IsStep, IsEvent};
 
+use crate::form::{Operand, Row};
 use crate::step::{Action, Actor, CollectorStep, Event, GlobalRoot, Op, Register, Step};
 use heap_words::config::{Config, Format};
 use root_table::Places;
@@ -43,6 +44,38 @@ fn is_value(value: Option<Register>, places: &Places) -> bool
         None => true,
         Some(register) => register.is_in(places),
     }
+}
+
+impl Operand {
+    /// Whether a heap of these sizes has the root of an operand's number, if the operand names one: of a value 0 is nil, and registers
+    /// count from 1.
+    ///
+    /// ```rust
+    /// assert!(rt; Operand::Register.has_root(&config, 7));
+    /// assert!(rt; !Operand::Register.has_root(&config, 8));
+    /// ```
+    pub fn has_root(self, config: &Config, number: u64) -> bool
+        ensures { result ≡ has_root config.now self number }
+    {
+        match self {
+            Operand::Register => number < config.registers() as u64,
+            Operand::Global => number < config.globals() as u64,
+            Operand::Value => number <= config.registers() as u64,
+            _ => true,
+        }
+    }
+}
+
+/// Whether a heap line's format has a row of the table of verbs.
+///
+/// ```rust
+/// assert!(rt; has_row(config.format, ActionVerb::Get.row()));
+/// assert!(rt; !has_row(config.format, ActionVerb::Scope.row())); // the third format alone has it
+/// ```
+pub fn has_row(format: Format, row: Row) -> bool
+    ensures { result ≡ has_row format row.third }
+{
+    !row.third || is_third(format)
 }
 
 /// Whether a heap line's format is the third.

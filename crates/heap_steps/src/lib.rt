@@ -27,11 +27,13 @@
 
 mod allowed;
 mod fault;
+mod form;
 mod record;
 mod step;
 
-pub use allowed::is_third;
+pub use allowed::{has_row, is_third};
 pub use fault::{RunFault, run_fault};
+pub use form::{ActionVerb, CollectionVerb, Operand, Row};
 pub use record::{Plan, Record};
 pub use step::{
     Action, Actor, CollectorStep, Counts, Event, GlobalRoot, Op, Refusal, Register, Reply, Step,

@@ -188,7 +188,7 @@ pub enum Reply {
     Named(Option<u64>),
     /// A data word, or how many weak slots an object has.
     Word(u64),
-    /// How many pointers and data words a new object is to have, which may be more than any header has room for.
+    /// How many pointers and data words an object has.
     Shape { pointers: u32, values: u32 },
     /// How many objects were marked in this cycle.
     Marked(u32),

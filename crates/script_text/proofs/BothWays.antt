@@ -1,5 +1,6 @@
 -- The laws both ways: what is read is spelled so, and what is spelled so is read, for steps, replies, events, whole
 -- scripts and whole records.
+pub mod Grammars
 pub mod Actions
 pub mod Allowed
 pub mod Collections

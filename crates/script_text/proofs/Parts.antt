@@ -2,6 +2,7 @@
 -- line.
 pub mod Numbers
 pub mod Spelled
+pub mod Rows
 pub mod Splitting
 pub mod Fronts
 pub mod Pieces

@@ -9,5 +9,6 @@ pub mod Stops
 pub mod RecordStops
 pub mod LeftSteps
 pub mod LeftEvents
+pub mod Operands
 pub mod Fitting
 pub mod StepsFit

@@ -1,15 +1,16 @@
 -- The scripts and the records that have a text.
-use Rattle.std.specs.Prelude.{◌≤◌, All, Option, None, Some, length}
+use Rattle.std.specs.Prelude.{ℕ, zero, suc, List, [], ◌∷◌, ◌≤◌, All, Option, None, Some, length}
 use Rattle.heap_words.specs.declared.config.Config.{Config}
 use Rattle.heap_words.specs.declared.config.Format.{Format}
 use Rattle.heap_words.specs.declared.config.Format.TheVariants.{V1, V2, V3}
 use Rattle.heap_steps.specs.Actors.{StepList, AreSteps, EventList, AreEvents}
+use Rattle.heap_steps.specs.Forms.{Grammar, actions_grammar, collections_grammar, value_number}
+use Rattle.heap_steps.specs.declared.form.Operand.{Operand}
+use Rattle.heap_steps.specs.declared.form.Operand.TheVariants as operands
 use Rattle.heap_steps.specs.declared.step.Register.{Register}
 use Rattle.heap_steps.specs.declared.step.GlobalRoot.{GlobalRoot}
 use Rattle.heap_steps.specs.declared.step.Action.{Action}
-use Rattle.heap_steps.specs.declared.step.Action.TheVariants as actions
 use Rattle.heap_steps.specs.declared.step.CollectorStep.{CollectorStep}
-use Rattle.heap_steps.specs.declared.step.CollectorStep.TheVariants as collector
 use Rattle.heap_steps.specs.declared.step.Step.{Step}
 use Rattle.heap_steps.specs.declared.step.Step.TheVariants as steps
 use Rattle.heap_steps.specs.declared.step.Reply.{Reply}
@@ -17,43 +18,38 @@ use Rattle.heap_steps.specs.declared.step.Reply.TheVariants as replies
 use Rattle.heap_steps.specs.declared.step.Event.{Event}
 use Rattle.script_text.specs.Reading.{small, large, most_weaks}
 
--- the numbers of roots are those of their type
+-- a number of an operand is one of its type
+abbrev pub OperandFits : Operand → ℕ → Type 0
+OperandFits operands.Value zero = Unit {0}
+OperandFits operands.Value (suc n) = n ≤ small
+OperandFits operands.Byte n = n ≤ most_weaks
+OperandFits operands.Large n = n ≤ large
+OperandFits _ n = n ≤ small
+
 abbrev pub RegisterFits : Register → Type 0
-RegisterFits r = r.number ≤ small
+RegisterFits r = OperandFits operands.Register r.number
 
 abbrev pub GlobalFits : GlobalRoot → Type 0
-GlobalFits g = g.number ≤ small
+GlobalFits g = OperandFits operands.Global g.number
 
 abbrev pub ValueFits : Option Register → Type 0
-ValueFits None = Unit {0}
-ValueFits (Some r) = RegisterFits r
+ValueFits v = OperandFits operands.Value (value_number v)
+
+-- there is such a number for each operand
+abbrev pub OperandsFit : List Operand → List ℕ → Type 0
+OperandsFit [] [] = Unit {0}
+OperandsFit (k ∷ ks) (n ∷ ns) = OperandFits k n × OperandsFit ks ns
+OperandsFit _ _ = ⊥
+
+abbrev pub FitsBy : {V A : Type 0} → Grammar V A → A → Type 0
+FitsBy g x = OperandsFit (g.row (g.verb x)).operands (g.numbers x)
 
 -- the numbers of an action are those of its type
 abbrev pub Fits : Action → Type 0
-Fits (actions.New to counts) = RegisterFits to × (counts.pointers ≤ small) × (counts.values ≤ small)
-Fits (actions.Get to object i) = RegisterFits to × RegisterFits object × (i ≤ small)
-Fits (actions.Put object i value) = RegisterFits object × (i ≤ small) × ValueFits value
-Fits (actions.Read object j) = RegisterFits object × (j ≤ small)
-Fits (actions.Write object j value) = RegisterFits object × (j ≤ small) × (value ≤ large)
-Fits (actions.Move to from) = RegisterFits to × RegisterFits from
-Fits (actions.Drop register) = RegisterFits register
-Fits (actions.Load to from) = RegisterFits to × GlobalFits from
-Fits (actions.Save to from) = GlobalFits to × RegisterFits from
-Fits (actions.Shape object) = RegisterFits object
-Fits (actions.NewWeak to counts w) = RegisterFits to × (counts.pointers ≤ small) × (w ≤ most_weaks) × (counts.values ≤ small)
-Fits (actions.GetWeak to object i) = RegisterFits to × RegisterFits object × (i ≤ small)
-Fits (actions.PutWeak object i value) = RegisterFits object × (i ≤ small) × ValueFits value
-Fits (actions.Weaks object) = RegisterFits object
-Fits (actions.Scope from) = RegisterFits from
+Fits a = FitsBy actions_grammar a
 
 abbrev pub CollectionFits : CollectorStep → Type 0
-CollectionFits collector.Begin = Unit {0}
-CollectionFits (collector.Mark k) = k ≤ small
-CollectionFits collector.Remark = Unit {0}
-CollectionFits collector.Cleanup = Unit {0}
-CollectionFits (collector.Refine k) = k ≤ small
-CollectionFits (collector.Pause b) = b ≤ small
-CollectionFits (collector.Compact b) = b ≤ small
+CollectionFits k = FitsBy collections_grammar k
 
 abbrev pub StepFits : Step → Type 0
 StepFits (steps.Mutator o) = Fits o.action

@@ -4,6 +4,8 @@ use Rattle.std.specs.Fmt.{decimal}
 use Rattle.heap_words.specs.declared.config.Config.{Config}
 use Rattle.heap_words.specs.Configs.{globals_of, registers_of}
 use Rattle.heap_steps.specs.Actors.{is_third}
+use Rattle.heap_steps.specs.declared.form.Operand.{Operand}
+use Rattle.heap_steps.specs.declared.form.Operand.TheVariants as operands
 use Rattle.script_text.specs.declared.fault.Kind.{Kind}
 use Rattle.script_text.specs.declared.fault.Kind.TheVariants as kinds
 use Rattle.script_text.specs.declared.fault.LineFault.{LineFault}
@@ -14,6 +16,15 @@ use Rattle.script_text.specs.declared.places.TextKind.{TextKind}
 use Rattle.script_text.specs.Faults.{shown}
 use Rattle.script_text.specs.Lines.{pieces_of, words_of, heap_line_of}
 use Rattle.script_text.specs.Places.{stop_in, heap_stop_in, no_sizes}
+
+-- the words for an operand, before the limit that a heap's sizes set
+abbrev pub operand_text : Operand → List ℕ
+operand_text operands.Register = codes "a register below r"
+operand_text operands.Global = codes "a global below g"
+operand_text operands.Value = codes "nil or a register below r"
+operand_text operands.Small = codes "a number up to 4294967295"
+operand_text operands.Byte = codes "a number up to 255"
+operand_text operands.Large = codes "a number up to 18446744073709551615"
 
 -- the words for a place, before the limit that a heap's sizes set
 abbrev pub place_words : Place → Bool → List ℕ
@@ -27,12 +38,7 @@ place_words places.Collection true = codes "begin, mark, remark, cleanup, refine
 place_words places.Collection false = codes "begin, mark, remark, cleanup, refine or pause"
 place_words places.Marking third = codes "mark"
 place_words places.Refining third = codes "refine"
-place_words places.Register third = codes "a register below r"
-place_words places.Global third = codes "a global below g"
-place_words places.Value third = codes "nil or a register below r"
-place_words places.Small third = codes "a number up to 4294967295"
-place_words places.Large third = codes "a number up to 18446744073709551615"
-place_words places.Weaks third = codes "a number up to 255"
+place_words (places.Operand k) third = operand_text k
 place_words places.Equals third = codes "= and a reply"
 place_words places.Reply third = codes "a reply, such as ok, nil, #3, 7, 1 2 or refused 1 Nil"
 place_words places.End third = codes "the line's end"
@@ -51,9 +57,9 @@ abbrev pub limit_text : Config → Place → List ℕ
 limit_text c (places.Count n) = decimal n
 limit_text c places.ScriptActor = decimal c.mutators
 limit_text c places.RecordActor = decimal c.mutators
-limit_text c places.Register = decimal (registers_of c)
-limit_text c places.Value = decimal (registers_of c)
-limit_text c places.Global = decimal (globals_of c)
+limit_text c (places.Operand operands.Register) = decimal (registers_of c)
+limit_text c (places.Operand operands.Value) = decimal (registers_of c)
+limit_text c (places.Operand operands.Global) = decimal (globals_of c)
 limit_text c _ = []
 
 -- what may be at a place

@@ -1,12 +1,14 @@
 -- What may be at each word's place in a line, and the first word that doesn't fit its place.
 use Rattle.std.specs.Prelude.{ℕ, ◌+◌, Bool, true, false, List, [], ◌∷◌, ◌++◌, Option, Some, None, Result, Ok, Err, is_some, take, drop}
-use Rattle.std.specs.Prelude.{codes, nat_lt, ◌==◌, if◌then◌else◌, option_map}
+use Rattle.std.specs.Prelude.{codes, map, ◌==◌, if◌then◌else◌, option_map}
 use Rattle.std.specs.Option.{option_map_or}
 use Rattle.std.specs.Str.{bytes_eq}
 use Rattle.heap_words.specs.declared.config.Config.{Config}
+use Rattle.heap_words.specs.declared.config.Format.{Format}
 use Rattle.heap_words.specs.declared.config.Format.TheVariants.{V1}
-use Rattle.heap_words.specs.Configs.{globals_of, registers_of}
-use Rattle.heap_steps.specs.Actors.{is_third}
+use Rattle.heap_steps.specs.Actors.{has_root}
+use Rattle.heap_steps.specs.Forms.{Grammar, actions_grammar, collections_grammar}
+use Rattle.heap_steps.specs.declared.form.Operand.TheVariants as operands
 use Rattle.heap_steps.specs.declared.step.Actor.{Actor}
 use Rattle.heap_steps.specs.declared.step.Actor.TheVariants as actors
 use Rattle.script_text.specs.declared.fault.Kind.{Kind}
@@ -15,7 +17,7 @@ use Rattle.script_text.specs.declared.places.Place.TheVariants as places
 use Rattle.script_text.specs.declared.places.Stop.{Stop}
 use Rattle.script_text.specs.declared.places.TextKind.{TextKind}
 use Rattle.script_text.specs.declared.places.TextKind.TheVariants.{Script, Record}
-use Rattle.script_text.specs.Reading.{number_of, small, large, most_weaks, register_of, global_of}
+use Rattle.script_text.specs.Reading.{◌>>=◌, number_of, small, large, operand_of, verb_in}
 use Rattle.script_text.specs.EventWords.{reply_of}
 use Rattle.script_text.specs.Lines.{mutator_of}
 use Rattle.script_text.specs.Events.{actor_of}
@@ -31,37 +33,17 @@ actor_in Record c word = when_read (actor_of c word)
 actor_in Script c word =
     if bytes_eq word (codes "gc") then Some actors.Collector else option_map actors.Mutator (when_read (mutator_of c word))
 
--- what may be after a mutator's verb; nothing, if the word is none
-unfoldable pub action_form : Bool → List ℕ → Option (List Place)
-action_form third verb =
-    if bytes_eq verb (codes "new") then Some (places.Register ∷ places.Small ∷ places.Small ∷ [])
-    else if bytes_eq verb (codes "newweak") then Some (places.Register ∷ places.Small ∷ places.Weaks ∷ places.Small ∷ [])
-    else if bytes_eq verb (codes "get") then Some (places.Register ∷ places.Register ∷ places.Small ∷ [])
-    else if bytes_eq verb (codes "getweak") then Some (places.Register ∷ places.Register ∷ places.Small ∷ [])
-    else if bytes_eq verb (codes "put") then Some (places.Register ∷ places.Small ∷ places.Value ∷ [])
-    else if bytes_eq verb (codes "putweak") then Some (places.Register ∷ places.Small ∷ places.Value ∷ [])
-    else if bytes_eq verb (codes "read") then Some (places.Register ∷ places.Small ∷ [])
-    else if bytes_eq verb (codes "write") then Some (places.Register ∷ places.Small ∷ places.Large ∷ [])
-    else if bytes_eq verb (codes "move") then Some (places.Register ∷ places.Register ∷ [])
-    else if bytes_eq verb (codes "load") then Some (places.Register ∷ places.Global ∷ [])
-    else if bytes_eq verb (codes "save") then Some (places.Global ∷ places.Register ∷ [])
-    else if bytes_eq verb (codes "drop") then Some (places.Register ∷ [])
-    else if bytes_eq verb (codes "shape") then Some (places.Register ∷ [])
-    else if bytes_eq verb (codes "weaks") then Some (places.Register ∷ [])
-    else if bytes_eq verb (codes "scope") then (if third then Some (places.Register ∷ []) else None)
-    else None
+-- what may be after a verb; nothing, if the word is none that the format has
+abbrev pub form_by : {V A : Type 0} → Grammar V A → Format → List ℕ → Option (List Place)
+form_by g f word = do
+  v ← verb_in f g word
+  Some (map places.Operand (g.row v).operands)
 
--- the same of the collector's
-unfoldable pub collection_form : Bool → List ℕ → Option (List Place)
-collection_form third verb =
-    if bytes_eq verb (codes "begin") then Some []
-    else if bytes_eq verb (codes "mark") then Some (places.Small ∷ [])
-    else if bytes_eq verb (codes "remark") then Some []
-    else if bytes_eq verb (codes "cleanup") then Some []
-    else if bytes_eq verb (codes "refine") then Some (places.Small ∷ [])
-    else if bytes_eq verb (codes "pause") then Some (places.Small ∷ [])
-    else if bytes_eq verb (codes "compact") then (if third then Some (places.Small ∷ []) else None)
-    else None
+unfoldable pub action_form : Format → List ℕ → Option (List Place)
+action_form f word = form_by actions_grammar f word
+
+unfoldable pub collection_form : Format → List ℕ → Option (List Place)
+collection_form f word = form_by collections_grammar f word
 
 -- where a verb of the actor is
 abbrev pub verb_place : Actor → Place
@@ -71,12 +53,12 @@ verb_place (actors.Marker i) = places.Marking
 verb_place (actors.Refiner i) = places.Refining
 
 -- what may be after a verb at such a place; nothing, if the word is no verb there
-abbrev pub form_at : Bool → Place → List ℕ → Option (List Place)
-form_at third places.Action verb = action_form third verb
-form_at third places.Collection verb = collection_form third verb
-form_at third places.Marking verb = if bytes_eq verb (codes "mark") then Some (places.Small ∷ []) else None
-form_at third places.Refining verb = if bytes_eq verb (codes "refine") then Some (places.Small ∷ []) else None
-form_at third _ verb = None
+abbrev pub form_at : Format → Place → List ℕ → Option (List Place)
+form_at f places.Action verb = action_form f verb
+form_at f places.Collection verb = collection_form f verb
+form_at f places.Marking verb = if bytes_eq verb (codes "mark") then Some (places.Operand operands.Small ∷ []) else None
+form_at f places.Refining verb = if bytes_eq verb (codes "refine") then Some (places.Operand operands.Small ∷ []) else None
+form_at f _ verb = None
 
 -- what may be after the heap line's first word; nothing, if it is no format's
 unfoldable pub heap_form : List ℕ → Option (List Place)
@@ -92,18 +74,12 @@ abbrev pub fits_word : Config → Place → List ℕ → Bool
 fits_word c (places.Count n) word = option_map_or (λ count. count == n) (number_of large word) false
 fits_word c places.ScriptActor word = is_some (actor_in Script c word)
 fits_word c places.RecordActor word = is_some (actor_in Record c word)
-fits_word c places.Register word = option_map_or (λ r. nat_lt r.number (registers_of c)) (register_of word) false
-fits_word c places.Global word = option_map_or (λ g. nat_lt g.number (globals_of c)) (global_of word) false
-fits_word c places.Value word =
-    if bytes_eq word (codes "nil") then true
-    else option_map_or (λ r. nat_lt r.number (registers_of c)) (register_of word) false
-fits_word c places.Large word = is_some (number_of large word)
+fits_word c (places.Operand k) word = option_map_or (λ n. has_root c k n) (operand_of k word) false
 fits_word c places.FirstName word = is_some (number_of large word)
-fits_word c places.Weaks word = is_some (number_of most_weaks word)
 fits_word c places.Equals word = bytes_eq word (codes "=")
 fits_word c places.Heap word = is_some (heap_form word)
-fits_word c places.Action word = is_some (action_form (is_third c.format) word)
-fits_word c places.Collection word = is_some (collection_form (is_third c.format) word)
+fits_word c places.Action word = is_some (action_form c.format word)
+fits_word c places.Collection word = is_some (collection_form c.format word)
 fits_word c places.Marking word = bytes_eq word (codes "mark")
 fits_word c places.Refining word = bytes_eq word (codes "refine")
 fits_word c places.Reply word = false
@@ -127,7 +103,7 @@ abbrev pub verb_places : Config → Option Actor → List (List ℕ) → List Pl
 verb_places c None words end = []
 verb_places c (Some actor) [] end = verb_place actor ∷ []
 verb_places c (Some actor) (verb ∷ rest) end =
-    verb_place actor ∷ behind_verb (form_at (is_third c.format) (verb_place actor) verb) end
+    verb_place actor ∷ behind_verb (form_at c.format (verb_place actor) verb) end
 
 -- the place of an actor
 abbrev pub actor_place : TextKind → Place

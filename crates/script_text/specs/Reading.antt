@@ -1,18 +1,17 @@
 -- How the words of a line are read.
-use Rattle.std.specs.Prelude.{ℕ, ◌-◌, ◌^◌, List, [], ◌∷◌, Option, Some, None, nat_le, ◌==◌, ◌&&◌, if◌then◌else◌, codes}
+use Rattle.std.specs.Prelude.{ℕ, zero, suc, ◌-◌, ◌^◌, List, [], ◌∷◌, Option, Some, None, nat_le, get_or, ◌==◌, ◌&&◌, if◌then◌else◌, codes}
 use Rattle.std.specs.Fmt.{decimal}
 use Rattle.std.specs.Str.{bytes_eq}
 use Rattle.std.specs.Str.Parse.{digits_value}
 use Rattle.heap_words.specs.declared.config.Config.{Config}
 use Rattle.heap_words.specs.declared.config.Format.{Format}
 use Rattle.heap_words.specs.declared.config.Format.TheVariants.{V1, V2, V3}
-use Rattle.heap_steps.specs.Actors.{allows, is_third}
-use Rattle.heap_steps.specs.declared.step.Register.{Register}
-use Rattle.heap_steps.specs.declared.step.GlobalRoot.{GlobalRoot}
+use Rattle.heap_steps.specs.Actors.{allows, has_row}
+use Rattle.heap_steps.specs.Forms.{Row, Grammar, actions_grammar, collections_grammar}
+use Rattle.heap_steps.specs.declared.form.Operand.{Operand}
+use Rattle.heap_steps.specs.declared.form.Operand.TheVariants as operands
 use Rattle.heap_steps.specs.declared.step.Action.{Action}
-use Rattle.heap_steps.specs.declared.step.Action.TheVariants as actions
 use Rattle.heap_steps.specs.declared.step.CollectorStep.{CollectorStep}
-use Rattle.heap_steps.specs.declared.step.CollectorStep.TheVariants as collector
 
 infixl 10 ◌>>=◌
 abbrev pub ◌>>=◌ : {A B : Type 0} → Option A → (A → Option B) → Option B
@@ -35,161 +34,66 @@ unfoldable pub number_behind : ℕ → List ℕ → Option ℕ
 number_behind letter [] = None
 number_behind letter (b ∷ digits) = if b == letter then number_of small digits else None
 
--- r and a number, of any size: the sizes of a heap say which registers it has
-unfoldable pub register_of : List ℕ → Option Register
-register_of word = do
-  n ← number_behind 114 word
-  Some (record { number = n })
-
--- g and a number, likewise
-unfoldable pub global_of : List ℕ → Option GlobalRoot
-global_of word = do
-  n ← number_behind 103 word
-  Some (record { number = n })
-
--- nil or a register
-unfoldable pub value_of : List ℕ → Option (Option Register)
-value_of word = if bytes_eq word (codes "nil") then Some None else (do
-  r ← register_of word
-  Some (Some r))
-
-unfoldable pub new_of : List ℕ → List ℕ → List ℕ → Option Action
-new_of a b c = do
-  to ← register_of a
-  p ← number_of small b
-  d ← number_of small c
-  Some (actions.New to (record { pointers = p; values = d }))
-
-unfoldable pub get_of : List ℕ → List ℕ → List ℕ → Option Action
-get_of a b c = do
-  to ← register_of a
-  object ← register_of b
-  i ← number_of small c
-  Some (actions.Get to object i)
-
-unfoldable pub put_of : List ℕ → List ℕ → List ℕ → Option Action
-put_of a b c = do
-  object ← register_of a
-  i ← number_of small b
-  value ← value_of c
-  Some (actions.Put object i value)
-
-unfoldable pub write_of : List ℕ → List ℕ → List ℕ → Option Action
-write_of a b c = do
-  object ← register_of a
-  j ← number_of small b
-  value ← number_of large c
-  Some (actions.Write object j value)
-
-unfoldable pub read_of : List ℕ → List ℕ → Option Action
-read_of a b = do
-  object ← register_of a
-  j ← number_of small b
-  Some (actions.Read object j)
-
-unfoldable pub move_of : List ℕ → List ℕ → Option Action
-move_of a b = do
-  to ← register_of a
-  from ← register_of b
-  Some (actions.Move to from)
-
-unfoldable pub drop_of : List ℕ → Option Action
-drop_of a = do
-  register ← register_of a
-  Some (actions.Drop register)
-
-unfoldable pub load_of : List ℕ → List ℕ → Option Action
-load_of a b = do
-  to ← register_of a
-  from ← global_of b
-  Some (actions.Load to from)
-
-unfoldable pub save_of : List ℕ → List ℕ → Option Action
-save_of a b = do
-  to ← global_of a
-  from ← register_of b
-  Some (actions.Save to from)
-
-unfoldable pub shape_of : List ℕ → Option Action
-shape_of a = do
-  object ← register_of a
-  Some (actions.Shape object)
-
 -- an object has at most 255 weak slots
 abbrev pub most_weaks : ℕ
 most_weaks = 255
 
-unfoldable pub new_weak_of : List ℕ → List ℕ → List ℕ → List ℕ → Option Action
-new_weak_of a b c e = do
-  to ← register_of a
-  p ← number_of small b
-  w ← number_of most_weaks c
-  d ← number_of small e
-  Some (actions.NewWeak to (record { pointers = p; values = d }) w)
+-- the number that a word is as an operand: of registers and globals any, since the sizes of a heap say which there are
+unfoldable pub operand_of : Operand → List ℕ → Option ℕ
+operand_of operands.Register word = number_behind 114 word
+operand_of operands.Global word = number_behind 103 word
+operand_of operands.Value word = if bytes_eq word (codes "nil") then Some 0 else (do
+  n ← number_behind 114 word
+  Some (suc n))
+operand_of operands.Small word = number_of small word
+operand_of operands.Byte word = number_of most_weaks word
+operand_of operands.Large word = number_of large word
 
-unfoldable pub get_weak_of : List ℕ → List ℕ → List ℕ → Option Action
-get_weak_of a b c = do
-  to ← register_of a
-  object ← register_of b
-  i ← number_of small c
-  Some (actions.GetWeak to object i)
+-- the numbers that words are as operands, one for each
+abbrev pub operands_of : List Operand → List (List ℕ) → Option (List ℕ)
+operands_of [] [] = Some []
+operands_of [] (word ∷ words) = None
+operands_of (k ∷ ks) [] = None
+operands_of (k ∷ ks) (word ∷ words) = do
+  n ← operand_of k word
+  ns ← operands_of ks words
+  Some (n ∷ ns)
 
-unfoldable pub put_weak_of : List ℕ → List ℕ → List ℕ → Option Action
-put_weak_of a b c = do
-  object ← register_of a
-  i ← number_of small b
-  value ← value_of c
-  Some (actions.PutWeak object i value)
+-- the number of the word at a place, as the operand there; 0 where there is none
+abbrev pub operand_at : List Operand → List (List ℕ) → ℕ → Option ℕ
+operand_at (k ∷ ks) (word ∷ words) zero = operand_of k word
+operand_at (k ∷ ks) (word ∷ words) (suc i) = operand_at ks words i
+operand_at _ _ i = Some 0
 
-unfoldable pub weaks_of : List ℕ → Option Action
-weaks_of a = do
-  object ← register_of a
-  Some (actions.Weaks object)
+-- the first of some verbs that a word is
+abbrev pub verb_among : {V : Type 0} → (V → Row) → List V → List ℕ → Option V
+verb_among row [] word = None
+verb_among row (v ∷ vs) word = if bytes_eq word (row v).word then Some v else verb_among row vs word
 
-unfoldable pub scope_of : List ℕ → Option Action
-scope_of a = do
-  from ← register_of a
-  Some (actions.Scope from)
+abbrev pub verb_by : {V A : Type 0} → Grammar V A → List ℕ → Option V
+verb_by g word = verb_among g.row g.verbs word
 
--- a verb and four words
-unfoldable pub longest_action_of : List ℕ → List ℕ → List ℕ → List ℕ → List ℕ → Option Action
-longest_action_of verb a b c d = if bytes_eq verb (codes "newweak") then new_weak_of a b c d else None
+-- the same, if the format has it
+abbrev pub verb_in : {V A : Type 0} → Format → Grammar V A → List ℕ → Option V
+verb_in f g word = do
+  v ← verb_by g word
+  if has_row f (g.row v).third then Some v else None
 
--- a verb and three words
-unfoldable pub long_action_of : List ℕ → List ℕ → List ℕ → List ℕ → Option Action
-long_action_of verb a b c =
-    if bytes_eq verb (codes "new") then new_of a b c
-    else if bytes_eq verb (codes "get") then get_of a b c
-    else if bytes_eq verb (codes "put") then put_of a b c
-    else if bytes_eq verb (codes "write") then write_of a b c
-    else if bytes_eq verb (codes "getweak") then get_weak_of a b c
-    else if bytes_eq verb (codes "putweak") then put_weak_of a b c
-    else None
+-- what a verb and the words after it stand for
+abbrev pub made_by : {V A : Type 0} → Grammar V A → V → List (List ℕ) → Option A
+made_by g v words = do
+  ns ← operands_of (g.row v).operands words
+  Some (g.make v (λ i. get_or ns i 0))
 
--- a verb and two words
-unfoldable pub pair_action_of : List ℕ → List ℕ → List ℕ → Option Action
-pair_action_of verb a b =
-    if bytes_eq verb (codes "read") then read_of a b
-    else if bytes_eq verb (codes "move") then move_of a b
-    else if bytes_eq verb (codes "load") then load_of a b
-    else if bytes_eq verb (codes "save") then save_of a b
-    else None
-
--- a verb and a word
-unfoldable pub lone_action_of : List ℕ → List ℕ → Option Action
-lone_action_of verb a =
-    if bytes_eq verb (codes "drop") then drop_of a
-    else if bytes_eq verb (codes "shape") then shape_of a
-    else if bytes_eq verb (codes "weaks") then weaks_of a
-    else if bytes_eq verb (codes "scope") then scope_of a
-    else None
+-- what words stand for, the first of which is a verb
+abbrev pub read_by : {V A : Type 0} → Grammar V A → List (List ℕ) → Option A
+read_by g [] = None
+read_by g (word ∷ words) = do
+  v ← verb_by g word
+  made_by g v words
 
 unfoldable pub action_of : List (List ℕ) → Option Action
-action_of (verb ∷ a ∷ b ∷ c ∷ d ∷ []) = longest_action_of verb a b c d
-action_of (verb ∷ a ∷ b ∷ c ∷ []) = long_action_of verb a b c
-action_of (verb ∷ a ∷ b ∷ []) = pair_action_of verb a b
-action_of (verb ∷ a ∷ []) = lone_action_of verb a
-action_of _ = None
+action_of words = read_by actions_grammar words
 
 -- what was read, where heaps of these sizes have it: each root that it names is there, and their format knows it
 abbrev pub allowed_in : Config → Option Action → Option Action
@@ -200,32 +104,12 @@ allowed_in c read = do
 unfoldable pub allowed_of : Config → List (List ℕ) → Option Action
 allowed_of c ws = allowed_in c (action_of ws)
 
--- a step of the collector that is a verb alone
-abbrev pub lone_collection_of : List ℕ → Option CollectorStep
-lone_collection_of verb =
-    if bytes_eq verb (codes "begin") then Some collector.Begin
-    else if bytes_eq verb (codes "remark") then Some collector.Remark
-    else if bytes_eq verb (codes "cleanup") then Some collector.Cleanup
-    else None
-
 -- a step of the collector, if the format has it
 unfoldable pub collection_of : Format → List (List ℕ) → Option CollectorStep
-collection_of f (verb ∷ []) = lone_collection_of verb
-collection_of f (verb ∷ a ∷ []) =
-    if bytes_eq verb (codes "mark") then (do
-      k ← number_of small a
-      Some (collector.Mark k))
-    else if bytes_eq verb (codes "refine") then (do
-      k ← number_of small a
-      Some (collector.Refine k))
-    else if bytes_eq verb (codes "pause") then (do
-      b ← number_of small a
-      Some (collector.Pause b))
-    else if bytes_eq verb (codes "compact") then (if is_third f then (do
-      b ← number_of small a
-      Some (collector.Compact b)) else None)
-    else None
-collection_of f _ = None
+collection_of f [] = None
+collection_of f (word ∷ words) = do
+  v ← verb_in f collections_grammar word
+  made_by collections_grammar v words
 
 -- the sizes that five words give, after the verb of the format
 unfoldable pub sizes_in : Format → List ℕ → List ℕ → List ℕ → List ℕ → List ℕ → Option Config

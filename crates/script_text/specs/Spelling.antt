@@ -1,56 +1,52 @@
 -- How steps are spelled.
-use Rattle.std.specs.Prelude.{ℕ, List, [], ◌∷◌, ◌++◌, Option, Some, None, codes}
+use Rattle.std.specs.Prelude.{ℕ, zero, suc, List, [], ◌∷◌, ◌++◌, Option, codes}
 use Rattle.std.specs.List.{join_with_byte, flat_map}
 use Rattle.std.specs.Fmt.{decimal}
 use Rattle.heap_words.specs.declared.config.Config.{Config}
 use Rattle.heap_words.specs.declared.config.Format.{Format}
 use Rattle.heap_words.specs.declared.config.Format.TheVariants.{V1, V2, V3}
 use Rattle.heap_steps.specs.Actors.{StepList}
+use Rattle.heap_steps.specs.Forms.{Grammar, actions_grammar, collections_grammar, value_number}
+use Rattle.heap_steps.specs.declared.form.Operand.{Operand}
+use Rattle.heap_steps.specs.declared.form.Operand.TheVariants as operands
 use Rattle.heap_steps.specs.declared.step.Register.{Register}
 use Rattle.heap_steps.specs.declared.step.GlobalRoot.{GlobalRoot}
 use Rattle.heap_steps.specs.declared.step.Action.{Action}
-use Rattle.heap_steps.specs.declared.step.Action.TheVariants as actions
 use Rattle.heap_steps.specs.declared.step.CollectorStep.{CollectorStep}
-use Rattle.heap_steps.specs.declared.step.CollectorStep.TheVariants as collector
 use Rattle.heap_steps.specs.declared.step.Step.{Step}
 use Rattle.heap_steps.specs.declared.step.Step.TheVariants as steps
 
+-- the word of an operand's number: of a value 0 is nil, and registers count from 1
+abbrev pub operand_word : Operand → ℕ → List ℕ
+operand_word operands.Register n = codes "r" ++ decimal n
+operand_word operands.Global n = codes "g" ++ decimal n
+operand_word operands.Value zero = codes "nil"
+operand_word operands.Value (suc n) = codes "r" ++ decimal n
+operand_word _ n = decimal n
+
 abbrev pub register_word : Register → List ℕ
-register_word r = codes "r" ++ decimal r.number
+register_word r = operand_word operands.Register r.number
 
 abbrev pub global_word : GlobalRoot → List ℕ
-global_word g = codes "g" ++ decimal g.number
+global_word g = operand_word operands.Global g.number
 
 abbrev pub value_word : Option Register → List ℕ
-value_word None = codes "nil"
-value_word (Some r) = register_word r
+value_word v = operand_word operands.Value (value_number v)
+
+-- a word for each operand
+abbrev pub operand_words : List Operand → List ℕ → List (List ℕ)
+operand_words (k ∷ ks) (n ∷ ns) = operand_word k n ∷ operand_words ks ns
+operand_words _ _ = []
+
+-- a verb's word, and those of its numbers
+abbrev pub words_by : {V A : Type 0} → Grammar V A → A → List (List ℕ)
+words_by g x = (g.row (g.verb x)).word ∷ operand_words (g.row (g.verb x)).operands (g.numbers x)
 
 abbrev pub action_words : Action → List (List ℕ)
-action_words (actions.New to counts) = codes "new" ∷ register_word to ∷ decimal counts.pointers ∷ decimal counts.values ∷ []
-action_words (actions.Get to object i) = codes "get" ∷ register_word to ∷ register_word object ∷ decimal i ∷ []
-action_words (actions.Put object i value) = codes "put" ∷ register_word object ∷ decimal i ∷ value_word value ∷ []
-action_words (actions.Read object j) = codes "read" ∷ register_word object ∷ decimal j ∷ []
-action_words (actions.Write object j value) = codes "write" ∷ register_word object ∷ decimal j ∷ decimal value ∷ []
-action_words (actions.Move to from) = codes "move" ∷ register_word to ∷ register_word from ∷ []
-action_words (actions.Drop register) = codes "drop" ∷ register_word register ∷ []
-action_words (actions.Load to from) = codes "load" ∷ register_word to ∷ global_word from ∷ []
-action_words (actions.Save to from) = codes "save" ∷ global_word to ∷ register_word from ∷ []
-action_words (actions.Shape object) = codes "shape" ∷ register_word object ∷ []
-action_words (actions.NewWeak to counts w) =
-    codes "newweak" ∷ register_word to ∷ decimal counts.pointers ∷ decimal w ∷ decimal counts.values ∷ []
-action_words (actions.GetWeak to object i) = codes "getweak" ∷ register_word to ∷ register_word object ∷ decimal i ∷ []
-action_words (actions.PutWeak object i value) = codes "putweak" ∷ register_word object ∷ decimal i ∷ value_word value ∷ []
-action_words (actions.Weaks object) = codes "weaks" ∷ register_word object ∷ []
-action_words (actions.Scope from) = codes "scope" ∷ register_word from ∷ []
+action_words a = words_by actions_grammar a
 
 abbrev pub collection_words : CollectorStep → List (List ℕ)
-collection_words collector.Begin = codes "begin" ∷ []
-collection_words (collector.Mark k) = codes "mark" ∷ decimal k ∷ []
-collection_words collector.Remark = codes "remark" ∷ []
-collection_words collector.Cleanup = codes "cleanup" ∷ []
-collection_words (collector.Refine k) = codes "refine" ∷ decimal k ∷ []
-collection_words (collector.Pause b) = codes "pause" ∷ decimal b ∷ []
-collection_words (collector.Compact b) = codes "compact" ∷ decimal b ∷ []
+collection_words k = words_by collections_grammar k
 
 abbrev pub step_words : Step → List (List ℕ)
 step_words (steps.Mutator o) = decimal o.mutator ∷ action_words o.action

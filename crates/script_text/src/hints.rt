@@ -12,7 +12,8 @@ ghost use Rattle.std.specs.Fmt.{decimal};
 ghost use Rattle.heap_words.specs.declared.config.Config.{Config};
 ghost use Rattle.script_text.specs.Lines.{heap_line_of, pieces_of, words_of};
 ghost use Rattle.script_text.specs.Faults.{shown_byte, shown};
-ghost use Rattle.script_text.specs.Hints.{place_words, place_text, stop_text, IsLine, NamesMisfit, NamesHeapMisfit};
+ghost use Rattle.script_text.specs.Hints.{operand_text, place_words, limit_text, place_text, stop_text};
+ghost use Rattle.script_text.specs.Hints.{IsLine, NamesMisfit, NamesHeapMisfit};
 ghost use Rattle.script_text.specs.Hints.{IsHint, IsFaultReason, IsLineReason};
 
 use crate::fault::{Kind, LineFault};
@@ -21,11 +22,39 @@ use crate::places::{Place, Stop, TextKind, heap_stop_in, no_sizes, stop_in};
 use crate::read::script::heap_line;
 use crate::read::words::split_line;
 use crate::write::bytes::{put_byte, put_number, put_text};
-use heap_steps::is_third;
+use heap_steps::{Operand, is_third};
 use heap_words::config::Config;
 
 /// The room that the reason of a line's fault needs.
 pub const REASON_ROOM: usize = 480;
+
+/// The words that say what an operand may be, before the limit that a heap's sizes set, if they do.
+fn operand_text(kind: Operand) -> &'static [u8]
+    ensures words { result.now ≡ operand_text kind }
+    ensures short { length result.now ≤ 110 }
+{
+    match kind {
+        Operand::Register => b"a register below r",
+        Operand::Global => b"a global below g",
+        Operand::Value => b"nil or a register below r",
+        Operand::Small => b"a number up to 4294967295",
+        Operand::Byte => b"a number up to 255",
+        Operand::Large => b"a number up to 18446744073709551615",
+    }
+}
+
+/// The limit that a heap's sizes set to an operand, if they do.
+fn put_limit(buffer: &mut [u8], at: usize, config: &Config, kind: Operand) -> usize
+    requires { at + 20 ≤ length buffer.old }
+    ensures put { take result buffer.new ≡ take at buffer.old ++ limit_text config.now (Place.Operand kind) }
+    ensures end { result ≤ at + 20 }
+{
+    match kind {
+        Operand::Register | Operand::Value => put_number(buffer, at, config.registers() as u64),
+        Operand::Global => put_number(buffer, at, config.globals() as u64),
+        _ => at,
+    }
+}
 
 /// The words that say what may be at a place, before the limit that a heap's sizes set, if they do.
 fn place_words(place: Place, third: bool) -> &'static [u8]
@@ -50,12 +79,7 @@ fn place_words(place: Place, third: bool) -> &'static [u8]
         }
         Place::Marking => b"mark",
         Place::Refining => b"refine",
-        Place::Register => b"a register below r",
-        Place::Global => b"a global below g",
-        Place::Value => b"nil or a register below r",
-        Place::Small => b"a number up to 4294967295",
-        Place::Large => b"a number up to 18446744073709551615",
-        Place::Weaks => b"a number up to 255",
+        Place::Operand(kind) => operand_text(kind),
         Place::Equals => b"= and a reply",
         Place::Reply => b"a reply, such as ok, nil, #3, 7, 1 2 or refused 1 Nil",
         Place::End => b"the line's end",
@@ -83,8 +107,7 @@ fn put_place(buffer: &mut [u8], at: usize, config: &Config, place: Place) -> usi
         Place::ScriptActor | Place::RecordActor => {
             put_number(buffer, at, config.mutators as u64)
         }
-        Place::Register | Place::Value => put_number(buffer, at, config.registers() as u64),
-        Place::Global => put_number(buffer, at, config.globals() as u64),
+        Place::Operand(kind) => put_limit(buffer, at, config, kind),
         _ => at,
     }
 }

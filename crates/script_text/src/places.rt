@@ -1,19 +1,18 @@
 //! What may be at each word's place in a line, and the first word that doesn't fit its place.
 
 ghost use Rattle.std.specs.Prelude.{◌≡◌, ◌+◌, ◌^◌, ◌<◌, ◌≤◌, ◌++◌, ℕ, List, Some, IfErr, IfOk, IfSome, length, map, option_map, take, drop};
-ghost use Rattle.std.specs.Prelude.{codes, false};
+ghost use Rattle.std.specs.Prelude.{◌∷◌, [], None, if◌then◌else◌};
 ghost use Rattle.std.specs.Str.{bytes_eq};
 ghost use Rattle.heap_words.specs.declared.config.Config.{Config};
-ghost use Rattle.heap_steps.specs.Actors.{is_third};
 ghost use Rattle.script_text.specs.declared.places.Place.{Place};
 ghost use Rattle.script_text.specs.Places.{actor_in, action_form, collection_form, verb_place, form_at, heap_form, fits_word, fits};
 ghost use Rattle.script_text.specs.Places.{actor_place, verb_places, step_places, first_misfit, stop_in, no_sizes, heap_stop_in};
 
 use crate::read::events::actor;
 use crate::read::replies::reply;
-use crate::read::steps::mutator;
-use crate::read::words::{global, is_word, number, register, small_number};
-use heap_steps::{Actor, is_third};
+use crate::read::steps::{action_verb_in, collection_verb_in, mutator};
+use crate::read::words::{is_word, number, operand, small_number};
+use heap_steps::{Actor, Operand};
 use heap_words::config::{Config, Format};
 
 /// What a text is read as.
@@ -40,18 +39,8 @@ pub(crate) enum Place {
     Marking,
     /// The verb of a background refiner.
     Refining,
-    /// A register of the heap.
-    Register,
-    /// A global of the heap.
-    Global,
-    /// Nil, or a register of the heap.
-    Value,
-    /// A number of 32 bits.
-    Small,
-    /// A number of 64 bits.
-    Large,
-    /// A number of 8 bits.
-    Weaks,
+    /// An operand of a step.
+    Operand(Operand),
     /// The sign `=`.
     Equals,
     /// All words of a reply.
@@ -96,89 +85,28 @@ fn actor_in(kind: TextKind, config: &Config, word: &[u8]) -> Option<Actor>
     }
 }
 
-/// What may be after a mutator's verb that neither makes an object nor uses a field of pointers. `None`: the word is none of these.
+/// What may be after a mutator's verb. `None`: the word is none that the format has.
 #[tactic(auto, unfolding(crate::specs::Places::action_form))]
-#[inline(always)]
-fn short_form(third: bool, verb: &[u8]) -> Option<&'static [Place]>
-    ensures form { bytes_eq verb.now (codes "new") ≡ false → bytes_eq verb.now (codes "newweak") ≡ false
-        → bytes_eq verb.now (codes "get") ≡ false → bytes_eq verb.now (codes "getweak") ≡ false
-        → bytes_eq verb.now (codes "put") ≡ false → bytes_eq verb.now (codes "putweak") ≡ false
-        → option_map (λ form. form.now) result ≡ action_form third verb.now }
+fn action_form(format: Format, word: &[u8]) -> Option<&'static [Operand]>
+    ensures form { option_map (λ form. map Place.Operand form.now) result ≡ action_form format word.now }
     ensures short { IfSome result (λ form. length form.now ≤ 8) }
 {
-    if is_word(verb, b"read") {
-        Some(&[Place::Register, Place::Small])
-    } else if is_word(verb, b"write") {
-        Some(&[Place::Register, Place::Small, Place::Large])
-    } else if is_word(verb, b"move") {
-        Some(&[Place::Register, Place::Register])
-    } else if is_word(verb, b"load") {
-        Some(&[Place::Register, Place::Global])
-    } else if is_word(verb, b"save") {
-        Some(&[Place::Global, Place::Register])
-    } else if is_word(verb, b"drop") {
-        Some(&[Place::Register])
-    } else if is_word(verb, b"shape") {
-        Some(&[Place::Register])
-    } else if is_word(verb, b"weaks") {
-        Some(&[Place::Register])
-    } else if is_word(verb, b"scope") {
-        if third {
-            Some(&[Place::Register])
-        } else {
-            None
-        }
-    } else {
-        None
-    }
-}
-
-/// What may be after a mutator's verb. `None`: the word is none.
-#[tactic(auto, unfolding(crate::specs::Places::action_form))]
-fn action_form(third: bool, verb: &[u8]) -> Option<&'static [Place]>
-    ensures form { option_map (λ form. form.now) result ≡ action_form third verb.now }
-    ensures short { IfSome result (λ form. length form.now ≤ 8) }
-{
-    if is_word(verb, b"new") {
-        Some(&[Place::Register, Place::Small, Place::Small])
-    } else if is_word(verb, b"newweak") {
-        Some(&[Place::Register, Place::Small, Place::Weaks, Place::Small])
-    } else if is_word(verb, b"get") {
-        Some(&[Place::Register, Place::Register, Place::Small])
-    } else if is_word(verb, b"getweak") {
-        Some(&[Place::Register, Place::Register, Place::Small])
-    } else if is_word(verb, b"put") {
-        Some(&[Place::Register, Place::Small, Place::Value])
-    } else if is_word(verb, b"putweak") {
-        Some(&[Place::Register, Place::Small, Place::Value])
-    } else {
-        short_form(third, verb)
-    }
+    let Some(verb) = action_verb_in(format, word) else {
+        return None;
+    };
+    Some(verb.row().operands)
 }
 
 /// The same of a verb of the collector.
 #[tactic(auto, unfolding(crate::specs::Places::collection_form))]
-fn collection_form(third: bool, verb: &[u8]) -> Option<&'static [Place]>
-    ensures form { option_map (λ form. form.now) result ≡ collection_form third verb.now }
+fn collection_form(format: Format, word: &[u8]) -> Option<&'static [Operand]>
+    ensures form { option_map (λ form. map Place.Operand form.now) result ≡ collection_form format word.now }
     ensures short { IfSome result (λ form. length form.now ≤ 8) }
 {
-    if is_word(verb, b"begin") {
-        Some(&[])
-    } else if is_word(verb, b"mark") {
-        Some(&[Place::Small])
-    } else if is_word(verb, b"remark") {
-        Some(&[])
-    } else if is_word(verb, b"cleanup") {
-        Some(&[])
-    } else if is_word(verb, b"refine") {
-        Some(&[Place::Small])
-    } else if is_word(verb, b"pause") {
-        Some(&[Place::Small])
-    } else if is_word(verb, b"compact") {
-        if third { Some(&[Place::Small]) } else { None }
-    } else {
-        None
-    }
+    let Some(verb) = collection_verb_in(format, word) else {
+        return None;
+    };
+    Some(verb.row().operands)
 }
 
 /// Where a verb of the actor is.
@@ -193,28 +121,29 @@ fn verb_place(actor: Actor) -> Place
     }
 }
 
+/// What may be after a verb that a number follows. `None`: the word is another.
+fn number_form(word: &[u8], verb: &'static [u8]) -> Option<&'static [Operand]>
+    ensures form { option_map (λ form. map Place.Operand form.now) result
+        ≡ (if bytes_eq word.now verb.now then Some (Place.Operand Operand.Small ∷ []) else None) }
+    ensures short { IfSome result (λ form. length form.now ≤ 8) }
+{
+    if is_word(word, verb) {
+        Some(&[Operand::Small])
+    } else {
+        None
+    }
+}
+
 /// What may be after a verb at such a place. `None`: the word is no verb there.
-fn form_at(third: bool, place: Place, verb: &[u8]) -> Option<&'static [Place]>
-    ensures form { option_map (λ form. form.now) result ≡ form_at third place verb.now }
+fn form_at(format: Format, place: Place, verb: &[u8]) -> Option<&'static [Operand]>
+    ensures form { option_map (λ form. map Place.Operand form.now) result ≡ form_at format place verb.now }
     ensures short { IfSome result (λ form. length form.now ≤ 8) }
 {
     match place {
-        Place::Action => action_form(third, verb),
-        Place::Collection => collection_form(third, verb),
-        Place::Marking => {
-            if is_word(verb, b"mark") {
-                Some(&[Place::Small])
-            } else {
-                None
-            }
-        }
-        Place::Refining => {
-            if is_word(verb, b"refine") {
-                Some(&[Place::Small])
-            } else {
-                None
-            }
-        }
+        Place::Action => action_form(format, verb),
+        Place::Collection => collection_form(format, verb),
+        Place::Marking => number_form(verb, b"mark"),
+        Place::Refining => number_form(verb, b"refine"),
         _ => None,
     }
 }
@@ -258,22 +187,12 @@ fn heap_form(verb: &[u8]) -> Option<&'static [Place]>
     }
 }
 
-/// Whether a word is a register of these sizes.
-fn is_register(config: &Config, word: &[u8]) -> bool
-    ensures { result ≡ fits_word config.now Place.Register word.now }
+/// Whether a word is such an operand, in heaps of these sizes.
+fn is_operand(config: &Config, kind: Operand, word: &[u8]) -> bool
+    ensures { result ≡ fits_word config.now (Place.Operand kind) word.now }
 {
-    match register(word) {
-        Some(register) => register.number < config.registers(),
-        None => false,
-    }
-}
-
-/// Whether a word is a global of these sizes.
-fn is_global(config: &Config, word: &[u8]) -> bool
-    ensures { result ≡ fits_word config.now Place.Global word.now }
-{
-    match global(word) {
-        Some(global) => global.number < config.globals(),
+    match operand(kind, word) {
+        Some(number) => kind.has_root(config, number),
         None => false,
     }
 }
@@ -296,20 +215,12 @@ fn fits_word(config: &Config, place: Place, word: &[u8]) -> bool
         Place::Count(count) => is_count(count, word),
         Place::ScriptActor => actor_in(TextKind::Script, config, word).is_some(),
         Place::RecordActor => actor_in(TextKind::Record, config, word).is_some(),
-        Place::Register => is_register(config, word),
-        Place::Global => is_global(config, word),
-        Place::Value => {
-            if is_word(word, b"nil") {
-                return true;
-            }
-            is_register(config, word)
-        }
-        Place::Large | Place::FirstName => number(word, u64::MAX).is_some(),
-        Place::Weaks => number(word, 255).is_some(),
+        Place::Operand(kind) => is_operand(config, kind, word),
+        Place::FirstName => number(word, u64::MAX).is_some(),
         Place::Equals => is_word(word, b"="),
         Place::Heap => heap_form(word).is_some(),
-        Place::Action => action_form(is_third(config.format), word).is_some(),
-        Place::Collection => collection_form(is_third(config.format), word).is_some(),
+        Place::Action => action_form(config.format, word).is_some(),
+        Place::Collection => collection_form(config.format, word).is_some(),
         Place::Marking => is_word(word, b"mark"),
         Place::Refining => is_word(word, b"refine"),
         Place::Reply | Place::End => false,
@@ -358,6 +269,32 @@ fn first_misfit<'a, 'b>(
     Ok(left)
 }
 
+/// The same of the operands of a verb.
+fn first_operand_misfit<'a, 'b>(
+    config: &Config,
+    from: u64,
+    form: &[Operand],
+    words: &'b [&'a [u8]],
+) -> Result<&'b [&'a [u8]], Stop>
+    requires { from + length form.now < 2 ^ 64 }
+    ensures stops { IfErr result (λ stop. (more : List Place) → first_misfit config.now from (map Place.Operand form.now ++ more)
+        (map (λ w. w.now) words.entry.now) ≡ Some stop) }
+    ensures passes { IfOk result (λ left. (more : List Place) → first_misfit config.now from (map Place.Operand form.now ++ more)
+        (map (λ w. w.now) words.entry.now) ≡ first_misfit config.now (from + length form.now) more (map (λ w. w.now) left.now)) }
+{
+    let mut left = words;
+    let mut word = from;
+    'form: for kind in form {
+        let place = Place::Operand(*kind);
+        if !fits(config, place, left) {
+            return Err(Stop { word, place });
+        }
+        left = behind_first(left);
+        word += 1;
+    }
+    Ok(left)
+}
+
 /// The words after the first one.
 fn behind_first<'a, 'b>(words: &'b [&'a [u8]]) -> &'b [&'a [u8]]
     ensures { map (λ w. w.now) result.now ≡ drop 1 (map (λ w. w.now) words.entry.now) }
@@ -389,18 +326,18 @@ fn last_stop(config: &Config, from: u64, end: &[Place], words: &[&[u8]]) -> Opti
     }
 }
 
-/// The first of the places of a verb's form, and of the line's last places after these, at which the words don't fit.
+/// The first of the operands of a verb, and of the line's last places after these, at which the words don't fit.
 fn form_stop(
     config: &Config,
     from: u64,
-    form: &[Place],
+    form: &[Operand],
     end: &[Place],
     words: &[&[u8]],
 ) -> Option<Stop>
     requires { from + length form.now + length end.now < 2 ^ 64 }
-    ensures { result ≡ first_misfit config.now from (form.now ++ end.now) (map (λ w. w.now) words.now) }
+    ensures { result ≡ first_misfit config.now from (map Place.Operand form.now ++ end.now) (map (λ w. w.now) words.now) }
 {
-    match first_misfit(config, from, form, words) {
+    match first_operand_misfit(config, from, form, words) {
         Err(stop) => Some(stop),
         Ok(left) => last_stop(config, from + form.len() as u64, end, left),
     }
@@ -422,7 +359,7 @@ fn verb_stop(
     let [verb, rest @ ..] = words else {
         return Some(Stop { word: from, place });
     };
-    let Some(form) = form_at(is_third(config.format), place, verb) else {
+    let Some(form) = form_at(config.format, place, verb) else {
         return Some(Stop { word: from, place });
     };
     form_stop(config, from + 1, form, end, rest)
@@ -498,5 +435,8 @@ pub(crate) fn heap_stop_in(words: &[&[u8]]) -> Option<Stop>
             place: Place::Heap,
         });
     };
-    form_stop(&config, 2, form, &[Place::End], rest)
+    match first_misfit(&config, 2, form, rest) {
+        Err(stop) => Some(stop),
+        Ok(left) => last_stop(&config, 2 + form.len() as u64, &[Place::End], left),
+    }
 }

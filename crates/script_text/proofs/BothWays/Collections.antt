@@ -1,5 +1,5 @@
 -- The collector's steps and heap lines, read from their words.
-use Rattle.std.proofs.Common.{◌≡◌, ℕ, ◌≤◌, true, cond, List, Option, [], ◌∷◌, ◌++◌, Some, None, refl, sym, ap, subst, ◌∙◌, inl, inr}
+use Rattle.std.proofs.Common.{◌≡◌, ℕ, ◌≤◌, Bool, true, false, cond, List, [], ◌∷◌, ◌++◌, Some, None, refl, sym, ap, subst, ◌∙◌, inl, inr}
 use Rattle.std.specs.Prelude.{codes}
 use Rattle.std.specs.Fmt.{decimal}
 use Rattle.std.specs.Str.{bytes_eq}
@@ -7,99 +7,56 @@ use Rattle.std.proofs.lemmas.Slice.Eq.{bytes_eq-Decides}
 use Rattle.heap_words.specs.declared.config.Config.{Config}
 use Rattle.heap_words.specs.declared.config.Format.{Format}
 use Rattle.heap_words.specs.declared.config.Format.TheVariants.{V1, V2, V3}
-use Rattle.heap_steps.specs.Actors.{HasCollection, is_third}
+use Rattle.heap_steps.specs.Actors.{HasCollection, has_row}
+use Rattle.heap_steps.specs.Forms.{collections_grammar, collection_row, collection_verbs, collection_verb, collection_numbers}
+use Rattle.heap_steps.specs.declared.form.CollectionVerb.{CollectionVerb}
 use Rattle.heap_steps.specs.declared.step.CollectorStep.{CollectorStep}
-use Rattle.heap_steps.specs.declared.step.CollectorStep.TheVariants as collector
-use Rattle.script_text.specs.Reading.{◌>>=◌, number_of, small, large, collection_of, sizes_in, third_of, sizes_of}
+use Rattle.script_text.specs.Reading.{◌>>=◌, number_of, small, large, verb_by, verb_in, made_by, collection_of}
+use Rattle.script_text.specs.Reading.{sizes_in, third_of, sizes_of}
 use Rattle.script_text.specs.Fits.{CollectionFits, FormatFits, ConfigFits}
 use Rattle.script_text.specs.Spelling.{collection_words, verb_of, size_words, format_words, heap_words}
 use Rattle.script_text.proofs.Parts.Numbers.{number_of_is}
-use Rattle.script_text.proofs.BothWays.Actions.{option_bind, chosen}
-use Rattle.script_text.proofs.BothWays.Allowed.{third}
+use Rattle.script_text.proofs.BothWays.Grammars.{option_bind, chosen, some_is, joined, made_is, verb_is, operands_again}
+use Rattle.script_text.proofs.BothWays.Actions.{collections_are}
+use Rattle.script_text.proofs.BothWays.Allowed.{row_is, row_again}
 
-collection_some : (k j : CollectorStep) → Some k ≡ Some j → k ≡ j
-collection_some k j e = cc
-
--- a step of the collector, and the words after its verb
+-- a step of the collector, and its words
 pub record IsCollection (f : Format) (words : List (List ℕ)) (k : CollectorStep) : Type 0 where
   pub spelled : words ≡ collection_words k
   pub known : HasCollection f k
   pub fits : CollectionFits k
 
-same_collection : (f : Format) (ws : List (List ℕ)) (j k : CollectorStep) → ws ≡ collection_words j
-    → HasCollection f j → CollectionFits j → Some j ≡ Some k → IsCollection f ws k
-same_collection f ws j k spelled known fits e =
-    subst (IsCollection f ws) (collection_some j k e) (record { spelled = spelled; known = known; fits = fits })
-
-one_word : (verb w : List ℕ) → bytes_eq verb w ≡ true → verb ∷ [] ≡ w ∷ []
-one_word verb w e = ap (λ (v : List ℕ). v ∷ []) ((bytes_eq-Decides verb w).0 e)
-
-two_words : (verb w a b : List ℕ) → bytes_eq verb w ≡ true → a ≡ b → verb ∷ a ∷ [] ≡ w ∷ b ∷ []
-two_words verb w a b e f = let same : verb ≡ w = (bytes_eq-Decides verb w).0 e in cc
-
--- a step with a number after its verb
-numbered : (f : Format) (verb w a : List ℕ) (make : ℕ → CollectorStep) (k : CollectorStep) → bytes_eq verb w ≡ true
-    → ((n : ℕ) → collection_words (make n) ≡ w ∷ decimal n ∷ []) → ((n : ℕ) → HasCollection f (make n))
-    → ((n : ℕ) → n ≤ small → CollectionFits (make n))
-    → (number_of small a >>= λ n. Some (make n)) ≡ Some k → IsCollection f (verb ∷ a ∷ []) k
-numbered f verb w a make k same words known fits e =
-    let read = option_bind (number_of small a) (λ n. Some (make n)) k e in
-    let number = number_of_is small a read.0 read.1 in
-    same_collection f (verb ∷ a ∷ []) (make read.0) k
-    (two_words verb w a (decimal read.0) same number.0 ∙ sym (words read.0)) (known read.0) (fits read.0 number.1) read.2
-
-no_collection : (k : CollectorStep) → None ≡ Some k → ⊥
-no_collection k e = cc
-
--- a step of the third format
-compacted : (f : Format) (verb a : List ℕ) (k : CollectorStep) → bytes_eq verb (codes "compact") ≡ true
-    → cond (is_third f) (number_of small a >>= λ n. Some (collector.Compact n)) None ≡ Some k → IsCollection f (verb ∷ a ∷ []) k
-compacted f verb a k same e = elim (chosen (is_third f) (number_of small a >>= λ n. Some (collector.Compact n)) None k e) [
-  | inl h ↦ numbered f verb (codes "compact") a (λ n. collector.Compact n) k same (λ n. refl) (λ n. third f h.0) (λ n le. le) h.1
-  | inr h ↦ absurd (no_collection k h.1)
-]
-
-abbrev compaction : Format → List ℕ → List ℕ → Option CollectorStep
-compaction f verb a =
-    cond (bytes_eq verb (codes "compact")) (cond (is_third f) (number_of small a >>= λ n. Some (collector.Compact n)) None) None
+guarded : (b : Bool) (v u : CollectionVerb) → cond b (Some v) None ≡ Some u → (b ≡ true) × (v ≡ u)
+guarded true v u e = (refl, some_is v u e)
+guarded false v u e = absurd cc
 
 pub collection_is : (f : Format) (ws : List (List ℕ)) (k : CollectorStep) → collection_of f ws ≡ Some k → IsCollection f ws k
 unfolding collection_of
 collection_is f [] k e = absurd cc
-collection_is f (verb ∷ []) k e =
-    elim (chosen (bytes_eq verb (codes "begin")) (Some collector.Begin)
-    (cond (bytes_eq verb (codes "remark")) (Some collector.Remark) (cond (bytes_eq verb (codes "cleanup")) (Some collector.Cleanup) None))
-    k e) [
-      | inl h ↦ same_collection f (verb ∷ []) collector.Begin k (one_word verb (codes "begin") h.0) tt tt h.1
-      | inr h ↦ (elim (chosen (bytes_eq verb (codes "remark")) (Some collector.Remark)
-          (cond (bytes_eq verb (codes "cleanup")) (Some collector.Cleanup) None) k h.1) [
-            | inl i ↦ same_collection f (verb ∷ []) collector.Remark k (one_word verb (codes "remark") i.0) tt tt i.1
-            | inr i ↦ (elim (chosen (bytes_eq verb (codes "cleanup")) (Some collector.Cleanup) None k i.1) [
-              | inl j ↦ same_collection f (verb ∷ []) collector.Cleanup k (one_word verb (codes "cleanup") j.0) tt tt j.1
-              | inr j ↦ absurd (no_collection k j.1)
-            ])
-          ])
-    ]
-collection_is f (verb ∷ a ∷ []) k e =
-    elim (chosen (bytes_eq verb (codes "mark")) (number_of small a >>= λ n. Some (collector.Mark n))
-    (cond (bytes_eq verb (codes "refine")) (number_of small a >>= λ n. Some (collector.Refine n))
-    (cond (bytes_eq verb (codes "pause")) (number_of small a >>= λ n. Some (collector.Pause n)) (compaction f verb a))) k e) [
-      | inl h ↦ numbered f verb (codes "mark") a (λ n. collector.Mark n) k h.0 (λ n. refl) (λ n. tt) (λ n le. le) h.1
-      | inr h ↦ (elim (chosen (bytes_eq verb (codes "refine")) (number_of small a >>= λ n. Some (collector.Refine n))
-          (cond (bytes_eq verb (codes "pause")) (number_of small a >>= λ n. Some (collector.Pause n)) (compaction f verb a)) k h.1) [
-            | inl i ↦ numbered f verb (codes "refine") a (λ n. collector.Refine n) k i.0 (λ n. refl) (λ n. tt) (λ n le. le) i.1
-            | inr i ↦ (elim (chosen (bytes_eq verb (codes "pause")) (number_of small a >>= λ n. Some (collector.Pause n))
-                (compaction f verb a) k i.1) [
-                  | inl j ↦ numbered f verb (codes "pause") a (λ n. collector.Pause n) k j.0 (λ n. refl) (λ n. tt) (λ n le. le) j.1
-                  | inr j ↦ (elim (chosen (bytes_eq verb (codes "compact"))
-                      (cond (is_third f) (number_of small a >>= λ n. Some (collector.Compact n)) None) None k j.1) [
-                        | inl l ↦ compacted f verb a k l.0 l.1
-                        | inr l ↦ absurd (no_collection k l.1)
-                      ])
-                ])
-          ])
-    ]
-collection_is f (verb ∷ a ∷ b ∷ ws) k e = absurd cc
+collection_is f (word ∷ ws) k e =
+    let p = option_bind (verb_in f collections_grammar word) (λ v. made_by collections_grammar v ws) k e in
+    let q = option_bind (verb_by collections_grammar word)
+    (λ v. cond (has_row f (collection_row v).third) (Some v) None) p.0 p.1 in
+    let has = guarded (has_row f (collection_row q.0).third) q.0 p.0 q.2 in
+    let made = made_is collections_grammar collections_are p.0 ws k p.2 in
+    let verb = verb_is collection_row collection_verbs word q.0 q.1
+    ∙ ap (λ (v : CollectionVerb). (collection_row v).word) (has.1 ∙ sym made.verb) in
+    record {
+      spelled = joined word (collection_row (collection_verb k)).word ws _ verb made.words;
+      known = row_is f (collection_row (collection_verb k)).third
+          (subst (λ (v : CollectionVerb). has_row f (collection_row v).third ≡ true) (has.1 ∙ sym made.verb) has.0);
+      fits = made.fits;
+    }
+
+pub collection_again : (f : Format) (k : CollectorStep) → HasCollection f k → CollectionFits k
+    → collection_of f (collection_words k) ≡ Some k
+unfolding collection_of
+collection_again f k known fits =
+    rw (
+      (collections_are.rows (collection_verb k)).1,
+      row_again f (collection_row (collection_verb k)).third known,
+      operands_again (collection_row (collection_verb k)).operands (collection_numbers k) fits,
+    ) (ap (λ (x : CollectorStep). Some x) (collections_are.made k))
 
 -- the sizes of a heap, and the words of its line
 pub record AreSizes (words : List (List ℕ)) (c : Config) : Type 0 where

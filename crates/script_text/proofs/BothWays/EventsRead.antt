@@ -9,8 +9,6 @@ use Rattle.std.proofs.lemmas.Bool.{eqb-true}
 use Rattle.std.proofs.lemmas.Slice.Eq.{bytes_eq-Decides}
 use Rattle.heap_words.specs.declared.config.Config.{Config}
 use Rattle.heap_steps.specs.Actors.{IsStepOf, IsEvent}
-use Rattle.heap_steps.specs.declared.step.Action.{Action}
-use Rattle.heap_steps.specs.declared.step.Action.TheVariants as actions
 use Rattle.heap_steps.specs.declared.step.CollectorStep.{CollectorStep}
 use Rattle.heap_steps.specs.declared.step.CollectorStep.TheVariants as collector
 use Rattle.heap_steps.specs.declared.step.Actor.{Actor}
@@ -24,13 +22,13 @@ use Rattle.script_text.specs.declared.fault.Kind.{Kind}
 use Rattle.script_text.specs.declared.fault.Kind.TheVariants as kinds
 use Rattle.script_text.specs.Reading.{number_of, large, allowed_of, collection_of}
 use Rattle.script_text.specs.Fits.{StepFits, CollectionFits, EventFits}
-use Rattle.script_text.specs.Spelling.{action_words, collection_words, spaced}
+use Rattle.script_text.specs.Spelling.{collection_words, spaced}
 use Rattle.script_text.specs.Records.{actor_word, body_words, reply_words}
 use Rattle.script_text.specs.EventWords.{background_of, marker_step, refiner_step, taken_of, step_part, reply_part, reply_of, answer_of}
 use Rattle.script_text.specs.Lines.{◌>>=◌, or_fault, words_of, mutator_of}
 use Rattle.script_text.specs.Events.{foreground_of, actor_of, counted_of, event_of, event_line_of}
 use Rattle.script_text.proofs.Parts.Numbers.{number_of_is}
-use Rattle.script_text.proofs.BothWays.Actions.{option_bind}
+use Rattle.script_text.proofs.BothWays.Grammars.{option_bind}
 use Rattle.script_text.proofs.BothWays.Allowed.{allowed_is}
 use Rattle.script_text.proofs.BothWays.Collections.{collection_is}
 use Rattle.script_text.proofs.BothWays.StepsRead.{result_bind, or_fault_is, either, mutator_is, joined, too_long}
@@ -253,32 +251,9 @@ flat : (a b x y : List ℕ) (body reply xs ys : List (List ℕ)) → body ≡ x 
     → spaced (a ∷ b ∷ spaced body ∷ codes "=" ∷ spaced reply ∷ []) ≡ spaced (a ∷ b ∷ (body ++ codes "=" ∷ reply))
 flat a b x y body reply xs ys e f = rw (e, f) (ap (λ (t : List ℕ). a ++ 32 ∷ (b ++ 32 ∷ t)) (spaced_on x (codes "=") xs (y ∷ ys)))
 
-some_action : (a : Action) → (x : List ℕ) × (xs : List (List ℕ)) × (action_words a ≡ x ∷ xs)
-some_action (actions.New to counts) = (_, _, refl)
-some_action (actions.Get to object i) = (_, _, refl)
-some_action (actions.Put object i value) = (_, _, refl)
-some_action (actions.Read object j) = (_, _, refl)
-some_action (actions.Write object j value) = (_, _, refl)
-some_action (actions.Move to from) = (_, _, refl)
-some_action (actions.Drop register) = (_, _, refl)
-some_action (actions.Load to from) = (_, _, refl)
-some_action (actions.Save to from) = (_, _, refl)
-some_action (actions.Shape object) = (_, _, refl)
-some_action (actions.NewWeak to counts w) = (_, _, refl)
-some_action (actions.GetWeak to object i) = (_, _, refl)
-some_action (actions.PutWeak object i value) = (_, _, refl)
-some_action (actions.Weaks object) = (_, _, refl)
-some_action (actions.Scope from) = (_, _, refl)
-
 pub some_body : (s : Step) → (x : List ℕ) × (xs : List (List ℕ)) × (body_words s ≡ x ∷ xs)
-some_body (steps.Mutator o) = some_action o.action
-some_body (steps.Collector collector.Begin) = (_, _, refl)
-some_body (steps.Collector (collector.Mark k)) = (_, _, refl)
-some_body (steps.Collector collector.Remark) = (_, _, refl)
-some_body (steps.Collector collector.Cleanup) = (_, _, refl)
-some_body (steps.Collector (collector.Refine k)) = (_, _, refl)
-some_body (steps.Collector (collector.Pause b)) = (_, _, refl)
-some_body (steps.Collector (collector.Compact b)) = (_, _, refl)
+some_body (steps.Mutator o) = (_, _, refl)
+some_body (steps.Collector k) = (_, _, refl)
 
 pub some_reply : (r : Reply) → (x : List ℕ) × (xs : List (List ℕ)) × (reply_words r ≡ x ∷ xs)
 some_reply replies.Done = (_, _, refl)

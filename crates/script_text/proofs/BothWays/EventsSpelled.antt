@@ -1,6 +1,6 @@
 -- The words of an event, and that the event is read from them.
 use Rattle.std.proofs.Common.{◌≡◌, ◌<◌, ◌≤◌, ◌∷◌, ◌++◌, ◌∙◌}
-use Rattle.std.proofs.Common.{ℕ, true, false, eqb, List, [], length, Option, Some, None, Ok, refl, sym, ap, subst, arith}
+use Rattle.std.proofs.Common.{ℕ, zero, suc, true, false, eqb, List, [], length, Some, None, Ok, refl, sym, ap, subst, arith}
 use Rattle.std.specs.Prelude.{codes, nat_le}
 use Rattle.std.specs.Fmt.{decimal}
 use Rattle.std.specs.List.{All}
@@ -9,9 +9,9 @@ use Rattle.std.proofs.lemmas.Bool.Decides.{Decides-eqb}
 use Rattle.std.proofs.lemmas.List.Elements.{All-nil, All-cons, All-append}
 use Rattle.heap_words.specs.declared.config.Config.{Config}
 use Rattle.heap_steps.specs.Actors.{IsOp, IsStepOf, IsEvent}
-use Rattle.heap_steps.specs.declared.step.Register.{Register}
-use Rattle.heap_steps.specs.declared.step.Action.{Action}
-use Rattle.heap_steps.specs.declared.step.Action.TheVariants as actions
+use Rattle.heap_steps.specs.Forms.{Grammar, actions_grammar, collections_grammar}
+use Rattle.heap_steps.specs.declared.form.Operand.{Operand}
+use Rattle.heap_steps.specs.declared.form.Operand.TheVariants as operands
 use Rattle.heap_steps.specs.declared.step.CollectorStep.TheVariants as collector
 use Rattle.heap_steps.specs.declared.step.Actor.{Actor}
 use Rattle.heap_steps.specs.declared.step.Actor.TheVariants as actors
@@ -24,18 +24,22 @@ use Rattle.heap_steps.specs.declared.step.Refusal.{Refusal}
 use Rattle.heap_steps.specs.declared.step.Refusal.TheVariants as refusals
 use Rattle.heap_steps.specs.declared.step.Event.{Event}
 use Rattle.script_text.specs.Reading.{small, large}
-use Rattle.script_text.specs.Fits.{Fits, StepFits, ReplyFits, EventFits}
-use Rattle.script_text.specs.Spelling.{value_word, action_words, spaced}
+use Rattle.script_text.specs.Fits.{OperandFits, OperandsFit, FitsBy, Fits, StepFits, ReplyFits, EventFits}
+use Rattle.script_text.specs.Spelling.{operand_word, operand_words, words_by, action_words, spaced}
 use Rattle.script_text.specs.Records.{actor_word, body_words, refusal_words, reply_words}
 use Rattle.script_text.specs.EventWords.{background_of, marker_step, refiner_step, taken_of, answer_of}
 use Rattle.script_text.specs.Lines.{words_of}
 use Rattle.script_text.specs.Events.{foreground_of, actor_of, counted_of, event_of, event_line_of}
 use Rattle.script_text.proofs.Parts.Numbers.{number_of_some, first_is_digit}
 use Rattle.script_text.proofs.BothWays.Allowed.{allowed_again}
-use Rattle.script_text.proofs.BothWays.Lengths.{two_long, three_long, five_long, small_long, action_long}
+use Rattle.script_text.proofs.BothWays.Collections.{collection_again}
+use Rattle.script_text.proofs.BothWays.Grammars.{IsGrammar, words_are, words_long}
+use Rattle.script_text.proofs.BothWays.Actions.{actions_are, collections_are}
+use Rattle.script_text.proofs.BothWays.Lengths.{two_long, three_long, five_long}
+use Rattle.script_text.proofs.Parts.Rows.{small_long, good_is}
 use Rattle.script_text.proofs.Parts.Spelled.{IsWord, AreWords, literal, number_short, number_word, small_word}
 use Rattle.script_text.proofs.Parts.Spelled.{lettered, word1, word2, word3, words_again, no_feed}
-use Rattle.script_text.proofs.BothWays.StepsSpelled.{action_is_words, collection_is_words, collection_again, not_gc, mutator_again}
+use Rattle.script_text.proofs.BothWays.StepsSpelled.{not_gc, mutator_again}
 use Rattle.script_text.proofs.BothWays.ReplyLaws.{number_not, reply_read}
 use Rattle.script_text.proofs.Reading.Parting.{is_equals, answered, step_again, reply_again}
 use Rattle.script_text.proofs.BothWays.EventsRead.{event_words, event_text, event_text_is, some_reply, KnownActor}
@@ -47,69 +51,35 @@ ArePlain ws = All (λ w. is_equals w ≡ false) ws
 plain_number : (n : ℕ) → n ≤ large → is_equals (decimal n) ≡ false
 plain_number n fits = number_not n (codes "=") fits (omega arith)
 
-plain_small : (n : ℕ) → n ≤ small → is_equals (decimal n) ≡ false
-plain_small n fits = plain_number n (omega arith)
+operand_plain : (k : Operand) (n : ℕ) → OperandFits k n → is_equals (operand_word k n) ≡ false
+operand_plain operands.Register n fits = refl
+operand_plain operands.Global n fits = refl
+operand_plain operands.Value zero fits = refl
+operand_plain operands.Value (suc n) fits = refl
+operand_plain operands.Small n fits = plain_number n (omega (arith, fits))
+operand_plain operands.Byte n fits = plain_number n (omega (arith, fits))
+operand_plain operands.Large n fits = plain_number n fits
 
-plain1 : (a : List ℕ) → is_equals a ≡ false → ArePlain (a ∷ [])
-plain1 a p = All-cons (λ w. is_equals w ≡ false) a [] p (All-nil (λ w. is_equals w ≡ false))
+operands_plain : (ks : List Operand) (ns : List ℕ) → OperandsFit ks ns → ArePlain (operand_words ks ns)
+operands_plain [] [] fits = All-nil (λ w. is_equals w ≡ false)
+operands_plain [] (n ∷ ns) fits = absurd fits
+operands_plain (k ∷ ks) [] fits = absurd fits
+operands_plain (k ∷ ks) (n ∷ ns) fits =
+    All-cons (λ w. is_equals w ≡ false) (operand_word k n) (operand_words ks ns) (operand_plain k n fits.0) (operands_plain ks ns fits.1)
 
-plain2 : (a b : List ℕ) → is_equals a ≡ false → is_equals b ≡ false → ArePlain (a ∷ b ∷ [])
-plain2 a b p q = All-cons (λ w. is_equals w ≡ false) a (b ∷ []) p (plain1 b q)
-
-plain3 : (a b c : List ℕ) → is_equals a ≡ false → is_equals b ≡ false → is_equals c ≡ false → ArePlain (a ∷ b ∷ c ∷ [])
-plain3 a b c p q r = All-cons (λ w. is_equals w ≡ false) a (b ∷ c ∷ []) p (plain2 b c q r)
-
-plain4 : (a b c d : List ℕ) → is_equals a ≡ false → is_equals b ≡ false → is_equals c ≡ false
-    → is_equals d ≡ false → ArePlain (a ∷ b ∷ c ∷ d ∷ [])
-plain4 a b c d p q r s = All-cons (λ w. is_equals w ≡ false) a (b ∷ c ∷ d ∷ []) p (plain3 b c d q r s)
-
-plain5 : (a b c d e : List ℕ) → is_equals a ≡ false → is_equals b ≡ false → is_equals c ≡ false → is_equals d ≡ false
-    → is_equals e ≡ false → ArePlain (a ∷ b ∷ c ∷ d ∷ e ∷ [])
-plain5 a b c d e p q r s t = All-cons (λ w. is_equals w ≡ false) a (b ∷ c ∷ d ∷ e ∷ []) p (plain4 b c d e q r s t)
-
-plain_value : (v : Option Register) → is_equals (value_word v) ≡ false
-plain_value None = refl
-plain_value (Some r) = refl
-
-action_plain : (a : Action) → Fits a → ArePlain (action_words a)
-action_plain (actions.New to counts) fits = plain4 _ _ _ _ refl refl (plain_small counts.pointers fits.1) (plain_small counts.values fits.2)
-action_plain (actions.Get to object i) fits = plain4 _ _ _ _ refl refl refl (plain_small i fits.2)
-action_plain (actions.Put object i value) fits = plain4 _ _ _ _ refl refl (plain_small i fits.1) (plain_value value)
-action_plain (actions.Read object j) fits = plain3 _ _ _ refl refl (plain_small j fits.1)
-action_plain (actions.Write object j value) fits = plain4 _ _ _ _ refl refl (plain_small j fits.1) (plain_number value fits.2)
-action_plain (actions.Move to from) fits = plain3 _ _ _ refl refl refl
-action_plain (actions.Drop register) fits = plain2 _ _ refl refl
-action_plain (actions.Load to from) fits = plain3 _ _ _ refl refl refl
-action_plain (actions.Save to from) fits = plain3 _ _ _ refl refl refl
-action_plain (actions.Shape object) fits = plain2 _ _ refl refl
-action_plain (actions.NewWeak to counts w) fits =
-    plain5 _ _ _ _ _ refl refl (plain_small counts.pointers fits.1)
-    (plain_small w (omega (arith, fits.2))) (plain_small counts.values fits.3)
-action_plain (actions.GetWeak to object i) fits = plain4 _ _ _ _ refl refl refl (plain_small i fits.2)
-action_plain (actions.PutWeak object i value) fits = plain4 _ _ _ _ refl refl (plain_small i fits.1) (plain_value value)
-action_plain (actions.Weaks object) fits = plain2 _ _ refl refl
-action_plain (actions.Scope from) fits = plain2 _ _ refl refl
+words_plain : {V A : Type 0} (g : Grammar V A) (is : IsGrammar g) (x : A) → FitsBy g x → ArePlain (words_by g x)
+words_plain g is x fits =
+    All-cons (λ w. is_equals w ≡ false) (g.row (g.verb x)).word (operand_words (g.row (g.verb x)).operands (g.numbers x))
+    (good_is (g.row (g.verb x)) (is.rows (g.verb x)).0).plain (operands_plain (g.row (g.verb x)).operands (g.numbers x) fits)
 
 body_plain : (s : Step) → StepFits s → ArePlain (body_words s)
-body_plain (steps.Mutator o) fits = action_plain o.action fits
-body_plain (steps.Collector collector.Begin) fits = plain1 _ refl
-body_plain (steps.Collector (collector.Mark k)) fits = plain2 _ _ refl (plain_small k fits)
-body_plain (steps.Collector collector.Remark) fits = plain1 _ refl
-body_plain (steps.Collector collector.Cleanup) fits = plain1 _ refl
-body_plain (steps.Collector (collector.Refine k)) fits = plain2 _ _ refl (plain_small k fits)
-body_plain (steps.Collector (collector.Pause b)) fits = plain2 _ _ refl (plain_small b fits)
-body_plain (steps.Collector (collector.Compact b)) fits = plain2 _ _ refl (plain_small b fits)
+body_plain (steps.Mutator o) fits = words_plain actions_grammar actions_are o.action fits
+body_plain (steps.Collector k) fits = words_plain collections_grammar collections_are k fits
 
 -- how long the parts of a line are
 body_long : (s : Step) → StepFits s → length (spaced (body_words s)) ≤ 49
-body_long (steps.Mutator o) fits = action_long o.action fits
-body_long (steps.Collector collector.Begin) fits = omega arith
-body_long (steps.Collector (collector.Mark k)) fits = omega (arith, two_long (codes "mark") (decimal k), small_long k fits)
-body_long (steps.Collector collector.Remark) fits = omega arith
-body_long (steps.Collector collector.Cleanup) fits = omega arith
-body_long (steps.Collector (collector.Refine k)) fits = omega (arith, two_long (codes "refine") (decimal k), small_long k fits)
-body_long (steps.Collector (collector.Pause b)) fits = omega (arith, two_long (codes "pause") (decimal b), small_long b fits)
-body_long (steps.Collector (collector.Compact b)) fits = omega (arith, two_long (codes "compact") (decimal b), small_long b fits)
+body_long (steps.Mutator o) fits = words_long actions_grammar actions_are o.action fits
+body_long (steps.Collector k) fits = words_long collections_grammar collections_are k fits
 
 refused_long : (why : Refusal) → nat_le (length (spaced (codes "refused" ∷ refusal_words why))) 32 ≡ true
 refused_long refusals.Nil = refl
@@ -160,8 +130,8 @@ reply_is_words (replies.Refused refusals.NotMarking) fits =
     word3 _ _ _ (literal (codes "refused") refl refl) (literal (codes "7") refl refl) (literal (codes "NotMarking") refl refl)
 
 body_is_words : (s : Step) → StepFits s → AreWords (body_words s)
-body_is_words (steps.Mutator o) fits = action_is_words o.action fits
-body_is_words (steps.Collector k) fits = collection_is_words k fits
+body_is_words (steps.Mutator o) fits = words_are actions_grammar actions_are o.action fits
+body_is_words (steps.Collector k) fits = words_are collections_grammar collections_are k fits
 
 -- an actor's word
 record IsActor (c : Config) (a : Actor) : Type 0 where

@@ -16,7 +16,7 @@ use Rattle.script_text.specs.Fits.{ReplyFits}
 use Rattle.script_text.specs.Reading.{◌>>=◌, number_of, small, large}
 use Rattle.script_text.specs.EventWords.{numbered, refusal_of, name_or_word, lone_reply_of, pair_reply_of, long_reply_of, reply_of}
 use Rattle.script_text.proofs.Parts.Numbers.{number_of_some, number_of_is, first_is_digit}
-use Rattle.script_text.proofs.BothWays.Actions.{option_bind}
+use Rattle.script_text.proofs.BothWays.Grammars.{option_bind}
 
 -- a reply, and its words
 pub record IsReply (words : List (List ℕ)) (r : Reply) : Type 0 where

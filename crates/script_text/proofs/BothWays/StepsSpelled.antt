@@ -12,92 +12,25 @@ use Rattle.heap_words.specs.declared.config.Config.{Config}
 use Rattle.heap_words.specs.declared.config.Format.{Format}
 use Rattle.heap_words.specs.declared.config.Format.TheVariants.{V1, V2, V3}
 use Rattle.heap_steps.specs.Actors.{HasCollection, IsOp, IsStep}
-use Rattle.heap_steps.specs.declared.step.Action.{Action}
-use Rattle.heap_steps.specs.declared.step.Action.TheVariants as actions
+use Rattle.heap_steps.specs.Forms.{actions_grammar, collections_grammar}
 use Rattle.heap_steps.specs.declared.step.CollectorStep.{CollectorStep}
-use Rattle.heap_steps.specs.declared.step.CollectorStep.TheVariants as collector
 use Rattle.heap_steps.specs.declared.step.Op.{Op}
 use Rattle.heap_steps.specs.declared.step.Step.{Step}
 use Rattle.heap_steps.specs.declared.step.Step.TheVariants as steps
 use Rattle.script_text.specs.declared.fault.Kind.TheVariants as kinds
-use Rattle.script_text.specs.Reading.{small, large, collection_of, sizes_in, third_of, sizes_of}
+use Rattle.script_text.specs.Reading.{small, large, sizes_in, third_of, sizes_of}
 use Rattle.script_text.specs.Fits.{Fits, CollectionFits, StepFits, FormatFits, ConfigFits}
 use Rattle.script_text.specs.Spelling.{action_words, collection_words, step_words, verb_of, size_words, format_words, heap_words, spaced}
 use Rattle.script_text.specs.Lines.{or_fault, words_of, mutator_of, step_of, step_line_of, heap_line_of}
 use Rattle.script_text.proofs.Parts.Numbers.{number_of_some, first_is_digit}
-use Rattle.script_text.proofs.BothWays.Allowed.{allowed_again, third_again}
-use Rattle.script_text.proofs.BothWays.Lengths.{spaced_next, spaced_behind, four_long, small_long, action_long}
-use Rattle.script_text.proofs.Parts.Spelled.{IsWord, AreWords, literal, number_word, small_word, register_is_word, global_is_word}
-use Rattle.script_text.proofs.Parts.Spelled.{value_is_word, word1, word2, word3, word4, word5, words_again, spaced_short, no_feed}
-
-pub action_is_words : (a : Action) → Fits a → AreWords (action_words a)
-action_is_words (actions.New to counts) fits =
-    word4 _ _ _ _ (literal (codes "new") refl refl) (register_is_word to fits.0)
-    (small_word counts.pointers fits.1) (small_word counts.values fits.2)
-action_is_words (actions.Get to object i) fits =
-    word4 _ _ _ _ (literal (codes "get") refl refl) (register_is_word to fits.0)
-    (register_is_word object fits.1) (small_word i fits.2)
-action_is_words (actions.Put object i value) fits =
-    word4 _ _ _ _ (literal (codes "put") refl refl) (register_is_word object fits.0)
-    (small_word i fits.1) (value_is_word value fits.2)
-action_is_words (actions.Read object j) fits =
-    word3 _ _ _ (literal (codes "read") refl refl) (register_is_word object fits.0)
-    (small_word j fits.1)
-action_is_words (actions.Write object j value) fits =
-    word4 _ _ _ _ (literal (codes "write") refl refl) (register_is_word object fits.0)
-    (small_word j fits.1) (number_word value fits.2)
-action_is_words (actions.Move to from) fits =
-    word3 _ _ _ (literal (codes "move") refl refl) (register_is_word to fits.0)
-    (register_is_word from fits.1)
-action_is_words (actions.Drop register) fits = word2 _ _ (literal (codes "drop") refl refl) (register_is_word register fits)
-action_is_words (actions.Load to from) fits =
-    word3 _ _ _ (literal (codes "load") refl refl) (register_is_word to fits.0)
-    (global_is_word from fits.1)
-action_is_words (actions.Save to from) fits =
-    word3 _ _ _ (literal (codes "save") refl refl) (global_is_word to fits.0)
-    (register_is_word from fits.1)
-action_is_words (actions.Shape object) fits = word2 _ _ (literal (codes "shape") refl refl) (register_is_word object fits)
-action_is_words (actions.NewWeak to counts w) fits =
-    word5 _ _ _ _ _ (literal (codes "newweak") refl refl) (register_is_word to fits.0)
-    (small_word counts.pointers fits.1) (small_word w (omega (arith, fits.2))) (small_word counts.values fits.3)
-action_is_words (actions.GetWeak to object i) fits =
-    word4 _ _ _ _ (literal (codes "getweak") refl refl) (register_is_word to fits.0)
-    (register_is_word object fits.1) (small_word i fits.2)
-action_is_words (actions.PutWeak object i value) fits =
-    word4 _ _ _ _ (literal (codes "putweak") refl refl) (register_is_word object fits.0)
-    (small_word i fits.1) (value_is_word value fits.2)
-action_is_words (actions.Weaks object) fits = word2 _ _ (literal (codes "weaks") refl refl) (register_is_word object fits)
-action_is_words (actions.Scope from) fits = word2 _ _ (literal (codes "scope") refl refl) (register_is_word from fits)
-
-pub collection_is_words : (k : CollectorStep) → CollectionFits k → AreWords (collection_words k)
-collection_is_words collector.Begin fits = word1 _ (literal (codes "begin") refl refl)
-collection_is_words (collector.Mark k) fits = word2 _ _ (literal (codes "mark") refl refl) (small_word k fits)
-collection_is_words collector.Remark fits = word1 _ (literal (codes "remark") refl refl)
-collection_is_words collector.Cleanup fits = word1 _ (literal (codes "cleanup") refl refl)
-collection_is_words (collector.Refine k) fits = word2 _ _ (literal (codes "refine") refl refl) (small_word k fits)
-collection_is_words (collector.Pause b) fits = word2 _ _ (literal (codes "pause") refl refl) (small_word b fits)
-collection_is_words (collector.Compact b) fits = word2 _ _ (literal (codes "compact") refl refl) (small_word b fits)
-
-pub few_collection_words : (k : CollectorStep) → length (collection_words k) ≤ 4
-few_collection_words collector.Begin = omega arith
-few_collection_words (collector.Mark k) = omega arith
-few_collection_words collector.Remark = omega arith
-few_collection_words collector.Cleanup = omega arith
-few_collection_words (collector.Refine k) = omega arith
-few_collection_words (collector.Pause b) = omega arith
-few_collection_words (collector.Compact b) = omega arith
-
-pub collection_again : (f : Format) (k : CollectorStep) → HasCollection f k → CollectionFits k
-    → collection_of f (collection_words k) ≡ Some k
-unfolding collection_of
-collection_again f collector.Begin known fits = refl
-collection_again f (collector.Mark k) known fits = rw (number_of_some small (decimal k) k (omega arith) refl fits) refl
-collection_again f collector.Remark known fits = refl
-collection_again f collector.Cleanup known fits = refl
-collection_again f (collector.Refine k) known fits = rw (number_of_some small (decimal k) k (omega arith) refl fits) refl
-collection_again f (collector.Pause b) known fits = rw (number_of_some small (decimal b) b (omega arith) refl fits) refl
-collection_again f (collector.Compact b) known fits =
-    rw (third_again f known, number_of_some small (decimal b) b (omega arith) refl fits) refl
+use Rattle.script_text.proofs.BothWays.Grammars.{words_are, words_long}
+use Rattle.script_text.proofs.BothWays.Actions.{actions_are, collections_are}
+use Rattle.script_text.proofs.BothWays.Allowed.{allowed_again}
+use Rattle.script_text.proofs.BothWays.Collections.{collection_again}
+use Rattle.script_text.proofs.BothWays.Lengths.{spaced_next, spaced_behind, four_long}
+use Rattle.script_text.proofs.Parts.Rows.{small_long}
+use Rattle.script_text.proofs.Parts.Spelled.{IsWord, AreWords, literal, number_word, small_word}
+use Rattle.script_text.proofs.Parts.Spelled.{word1, word3, word4, words_again, no_feed}
 
 false_by : (b : Bool) → (b ≡ true → ⊥) → b ≡ false
 false_by true never = absurd (never refl)
@@ -148,21 +81,23 @@ step_again c (steps.Collector k) few known fits = gc_again c k known fits
 step_is_words : (c : Config) (s : Step) → c.mutators ≤ small → IsStep c s → StepFits s → AreWords (step_words s)
 step_is_words c (steps.Mutator o) few known fits =
     let who : o.mutator < c.mutators = known.at.mutator in
-    All-cons IsWord (decimal o.mutator) (action_words o.action) (small_word o.mutator (omega arith)) (action_is_words o.action fits)
+    All-cons IsWord (decimal o.mutator) (action_words o.action) (small_word o.mutator (omega arith))
+    (words_are actions_grammar actions_are o.action fits)
 step_is_words c (steps.Collector k) few known fits =
-    All-cons IsWord (codes "gc") (collection_words k) (literal (codes "gc") refl refl) (collection_is_words k fits)
+    All-cons IsWord (codes "gc") (collection_words k) (literal (codes "gc") refl refl)
+    (words_are collections_grammar collections_are k fits)
 
 step_short : (c : Config) (s : Step) → c.mutators ≤ small → IsStep c s → StepFits s → length (spaced (step_words s)) ≤ 120
 step_short c (steps.Mutator o) few known fits =
     let who : o.mutator < c.mutators = known.at.mutator in
     let first : length (decimal o.mutator) ≤ 21 = (small_word o.mutator (omega arith)).short in
     let all = spaced_behind (decimal o.mutator) (action_words o.action) in
-    let rest = action_long o.action fits in
-    omega arith
+    let rest = words_long actions_grammar actions_are o.action fits in
+    omega (arith, all, rest)
 step_short c (steps.Collector k) few known fits =
-    let all = spaced_short (codes "gc") (collection_words k) (collection_is_words k fits) in
-    let count = few_collection_words k in
-    omega arith
+    let all = spaced_behind (codes "gc") (collection_words k) in
+    let rest = words_long collections_grammar collections_are k fits in
+    omega (arith, all, rest)
 
 step_words_again : (c : Config) (s : Step) → c.mutators ≤ small → IsStep c s → StepFits s → words_of (spaced (step_words s)) ≡ step_words s
 step_words_again c (steps.Mutator o) few known fits =

@@ -4,6 +4,7 @@ use Rattle.std.proofs.Common.{ℕ, zero, suc, Bool, true, false, cond, eqb, List
 use Rattle.std.proofs.Common.{drop, Option, Some, None, refl, sym, ap, arith}
 use Rattle.std.specs.Prelude.{◌&&◌, nat_le, IfSome, IfNone}
 use Rattle.std.proofs.lemmas.Bool.{eqb-true, le-leb, leb-true}
+use Rattle.std.proofs.lemmas.Bool.Decides.{Decides-eqb}
 use Rattle.std.specs.Fmt.{decimal}
 use Rattle.std.specs.Str.{bytes_eq}
 use Rattle.std.specs.Str.Parse.{AllDigits, digits_value, digits_value_after}
@@ -14,10 +15,7 @@ use Rattle.std.proofs.Math.Seq.{drop-cons}
 use Rattle.std.proofs.lemmas.List.{drop_all}
 use Rattle.std.proofs.lemmas.Str.Parse.{digit_at, IsNumeralModel, numerals_by_value, tells_digits}
 use Rattle.std.proofs.lemmas.Slice.Eq.{bytes_eq-Decides}
-use Rattle.heap_steps.specs.declared.step.Register.{Register}
-use Rattle.heap_steps.specs.declared.step.GlobalRoot.{GlobalRoot}
-use Rattle.script_text.specs.Spelling.{register_word, global_word}
-use Rattle.script_text.specs.Reading.{◌>>=◌, number_of, small, number_behind, register_of, global_of}
+use Rattle.script_text.specs.Reading.{number_of, small, number_behind}
 
 pub no_empty : (word : List ℕ) (n : ℕ) → n < 2 ^ 64 → length word ≡ 0 → word ≡ decimal n → ⊥
 no_empty word n small none e = let some : 0 < length (decimal n) = decimal_nonempty n small in omega (arith, ap length e)
@@ -136,33 +134,13 @@ behind_by true b letter n digits is e =
     (lettered b letter digits (decimal n) (eqb-true b letter is) read.0, read.1)
 behind_by false b letter n digits is e = absurd cc
 
-behind_is : (letter : ℕ) (word : List ℕ) (n : ℕ) → number_behind letter word ≡ Some n → (word ≡ letter ∷ decimal n) × (n ≤ small)
+pub behind_is : (letter : ℕ) (word : List ℕ) (n : ℕ) → number_behind letter word ≡ Some n → (word ≡ letter ∷ decimal n) × (n ≤ small)
 unfolding number_behind
 behind_is letter [] n e = absurd cc
 behind_is letter (b ∷ digits) n e = behind_by (eqb b letter) b letter n digits refl e
 
--- registers
-register_read : (o : Option ℕ) (r : Register) → (o >>= λ n. Some (record { number = n })) ≡ Some r → o ≡ Some r.number
-register_read None r e = absurd cc
-register_read (Some n) r e = let same : record { number = n } ≡ r = cc in ap (λ (x : Register). Some x.number) same
-
-pub register_of_is : (word : List ℕ) (r : Register) → register_of word ≡ Some r → (word ≡ register_word r) × (r.number ≤ small)
-unfolding register_of
-register_of_is word r e = behind_is 114 word r.number (register_read (number_behind 114 word) r e)
-
-pub register_again : (r : Register) → r.number ≤ small → register_of (register_word r) ≡ Some r
-unfolding register_of number_behind
-register_again r fits = rw (number_of_some small (decimal r.number) r.number (omega arith) refl fits) refl
-
--- globals
-global_read : (o : Option ℕ) (g : GlobalRoot) → (o >>= λ n. Some (record { number = n })) ≡ Some g → o ≡ Some g.number
-global_read None g e = absurd cc
-global_read (Some n) g e = let same : record { number = n } ≡ g = cc in ap (λ (x : GlobalRoot). Some x.number) same
-
-pub global_of_is : (word : List ℕ) (g : GlobalRoot) → global_of word ≡ Some g → (word ≡ global_word g) × (g.number ≤ small)
-unfolding global_of
-global_of_is word g e = behind_is 103 word g.number (global_read (number_behind 103 word) g e)
-
-pub global_again : (g : GlobalRoot) → g.number ≤ small → global_of (global_word g) ≡ Some g
-unfolding global_of number_behind
-global_again g fits = rw (number_of_some small (decimal g.number) g.number (omega arith) refl fits) refl
+pub behind_again : (letter n : ℕ) → n ≤ small → number_behind letter (letter ∷ decimal n) ≡ Some n
+unfolding number_behind
+behind_again letter n fits =
+    let same : eqb letter letter ≡ true = (Decides-eqb letter letter).1 refl in
+    rw (same, number_of_some small (decimal n) n (omega (arith, fits)) refl fits) refl

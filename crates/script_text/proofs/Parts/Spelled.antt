@@ -1,21 +1,17 @@
 -- The words of a line: no space or line feed is in them, and they are short.
-use Rattle.std.proofs.Common.{◌≡◌, ◌+◌, ◌*◌, ◌^◌, ◌<◌, ◌≤◌, ◌∷◌, ◌∙◌}
-use Rattle.std.proofs.Common.{ℕ, Bool, true, false, eqb, List, [], length, Option, Some, None, refl, ap, arith}
-use Rattle.std.specs.Prelude.{◌&&◌, nat_lt, nat_le, codes}
+use Rattle.std.proofs.Common.{◌≡◌, ◌^◌, ◌<◌, ◌≤◌, ◌∷◌, ◌∙◌}
+use Rattle.std.proofs.Common.{ℕ, Bool, true, false, eqb, List, [], length, refl, ap, arith}
+use Rattle.std.specs.Prelude.{◌&&◌, nat_lt, nat_le}
 use Rattle.std.specs.List.{All}
 use Rattle.std.specs.Fmt.{decimal}
 use Rattle.std.specs.Str.Parse.{AllDigits}
 use Rattle.std.proofs.lemmas.Bool.{ltb-true, leb-true, ne_eqb}
 use Rattle.std.proofs.lemmas.Fmt.{decimal_is_IsNumeral, length-decimal-le}
-use Rattle.std.proofs.lemmas.List.{length-append}
 use Rattle.std.proofs.lemmas.List.Elements.{All-nil, All-cons, All-head, All-tail, All-append, All-weaker}
 use Rattle.std.proofs.lemmas.List.Splits.{slice_split_at, slice_split_none}
 use Rattle.std.proofs.lemmas.Str.Parse.{digit_from_value}
-use Rattle.heap_steps.specs.declared.step.Register.{Register}
-use Rattle.heap_steps.specs.declared.step.GlobalRoot.{GlobalRoot}
 use Rattle.script_text.specs.Reading.{small, large}
-use Rattle.script_text.specs.Fits.{RegisterFits, GlobalFits, ValueFits}
-use Rattle.script_text.specs.Spelling.{register_word, global_word, value_word, spaced}
+use Rattle.script_text.specs.Spelling.{spaced}
 use Rattle.script_text.specs.Lines.{words_of}
 
 -- a word has no space and no line feed, and at most 21 bytes
@@ -66,16 +62,6 @@ lettered letter n above fits =
     let short : length (decimal n) ≤ 20 = number_short n fits in
     record { clear = All-cons (λ b. 32 < b) letter (decimal n) above (decimal_clear n (omega arith)); short = omega arith }
 
-pub register_is_word : (r : Register) → RegisterFits r → IsWord (register_word r)
-register_is_word r fits = lettered 114 r.number (omega arith) (omega arith)
-
-pub global_is_word : (g : GlobalRoot) → GlobalFits g → IsWord (global_word g)
-global_is_word g fits = lettered 103 g.number (omega arith) (omega arith)
-
-pub value_is_word : (v : Option Register) → ValueFits v → IsWord (value_word v)
-value_is_word None fits = literal (codes "nil") refl refl
-value_is_word (Some r) fits = register_is_word r fits
-
 pub word1 : (a : List ℕ) → IsWord a → AreWords (a ∷ [])
 word1 a p = All-cons IsWord a [] p (All-nil IsWord)
 
@@ -87,9 +73,6 @@ word3 a b c p q r = All-cons IsWord a (b ∷ c ∷ []) p (word2 b c q r)
 
 pub word4 : (a b c d : List ℕ) → IsWord a → IsWord b → IsWord c → IsWord d → AreWords (a ∷ b ∷ c ∷ d ∷ [])
 word4 a b c d p q r s = All-cons IsWord a (b ∷ c ∷ d ∷ []) p (word3 b c d q r s)
-
-pub word5 : (a b c d e : List ℕ) → IsWord a → IsWord b → IsWord c → IsWord d → IsWord e → AreWords (a ∷ b ∷ c ∷ d ∷ e ∷ [])
-word5 a b c d e p q r s t = All-cons IsWord a (b ∷ c ∷ d ∷ e ∷ []) p (word4 b c d e q r s t)
 
 no_byte : (n c : ℕ) (w : List ℕ) → c ≤ n → All (λ b. n < b) w → All (λ b. eqb b c ≡ false) w
 no_byte n c w le above = All-weaker (λ b. n < b) (λ b. eqb b c ≡ false) (λ b more. ne_eqb b c (λ e. absurd (omega arith))) w above
@@ -113,11 +96,3 @@ line_above w (x ∷ ws) words =
 -- no line feed is among the words of a line
 pub no_feed : (w : List ℕ) (ws : List (List ℕ)) → AreWords (w ∷ ws) → All (λ b. eqb b 10 ≡ false) (spaced (w ∷ ws))
 no_feed w ws words = no_byte 31 10 (spaced (w ∷ ws)) (omega arith) (line_above w ws words)
-
--- a line of n words after the first
-pub spaced_short : (w : List ℕ) (ws : List (List ℕ)) → AreWords ws → length (spaced (w ∷ ws)) ≤ length w + 22 * length ws
-spaced_short w [] words = omega arith
-spaced_short w (x ∷ ws) words =
-    let first : length x ≤ 21 = (All-head IsWord x ws words).short in
-    let rest : length (spaced (x ∷ ws)) ≤ length x + 22 * length ws = spaced_short x ws (All-tail IsWord x ws words) in
-    omega (arith, length-append w (32 ∷ spaced (x ∷ ws)))

@@ -14,25 +14,20 @@ use Rattle.heap_steps.specs.declared.step.Reply.{Reply}
 use Rattle.heap_steps.specs.declared.step.Event.{Event}
 use Rattle.script_text.specs.declared.fault.Kind.{Kind}
 use Rattle.script_text.specs.declared.fault.Kind.TheVariants as kinds
-use Rattle.script_text.specs.Reading.{number_of, large, action_of, allowed_of, collection_of}
+use Rattle.script_text.specs.Reading.{number_of, large}
 use Rattle.script_text.specs.EventWords.{taken_of, equals_at, step_part, answer_of}
 use Rattle.script_text.specs.Lines.{◌>>=◌, or_fault, words_of}
 use Rattle.script_text.specs.Events.{actor_of, counted_of, event_of, event_line_of}
 use Rattle.script_text.proofs.BothWays.ReplyLaws.{no_long_reply}
+use Rattle.script_text.proofs.Reading.Twelve.{no_long_action, no_long_collection}
 use Rattle.script_text.proofs.Reading.Parting.{is_equals, answered, step_before, step_all, reply_behind}
 
 no_long_step : (c : Config) (a : Actor) (ws : List (List ℕ)) → 6 ≤ length ws → taken_of c a ws ≡ None
-unfolding taken_of allowed_of action_of collection_of
-no_long_step c a [] le = absurd (omega arith)
-no_long_step c a (v ∷ []) le = absurd (omega arith)
-no_long_step c a (v ∷ w ∷ []) le = absurd (omega arith)
-no_long_step c a (v ∷ w ∷ x ∷ []) le = absurd (omega arith)
-no_long_step c a (v ∷ w ∷ x ∷ y ∷ []) le = absurd (omega arith)
-no_long_step c a (v ∷ w ∷ x ∷ y ∷ z ∷ []) le = absurd (omega arith)
-no_long_step c (actors.Mutator m) (v ∷ w ∷ x ∷ y ∷ z ∷ u ∷ ws) le = refl
-no_long_step c actors.Collector (v ∷ w ∷ x ∷ y ∷ z ∷ u ∷ ws) le = refl
-no_long_step c (actors.Marker i) (v ∷ w ∷ x ∷ y ∷ z ∷ u ∷ ws) le = refl
-no_long_step c (actors.Refiner i) (v ∷ w ∷ x ∷ y ∷ z ∷ u ∷ ws) le = refl
+unfolding taken_of
+no_long_step c (actors.Mutator m) ws many = rw (no_long_action c ws many) refl
+no_long_step c actors.Collector ws many = rw (no_long_collection c.format ws many) refl
+no_long_step c (actors.Marker i) ws many = rw (no_long_collection c.format ws many) refl
+no_long_step c (actors.Refiner i) ws many = rw (no_long_collection c.format ws many) refl
 
 at_most : (ws : List (List ℕ)) → equals_at ws ≤ length ws
 at_most ws = prefix_len-le-length (λ w. not (is_equals w)) ws

@@ -7,9 +7,6 @@
 /// `parse`, which reads a script's steps into a plan.
 pub(crate) const PLAN: usize = 0;
 
-/// `taken`, which reads an event's step from its words.
-pub(crate) const EVENT_WORDS: usize = 1;
-
 /// `check_lines`, which reads a script's steps for their faults.
 pub(crate) const CHECKED_STEPS: usize = 2;
 
@@ -30,6 +27,3 @@ pub(crate) const AWAITED_EVENT: usize = 7;
 
 /// `RecordEvents::next_event`.
 pub(crate) const NEXT_EVENT: usize = 8;
-
-/// `step`, which reads a step from its words.
-pub(crate) const STEP_WORDS: usize = 9;

@@ -5,7 +5,6 @@ ghost use Rattle.script_text.specs.EventWords.{background_of, marker_step, refin
 ghost use Rattle.script_text.specs.Events.{actor_of, counted_of, event_of};
 
 use crate::fault::Kind;
-use crate::read::callers::EVENT_WORDS;
 use crate::read::replies::reply;
 use crate::read::steps::{allowed, collection, mutator};
 use crate::read::words::{is_word, number};
@@ -75,7 +74,7 @@ fn taken(config: &Config, actor: Actor, words: &[&[u8]]) -> Option<Step>
 {
     match actor {
         Actor::Mutator(mutator) => {
-            let action = some!(allowed::<EVENT_WORDS>(config, words));
+            let action = some!(allowed(config, words));
             Some(Step::Mutator(Op { mutator, action }))
         }
         Actor::Collector => {

@@ -1,13 +1,13 @@
 //! Words of a line: numbers, registers, globals.
 
-ghost use Rattle.std.specs.Prelude.{◌≡◌, ◌≤◌, ◌<◌, ◌+◌, ◌∷◌, [], ℕ, Some, IfSome, IfNone, IsTrue, false, length, map, take, drop};
+ghost use Rattle.std.specs.Prelude.{◌≡◌, ◌≤◌, ◌<◌, ◌+◌, ◌∷◌, ◌^◌, [], ℕ, Some, IfSome, IfNone, IsTrue, false, length, map, take, drop};
 ghost use Rattle.std.specs.Fmt.{decimal};
 ghost use Rattle.std.specs.Str.{bytes_eq};
-ghost use Rattle.script_text.specs.Reading.{number_of, small, number_behind, register_of, global_of, value_of};
+ghost use Rattle.script_text.specs.Reading.{number_of, small, number_behind, operand_of};
 ghost use Rattle.script_text.specs.Feeds.{end_of};
 ghost use Rattle.script_text.specs.Lines.{pieces_of, words_of};
 
-use heap_steps::{GlobalRoot, Register};
+use heap_steps::Operand;
 use memchr::memchr;
 
 /// The line at the front of a text, without its line feed: how many bytes it has, and how many of its words are kept.
@@ -177,9 +177,9 @@ pub(crate) fn small_number(word: &[u8]) -> Option<u32>
 
 /// The number after a letter.
 #[tactic(auto, unfolding(crate::specs::Reading::number_behind))]
-#[inline(always)]
-fn number_behind(letter: u8, word: &[u8]) -> Option<u32>
-    ensures { result ≡ number_behind letter word.now }
+fn number_behind(letter: u8, word: &[u8]) -> Option<u64>
+    ensures exact { result ≡ number_behind letter word.now }
+    ensures small { IfSome result (λ n. n < 2 ^ 32) }
 {
     let [first, digits @ ..] = word else {
         return None;
@@ -187,38 +187,26 @@ fn number_behind(letter: u8, word: &[u8]) -> Option<u32>
     if *first != letter {
         return None;
     }
-    small_number(digits)
+    number(digits, 0xffff_ffff)
 }
 
-/// The register that a word spells, `r` and its number.
-#[tactic(auto, unfolding(crate::specs::Reading::register_of))]
-#[inline(always)]
-pub(crate) fn register(word: &[u8]) -> Option<Register>
-    ensures { result ≡ register_of word.now }
+/// The number that a word is as an operand.
+#[tactic(auto, unfolding(crate::specs::Reading::operand_of))]
+pub(crate) fn operand(kind: Operand, word: &[u8]) -> Option<u64>
+    ensures { result ≡ operand_of kind word.now }
 {
-    let number = some!(number_behind(b'r', word));
-    Some(Register { number })
-}
-
-/// The global that a word spells, `g` and its number.
-#[tactic(auto, unfolding(crate::specs::Reading::global_of))]
-#[inline(always)]
-pub(crate) fn global(word: &[u8]) -> Option<GlobalRoot>
-    ensures { result ≡ global_of word.now }
-{
-    let number = some!(number_behind(b'g', word));
-    Some(GlobalRoot { number })
-}
-
-/// Nil, or the register that a word spells.
-#[tactic(auto, unfolding(crate::specs::Reading::value_of))]
-#[inline(always)]
-pub(crate) fn value(word: &[u8]) -> Option<Option<Register>>
-    ensures { result ≡ value_of word.now }
-{
-    if is_word(word, b"nil") {
-        return Some(None);
+    match kind {
+        Operand::Register => number_behind(b'r', word),
+        Operand::Global => number_behind(b'g', word),
+        Operand::Value => {
+            if is_word(word, b"nil") {
+                return Some(0);
+            }
+            let number = some!(number_behind(b'r', word));
+            Some(number + 1)
+        }
+        Operand::Small => number(word, 0xffff_ffff),
+        Operand::Byte => number(word, 255),
+        Operand::Large => number(word, u64::MAX),
     }
-    let register = some!(register(word));
-    Some(Some(register))
 }

@@ -1,0 +1,350 @@
+//! How steps are spelled: a verb each, and what may be after it. The table of verbs is here and in `specs/Forms.antt`.
+
+ghost use Rattle.std.specs.Prelude.{◌≡◌, ◌≤◌, ◌%◌, ◌^◌, true, false, length, get_or};
+ghost use Rattle.heap_steps.specs.Forms.{action_verbs, action_row, action_by, collection_verbs, collection_row, collection_by};
+ghost use Rattle.heap_steps.specs.Forms.{low, numbered_value, numbers_in};
+
+use crate::step::{Action, CollectorStep, Counts, GlobalRoot, Register};
+
+/// What a word after a verb is.
+#[derive(Clone, Copy)]
+pub enum Operand {
+    /// A register.
+    Register,
+    /// A global.
+    Global,
+    /// Nil or a register.
+    Value,
+    /// A number of 32 bits.
+    Small,
+    /// A number of 8 bits.
+    Byte,
+    /// A number of 64 bits.
+    Large,
+}
+
+/// The verb of a mutator's action.
+#[derive(Clone, Copy)]
+pub enum ActionVerb {
+    New,
+    NewWeak,
+    Get,
+    GetWeak,
+    Put,
+    PutWeak,
+    Read,
+    Write,
+    Move,
+    Drop,
+    Load,
+    Save,
+    Scope,
+    Shape,
+    Weaks,
+}
+
+/// The verb of a step of the collector.
+#[derive(Clone, Copy)]
+pub enum CollectionVerb {
+    Begin,
+    Mark,
+    Remark,
+    Cleanup,
+    Refine,
+    Pause,
+    Compact,
+}
+
+/// A verb's row of the table.
+#[derive(Clone, Copy)]
+pub struct Row {
+    /// The verb as a word.
+    pub word: &'static [u8],
+    /// What the words after it are, at most four.
+    pub operands: &'static [Operand],
+    /// Whether the third format alone has it.
+    pub third: bool,
+}
+
+/// A row of every format.
+#[inline(always)]
+fn every(word: &'static [u8], operands: &'static [Operand]) -> Row
+    ensures word { result.word.now ≡ word.now }
+    ensures operands { result.operands.now ≡ operands.now }
+    ensures third { result.third ≡ false }
+{
+    Row {
+        word,
+        operands,
+        third: false,
+    }
+}
+
+/// A row of the third format alone.
+#[inline(always)]
+fn third(word: &'static [u8], operands: &'static [Operand]) -> Row
+    ensures word { result.word.now ≡ word.now }
+    ensures operands { result.operands.now ≡ operands.now }
+    ensures third { result.third ≡ true }
+{
+    Row {
+        word,
+        operands,
+        third: true,
+    }
+}
+
+/// A number of those that a verb has, in 32 bits.
+fn small(numbers: &[u64; 4], index: usize) -> u32
+    ensures { result ≡ get_or numbers.now index 0 % 2 ^ 32 }
+{
+    match numbers.get(index) {
+        Some(number) => (*number % 0x1_0000_0000) as u32,
+        None => 0,
+    }
+}
+
+/// The register of this place among the numbers.
+fn register(numbers: &[u64; 4], index: usize) -> Register
+    ensures { result.number ≡ get_or numbers.now index 0 % 2 ^ 32 }
+{
+    Register {
+        number: small(numbers, index),
+    }
+}
+
+/// The global of this place among the numbers.
+fn global(numbers: &[u64; 4], index: usize) -> GlobalRoot
+    ensures { result.number ≡ get_or numbers.now index 0 % 2 ^ 32 }
+{
+    GlobalRoot {
+        number: small(numbers, index),
+    }
+}
+
+/// The value of a number: 0 is nil, and registers count from 1.
+fn value(number: u64) -> Option<Register>
+    ensures { result ≡ numbered_value (low Operand.Value number) }
+{
+    if number == 0 {
+        return None;
+    }
+    Some(Register {
+        number: ((number - 1) % 0x1_0000_0000) as u32,
+    })
+}
+
+impl ActionVerb {
+    /// All verbs, in the order in which hints list them.
+    ///
+    /// ```rust
+    /// assert_eq!(rt; ActionVerb::all().len(), 15);
+    /// ```
+    pub fn all() -> &'static [ActionVerb]
+        ensures { result.now ≡ action_verbs }
+    {
+        &[
+            ActionVerb::New,
+            ActionVerb::NewWeak,
+            ActionVerb::Get,
+            ActionVerb::GetWeak,
+            ActionVerb::Put,
+            ActionVerb::PutWeak,
+            ActionVerb::Read,
+            ActionVerb::Write,
+            ActionVerb::Move,
+            ActionVerb::Drop,
+            ActionVerb::Load,
+            ActionVerb::Save,
+            ActionVerb::Scope,
+            ActionVerb::Shape,
+            ActionVerb::Weaks,
+        ]
+    }
+
+    /// The verb's row of the table.
+    ///
+    /// ```rust
+    /// assert_eq!(rt; ActionVerb::Drop.row().word, b"drop".as_slice());
+    /// ```
+    pub fn row(self) -> Row
+        ensures word { result.word.now ≡ (action_row self).word }
+        ensures operands { result.operands.now ≡ (action_row self).operands }
+        ensures third { result.third ≡ (action_row self).third }
+        ensures few { length result.operands.now ≤ 4 }
+    {
+        match self {
+            ActionVerb::New => every(b"new", &[Operand::Register, Operand::Small, Operand::Small]),
+            ActionVerb::NewWeak => every(
+                b"newweak",
+                &[
+                    Operand::Register,
+                    Operand::Small,
+                    Operand::Byte,
+                    Operand::Small,
+                ],
+            ),
+            ActionVerb::Get => every(
+                b"get",
+                &[Operand::Register, Operand::Register, Operand::Small],
+            ),
+            ActionVerb::GetWeak => every(
+                b"getweak",
+                &[Operand::Register, Operand::Register, Operand::Small],
+            ),
+            ActionVerb::Put => every(b"put", &[Operand::Register, Operand::Small, Operand::Value]),
+            ActionVerb::PutWeak => every(
+                b"putweak",
+                &[Operand::Register, Operand::Small, Operand::Value],
+            ),
+            ActionVerb::Read => every(b"read", &[Operand::Register, Operand::Small]),
+            ActionVerb::Write => every(
+                b"write",
+                &[Operand::Register, Operand::Small, Operand::Large],
+            ),
+            ActionVerb::Move => every(b"move", &[Operand::Register, Operand::Register]),
+            ActionVerb::Drop => every(b"drop", &[Operand::Register]),
+            ActionVerb::Load => every(b"load", &[Operand::Register, Operand::Global]),
+            ActionVerb::Save => every(b"save", &[Operand::Global, Operand::Register]),
+            ActionVerb::Scope => third(b"scope", &[Operand::Register]),
+            ActionVerb::Shape => every(b"shape", &[Operand::Register]),
+            ActionVerb::Weaks => every(b"weaks", &[Operand::Register]),
+        }
+    }
+
+    /// The action of the verb and these numbers, of which more than it has don't count.
+    ///
+    /// ```rust
+    /// assert_eq!(rt; ActionVerb::Drop.action(&[7, 0, 0, 0]), Action::Drop { register: Register { number: 7 } });
+    /// ```
+    pub fn action(self, numbers: &[u64; 4]) -> Action
+        ensures { result ≡ action_by self (numbers_in (action_row self).operands numbers.now) }
+    {
+        let first = register(numbers, 0);
+        let second = register(numbers, 1);
+        match self {
+            ActionVerb::New => Action::New {
+                to: first,
+                counts: Counts {
+                    pointers: small(numbers, 1),
+                    values: small(numbers, 2),
+                },
+            },
+            ActionVerb::NewWeak => Action::NewWeak {
+                to: first,
+                counts: Counts {
+                    pointers: small(numbers, 1),
+                    values: small(numbers, 3),
+                },
+                weaks: (numbers[2] % 0x100) as u8,
+            },
+            ActionVerb::Get => Action::Get {
+                to: first,
+                object: second,
+                field: small(numbers, 2),
+            },
+            ActionVerb::GetWeak => Action::GetWeak {
+                to: first,
+                object: second,
+                slot: small(numbers, 2),
+            },
+            ActionVerb::Put => Action::Put {
+                object: first,
+                field: small(numbers, 1),
+                value: value(numbers[2]),
+            },
+            ActionVerb::PutWeak => Action::PutWeak {
+                object: first,
+                slot: small(numbers, 1),
+                value: value(numbers[2]),
+            },
+            ActionVerb::Read => Action::Read {
+                object: first,
+                field: small(numbers, 1),
+            },
+            ActionVerb::Write => Action::Write {
+                object: first,
+                field: small(numbers, 1),
+                value: numbers[2],
+            },
+            ActionVerb::Move => Action::Move {
+                to: first,
+                from: second,
+            },
+            ActionVerb::Drop => Action::Drop { register: first },
+            ActionVerb::Load => Action::Load {
+                to: first,
+                from: global(numbers, 1),
+            },
+            ActionVerb::Save => Action::Save {
+                to: global(numbers, 0),
+                from: second,
+            },
+            ActionVerb::Scope => Action::Scope { from: first },
+            ActionVerb::Shape => Action::Shape { object: first },
+            ActionVerb::Weaks => Action::Weaks { object: first },
+        }
+    }
+}
+
+impl CollectionVerb {
+    /// All verbs, in the order in which hints list them.
+    ///
+    /// ```rust
+    /// assert_eq!(rt; CollectionVerb::all().len(), 7);
+    /// ```
+    pub fn all() -> &'static [CollectionVerb]
+        ensures { result.now ≡ collection_verbs }
+    {
+        &[
+            CollectionVerb::Begin,
+            CollectionVerb::Mark,
+            CollectionVerb::Remark,
+            CollectionVerb::Cleanup,
+            CollectionVerb::Refine,
+            CollectionVerb::Pause,
+            CollectionVerb::Compact,
+        ]
+    }
+
+    /// The verb's row of the table.
+    ///
+    /// ```rust
+    /// assert_eq!(rt; CollectionVerb::Pause.row().word, b"pause".as_slice());
+    /// ```
+    pub fn row(self) -> Row
+        ensures word { result.word.now ≡ (collection_row self).word }
+        ensures operands { result.operands.now ≡ (collection_row self).operands }
+        ensures third { result.third ≡ (collection_row self).third }
+        ensures few { length result.operands.now ≤ 4 }
+    {
+        match self {
+            CollectionVerb::Begin => every(b"begin", &[]),
+            CollectionVerb::Mark => every(b"mark", &[Operand::Small]),
+            CollectionVerb::Remark => every(b"remark", &[]),
+            CollectionVerb::Cleanup => every(b"cleanup", &[]),
+            CollectionVerb::Refine => every(b"refine", &[Operand::Small]),
+            CollectionVerb::Pause => every(b"pause", &[Operand::Small]),
+            CollectionVerb::Compact => third(b"compact", &[Operand::Small]),
+        }
+    }
+
+    /// The step of the verb and these numbers, of which more than it has don't count.
+    ///
+    /// ```rust
+    /// assert_eq!(rt; CollectionVerb::Mark.step(&[7, 0, 0, 0]), CollectorStep::Mark(7));
+    /// ```
+    pub fn step(self, numbers: &[u64; 4]) -> CollectorStep
+        ensures { result ≡ collection_by self (numbers_in (collection_row self).operands numbers.now) }
+    {
+        match self {
+            CollectionVerb::Begin => CollectorStep::Begin,
+            CollectionVerb::Mark => CollectorStep::Mark(small(numbers, 0)),
+            CollectionVerb::Remark => CollectorStep::Remark,
+            CollectionVerb::Cleanup => CollectorStep::Cleanup,
+            CollectionVerb::Refine => CollectorStep::Refine(small(numbers, 0)),
+            CollectionVerb::Pause => CollectorStep::Pause(small(numbers, 0)),
+            CollectionVerb::Compact => CollectorStep::Compact(small(numbers, 0)),
+        }
+    }
+}
