@@ -144,12 +144,12 @@ pub record SparesRegions (rows : List LiveRow) (words : ℕ) (t t' : Table) : Ty
   pub none : words ≡ 0 → taken ≡ 0
   pub full : 2 ≤ taken → taken * t.words_per_region < 2 * words
 
--- chosen regions have no marks and their tops at their bottoms, and nothing else changes
-pub record MarksAfter (words : ℕ) (rows : List LiveRow) (tops tops' : List ℕ) (marks marks' : List Bool) : Type 0 where
+-- the regions that are gone have no marks, and their tops at mark start are their bottoms; nothing else changes
+pub record MarksAfter (words : ℕ) (gone : ℕ → Bool) (tops tops' : List ℕ) (marks marks' : List Bool) : Type 0 where
   pub count : length tops' ≡ length tops
-  pub each_top : (k : ℕ) → k < length tops → slice_index tops' k ≡ (if is_chosen rows k then k * words else slice_index tops k)
+  pub each_top : (k : ℕ) → k < length tops → slice_index tops' k ≡ (if gone k then k * words else slice_index tops k)
   pub each_word : length marks' ≡ length marks
-  pub each_mark : (a : ℕ) → is_marked marks' a ≡ (if set_in words rows a then false else is_marked marks a)
+  pub each_mark : (a : ℕ) → is_marked marks' a ≡ (if gone (a / words) then false else is_marked marks a)
 
 -- a field of a kept object that leads to another region, and didn't name this target before
 pub record IsNewCrossing (h h' : Layers) (card_words card : ℕ) : Type 0 where
@@ -185,8 +185,8 @@ pub record HasEvacuated (rows : List LiveRow) (card_words words : ℕ) (h h' : L
       → tile_in h'.table a ≡ tile_in h.table a
   pub unmoved : HasNoForwarded h'.table
   pub halves : AreHalves h'.table
-  pub previous : MarksAfter h.table.words_per_region rows h.tams.previous h'.tams.previous h.previous h'.previous
-  pub next : MarksAfter h.table.words_per_region rows h.tams.next h'.tams.next h.next h'.next
+  pub previous : MarksAfter h.table.words_per_region (is_chosen rows) h.tams.previous h'.tams.previous h.previous h'.previous
+  pub next : MarksAfter h.table.words_per_region (is_chosen rows) h.tams.next h'.tams.next h.next h'.next
   pub previous_stands : MarksObjects h'.table h'.tams.previous h'.previous
   pub next_stands : MarksObjects h'.table h'.tams.next h'.next
   pub remembers : Remembers h'.table.words_per_region (kept_of h') card_words (is_dirty h'.cards) (may_lead h'.sets)

@@ -1,5 +1,5 @@
--- What releasing the chosen regions changes.
-use Rattle.std.specs.Prelude.{◌≡◌, ℕ, ◌*◌, ◌/◌, true, false, List, length, if◌then◌else◌}
+-- What releasing regions changes.
+use Rattle.std.specs.Prelude.{◌≡◌, ℕ, Bool, ◌*◌, ◌/◌, true, false, List, length, if◌then◌else◌}
 use Rattle.regions.specs.Table.{Table, Free, nth_region, EachForwardedIn}
 use Rattle.mark_bitmap.specs.declared.bitmaps.Bitmaps.{Bitmaps}
 use Rattle.mark_bitmap.specs.Tops.{Tops}
@@ -8,20 +8,21 @@ use Rattle.remembered_sets.specs.Sets.{Sets, emptied, set_of}
 use Rattle.region_choice.specs.declared.LiveRow.{LiveRow}
 use Rattle.evacuation.specs.Evacuates.{is_chosen}
 
--- the rows' regions are free, and the others are as they were
-pub record AreReleased (rows : List LiveRow) (t t' : Table) : Type 0 where
+-- the regions that are gone are free, and the others are as they were
+pub record AreReleased (gone : ℕ → Bool) (t t' : Table) : Type 0 where
   pub size : t'.words_per_region ≡ t.words_per_region
   pub count : length t'.regions ≡ length t.regions
-  pub gone : (k : ℕ) → is_chosen rows k ≡ true → nth_region t' k ≡ Free
-  pub others : (k : ℕ) → is_chosen rows k ≡ false → nth_region t' k ≡ nth_region t k
+  pub freed : (k : ℕ) → gone k ≡ true → nth_region t' k ≡ Free
+  pub others : (k : ℕ) → gone k ≡ false → nth_region t' k ≡ nth_region t k
 
--- the rows' regions have empty sets, and no card of theirs has entered a set; the other sets stay, and the other cards have as they had
-pub record AreCleared (rows : List LiveRow) (s s' : Sets) : Type 0 where
+-- the regions that are gone have empty sets, and no card of theirs has entered a set; the other sets stay, and the other cards have as
+-- they had
+pub record AreCleared (gone : ℕ → Bool) (s s' : Sets) : Type 0 where
   pub cards : s'.cards_per_region ≡ s.cards_per_region
   pub count : length s'.sets ≡ length s.sets
-  pub cleared : (k : ℕ) → is_chosen rows k ≡ true → set_of s' k ≡ emptied (set_of s k)
-  pub others : (k : ℕ) → is_chosen rows k ≡ false → set_of s' k ≡ set_of s k
-  pub entered : (card : ℕ) → has s'.entered card ≡ (if is_chosen rows (card / s.cards_per_region) then false else has s.entered card)
+  pub cleared : (k : ℕ) → gone k ≡ true → set_of s' k ≡ emptied (set_of s k)
+  pub others : (k : ℕ) → gone k ≡ false → set_of s' k ≡ set_of s k
+  pub entered : (card : ℕ) → has s'.entered card ≡ (if gone (card / s.cards_per_region) then false else has s.entered card)
 
 -- nothing moved into the rows' regions
 abbrev pub NoneForwardedInto : List LiveRow → ℕ → Table → Type 0

@@ -3,7 +3,7 @@
 
 ghost use Rattle.std.specs.Prelude.{◌≡◌, ◌≢◌, ◌+◌, ◌*◌, ◌/◌, ◌<◌, ℕ, All, false, if◌then◌else◌, length};
 ghost use Rattle.regions.specs.declared.row.Kind.TheVariants as kinds;
-ghost use Rattle.evacuation.specs.Evacuates.{AreDistinct, MarksAfter};
+ghost use Rattle.evacuation.specs.Evacuates.{AreDistinct, MarksAfter, is_chosen};
 ghost use Rattle.evacuation.specs.Releasing.{AreCleared, AreOfTable, AreReleased, NoneForwardedInto};
 ghost use Rattle.regions.specs.Table.{free_count, kind_of, released, EachForwardedIn};
 ghost use Rattle.mark_bitmap.specs.Marks.{is_marked};
@@ -64,13 +64,14 @@ pub(crate) fn release_chosen(
     requires distinct { AreDistinct rows.now }
     requires unmoved { NoneForwardedInto rows.now table.old.words_per_region table.old }
     requires layers { AreOfTable table.old tams.old bitmaps.old sets.old }
-    ensures table { AreReleased rows.now table.old table.new }
+    ensures table { AreReleased (is_chosen rows.now) table.old table.new }
     ensures count { free_count table.new ≡ free_count table.old + length rows.now }
     ensures unmoved { NoneForwardedInto rows.now table.old.words_per_region table.new }
-    ensures previous { MarksAfter table.old.words_per_region rows.now tams.old.previous tams.new.previous bitmaps.old.previous
-        bitmaps.new.previous }
-    ensures next { MarksAfter table.old.words_per_region rows.now tams.old.next tams.new.next bitmaps.old.next bitmaps.new.next }
-    ensures sets { AreCleared rows.now sets.old sets.new }
+    ensures previous { MarksAfter table.old.words_per_region (is_chosen rows.now) tams.old.previous tams.new.previous
+        bitmaps.old.previous bitmaps.new.previous }
+    ensures next { MarksAfter table.old.words_per_region (is_chosen rows.now) tams.old.next tams.new.next bitmaps.old.next
+        bitmaps.new.next }
+    ensures sets { AreCleared (is_chosen rows.now) sets.old sets.new }
 {
     table.law();
     for row in rows {

@@ -24,17 +24,20 @@ use Rattle.refinement.specs.Refining.{FieldsInside}
 abbrev pub Stands : Table → (ℕ → Option Stored) → Type 0
 Stands t kept = (a : ℕ) (s : Stored) → kept a ≡ Some s → object_at t a ≡ Some s
 
+-- a field's word belongs to its object's tile
+pub word_holder : (t : Table) (a i : ℕ) (x : Stored) → object_at t a ≡ Some x → i < length (fields x) → IsHolder t a (field_word a i)
+unfolding object_at
+word_holder t a i x at inside = record {
+  tile = Object x;
+  tile_is = object_tile (tile_in t a) x at;
+  low = omega arith;
+  high = omega (arith, inside, length-append x.pointers x.weaks);
+}
+
 pub field_holder : (t : Table) (kept : ℕ → Option Stored) (a i v : ℕ) → Stands t kept
     → IsCrossing t.words_per_region kept a i v → IsHolder t a (field_word a i)
-unfolding object_at
 field_holder t kept a i v stands x =
-    let inside = slice_get_within (fields x.object) i (Some v) x.field_is in
-    record {
-      tile = Object x.object;
-      tile_is = object_tile (tile_in t a) x.object (stands a x.object x.kept_is);
-      low = omega arith;
-      high = omega (arith, inside, length-append x.object.pointers x.object.weaks);
-    }
+    word_holder t a i x.object (stands a x.object x.kept_is) (slice_get_within (fields x.object) i (Some v) x.field_is)
 
 pub object_known : (t : Table) (a : ℕ) (s : Stored) → object_at t a ≡ Some s → a / t.words_per_region < length t.regions
 unfolding object_at

@@ -227,12 +227,3 @@ set_lets_after s n w card some all =
 pub set_lets_still : (s : CardSet) (w card c : ℕ) → lets_through s.filter w c ≡ true → lets_through (set_after s w card).filter w c ≡ true
 set_lets_still s w card c was =
     ap (λ (f : CardFilter). lets_through f w c) (filter_stays (letting s w card) card (card / w)) ∙ lets_still s.filter w card c was
-
--- a card that the set covers and that its filter lets through changes nothing
-pub set_same : (s : CardSet) (w card : ℕ) → set_covers s card (card / w) ≡ true → lets_through s.filter w card ≡ true
-    → set_after s w card ≡ s
-set_same s w card covered lets =
-    with_cases (λ t. t ≡ s) (letting s w card) card (card / w)
-    (λ was. ap (λ (f : CardFilter). record { inline = s.inline; sources = s.sources; filter = f }) (filter_same s.filter w card lets))
-    (λ missing short. absurd (false≢true (sym missing ∙ covered)))
-    (λ missing full. absurd (false≢true (sym missing ∙ covered)))

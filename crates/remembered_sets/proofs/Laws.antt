@@ -16,7 +16,7 @@ use Rattle.remembered_sets.specs.Sets.{without_region, card_count, IsSet, AreSet
 use Rattle.remembered_sets.specs.Sets.Change.{Add, Clear}
 use Rattle.remembered_sets.proofs.Filters.{marks_grow, region_of}
 use Rattle.remembered_sets.proofs.Covered.{set_grows, set_covers-with, set_only, set_only_card, emptied_covers}
-use Rattle.remembered_sets.proofs.Covered.{IsSet-after, IsSet-emptied, set_lets_after, set_lets_still, set_same}
+use Rattle.remembered_sets.proofs.Covered.{IsSet-after, IsSet-emptied, set_lets_after, set_lets_still}
 
 -- a card lies in one of the regions
 pub source_known : (card w n : ℕ) → 0 < w → card < n * w → card / w < n
@@ -209,18 +209,6 @@ leads_grow s region card r c known was =
         ∙ set_lets_still (set_of s region) s.cards_per_region card c here
     still_through (inr differs) e =
         ap (λ (t : CardSet). lets_through t.filter s.cards_per_region c) (added_other s region card r differs) ∙ e
-
--- a card that may lead there changes nothing
-pub added_same : (s : Sets) (region card : ℕ) → may_lead s region card ≡ true → added s region card ≡ s
-added_same s region card was =
-    let (covered, (is_in, through)) = leads_parts s region card was in
-    let sets : set s.sets region (set_after (set_of s region) s.cards_per_region card) ≡ s.sets =
-    ap (λ (t : CardSet). set s.sets region t) (set_same (set_of s region) s.cards_per_region card covered through)
-    ∙ set-get_or s.sets region no_set in
-    let entered : set s.entered card true ≡ s.entered =
-    ap (λ (b : Bool). set s.entered card b) (sym is_in) ∙ set-get_or s.entered card false in
-    ap₂ (λ (ss : List CardSet) (flags : List Bool). record { sets = ss; cards_per_region = s.cards_per_region; entered = flags })
-    sets entered
 
 -- what is covered anew is the card, or lies in its region
 pub covers_only : (s : Sets) (region card c : ℕ) → region < length s.sets → covers (added s region card) region c ≡ true

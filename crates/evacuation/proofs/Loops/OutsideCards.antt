@@ -18,6 +18,7 @@ use Rattle.regions.proofs.Tiles.Holders.{holder_onward, holder_below, one_holder
 use Rattle.object_copy.specs.Copies.{Places}
 use Rattle.object_copy.proofs.Copied.{tile_of_object}
 use Rattle.refinement.specs.Remembering.{field_word}
+use Rattle.refinement.proofs.Holders.{word_holder}
 use Rattle.evacuation.specs.Space.{IsField, IsFieldClean, IsObject, IsStill, IsVisited, AreClean, flag}
 use Rattle.evacuation.specs.declared.outside.Kept.{Kept}
 use Rattle.evacuation.specs.declared.room.Context.{Context}
@@ -56,13 +57,7 @@ visited_holder : (p : Pause) (t : Table) (d : Places) (visited : List Bool) (b i
     → IsVisited (layout p) (plan p) visited b i → IsHolder t b (field_word b i)
 visited_holder p t d visited b i turn v =
     let f = visited_field p t d visited b i turn v in
-    let w = f.within in
-    record {
-      tile = Object f.object;
-      tile_is = tile_of_object t b f.object (kept_object p t b f.object f.at);
-      low = omega arith;
-      high = omega (arith, length-append f.object.pointers f.object.weaks);
-    }
+    word_holder t b i f.object (kept_object p t b f.object f.at) f.within
 
 module _ (p : Pause) (q : IsPause p) (card : ℕ) where
   has_words : 0 < p.card_words

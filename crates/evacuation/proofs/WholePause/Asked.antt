@@ -26,7 +26,7 @@ use Rattle.remembered_sets.specs.Sets.{card_count, may_lead}
 use Rattle.refinement.specs.Remembering.{IsCrossing, field_word}
 use Rattle.regions.proofs.Words.Divides.{card_has_words, card_region, div_is, div_low, div_high}
 use Rattle.regions.proofs.Tiles.Holders.{holder_start}
-use Rattle.refinement.proofs.Holders.{object_within}
+use Rattle.refinement.proofs.Holders.{word_holder}
 use Rattle.object_copy.specs.Copies.{no_places}
 use Rattle.object_copy.proofs.Copied.{tile_of_object}
 use Rattle.evacuation.specs.Evacuates.{Layers, CanEvacuate, IsRow, is_chosen, stored_words}
@@ -209,15 +209,7 @@ module _ (h : Layers) (rows : List LiveRow) (cw : ℕ) (can : CanEvacuate h rows
       → slice_get (fields x) i ≡ Some v → flag flags (b / words) ≡ false
       → flag flags (field_word b i / words) ≡ false
   field_outside b i x v at e out =
-      let o = object b x at in
-      let n = get_below (fields x) i v e in
-      let big = object_within h.table b x shaped o in
-      let holder : IsHolder h.table b (field_word b i) = record {
-        tile = Object x;
-        tile_is = tile_of_object h.table b x o;
-        low = omega arith;
-        high = omega (arith, length-append x.pointers x.weaks);
-      } in
+      let holder = word_holder h.table b i x (object b x at) (get_below (fields x) i v e) in
       elim (cases_Bool (flag flags (field_word b i / words))) [ inl q ↦ absurd (apart b (field_word b i) holder out q) | inr q ↦ q ]
 
   module _ (visited : List Bool)
@@ -225,15 +217,7 @@ module _ (h : Layers) (rows : List LiveRow) (cw : ℕ) (can : CanEvacuate h rows
       → flag visited card ≡ list_any (λ row. may_lead h.sets row.region card) rows) where
     all_visited : AllVisited (layout pause) (plan pause) visited
     all_visited b i a x at out e inside =
-        let o = object b x at in
-        let n = get_below (fields x) i (Some a) e in
-        let big = object_within h.table b x shaped o in
-        let holder : IsHolder h.table b (field_word b i) = record {
-          tile = Object x;
-          tile_is = tile_of_object h.table b x o;
-          low = omega arith;
-          high = omega (arith, length-append x.pointers x.weaks);
-        } in
+        let holder = word_holder h.table b i x (object b x at) (get_below (fields x) i (Some a) e) in
         let leaves : a / words ≢ field_word b i / words =
         λ same. apart b (field_word b i) holder out (ap (flag flags) (sym same) ∙ inside) in
         let crossing : IsCrossing words kept b i a = record { object = x; kept_is = at; field_is = e; leaves = leaves } in

@@ -5,9 +5,9 @@ use Rattle.std.proofs.Common.{take, refl, sym, ap, subst, inl, inr, arith, eqb}
 use Rattle.std.specs.Prelude.{slice_get, ◌||◌, ◌==◌, if◌then◌else◌}
 use Rattle.std.specs.List.{list_any}
 use Rattle.std.specs.Cmp.{nat_eq_equiv}
-use Rattle.std.proofs.lemmas.Bool.{cases_eq, cases_Bool}
+use Rattle.std.proofs.lemmas.Bool.{cases_eq, cases_lt, cases_Bool}
 use Rattle.std.proofs.lemmas.List.Folds.{list_any-append}
-use Rattle.std.proofs.lemmas.List.{get_or-set_same, get_or-set_other, length-set, take_more}
+use Rattle.std.proofs.lemmas.List.{get_or-set_same, get_or-set_other, get_or_past, length-set, take_more}
 use Rattle.regions.specs.Table.{Free, Table, kind_of, region_kind, nth_region, released}
 use Rattle.regions.specs.declared.row.Kind.TheVariants as kinds
 use Rattle.regions.proofs.Tiles.Released as one
@@ -53,12 +53,12 @@ region_is words r a z = elim (cases_Bool (is_in_region words r a)) [
   | inr e ↦ elim (eqb_tells r (a / words)) [ inl q ↦ absurd (ranges.other_region words r a z e (sym q.1)) | inr q ↦ e ∙ sym q.0 ]
 ]
 
-module _ (xs ys : List LiveRow) (r : ℕ) (more : (k : ℕ) → is_chosen ys k ≡ (is_chosen xs k || (r == k))) where
-  new_cases : (k : ℕ) → is_chosen ys k ≡ true → (is_chosen xs k ≡ true) ⊎ (r ≡ k)
-  new_cases k e = elim (either (is_chosen xs k) (r == k) (sym (more k) ∙ e)) [ inl q ↦ inl q | inr q ↦ inr (eqb-true r k q) ]
+module _ (xs ys : ℕ → Bool) (r : ℕ) (more : (k : ℕ) → ys k ≡ (xs k || (r == k))) where
+  new_cases : (k : ℕ) → ys k ≡ true → (xs k ≡ true) ⊎ (r ≡ k)
+  new_cases k e = elim (either (xs k) (r == k) (sym (more k) ∙ e)) [ inl q ↦ inl q | inr q ↦ inr (eqb-true r k q) ]
 
-  old_both : (k : ℕ) → is_chosen ys k ≡ false → (is_chosen xs k ≡ false) × (k ≢ r)
-  old_both k e = let n = neither (is_chosen xs k) (r == k) (sym (more k) ∙ e) in (n.0, λ q. eqb-false r k n.1 (sym q))
+  old_both : (k : ℕ) → ys k ≡ false → (xs k ≡ false) × (k ≢ r)
+  old_both k e = let n = neither (xs k) (r == k) (sym (more k) ∙ e) in (n.0, λ q. eqb-false r k n.1 (sym q))
 
   pub step_released : (t0 t1 t2 : Table) → 0 < t1.words_per_region → r < length t1.regions → kind_of t1 r ≡ kinds.Ordinary
       → t2 ≡ released t1 r → AreReleased xs t0 t1 → AreReleased ys t0 t2
@@ -67,9 +67,9 @@ module _ (xs ys : List LiveRow) (r : ℕ) (more : (k : ℕ) → is_chosen ys k �
       record {
         size = w.size ∙ done.size;
         count = w.count ∙ done.count;
-        gone = λ k e. elim (cases_eq k r) [
+        freed = λ k e. elim (cases_eq k r) [
           | inl q ↦ ap (nth_region t2) q ∙ w.free
-          | inr q ↦ elim (new_cases k e) [ inl g ↦ w.others k q ∙ done.gone k g | inr g ↦ absurd (q (sym g)) ]
+          | inr q ↦ elim (new_cases k e) [ inl g ↦ w.others k q ∙ done.freed k g | inr g ↦ absurd (q (sym g)) ]
         ];
         others = λ k e. let (a, b) = old_both k e in w.others k b ∙ done.others k a;
       }
@@ -95,13 +95,13 @@ module _ (xs ys : List LiveRow) (r : ℕ) (more : (k : ℕ) → is_chosen ys k �
         ∙ ap (λ (n : ℕ). if eqb (card / n) r then false else has s1.entered card) done.cards
         ∙ ap (λ (b : Bool). if b then false else has s1.entered card) (nat_eq_equiv.symm (card / s0.cards_per_region) r)
         ∙ ap (λ (b : Bool). if eqb r (card / s0.cards_per_region) then false else b) (done.entered card)
-        ∙ if_both (is_chosen xs (card / s0.cards_per_region)) (eqb r (card / s0.cards_per_region)) false (has s0.entered card)
+        ∙ if_both (xs (card / s0.cards_per_region)) (eqb r (card / s0.cards_per_region)) false (has s0.entered card)
         ∙ ap (λ (b : Bool). if b then false else has s0.entered card) (sym (more (card / s0.cards_per_region)));
   })
     where
       -- the set that is emptied now was the first one's, or was empty already
       at_last : emptied (set_of s1 r) ≡ emptied (set_of s0 r)
-      at_last = elim (cases_Bool (is_chosen xs r)) [
+      at_last = elim (cases_Bool (xs r)) [
         | inl e ↦ ap emptied (done.cleared r e) ∙ emptied_twice (set_of s0 r)
         | inr e ↦ ap emptied (done.others r e)
       ]
@@ -114,16 +114,16 @@ module _ (xs ys : List LiveRow) (r : ℕ) (more : (k : ℕ) → is_chosen ys k �
     count = ap (λ (m : List ℕ). length m) is ∙ length-set tops1 r (r * words) ∙ done.count;
     each_top = λ k h. ap (λ (m : List ℕ). get_or m k 0) is ∙ rw (more k) (elim (eqb_tells r k) [
       | inl q ↦ (let e : k ≡ r = sym q.1 in
-          subst (λ (m : ℕ). get_or (set tops1 r (r * words)) m 0 ≡ (if is_chosen xs m || (r == m) then m * words else get_or tops0 m 0)) q.1
+          subst (λ (m : ℕ). get_or (set tops1 r (r * words)) m 0 ≡ (if xs m || (r == m) then m * words else get_or tops0 m 0)) q.1
           (get_or-set_same tops1 r (r * words) 0 known
-          ∙ sym (yes (is_chosen xs r) (r == r) (r * words) (get_or tops0 r 0) (eq-eqb r r refl))))
+          ∙ sym (yes (xs r) (r == r) (r * words) (get_or tops0 r 0) (eq-eqb r r refl))))
       | inr q ↦ get_or-set_other tops1 r k (r * words) 0 (λ e. q.1 (sym e)) ∙ done.each_top k h
-          ∙ sym (no (is_chosen xs k) (r == k) (k * words) (get_or tops0 k 0) q.0)
+          ∙ sym (no (xs k) (r == k) (k * words) (get_or tops0 k 0) q.0)
     ]);
     each_word = len ∙ done.each_word;
     each_mark = λ a. marks a ∙ ap (λ (b : Bool). if b then false else is_marked marks1 a) (region_is words r a z)
         ∙ ap (λ (m : Bool). if eqb r (a / words) then false else m) (done.each_mark a)
-        ∙ if_both (is_chosen xs (a / words)) (eqb r (a / words)) false (is_marked marks0 a)
+        ∙ if_both (xs (a / words)) (eqb r (a / words)) false (is_marked marks0 a)
         ∙ ap (λ (b : Bool). if b then false else is_marked marks0 a) (sym (more (a / words)));
   }
     where
@@ -134,6 +134,24 @@ module _ (xs ys : List LiveRow) (r : ℕ) (more : (k : ℕ) → is_chosen ys k �
       no : (a b : Bool) (x y : ℕ) → b ≡ false → (if a || b then x else y) ≡ (if a then x else y)
       no true b x y e = refl
       no false b x y e = rw e refl
+
+-- what was of the regions that are gone, and of the others
+module _ {words : ℕ} {gone : ℕ → Bool} {tops tops' : List ℕ} {marks marks' : List Bool}
+    (after : MarksAfter words gone tops tops' marks marks') where
+  pub top_gone : (k : ℕ) → k < length tops → gone k ≡ true → get_or tops' k 0 ≡ k * words
+  top_gone k known e = after.each_top k known ∙ ap (λ (b : Bool). if b then k * words else get_or tops k 0) e
+
+  pub top_left : (k : ℕ) → gone k ≡ false → get_or tops' k 0 ≡ get_or tops k 0
+  top_left k e = elim (cases_lt k (length tops)) [
+    | inl known ↦ after.each_top k known ∙ ap (λ (b : Bool). if b then k * words else get_or tops k 0) e
+    | inr past ↦ get_or_past tops' k 0 (omega (arith, past, after.count)) ∙ sym (get_or_past tops k 0 past)
+  ]
+
+  pub mark_gone : (a : ℕ) → gone (a / words) ≡ true → is_marked marks' a ≡ false
+  mark_gone a e = after.each_mark a ∙ ap (λ (b : Bool). if b then false else is_marked marks a) e
+
+  pub mark_left : (a : ℕ) → gone (a / words) ≡ false → is_marked marks' a ≡ is_marked marks a
+  mark_left a e = after.each_mark a ∙ ap (λ (b : Bool). if b then false else is_marked marks a) e
 
 pub none_moved : (rows : List LiveRow) (words : ℕ) (t t' : Table) (r : ℕ) → 0 < t.words_per_region → r < length t.regions
     → kind_of t r ≡ kinds.Ordinary → t' ≡ released t r → NoneForwardedInto rows words t → NoneForwardedInto rows words t'

@@ -47,16 +47,11 @@ use Rattle.evacuation.proofs.Turns.AllCopied.{reached_inside}
 use Rattle.evacuation.proofs.Turns.KeptObjects.{not_below, kept_object, cases_free, free_used, object_of}
 use Rattle.refinement.proofs.Fields.{region_of_card}
 use Rattle.evacuation.proofs.WholePause.Asked as asked
-use Rattle.evacuation.proofs.WholePause.ChosenReleased.{kind_by}
+use Rattle.evacuation.proofs.WholePause.ChosenReleased.{kind_by, mark_gone, mark_left, top_gone, top_left}
 
 kept_now_is : (p : Pause) (t : Table) → kept_now p t ≡ kept_in t p.tams p.previous
 unfolding kept_now
 kept_now_is p t = refl
-
-past : (xs : List ℕ) (k : ℕ) → length xs ≤ k → get_or xs k 0 ≡ 0
-past [] k h = refl
-past (x ∷ xs) zero h = absurd (omega arith)
-past (x ∷ xs) (suc k) h = past xs k (omega arith)
 
 used_by : (t t' : Table) (k : ℕ) → t'.words_per_region ≡ t.words_per_region → nth_region t' k ≡ nth_region t k → used_of t' k ≡ used_of t k
 unfolding used_of
@@ -101,7 +96,7 @@ module _ (h : Layers) (rows : List LiveRow) (cw : ℕ) (can : CanEvacuate h rows
     (flags_are : (k : ℕ) → flag flags k ≡ is_chosen rows k) (len : length flags ≡ length h.table.regions)
     (t1 : Table) (c1 : Context)
     (turn : IsTurn (asked.pause h rows cw can shaped flags flags_are len) t1 c1.destinations)
-    (t2 : Table) (rel : AreReleased rows t1 t2) (more : free_count t2 ≡ free_count t1 + length rows) where
+    (t2 : Table) (rel : AreReleased (is_chosen rows) t1 t2) (more : free_count t2 ≡ free_count t1 + length rows) where
   abbrev p : Pause
   p = asked.pause h rows cw can shaped flags flags_are len
 
@@ -123,7 +118,7 @@ module _ (h : Layers) (rows : List LiveRow) (cw : ℕ) (can : CanEvacuate h rows
   -- what stands where after the release
   tile_inside : (a : ℕ) → in_set p a ≡ true → tile_in t2 a ≡ None
   tile_inside a e =
-      tile_of_region t2 a Free (ap (λ (n : ℕ). nth_region t2 (a / n)) size ∙ rel.gone (a / words) (sym (flags_are (a / words)) ∙ e))
+      tile_of_region t2 a Free (ap (λ (n : ℕ). nth_region t2 (a / n)) size ∙ rel.freed (a / words) (sym (flags_are (a / words)) ∙ e))
 
   tile_outside : (a : ℕ) → in_set p a ≡ false → tile_in t2 a ≡ tile_in t1 a
   tile_outside a e =
@@ -170,7 +165,7 @@ module _ (h : Layers) (rows : List LiveRow) (cw : ℕ) (can : CanEvacuate h rows
   regions = record {
     size = size;
     count = rel.count ∙ turn.table.count;
-    chosen = λ k e. kind_free t2 k (rel.gone k e);
+    chosen = λ k e. kind_free t2 k (rel.freed k e);
     was_free = λ k f. let s = kind_by t1 t2 k (rel.others k (not_chosen k f)) in
         elim (turn.table.was_free k f) [ inl e ↦ inl (s ∙ e) | inr e ↦ inr (s ∙ e) ];
     lowest = λ j k fj free f o. turn.table.lowest j k fj (sym (kind_by t1 t2 j (rel.others j (not_chosen j fj))) ∙ free) f
@@ -212,26 +207,18 @@ module _ (h : Layers) (rows : List LiveRow) (cw : ℕ) (can : CanEvacuate h rows
           subst (λ (m : Stored). 2 * tile_size (Object m) ≤ words) same (omega arith)
 
   module _ (tops tops' : List ℕ) (marks marks' : List Bool) (m : MarksObjects h.table tops marks)
-      (after : MarksAfter words rows tops tops' marks marks') where
-    top_out : (k : ℕ) → is_chosen rows k ≡ false → get_or tops' k 0 ≡ get_or tops k 0
-    top_out k e = elim (cases_lt k (length tops)) [
-      | inl lt ↦ after.each_top k lt ∙ ap (λ (b : Bool). if b then k * words else get_or tops k 0) e
-      | inr ge ↦ past tops' k (let c = after.count in omega arith) ∙ sym (past tops k ge)
-    ]
-
+      (after : MarksAfter words (is_chosen rows) tops tops' marks marks') where
     pub below_same : (a : ℕ) → in_set p a ≡ false → is_below t2.words_per_region tops' a ≡ is_below words tops a
     unfolding is_below
     below_same a e =
-        ap (λ (n : ℕ). is_below n tops' a) size ∙ ap (λ (n : ℕ). nat_lt a n) (top_out (a / words) (sym (flags_are (a / words)) ∙ e))
+        ap (λ (n : ℕ). is_below n tops' a) size ∙ ap (λ (n : ℕ). nat_lt a n) (top_left after (a / words) (sym (flags_are (a / words)) ∙ e))
 
     pub mark_same : (a : ℕ) → in_set p a ≡ false → is_marked marks' a ≡ is_marked marks a
-    mark_same a e = after.each_mark a ∙ ap (λ (b : Bool). if b then false else is_marked marks a) (sym (flags_are (a / words)) ∙ e)
+    mark_same a e = mark_left after a (sym (flags_are (a / words)) ∙ e)
 
     marked_out : (a : ℕ) → is_marked marks' a ≡ true → in_set p a ≡ false
     marked_out a e = elim (cases_Bool (in_set p a)) [
-      | inl i ↦ absurd (let g =
-          after.each_mark a ∙ ap (λ (b : Bool). if b then false else is_marked marks a) (sym (flags_are (a / words)) ∙ i) in
-          cc)
+      | inl i ↦ absurd (let g = mark_gone after a (sym (flags_are (a / words)) ∙ i) in cc)
       | inr o ↦ o
     ]
 
@@ -242,18 +229,14 @@ module _ (h : Layers) (rows : List LiveRow) (cw : ℕ) (can : CanEvacuate h rows
       bottom = λ k lt. let k0 : k < length h.table.regions = (let c = regions.count in omega arith) in
           let z = ap (λ (n : ℕ). k * n) size in
           elim (cases_Bool (is_chosen rows k)) [
-            | inl e ↦ (let t =
-                after.each_top k (let c = m.each_region in omega arith) ∙ ap (λ (b : Bool). if b then k * words else get_or tops k 0) e in
-                omega arith)
-            | inr e ↦ (let t = top_out k e in let b = m.bottom k k0 in omega arith)
+            | inl e ↦ (let t = top_gone after k (let c = m.each_region in omega arith) e in omega arith)
+            | inr e ↦ (let t = top_left after k e in let b = m.bottom k k0 in omega arith)
           ];
       top = λ k lt. let k0 : k < length h.table.regions = (let c = regions.count in omega arith) in
           let z = ap (λ (n : ℕ). k * n) size in
           elim (cases_Bool (is_chosen rows k)) [
-            | inl e ↦ (let t =
-                after.each_top k (let c = m.each_region in omega arith) ∙ ap (λ (b : Bool). if b then k * words else get_or tops k 0) e in
-                omega arith)
-            | inr e ↦ (let t = top_out k e in let b = m.top k k0 in elim (cases_free (kind_of h.table k)) [
+            | inl e ↦ (let t = top_gone after k (let c = m.each_region in omega arith) e in omega arith)
+            | inr e ↦ (let t = top_left after k e in let b = m.top k k0 in elim (cases_free (kind_of h.table k)) [
               | inl f ↦ (let u = free_used h.table k f in omega arith)
               | inr n ↦ (let u = regions.used k e n in omega arith)
             ])
@@ -285,9 +268,9 @@ module _ (h : Layers) (rows : List LiveRow) (cw : ℕ) (can : CanEvacuate h rows
   -- ---- all together
   module _ (tams' : Tops) (previous' next' : List Bool) (cards' : Cards) (sets' : Sets)
       (roots' : List (Option ℕ)) (g : IsShaped t2)
-      (previous : MarksAfter words rows h.tams.previous tams'.previous h.previous previous')
-      (next : MarksAfter words rows h.tams.next tams'.next h.next next')
-      (cleared : AreCleared rows h.sets sets') (dirty : (card : ℕ) → is_dirty cards' card ≡ flag c1.noted card)
+      (previous : MarksAfter words (is_chosen rows) h.tams.previous tams'.previous h.previous previous')
+      (next : MarksAfter words (is_chosen rows) h.tams.next tams'.next h.next next')
+      (cleared : AreCleared (is_chosen rows) h.sets sets') (dirty : (card : ℕ) → is_dirty cards' card ≡ flag c1.noted card)
       (logs : cards'.logs ≡ h.cards.logs) (rising : IsStrictlyIncreasing cards'.queue) (each : length cards'.dirty ≡ length h.cards.dirty)
       (done : HasCopied p t1 c1 roots')
       (only : (c : ℕ) → flag c1.noted c ≡ true → NewCrossing (layout p) (space p h.table) (space p t1) c1.destinations c) where

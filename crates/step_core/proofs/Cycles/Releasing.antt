@@ -34,7 +34,7 @@ use Rattle.remembered_sets.proofs.Laws.{leads_alike}
 use Rattle.remembered_sets.proofs.Covered.{emptied_twice}
 use Rattle.refinement.specs.Remembering.{Remembers, field_card, field_word}
 use Rattle.refinement.proofs.Fields.{region_of_card}
-use Rattle.refinement.proofs.Holders.{kept_object}
+use Rattle.refinement.proofs.Holders.{kept_object, word_holder}
 use Rattle.regions.specs.Walks.{IsHolder}
 use Rattle.regions.proofs.Tiles.Holders.{holder_start}
 use Rattle.regions.proofs.Tiles.Laws.{object_tile}
@@ -261,13 +261,7 @@ module _ (k : CoreState) (core : IsCore k) (shaped : IsShaped k.table) (n m : �
   field_stays at index x v kept_is field_is =
       let here : kept_of k at ≡ Some x = sym (kept_same at) ∙ kept_is in
       let o = kept_object k.table k.marker.tams k.marker.bitmaps.previous at x here in
-      let few = get_below (fields x) index v field_is in
-      let holder : IsHolder k.table at (field_word at index) = record {
-        tile = Object x;
-        tile_is = object_there k.table at x o;
-        low = omega arith;
-        high = omega (arith, few, length-append x.pointers x.weaks);
-      } in
+      let holder = word_holder k.table at index x o (get_below (fields x) index v field_is) in
       let s = holder_start k.table at (field_word at index) shaped holder in
       let below = s.run.below in
       elim (block_cases n m (field_word at index / size)) [

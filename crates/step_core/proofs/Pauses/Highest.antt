@@ -365,9 +365,3 @@ ended t tams marks budget number free sum rows h none = record {
       let low = follows_below t tams.previous marks _ number free sum rows row h a in
       none row.region low (All_last (IsRowOf t tams.previous marks) rows row a.are_rows.each).ordinary;
 }
-
--- while marking runs nothing is chosen
-pub waiting : (t : Table) (tams : Tops) (marks : List Bool) (budget : ℕ) → IsCompacted t tams marks true budget []
-waiting t tams marks budget =
-    let top = at_top t tams.previous marks (copy_limit t.words_per_region budget (count_by is_free t.regions)) in
-    record { highest = top.highest; down = top.down; waits = λ run. refl; next = λ idle. absurd (cc) }

@@ -180,6 +180,3 @@ module _ (c k : CoreState) (ready : IsReady c k) where
 
   pub ready_next : k.next ≡ c.next
   ready_next = ap (λ (d : CoreState). d.next) ready.same
-
-  pub ready_buffers : k.buffers ≡ closed c.buffers.words (length c.buffers.open_buffers)
-  ready_buffers = ap (λ (d : CoreState). d.buffers) ready.same

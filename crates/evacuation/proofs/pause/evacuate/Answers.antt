@@ -106,9 +106,9 @@ returns-clause-evacuated c =
     let on = c.copy_reached.ensures.goes_on in
     let gone = c.release_chosen.ensures in
     let z = on.stands.turn.table.size in
-    let previous = subst (λ (n : ℕ). MarksAfter n c.args.chosen.now c.args.tams.now.previous c.release_chosen.new.tams.previous
+    let previous = subst (λ (n : ℕ). MarksAfter n (is_chosen c.args.chosen.now) c.args.tams.now.previous c.release_chosen.new.tams.previous
     c.args.bitmaps.now.previous c.release_chosen.new.bitmaps.previous) z gone.previous in
-    let next = subst (λ (n : ℕ). MarksAfter n c.args.chosen.now c.args.tams.now.next c.release_chosen.new.tams.next
+    let next = subst (λ (n : ℕ). MarksAfter n (is_chosen c.args.chosen.now) c.args.tams.now.next c.release_chosen.new.tams.next
     c.args.bitmaps.now.next c.release_chosen.new.bitmaps.next) z gone.next in
     let dirty = c.dirty_noted.ensures in
     let all = final.evacuated h c.args.chosen.now c.args.card_words c.requires.can c.law.ensures flags are len c.copy_reached.new.table

@@ -48,8 +48,8 @@ loop-row-preserved c =
     let o : kind_of c.loop-row.table row.region ≡ kinds.Ordinary =
     kind_by c.args.table.now c.loop-row.table row.region (v.table.others row.region not)
     ∙ subst (λ (r : LiveRow). kind_of c.args.table.now r.region ≡ kinds.Ordinary) (sym c.row-item.is) o' in
-    let xs = take c.loop-row.row-index c.args.rows.now in
-    let ys = take (c.loop-row.row-index + 1) c.args.rows.now in
+    let xs = is_chosen (take c.loop-row.row-index c.args.rows.now) in
+    let ys = is_chosen (take (c.loop-row.row-index + 1) c.args.rows.now) in
     let w = ap (λ (n : ℕ). row.region * n) v.table.size in
     record {
       table = step_released xs ys row.region more c.args.table.now c.loop-row.table c.release_region.new.table z
