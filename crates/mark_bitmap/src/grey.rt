@@ -30,7 +30,7 @@ ghost use Rattle.std.specs.Prelude.{◌≡◌, ◌≢◌, ℕ, ◌<◌, List, Bo
 ghost use Rattle.std.specs.Prelude.{slice_set, []};
 ghost use Rattle.std.specs.Int.{div_ceil};
 ghost use Rattle.bit_sets.specs.Bits.{has};
-ghost use Rattle.mark_bitmap.specs.Marks.{is_marked, is_only, HasNone, IsLowest};
+ghost use Rattle.mark_bitmap.specs.Marks.{is_marked, HasNone, IsLowest};
 ghost use Rattle.mark_bitmap.specs.Summary.{HasMember, HasNoMember};
 ghost use Rattle.mark_bitmap.specs.Grey.{finger_of, is_grey, nothing_scanned, with_grey};
 ghost use Rattle.mark_bitmap.specs.Grey.{HasFingers, HasNoFinger, HoldsNext, IsLowestBeside, Scans};
@@ -39,13 +39,14 @@ ghost use Rattle.mark_bitmap.specs.Stack.{IsOn};
 use crate::finger_set::Fingers;
 use crate::mark_stack::MarkStack;
 use crate::marks::Marks;
+use bit_sets::bits::Bits;
 use heap_words::addr::{Addr, Ptr};
 use std::alloc::{AllocError, Global};
 use std::marker::Model;
 
 /// Which objects are scanned, the fingers, the object that is held beside them, and the stack. Clauses see the four.
 pub struct Grey {
-    scanned: Marks,
+    scanned: Bits,
     fingers: Fingers,
     held: Ptr,
     stack: MarkStack,
@@ -76,7 +77,7 @@ impl Drop for Grey {
 /// The lowest grey object at or after the addresses of the lowest finger that is set.
 #[inline(always)]
 #[tactic(auto, unfolding(crate::specs::Grey::finger_of))]
-fn lowest_beside(marks: &Marks, scanned: &Marks, fingers: &Fingers) -> Option<Addr>
+fn lowest_beside(marks: &Bits, scanned: &Bits, fingers: &Fingers) -> Option<Addr>
     requires even { length marks.now ≡ length scanned.now }
     requires count { length fingers.now ≡ div_ceil (length scanned.now) 64 }
     ensures lowest { MatchOption result (HasNoFinger marks.now scanned.now fingers.now)
@@ -86,10 +87,10 @@ fn lowest_beside(marks: &Marks, scanned: &Marks, fingers: &Fingers) -> Option<Ad
     let finger = fingers.lowest()?;
     // Mostly it is among the finger's own addresses.
     if let Some(found) = marks.lowest_without(scanned, finger) {
-        return Some(found);
+        return Some(Addr::new(found));
     }
-    let end = Addr::new(marks.len());
-    marks.next_without(scanned, Addr::new(64 * finger), end)
+    let end = marks.len();
+    marks.next_without(scanned, 64 * finger, end).map(Addr::new)
 }
 
 impl Grey {
@@ -101,7 +102,7 @@ impl Grey {
         ensures fingers { IfOk result (λ grey. (marks : List Bool) → ((a : ℕ) → is_marked marks a ≡ false) → HasFingers marks grey) }
     {
         Ok(Grey {
-            scanned: Marks::new(alloc, count)?,
+            scanned: Bits::new(alloc, count)?,
             fingers: Fingers::new(alloc, count.div_ceil(64))?,
             held: None,
             stack: MarkStack::new(by_address),
@@ -180,7 +181,11 @@ impl Grey {
         if self.fingers.is_empty() {
             return;
         }
-        if marks.lowest_left(&self.scanned, object).is_none() {
+        if marks
+            .bits()
+            .lowest_left(&self.scanned, object.word())
+            .is_none()
+        {
             self.fingers.remove(object.word() / 64);
         }
     }
@@ -198,7 +203,7 @@ impl Grey {
             self.held = Some(found);
             return;
         }
-        self.held = lowest_beside(marks, &self.scanned, &self.fingers);
+        self.held = lowest_beside(marks.bits(), &self.scanned, &self.fingers);
     }
 
     /// The object that is held is scanned: it is no longer grey, and the next one is held. Its finger is still set only if a grey object is
@@ -214,7 +219,7 @@ impl Grey {
         ensures next { HoldsNext marks.now self.old self.new }
         ensures fingers { HasFingers marks.now self.old → HasFingers marks.now self.new }
     {
-        self.scanned.set(object);
+        self.scanned.set(object.word());
         self.drop_finger(marks, object);
         self.hold_next(marks);
     }
@@ -224,7 +229,7 @@ impl Grey {
         requires { object < length self.now.scanned }
         ensures { result ≡ is_marked self.now.scanned object }
     {
-        self.scanned.get(object)
+        self.scanned.get(object.word())
     }
 }
 

@@ -11,10 +11,10 @@
 //! is released loses its part of it. It is kept as bits, one an address, in pages that are written as marks come to them: so a heap of
 //! which little is in use pays for that little, wherever it is.
 
-ghost use Rattle.std.specs.Prelude.{◌≡◌, ◌+◌, ◌*◌, ◌/◌, ◌^◌, ◌<◌, ◌≤◌, if◌then◌else◌};
+ghost use Rattle.std.specs.Prelude.{◌≡◌, ◌+◌, ◌^◌, ◌<◌, ◌≤◌, if◌then◌else◌};
 ghost use Rattle.std.specs.Prelude.{ℕ, List, Bool, false, true, IfOk, IfSome, length, MatchOption, not, replicate, slice_set};
 ghost use Rattle.heap_model.specs.Count.{ListsMarked};
-ghost use Rattle.mark_bitmap.specs.Marks.{is_between, is_marked, is_only, marked_count, HasNone, HasNoneBelow, IsLowest};
+ghost use Rattle.mark_bitmap.specs.Marks.{is_between, is_marked, marked_count, HasNone, IsLowest};
 
 use bit_sets::bits::Bits;
 use heap_words::addr::Addr;
@@ -112,54 +112,12 @@ impl Marks {
         self.bits.next(from.word()).map(Addr::new)
     }
 
-    /// The lowest marked address at or above `from` and below `to`. It looks at the bits of this range alone.
-    pub fn next_below(&self, from: Addr, to: Addr) -> Option<Addr>
-        ensures lowest { MatchOption result (HasNoneBelow (is_marked self.now) from to) (IsLowest (is_marked self.now) from) }
-        ensures below { IfSome result (λ found. found < to) }
-        ensures within { IfSome result (λ found. found < length self.now) }
-    {
-        self.bits.next_below(from.word(), to.word()).map(Addr::new)
-    }
-
-    /// The lowest address of a group that is marked here and not in `other`: group g has the 64 addresses from 64 g on.
-    pub fn lowest_without(&self, other: &Marks, group: u32) -> Option<Addr>
-        requires known { 64 * group < length self.now }
-        requires even { length other.now ≡ length self.now }
-        ensures lowest { MatchOption result (HasNoneBelow (is_only self.now other.now) (64 * group) (64 * group + 64))
-            (IsLowest (is_only self.now other.now) (64 * group)) }
-        ensures below { IfSome result (λ found. found < 64 * group + 64) }
-        ensures within { IfSome result (λ found. found < length self.now) }
-    {
-        self.bits.lowest_without(&other.bits, group).map(Addr::new)
-    }
-
-    /// The lowest address of the group of `at` that is marked here and not in `other`, where `at` is marked.
+    /// The numbers of the marked addresses, for who looks for one within a range, or beside another set.
     #[inline(always)]
-    pub fn lowest_left(&self, other: &Marks, at: Addr) -> Option<Addr>
-        requires known { at < length self.now }
-        requires even { length other.now ≡ length self.now }
-        requires there { is_marked other.now at ≡ true }
-        ensures lowest { MatchOption result
-            (HasNoneBelow (is_only self.now other.now) (64 * (at / 64)) (64 * (at / 64) + 64))
-            (IsLowest (is_only self.now other.now) (64 * (at / 64))) }
-        ensures below { IfSome result (λ found. found < 64 * (at / 64) + 64) }
-        ensures within { IfSome result (λ found. found < length self.now) }
+    pub fn bits(&self) -> &Bits
+        ensures { result.now ≡ self.now }
     {
-        self.bits.lowest_left(&other.bits, at.word()).map(Addr::new)
-    }
-
-    /// The lowest address at or above `from` and below `to` that is marked here and not in `other`. It looks at the bits
-    /// of this range alone.
-    pub fn next_without(&self, other: &Marks, from: Addr, to: Addr) -> Option<Addr>
-        requires { length other.now ≡ length self.now }
-        ensures lowest { MatchOption result (HasNoneBelow (is_only self.now other.now) from to)
-            (IsLowest (is_only self.now other.now) from) }
-        ensures below { IfSome result (λ found. found < to) }
-        ensures within { IfSome result (λ found. found < length self.now) }
-    {
-        self.bits
-            .next_without(&other.bits, from.word(), to.word())
-            .map(Addr::new)
+        &self.bits
     }
 }
 

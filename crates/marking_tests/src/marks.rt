@@ -33,8 +33,8 @@ fn is_marked(marks: &Marks, at: u32) -> bool {
 
 /// Whether the lowest mark from an address on is that, and none is between.
 fn goes_on(marks: &Marks, from: u32, next: u32) -> bool {
-    let (start, found) = (Addr::new(from), Addr::new(next));
-    marks.next(start) == Some(found) && marks.next_below(start, found).is_none()
+    marks.next(Addr::new(from)) == Some(Addr::new(next))
+        && marks.bits().next_below(from, next).is_none()
 }
 
 /// Whether the lowest address that is marked in one set alone is this.
@@ -42,9 +42,8 @@ fn is_lowest_alone(marks: &Marks, other: &Marks, at: u32) -> bool {
     if marks.len() != other.len() || at >= marks.len() {
         return false;
     }
-    let found = Some(Addr::new(at));
-    marks.next_without(other, Addr::new(0), Addr::new(200)) == found
-        && marks.lowest_without(other, at / 64) == found
+    let (bits, others) = (marks.bits(), other.bits());
+    bits.next_without(others, 0, 200) == Some(at) && bits.lowest_without(others, at / 64) == Some(at)
 }
 
 /// Each call once: three addresses are marked, found in the set and beside another one, counted, and cleared.

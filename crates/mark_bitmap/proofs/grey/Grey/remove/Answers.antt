@@ -13,7 +13,7 @@ returns-clause-next c =
 pub returns-clause-fingers : goal.returns-clause-fingers
 returns-clause-fingers c = λ f.
     let scanned : c.hold_next.new.self.scanned ≡ set c.args.self.now.scanned c.args.object true =
-    c.hold_next.ensures.scanned ∙ c.drop_finger.ensures.scanned ∙ c.set.ensures
+    c.hold_next.ensures.scanned ∙ c.drop_finger.ensures.scanned ∙ rw c.word.ensures at c.set.ensures
     ∙ ap (λ (s : Scans). set s.scanned c.args.object true) c.self.view_is in
     let fits : length c.args.self.now.stack.objects ≤ c.args.self.now.stack.room =
     subst (λ (s : Scans). length s.stack.objects ≤ s.stack.room) c.self.view_is c.self.invariant.fits in
