@@ -17,7 +17,7 @@ use Rattle.evacuation.specs.Evacuates.{is_chosen}
 use Rattle.evacuation.proofs.WholePause.Asked.{found, get_is}
 use Rattle.step_core.specs.Stands.{CoreState}
 use Rattle.step_core.specs.Measures.{sum_below}
-use Rattle.step_core.specs.Pause.{HasPaused, IsChosen}
+use Rattle.step_core.specs.Pause.{HasPaused}
 use Rattle.collection.specs.Space.{FreesNone, ordinary_one, ordinary_count, kept_by_kind, kept_sum, IsExact}
 use Rattle.collection.proofs.Sums.{sum_same, sum_le, sum_plus, sum_times, chosen_sum, CountsOnce, if_true, if_false}
 use Rattle.collection.proofs.Choice.{choice_after}
@@ -58,9 +58,6 @@ module _ (budget n w : ℕ) (c c' : CoreState) (p : HasPaused budget n w c c') (
 
   abbrev marks : List Bool
   marks = c.marker.bitmaps.previous
-
-  abbrev choice_is : IsChosen t c.marker.tams marks c.marker.running budget p.evacuates.chosen
-  choice_is = p.evacuates.choice
 
   abbrev rows : List LiveRow
   rows = p.evacuates.choice.rows
@@ -121,11 +118,9 @@ module _ (budget n w : ℕ) (c c' : CoreState) (p : HasPaused budget n w c c') (
 
   kind_each : (k : ℕ) → k < length t.regions → is_chosen rows k ≡ false → (o : Kind) → kind_of t k ≡ o
       → ordinary_one o * words ≤ kept_by_kind o c k
-  kind_each k lt e kinds.Free q = omega arith
   kind_each k lt e kinds.Ordinary q =
       let a = full_row k lt e q in let b = exact.exact k lt q in omega (arith, a, b)
-  kind_each k lt e kinds.First q = omega arith
-  kind_each k lt e kinds.Rest q = omega arith
+  kind_each k lt e _ q = omega arith
 
   live_each : (k : ℕ) → k < length t.regions → (b : Bool) → is_chosen rows k ≡ b
       → (if is_chosen rows k then live_bound_of t tops marks k else 0)

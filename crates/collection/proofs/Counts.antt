@@ -5,7 +5,7 @@ use Rattle.std.proofs.lemmas.Bool.{cases_lt}
 use Rattle.std.proofs.Math.Nat.{lt_of_mul-lt-mul_right}
 use Rattle.std.proofs.lemmas.List.{take_all}
 use Rattle.std.proofs.lemmas.List.Sums.{sum_by_more}
-use Rattle.regions.specs.Table.{Region, Free, Ordinary, First, Rest, Table, is_free, kind_of, nth_region, region_kind, free_count}
+use Rattle.regions.specs.Table.{Region, Free, Table, is_free, kind_of, nth_region, region_kind, free_count}
 use Rattle.regions.specs.declared.row.Kind.{Kind}
 use Rattle.regions.specs.declared.row.Kind.TheVariants as kinds
 use Rattle.step_core.specs.Measures.{sum_below}
@@ -14,18 +14,14 @@ use Rattle.collection.proofs.Sums.{sum_same, sum_le, sum_plus}
 
 abbrev pub free_one : Kind → ℕ
 free_one kinds.Free = 1
-free_one kinds.Ordinary = 0
-free_one kinds.First = 0
-free_one kinds.Rest = 0
+free_one _ = 0
 
 bit : Region → ℕ
 bit r = cond (is_free r) 1 0
 
 bit_kind : (r : Region) → cond (is_free r) 1 0 ≡ free_one (region_kind r)
 bit_kind Free = refl
-bit_kind (Ordinary ts) = refl
-bit_kind (First s) = refl
-bit_kind (Rest n) = refl
+bit_kind _ = refl
 
 front_sum : (f : Region → ℕ) (rs : List Region) (n : ℕ) → n ≤ length rs → sum_below (λ k. f (get_or rs k Free)) n ≡ sum_by f (take n rs)
 front_sum f rs zero h = refl
@@ -47,9 +43,7 @@ free_sum t =
 
 one_each : (k : Kind) → ordinary_one k + run_one k + free_one k ≡ 1
 one_each kinds.Free = refl
-one_each kinds.Ordinary = refl
-one_each kinds.First = refl
-one_each kinds.Rest = refl
+one_each _ = refl
 
 all_ones : (n : ℕ) → sum_below (λ k. 1) n ≡ n
 all_ones zero = refl

@@ -79,19 +79,7 @@ module _ (g : Graph) (c : CoreState) (shows : ShowsGraph g c) where
           → (act g op.mutator a).0 ≡ replies.Named (Some (next_name g))
       go (actions.New to counts) new fits = new_made op.mutator to counts 0 fits names
       go (actions.NewWeak to counts weaks) new fits = new_made op.mutator to counts weaks fits names
-      go (actions.Get a b d) new fits = absurd new
-      go (actions.Put a b d) new fits = absurd new
-      go (actions.Read a b) new fits = absurd new
-      go (actions.Write a b d) new fits = absurd new
-      go (actions.Move a b) new fits = absurd new
-      go (actions.Drop a) new fits = absurd new
-      go (actions.Load a b) new fits = absurd new
-      go (actions.Save a b) new fits = absurd new
-      go (actions.Shape a) new fits = absurd new
-      go (actions.GetWeak a b d) new fits = absurd new
-      go (actions.PutWeak a b d) new fits = absurd new
-      go (actions.Weaks a) new fits = absurd new
-      go (actions.Scope a) new fits = absurd new
+      go _ new fits = absurd new
 
   named_fits : (m : ℕ) (to : Register) (counts : Counts) (weaks : ℕ) → (made g m to counts weaks).0 ≡ replies.Named (Some (next_name g))
       → (size_of counts.pointers weaks counts.values ≤ object_limit c.config) × (c.next ≡ 2 ^ 64 - 1 → ⊥)
@@ -128,19 +116,7 @@ module _ (g : Graph) (c : CoreState) (shows : ShowsGraph g c) where
       go : (a : Action) → IsNew a → (act g op.mutator a).0 ≡ replies.Named (Some (next_name g)) → IsCreatable c a
       go (actions.New to counts) new e = packed (actions.New to counts) (named_fits op.mutator to counts 0 e)
       go (actions.NewWeak to counts weaks) new e = packed (actions.NewWeak to counts weaks) (named_fits op.mutator to counts weaks e)
-      go (actions.Get a b d) new e = absurd new
-      go (actions.Put a b d) new e = absurd new
-      go (actions.Read a b) new e = absurd new
-      go (actions.Write a b d) new e = absurd new
-      go (actions.Move a b) new e = absurd new
-      go (actions.Drop a) new e = absurd new
-      go (actions.Load a b) new e = absurd new
-      go (actions.Save a b) new e = absurd new
-      go (actions.Shape a) new e = absurd new
-      go (actions.GetWeak a b d) new e = absurd new
-      go (actions.PutWeak a b d) new e = absurd new
-      go (actions.Weaks a) new e = absurd new
-      go (actions.Scope a) new e = absurd new
+      go _ new e = absurd new
 
 -- a step that is refused as Full would create an object
 pub full_creates : (g : Graph) (op : Op) (c : CoreState) → IsFull g op.mutator op.action c → Creates g op
@@ -149,33 +125,9 @@ full_creates g op c f = (is_new op.action f, named op.action f)
     is_new : (a : Action) → IsFull g op.mutator a c → IsNew a
     is_new (actions.New to counts) f = tt
     is_new (actions.NewWeak to counts weaks) f = tt
-    is_new (actions.Get a b d) f = absurd f
-    is_new (actions.Put a b d) f = absurd f
-    is_new (actions.Read a b) f = absurd f
-    is_new (actions.Write a b d) f = absurd f
-    is_new (actions.Move a b) f = absurd f
-    is_new (actions.Drop a) f = absurd f
-    is_new (actions.Load a b) f = absurd f
-    is_new (actions.Save a b) f = absurd f
-    is_new (actions.Shape a) f = absurd f
-    is_new (actions.GetWeak a b d) f = absurd f
-    is_new (actions.PutWeak a b d) f = absurd f
-    is_new (actions.Weaks a) f = absurd f
-    is_new (actions.Scope a) f = absurd f
+    is_new _ f = absurd f
 
     named : (a : Action) → IsFull g op.mutator a c → (act g op.mutator a).0 ≡ replies.Named (Some (next_name g))
     named (actions.New to counts) f = f.0
     named (actions.NewWeak to counts weaks) f = f.0
-    named (actions.Get a b d) f = absurd f
-    named (actions.Put a b d) f = absurd f
-    named (actions.Read a b) f = absurd f
-    named (actions.Write a b d) f = absurd f
-    named (actions.Move a b) f = absurd f
-    named (actions.Drop a) f = absurd f
-    named (actions.Load a b) f = absurd f
-    named (actions.Save a b) f = absurd f
-    named (actions.Shape a) f = absurd f
-    named (actions.GetWeak a b d) f = absurd f
-    named (actions.PutWeak a b d) f = absurd f
-    named (actions.Weaks a) f = absurd f
-    named (actions.Scope a) f = absurd f
+    named _ f = absurd f

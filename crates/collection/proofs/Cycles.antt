@@ -1,6 +1,6 @@
 -- Steps of a full collection.
 use Rattle.std.proofs.Common.{◌≡◌, ◌≤◌, ◌∙◌}
-use Rattle.std.proofs.Common.{ℕ, Bool, true, false, Some, length, refl, sym, ap, subst}
+use Rattle.std.proofs.Common.{ℕ, Bool, true, false, Some, length, inl, inr, refl, sym, ap, subst}
 use Rattle.heap_model.specs.Graph.{Graph}
 use Rattle.heap_model.specs.Weak.{Clears}
 use Rattle.heap_model.proofs.Cleared.{reach_on}
@@ -12,14 +12,13 @@ use Rattle.heap_steps.specs.declared.step.Step.TheVariants as steps
 use Rattle.heap_steps.specs.declared.step.CollectorStep.TheVariants as collector
 use Rattle.heap_steps.specs.declared.step.Reply.{Reply}
 use Rattle.heap_steps.specs.declared.step.Reply.TheVariants as replies
-use Rattle.heap_steps.specs.declared.step.Refusal.TheVariants as refusals
 use Rattle.graph_runs.specs.State.{State}
+use Rattle.graph_runs.specs.Run.{Happens}
 use Rattle.step_core.specs.Stands.{CoreState, IsCore, Stands, kept_of}
 use Rattle.step_core.specs.Answers.{Follows}
 use Rattle.step_core.specs.Cycle.{Collects, HasBegun, HasRemarked, HasCleaned}
-use Rattle.step_core.specs.Pause.{HasPaused, HasCompacted}
 use Rattle.collection.specs.Space.{HasReached, IsQuiet}
-use Rattle.collection.proofs.Reached.{by_reached, cleared_reached}
+use Rattle.collection.proofs.Reached.{cleared_reached}
 use Rattle.collection.proofs.Counts.{more_free}
 use Rattle.collection.proofs.Runs.{cleaned_runs}
 use Rattle.collection.proofs.Exact.{remarked_exact, cleaned_exact, kind_by, kind_free}
@@ -27,111 +26,33 @@ use Rattle.collection.proofs.Exact.{remarked_exact, cleaned_exact, kind_by, kind
 yes_no : (b : Bool) → b ≡ true → b ≡ false → ⊥
 yes_no b t f = cc
 
-pub begun : (r : Reply) (c d : CoreState) → c.marker.running ≡ false → Collects collector.Begin r c d → HasBegun c d
-begun replies.Done c d idle h = h.1
-begun (replies.Named v) c d idle h = absurd h
-begun (replies.Word v) c d idle h = absurd h
-begun (replies.Shape m v) c d idle h = absurd h
-begun (replies.Marked v) c d idle h = absurd h
-begun (replies.Reclaimed v) c d idle h = absurd h
-begun (replies.Refined v) c d idle h = absurd h
-begun (replies.Moved m v) c d idle h = absurd h
-begun (replies.Refused refusals.MarkRunning) c d idle h = absurd (yes_no c.marker.running h.0 idle)
-begun (replies.Refused refusals.Nil) c d idle h = absurd h
-begun (replies.Refused refusals.NoField) c d idle h = absurd h
-begun (replies.Refused refusals.Full) c d idle h = absurd h
-begun (replies.Refused refusals.TooBig) c d idle h = absurd h
-begun (replies.Refused refusals.NamesSpent) c d idle h = absurd h
-begun (replies.Refused refusals.NotMarking) c d idle h = absurd h
+pub begun : (r : Reply) (c d : CoreState) → c.marker.running ≡ false → Collects collector.Begin r c d
+    → (r ≡ replies.Done) × HasBegun c d
+begun r c d idle (inl (_, is, h)) = (is, h)
+begun r c d idle (inr h) = absurd (yes_no c.marker.running h.0 idle)
 
-pub begun_stands : (r : Reply) (s : State) (c d : CoreState) → c.marker.running ≡ false → Collects collector.Begin r c d
-    → Follows s (steps.Collector collector.Begin) r d → Stands (record { graph = s.graph; snapshot = Some s.graph }) d
-begun_stands replies.Done s c d idle h f = subst (λ (x : State). Stands x d) f.happens.1 f.stands
-begun_stands (replies.Named v) s c d idle h f = absurd h
-begun_stands (replies.Word v) s c d idle h f = absurd h
-begun_stands (replies.Shape m v) s c d idle h f = absurd h
-begun_stands (replies.Marked v) s c d idle h f = absurd h
-begun_stands (replies.Reclaimed v) s c d idle h f = absurd h
-begun_stands (replies.Refined v) s c d idle h f = absurd h
-begun_stands (replies.Moved m v) s c d idle h f = absurd h
-begun_stands (replies.Refused refusals.MarkRunning) s c d idle h f = absurd (yes_no c.marker.running h.0 idle)
-begun_stands (replies.Refused refusals.Nil) s c d idle h f = absurd h
-begun_stands (replies.Refused refusals.NoField) s c d idle h f = absurd h
-begun_stands (replies.Refused refusals.Full) s c d idle h f = absurd h
-begun_stands (replies.Refused refusals.TooBig) s c d idle h f = absurd h
-begun_stands (replies.Refused refusals.NamesSpent) s c d idle h f = absurd h
-begun_stands (replies.Refused refusals.NotMarking) s c d idle h f = absurd h
+begun_stands : (r : Reply) (s : State) (d : CoreState) → r ≡ replies.Done → Follows s (steps.Collector collector.Begin) r d
+    → Stands (record { graph = s.graph; snapshot = Some s.graph }) d
+begun_stands r s d is f =
+    let happens : Happens s (steps.Collector collector.Begin) replies.Done f.after =
+    subst (λ (x : Reply). Happens s (steps.Collector collector.Begin) x f.after) is f.happens in
+    subst (λ (x : State). Stands x d) happens.1 f.stands
 
 pub remarked : (r : Reply) (c d : CoreState) → c.marker.running ≡ true → Collects collector.Remark r c d
-    → (n : ℕ) × HasRemarked n c d
-remarked (replies.Marked n) c d run h = (n, h.1)
-remarked replies.Done c d run h = absurd h
-remarked (replies.Named v) c d run h = absurd h
-remarked (replies.Word v) c d run h = absurd h
-remarked (replies.Shape m v) c d run h = absurd h
-remarked (replies.Reclaimed v) c d run h = absurd h
-remarked (replies.Refined v) c d run h = absurd h
-remarked (replies.Moved m v) c d run h = absurd h
-remarked (replies.Refused refusals.NotMarking) c d run h = absurd (yes_no c.marker.running run h.0)
-remarked (replies.Refused refusals.Nil) c d run h = absurd h
-remarked (replies.Refused refusals.NoField) c d run h = absurd h
-remarked (replies.Refused refusals.Full) c d run h = absurd h
-remarked (replies.Refused refusals.TooBig) c d run h = absurd h
-remarked (replies.Refused refusals.NamesSpent) c d run h = absurd h
-remarked (replies.Refused refusals.MarkRunning) c d run h = absurd h
+    → (n : ℕ) × (r ≡ replies.Marked n) × HasRemarked n c d
+remarked r c d runs (inl (_, n, is, h)) = (n, is, h)
+remarked r c d runs (inr h) = absurd (yes_no c.marker.running runs h.0)
 
-pub remark_clears : (r : Reply) (g : Graph) (c d : CoreState) → c.marker.running ≡ true → Collects collector.Remark r c d
+remark_clears : (r : Reply) (n : ℕ) (g : Graph) (d : CoreState) → r ≡ replies.Marked n
     → (f : Follows (record { graph = g; snapshot = Some g }) (steps.Collector collector.Remark) r d) → Clears g g f.after.graph
-remark_clears (replies.Marked n) g c d run h f = f.happens.1.1
-remark_clears replies.Done g c d run h f = absurd h
-remark_clears (replies.Named v) g c d run h f = absurd h
-remark_clears (replies.Word v) g c d run h f = absurd h
-remark_clears (replies.Shape m v) g c d run h f = absurd h
-remark_clears (replies.Reclaimed v) g c d run h f = absurd h
-remark_clears (replies.Refined v) g c d run h f = absurd h
-remark_clears (replies.Moved m v) g c d run h f = absurd h
-remark_clears (replies.Refused refusals.NotMarking) g c d run h f = absurd (yes_no c.marker.running run h.0)
-remark_clears (replies.Refused refusals.Nil) g c d run h f = absurd h
-remark_clears (replies.Refused refusals.NoField) g c d run h f = absurd h
-remark_clears (replies.Refused refusals.Full) g c d run h f = absurd h
-remark_clears (replies.Refused refusals.TooBig) g c d run h f = absurd h
-remark_clears (replies.Refused refusals.NamesSpent) g c d run h f = absurd h
-remark_clears (replies.Refused refusals.MarkRunning) g c d run h f = absurd h
-
-pub remark_reaches : (r : Reply) (s : State) (c d : CoreState) → c.marker.running ≡ true → Collects collector.Remark r c d
-    → (f : Follows s (steps.Collector collector.Remark) r d) → HasReached s.graph f.after.graph
-remark_reaches (replies.Marked n) s c d run h f = by_reached s.snapshot s.graph f.after.graph f.happens.1.1
-remark_reaches (replies.Refused refusals.NotMarking) s c d run h f = absurd (yes_no c.marker.running run h.0)
-remark_reaches replies.Done s c d run h f = absurd h
-remark_reaches (replies.Named v) s c d run h f = absurd h
-remark_reaches (replies.Word v) s c d run h f = absurd h
-remark_reaches (replies.Shape m v) s c d run h f = absurd h
-remark_reaches (replies.Reclaimed v) s c d run h f = absurd h
-remark_reaches (replies.Refined v) s c d run h f = absurd h
-remark_reaches (replies.Moved m v) s c d run h f = absurd h
-remark_reaches (replies.Refused refusals.Nil) s c d run h f = absurd h
-remark_reaches (replies.Refused refusals.NoField) s c d run h f = absurd h
-remark_reaches (replies.Refused refusals.Full) s c d run h f = absurd h
-remark_reaches (replies.Refused refusals.TooBig) s c d run h f = absurd h
-remark_reaches (replies.Refused refusals.NamesSpent) s c d run h f = absurd h
-remark_reaches (replies.Refused refusals.MarkRunning) s c d run h f = absurd h
+remark_clears r n g d is f =
+    let happens : Happens (record { graph = g; snapshot = Some g }) (steps.Collector collector.Remark) (replies.Marked n) f.after =
+    subst (λ (x : Reply). Happens (record { graph = g; snapshot = Some g }) (steps.Collector collector.Remark) x f.after) is f.happens in
+    happens.1.1
 
 pub cleaned : (r : Reply) (c d : CoreState) → c.marker.running ≡ false → Collects collector.Cleanup r c d → (n : ℕ) × HasCleaned n c d
-cleaned (replies.Reclaimed n) c d idle h = (n, h.1)
-cleaned replies.Done c d idle h = absurd h
-cleaned (replies.Named v) c d idle h = absurd h
-cleaned (replies.Word v) c d idle h = absurd h
-cleaned (replies.Shape m v) c d idle h = absurd h
-cleaned (replies.Marked v) c d idle h = absurd h
-cleaned (replies.Refined v) c d idle h = absurd h
-cleaned (replies.Moved m v) c d idle h = absurd h
-cleaned (replies.Refused refusals.MarkRunning) c d idle h = absurd (yes_no c.marker.running h.0 idle)
-cleaned (replies.Refused refusals.Nil) c d idle h = absurd h
-cleaned (replies.Refused refusals.NoField) c d idle h = absurd h
-cleaned (replies.Refused refusals.Full) c d idle h = absurd h
-cleaned (replies.Refused refusals.TooBig) c d idle h = absurd h
-cleaned (replies.Refused refusals.NamesSpent) c d idle h = absurd h
-cleaned (replies.Refused refusals.NotMarking) c d idle h = absurd h
+cleaned r c d idle (inl (_, n, is, h)) = (n, h)
+cleaned r c d idle (inr h) = absurd (yes_no c.marker.running h.0 idle)
 
 pub cleaned_stands : (r : Reply) (s : State) (d : CoreState) → Follows s (steps.Collector collector.Cleanup) r d → Stands s d
 cleaned_stands r s d f = subst (λ (x : State). Stands x d) f.happens.1 f.stands
@@ -139,31 +60,8 @@ cleaned_stands r s d f = subst (λ (x : State). Stands x d) f.happens.1 f.stands
 pub paused_stands : (b : ℕ) (r : Reply) (s : State) (d : CoreState) → Follows s (steps.Collector (collector.Pause b)) r d → Stands s d
 paused_stands b r s d f = subst (λ (x : State). Stands x d) f.happens.1 f.stands
 
-pub has_paused : (b : ℕ) (r : Reply) (c d : CoreState) → Collects (collector.Pause b) r c d → (n : ℕ) × (w : ℕ) × HasPaused b n w c d
-has_paused b (replies.Moved n w) c d h = (n, w, h)
-has_paused b replies.Done c d h = absurd h
-has_paused b (replies.Named v) c d h = absurd h
-has_paused b (replies.Word v) c d h = absurd h
-has_paused b (replies.Shape m v) c d h = absurd h
-has_paused b (replies.Marked v) c d h = absurd h
-has_paused b (replies.Reclaimed v) c d h = absurd h
-has_paused b (replies.Refined v) c d h = absurd h
-has_paused b (replies.Refused q) c d h = absurd h
-
 pub compacted_stands : (b : ℕ) (r : Reply) (s : State) (d : CoreState) → Follows s (steps.Collector (collector.Compact b)) r d → Stands s d
 compacted_stands b r s d f = subst (λ (x : State). Stands x d) f.happens.1 f.stands
-
-pub has_compacted : (b : ℕ) (r : Reply) (c d : CoreState) → Collects (collector.Compact b) r c d
-    → (n : ℕ) × (w : ℕ) × (r ≡ replies.Moved n w) × HasCompacted b n w c d
-has_compacted b (replies.Moved n w) c d h = (n, w, refl, h)
-has_compacted b replies.Done c d h = absurd h
-has_compacted b (replies.Named v) c d h = absurd h
-has_compacted b (replies.Word v) c d h = absurd h
-has_compacted b (replies.Shape m v) c d h = absurd h
-has_compacted b (replies.Marked v) c d h = absurd h
-has_compacted b (replies.Reclaimed v) c d h = absurd h
-has_compacted b (replies.Refined v) c d h = absurd h
-has_compacted b (replies.Refused q) c d h = absurd h
 
 -- ---- how many regions are free
 free_same : (t u : Table) → length u.regions ≡ length t.regions → ((k : ℕ) → kind_of u k ≡ kind_of t k) → free_count t ≤ free_count u
@@ -195,11 +93,11 @@ pub quiet_cycle : (q r u : Reply) (s : State) (a b d e : CoreState) → a.marker
     → Collects collector.Cleanup u d e → ((x : State) → Stands x d → Follows x (steps.Collector collector.Cleanup) u e)
     → IsCore d → IsShaped d.table → (after : State) × IsQuiet after e × HasReached s.graph after.graph
 quiet_cycle q r u s a b d e idle stands does_q follows_q does_r follows_r does_u follows_u core shape =
-    let begun_is = begun q a b idle does_q in
-    let stands_b = begun_stands q s a b idle does_q (follows_q s stands) in
-    let (n, rem) = remarked r b d begun_is.running does_r in
+    let (done, begun_is) = begun q a b idle does_q in
+    let stands_b = begun_stands q s b done (follows_q s stands) in
+    let (n, counted, rem) = remarked r b d begun_is.running does_r in
     let f = follows_r (record { graph = s.graph; snapshot = Some s.graph }) stands_b in
-    let clears = remark_clears r s.graph b d begun_is.running does_r f in
+    let clears = remark_clears r n s.graph d counted f in
     let exact = remarked_exact n a b d begun_is rem shape in
     let (m, clean) = cleaned u d e rem.over does_u in
     let stands_e = cleaned_stands u f.after e (follows_u f.after f.stands) in (

@@ -33,10 +33,8 @@ use Rattle.collection.proofs.Sums.{sum_same, sum_plus, chosen_sum, if_true, if_f
 
 -- ---- the highest ordinary region
 ordinary_is : (o : Kind) → is_ordinary o ≡ true → o ≡ kinds.Ordinary
-ordinary_is kinds.Free e = absurd cc
 ordinary_is kinds.Ordinary e = refl
-ordinary_is kinds.First e = absurd cc
-ordinary_is kinds.Rest e = absurd cc
+ordinary_is _ e = absurd cc
 
 is_ordinary_of : (o : Kind) → o ≡ kinds.Ordinary → is_ordinary o ≡ true
 is_ordinary_of o e = ap is_ordinary e
@@ -180,9 +178,7 @@ module _ (budget n w : ℕ) (c c' : CoreState) (core : IsCore c) (shape : IsShap
 
   kind_cases : (o : Kind) → (o ≡ kinds.Free) ⊎ (o ≢ kinds.Free)
   kind_cases kinds.Free = inl refl
-  kind_cases kinds.Ordinary = inr (λ e. cc)
-  kind_cases kinds.First = inr (λ e. cc)
-  kind_cases kinds.Rest = inr (λ e. cc)
+  kind_cases _ = inr (λ e. cc)
 
   -- ---- how many were taken
   known : All (λ (row : LiveRow). row.region < length t.regions) rows

@@ -8,7 +8,7 @@ use Rattle.std.proofs.lemmas.List.Sums.{sum_by-cons, sum_by-append, count_by-le-
 use Rattle.std.proofs.lemmas.List.{take-append-drop, drop-drop}
 use Rattle.heap_model.specs.Heap.{Stored}
 use Rattle.regions.specs.Tiles.{Tile, Object, Filler, tile_size}
-use Rattle.regions.specs.Table.{Region, Free, Ordinary, First, Rest, Table, is_free, free_count, first_free, used_of, top_of, remainder}
+use Rattle.regions.specs.Table.{Region, Free, First, Rest, Table, is_free, free_count, first_free, used_of, top_of, remainder}
 use Rattle.regions.specs.Table.{first_run, front_count, nth_region, region_at, rests, run_regions}
 use Rattle.regions.proofs.Rows.Fronts.{run_passes}
 use Rattle.regions.specs.Table.{push_tile, replace_tile, region_with_tile, region_replaced, with_regions}
@@ -33,15 +33,11 @@ set_free (x ∷ xs) (suc k) r e =
 
 tile_free : (r : Region) (u : Tile) → is_free (region_with_tile r u) ≡ is_free r
 tile_free Free u = refl
-tile_free (Ordinary ts) u = refl
-tile_free (First s) u = refl
-tile_free (Rest n) u = refl
+tile_free _ u = refl
 
 other_free : (r : Region) (o : ℕ) (us : List Tile) → is_free (region_replaced r o us) ≡ is_free r
 other_free Free o us = refl
-other_free (Ordinary ts) o us = refl
-other_free (First s) o us = refl
-other_free (Rest n) o us = refl
+other_free _ o us = refl
 
 pushed_free : (t : Table) (k : ℕ) (u : Tile) → free_count (push_tile t k u) ≡ free_count t
 unfolding push_tile nth_region

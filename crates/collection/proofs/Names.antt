@@ -70,22 +70,16 @@ total_regions f words (suc n) =
     omega (arith, s, r)
 
 abbrev kept_if : Kind → Option Stored → Option Stored
-kept_if kinds.Free o = None
 kept_if kinds.Ordinary o = o
-kept_if kinds.First o = None
-kept_if kinds.Rest o = None
+kept_if _ o = None
 
 kept_if_some : (k : Kind) (o : Option Stored) (x : Stored) → kept_if k o ≡ Some x → o ≡ Some x
-kept_if_some kinds.Free o x e = absurd cc
 kept_if_some kinds.Ordinary o x e = e
-kept_if_some kinds.First o x e = absurd cc
-kept_if_some kinds.Rest o x e = absurd cc
+kept_if_some _ o x e = absurd cc
 
 kept_if_ordinary : (k : Kind) (o : Option Stored) (x : Stored) → kept_if k o ≡ Some x → k ≡ kinds.Ordinary
-kept_if_ordinary kinds.Free o x e = absurd cc
 kept_if_ordinary kinds.Ordinary o x e = refl
-kept_if_ordinary kinds.First o x e = absurd cc
-kept_if_ordinary kinds.Rest o x e = absurd cc
+kept_if_ordinary _ o x e = absurd cc
 
 module _ (kept f : ℕ → Option Stored) (sub : (a : ℕ) (x : Stored) → f a ≡ Some x → kept a ≡ Some x) where
   list_words : (n a : ℕ) → words_at kept (listed f a n) ≡ total f a n

@@ -55,9 +55,6 @@ half_small t budget shape h =
     let s = shape.in_all in
     omega (arith, h, m, s)
 
-free_run : run_one kinds.Free ≡ 0
-free_run = refl
-
 -- runs that objects have more than half of, and ordinary regions of which more than half is kept, if these are two or more
 runs_alone : (runs words firsts : ℕ) → 0 < runs → (runs ≡ 0) ⊎ (runs * words < 2 * firsts) → runs * words < 2 * firsts
 runs_alone runs words firsts some (inl none) = absurd (omega (arith, some, none))

@@ -18,7 +18,7 @@ use Rattle.graph_runs.specs.Run.{IsNew}
 use Rattle.step_core.specs.Stands.{CoreState}
 use Rattle.step_core.specs.Answers.{IsFull}
 use Rattle.step_core.specs.Mutators.{ActsOn, HasActed, core_after, with_made}
-use Rattle.collection.specs.Rooms.{FitsOpen, HasRun, IsSpared, TakesRegion}
+use Rattle.collection.specs.Rooms.{HasRun, IsSpared, TakesRegion}
 use Rattle.collection.specs.Steps.{HasRoom, asked_words}
 use Rattle.collection.proofs.Made.{place_near, run_free, run_taken}
 use Rattle.collection.proofs.Placed.{place_found}
@@ -40,19 +40,7 @@ module _ (c : CoreState) where
       → ((s : Stored) → 2 ≤ free_count (made_at x.table x.place s)) → 2 ≤ free_count (core_after c m a).table
   after_two m (actions.New to counts) new x e h = made_two _ counts 0 _ x e h
   after_two m (actions.NewWeak to counts weaks) new x e h = made_two _ counts weaks _ x e h
-  after_two m (actions.Get a b d) new x e h = absurd new
-  after_two m (actions.Put a b d) new x e h = absurd new
-  after_two m (actions.Read a b) new x e h = absurd new
-  after_two m (actions.Write a b d) new x e h = absurd new
-  after_two m (actions.Move a b) new x e h = absurd new
-  after_two m (actions.Drop a) new x e h = absurd new
-  after_two m (actions.Load a b) new x e h = absurd new
-  after_two m (actions.Save a b) new x e h = absurd new
-  after_two m (actions.Shape a) new x e h = absurd new
-  after_two m (actions.GetWeak a b d) new x e h = absurd new
-  after_two m (actions.PutWeak a b d) new x e h = absurd new
-  after_two m (actions.Weaks a) new x e h = absurd new
-  after_two m (actions.Scope a) new x e h = absurd new
+  after_two m _ new x e h = absurd new
 
   by_place : (op : Op) → IsNew op.action → (x : Placement) → place_of c.table c.buffers op.mutator (asked_words op.action) ≡ Some x
       → (2 ≤ free_count c.table → (s : Stored) → 2 ≤ free_count (made_at x.table x.place s)) → IsSpared c op
@@ -69,10 +57,6 @@ module _ (c : CoreState) where
       (place_found c.table (omega arith) c.buffers op.mutator (asked_words op.action) small) in
       by_place op new x e (λ two s.
       (let n = place_near c.table c.buffers op.mutator (asked_words op.action) small x e s in omega (arith, n, more)))
-
-  -- it needs no free region
-  pub fits_spared : (op : Op) → IsNew op.action → FitsOpen c op.mutator (asked_words op.action) → IsSpared c op
-  fits_spared op new f = by_place op new f.place f.is (λ two s. (let e = f.free s in omega (arith, e, two)))
 
   -- it has a run
   pub run_spared : (op : Op) → IsNew op.action → c.table.words_per_region < 2 * asked_words op.action → HasRun c (asked_words op.action)
@@ -100,19 +84,7 @@ module _ (c : CoreState) where
       → 2 ≤ free_count (core_after c m a).table → (s : Stored) × (2 ≤ free_count (made_at x.table x.place s))
   after_few m (actions.New to counts) new x e two = made_few _ counts 0 _ x e two
   after_few m (actions.NewWeak to counts weaks) new x e two = made_few _ counts weaks _ x e two
-  after_few m (actions.Get a b d) new x e two = absurd new
-  after_few m (actions.Put a b d) new x e two = absurd new
-  after_few m (actions.Read a b) new x e two = absurd new
-  after_few m (actions.Write a b d) new x e two = absurd new
-  after_few m (actions.Move a b) new x e two = absurd new
-  after_few m (actions.Drop a) new x e two = absurd new
-  after_few m (actions.Load a b) new x e two = absurd new
-  after_few m (actions.Save a b) new x e two = absurd new
-  after_few m (actions.Shape a) new x e two = absurd new
-  after_few m (actions.GetWeak a b d) new x e two = absurd new
-  after_few m (actions.PutWeak a b d) new x e two = absurd new
-  after_few m (actions.Weaks a) new x e two = absurd new
-  after_few m (actions.Scope a) new x e two = absurd new
+  after_few m _ new x e two = absurd new
 
   -- it takes one of two free regions
   pub small_full : (op : Op) → IsNew op.action → free_count c.table ≤ 2 → TakesRegion c op.mutator (asked_words op.action)
@@ -157,31 +129,12 @@ acted_two c d op s h two =
 pub spared_two : (r : Reply) (c d : CoreState) (op : Op) → IsSpared c op → ActsOn op.mutator op.action r c d
     → 2 ≤ free_count c.table → 2 ≤ free_count d.table
 spared_two (replies.Refused why) c d op s h two = let e = ap (λ (x : CoreState). free_count x.table) h in omega (arith, e, two)
-spared_two replies.Done c d op s h two = acted_two c d op s h two
-spared_two (replies.Named v) c d op s h two = acted_two c d op s h two
-spared_two (replies.Word v) c d op s h two = acted_two c d op s h two
-spared_two (replies.Shape p v) c d op s h two = acted_two c d op s h two
-spared_two (replies.Marked v) c d op s h two = acted_two c d op s h two
-spared_two (replies.Reclaimed v) c d op s h two = acted_two c d op s h two
-spared_two (replies.Refined v) c d op s h two = acted_two c d op s h two
-spared_two (replies.Moved p v) c d op s h two = acted_two c d op s h two
+spared_two _ c d op s h two = acted_two c d op s h two
 
 full_place : (g : Graph) (m : ℕ) (a : Action) (c : CoreState) → IsFull g m a c → place_of c.table c.buffers m (asked_words a) ≡ None
 full_place g m (actions.New to counts) c f = f.1
 full_place g m (actions.NewWeak to counts weaks) c f = f.1
-full_place g m (actions.Get a b d) c f = absurd f
-full_place g m (actions.Put a b d) c f = absurd f
-full_place g m (actions.Read a b) c f = absurd f
-full_place g m (actions.Write a b d) c f = absurd f
-full_place g m (actions.Move a b) c f = absurd f
-full_place g m (actions.Drop a) c f = absurd f
-full_place g m (actions.Load a b) c f = absurd f
-full_place g m (actions.Save a b) c f = absurd f
-full_place g m (actions.Shape a) c f = absurd f
-full_place g m (actions.GetWeak a b d) c f = absurd f
-full_place g m (actions.PutWeak a b d) c f = absurd f
-full_place g m (actions.Weaks a) c f = absurd f
-full_place g m (actions.Scope a) c f = absurd f
+full_place g m _ c f = absurd f
 
 -- it isn't refused as Full
 pub spared_made : (g : Graph) (c : CoreState) (op : Op) → IsSpared c op → IsFull g op.mutator op.action c → ⊥

@@ -1,13 +1,13 @@
 -- Steps of the collector, one after another.
 use Rattle.std.proofs.Common.{◌≡◌, ◌⊎◌, ◌+◌, ◌≤◌, ◌∷◌, ◌++◌, ◌∙◌}
-use Rattle.std.proofs.Common.{ℕ, List, [], All, inl, inr, refl, sym, subst, arith}
+use Rattle.std.proofs.Common.{ℕ, List, [], All, inl, inr, refl, sym, ap, subst, arith}
 use Rattle.std.proofs.lemmas.List.{length-append}
 use Rattle.std.proofs.lemmas.List.Elements.{All-append, All-nil, All-cons, All-head, All-tail}
 use Rattle.cards.specs.Cards.{ListsDirtyOnce}
+use Rattle.heap_model.specs.Graph.{Graph}
 use Rattle.regions.specs.Table.{free_count}
 use Rattle.heap_steps.specs.declared.step.Actor.TheVariants as actors
 use Rattle.heap_steps.specs.declared.step.CollectorStep.{CollectorStep}
-use Rattle.heap_steps.specs.declared.step.CollectorStep.TheVariants as collector
 use Rattle.heap_steps.specs.declared.step.Event.{Event}
 use Rattle.heap_steps.specs.declared.step.Op.{Op}
 use Rattle.heap_steps.specs.declared.step.Reply.{Reply}
@@ -17,8 +17,8 @@ use Rattle.heap_steps.specs.declared.step.Step.{Step}
 use Rattle.heap_steps.specs.declared.step.Step.TheVariants as steps
 use Rattle.std.specs.Prelude.{◌↔◌}
 use Rattle.graph_runs.specs.State.{State}
-use Rattle.graph_runs.specs.Run as run
 use Rattle.graph_runs.specs.Run.{Happens}
+use Rattle.graph_runs.proofs.Collected.{kind}
 use Rattle.step_core.specs.Stands.{CoreState, IsCore, IsWhole, Stands}
 use Rattle.step_core.specs.Answers.{Follows, IsFullStep}
 use Rattle.step_core.specs.Cycle.{Does}
@@ -49,35 +49,16 @@ passage_then s mid last c d c' (e ∷ es) fs h k = (h.0, h.1, passage_then h.1.f
 
 -- what a step of the collector leaves reachable was reachable before it
 step_reached : (s after : State) (k : CollectorStep) (r : Reply) → Happens s (steps.Collector k) r after → HasReached s.graph after.graph
-step_reached s after k r h = go k r h.1
+step_reached s after k r h = elim (kind k r) [
+  | inl t ↦ same (ap (λ (x : State). x.graph) ((t.0 s after).0 h.1))
+  | inr u ↦ elim u [
+    | inl g ↦ by_reached s.snapshot s.graph after.graph ((g.0 s after).0 h.1).1
+    | inr n ↦ same (ap (λ (x : State). x.graph) ((n.0 s after).0 h.1))
+  ]
+]
   where
-    same : after ≡ s → HasReached s.graph after.graph
-    same e = subst (λ (x : State). HasReached s.graph x.graph) (sym e) (none_cleared s.graph)
-
-    go : (k : CollectorStep) (r : Reply) → run.Collects s k r after → HasReached s.graph after.graph
-    go collector.Begin replies.Done h = subst (λ (x : State). HasReached s.graph x.graph) (sym h) (none_cleared s.graph)
-    go collector.Begin (replies.Named v) h = same h
-    go collector.Begin (replies.Word v) h = same h
-    go collector.Begin (replies.Shape p v) h = same h
-    go collector.Begin (replies.Marked v) h = same h
-    go collector.Begin (replies.Reclaimed v) h = same h
-    go collector.Begin (replies.Refined v) h = same h
-    go collector.Begin (replies.Moved p v) h = same h
-    go collector.Begin (replies.Refused q) h = same h
-    go collector.Remark replies.Done h = same h
-    go collector.Remark (replies.Named v) h = same h
-    go collector.Remark (replies.Word v) h = same h
-    go collector.Remark (replies.Shape p v) h = same h
-    go collector.Remark (replies.Marked v) h = by_reached s.snapshot s.graph after.graph h.1
-    go collector.Remark (replies.Reclaimed v) h = same h
-    go collector.Remark (replies.Refined v) h = same h
-    go collector.Remark (replies.Moved p v) h = same h
-    go collector.Remark (replies.Refused q) h = same h
-    go (collector.Mark n) r h = same h
-    go collector.Cleanup r h = same h
-    go (collector.Refine n) r h = same h
-    go (collector.Pause n) r h = same h
-    go (collector.Compact n) r h = same h
+    same : after.graph ≡ s.graph → HasReached s.graph after.graph
+    same e = subst (λ (g : Graph). HasReached s.graph g) (sym e) (none_cleared s.graph)
 
 pub passage_reached : (s last : State) (c c' : CoreState) (es : List Event) → All IsCollectors es → IsPassage s c es last c'
     → HasReached s.graph last.graph

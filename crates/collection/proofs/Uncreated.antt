@@ -33,53 +33,15 @@ after_next c m a new = go a new
     go (actions.New to counts) new = made _ counts 0 (place_of c.table c.buffers m (asked_words (actions.New to counts)))
     go (actions.NewWeak to counts weaks) new = made _ counts weaks (place_of c.table c.buffers m (asked_words
         (actions.NewWeak to counts weaks)))
-    go (actions.Get a b d) new = absurd new
-    go (actions.Put a b d) new = absurd new
-    go (actions.Read a b) new = absurd new
-    go (actions.Write a b d) new = absurd new
-    go (actions.Move a b) new = absurd new
-    go (actions.Drop a) new = absurd new
-    go (actions.Load a b) new = absurd new
-    go (actions.Save a b) new = absurd new
-    go (actions.Shape a) new = absurd new
-    go (actions.GetWeak a b d) new = absurd new
-    go (actions.PutWeak a b d) new = absurd new
-    go (actions.Weaks a) new = absurd new
-    go (actions.Scope a) new = absurd new
+    go _ new = absurd new
 
 -- a new object that isn't refused is no larger than an object may be
 within_new : (config : Config) (a : Action) (r : Reply) → IsNew a → IsWithin config a r
     → (asked_words a ≤ object_limit config) ⊎ ((why : Refusal) × (r ≡ replies.Refused why))
 within_new config a (replies.Refused why) new h = inr (why, refl)
-within_new config (actions.New to counts) replies.Done new h = inl h
-within_new config (actions.New to counts) (replies.Named v) new h = inl h
-within_new config (actions.New to counts) (replies.Word v) new h = inl h
-within_new config (actions.New to counts) (replies.Shape p v) new h = inl h
-within_new config (actions.New to counts) (replies.Marked v) new h = inl h
-within_new config (actions.New to counts) (replies.Reclaimed v) new h = inl h
-within_new config (actions.New to counts) (replies.Refined v) new h = inl h
-within_new config (actions.New to counts) (replies.Moved p v) new h = inl h
-within_new config (actions.NewWeak to counts weaks) replies.Done new h = inl h
-within_new config (actions.NewWeak to counts weaks) (replies.Named v) new h = inl h
-within_new config (actions.NewWeak to counts weaks) (replies.Word v) new h = inl h
-within_new config (actions.NewWeak to counts weaks) (replies.Shape p v) new h = inl h
-within_new config (actions.NewWeak to counts weaks) (replies.Marked v) new h = inl h
-within_new config (actions.NewWeak to counts weaks) (replies.Reclaimed v) new h = inl h
-within_new config (actions.NewWeak to counts weaks) (replies.Refined v) new h = inl h
-within_new config (actions.NewWeak to counts weaks) (replies.Moved p v) new h = inl h
-within_new config (actions.Get a b d) r new h = absurd new
-within_new config (actions.Put a b d) r new h = absurd new
-within_new config (actions.Read a b) r new h = absurd new
-within_new config (actions.Write a b d) r new h = absurd new
-within_new config (actions.Move a b) r new h = absurd new
-within_new config (actions.Drop a) r new h = absurd new
-within_new config (actions.Load a b) r new h = absurd new
-within_new config (actions.Save a b) r new h = absurd new
-within_new config (actions.Shape a) r new h = absurd new
-within_new config (actions.GetWeak a b d) r new h = absurd new
-within_new config (actions.PutWeak a b d) r new h = absurd new
-within_new config (actions.Weaks a) r new h = absurd new
-within_new config (actions.Scope a) r new h = absurd new
+within_new config (actions.New to counts) _ new h = inl h
+within_new config (actions.NewWeak to counts weaks) _ new h = inl h
+within_new config _ _ new h = absurd new
 
 module _ (c d : CoreState) (op : Op) (new : IsNew op.action) (core' : IsCore d)
     (not : IsCreatable c op.action → ⊥) (two : 2 ≤ free_count c.table) where
@@ -99,14 +61,7 @@ module _ (c d : CoreState) (op : Op) (new : IsNew op.action) (core' : IsCore d)
   -- where the object is no larger than an object may be
   made_two : asked_words op.action ≤ object_limit c.config → (r : Reply) → ActsOn op.mutator op.action r c d → 2 ≤ free_count d.table
   made_two fits (replies.Refused why) h = let e = ap (λ (x : CoreState). free_count x.table) h in omega (arith, e, two)
-  made_two fits replies.Done h = acted fits h
-  made_two fits (replies.Named v) h = acted fits h
-  made_two fits (replies.Word v) h = acted fits h
-  made_two fits (replies.Shape p v) h = acted fits h
-  made_two fits (replies.Marked v) h = acted fits h
-  made_two fits (replies.Reclaimed v) h = acted fits h
-  made_two fits (replies.Refined v) h = acted fits h
-  made_two fits (replies.Moved p v) h = acted fits h
+  made_two fits _ h = acted fits h
 
   refused_two : (r : Reply) (why : Refusal) → r ≡ replies.Refused why → ActsOn op.mutator op.action r c d → 2 ≤ free_count d.table
   refused_two r why is h =

@@ -17,16 +17,12 @@ use Rattle.collection.specs.Space.{run_one}
 
 -- the words of the object that has a run of regions, at its first region
 abbrev pub first_words : Region → ℕ
-first_words Free = 0
-first_words (Ordinary ts) = 0
 first_words (First s) = tile_size (Object s)
-first_words (Rest n) = 0
+first_words _ = 0
 
 one_at_most : (k : Kind) → run_one k ≤ 1
 one_at_most kinds.Free = omega arith
-one_at_most kinds.Ordinary = omega arith
-one_at_most kinds.First = omega arith
-one_at_most kinds.Rest = omega arith
+one_at_most _ = omega arith
 
 -- so many more numbers add at most one each
 few_more : (f : ℕ → ℕ) → ((k : ℕ) → f k ≤ 1) → (m n : ℕ) → sum_below f (n + m) ≤ sum_below f n + m

@@ -85,17 +85,14 @@ held_is c d e = let f = e in cc
 -- ---- a step that is refused
 stays : (step : Step) (why : Refusal) (c d : CoreState) → Does step (replies.Refused why) c d → d ≡ c
 stays (steps.Mutator o) why c d h = h
-stays (steps.Collector collector.Begin) refusals.MarkRunning c d h = h.1
-stays (steps.Collector collector.Begin) why c d h = absurd h
-stays (steps.Collector (collector.Mark k)) refusals.NotMarking c d h = h.1
-stays (steps.Collector (collector.Mark k)) why c d h = absurd h
-stays (steps.Collector collector.Remark) refusals.NotMarking c d h = h.1
-stays (steps.Collector collector.Remark) why c d h = absurd h
-stays (steps.Collector collector.Cleanup) refusals.MarkRunning c d h = h.1
-stays (steps.Collector collector.Cleanup) why c d h = absurd h
-stays (steps.Collector (collector.Refine k)) why c d h = absurd h
-stays (steps.Collector (collector.Pause k)) why c d h = absurd h
-stays (steps.Collector (collector.Compact k)) why c d h = absurd h
+stays (steps.Collector collector.Begin) why c d (inl h) = absurd (let e = h.1 in cc)
+stays (steps.Collector (collector.Mark k)) why c d (inl h) = absurd (let e = h.1 in cc)
+stays (steps.Collector collector.Remark) why c d (inl h) = absurd (let e = h.2 in cc)
+stays (steps.Collector collector.Cleanup) why c d (inl h) = absurd (let e = h.2 in cc)
+stays (steps.Collector (collector.Refine k)) why c d h = absurd (let e = h.1 in cc)
+stays (steps.Collector (collector.Pause k)) why c d h = absurd (let e = h.2 in cc)
+stays (steps.Collector (collector.Compact k)) why c d h = absurd (let e = h.2 in cc)
+stays _ why c d (inr h) = h.1.same
 
 keeps : (step : Step) (reply : Reply) (c d : CoreState) → Does step reply c d → KeepsIfRefused reply c d
 keeps step reply c d h why e = stays step why c d (subst (λ (r : Reply). Does step r c d) e h)

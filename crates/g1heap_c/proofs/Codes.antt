@@ -30,77 +30,44 @@ live = inr (inr (inr refl))
 
 of_refused : (why : Refusal) → IsCode (refused why).code
 of_refused refusals.Nil = inr (inl (omega arith, omega arith))
-of_refused refusals.NoField = inr (inl (omega arith, omega arith))
-of_refused refusals.Full = inr (inl (omega arith, omega arith))
-of_refused refusals.TooBig = inr (inl (omega arith, omega arith))
-of_refused refusals.NamesSpent = inr (inl (omega arith, omega arith))
-of_refused refusals.MarkRunning = inr (inl (omega arith, omega arith))
-of_refused refusals.NotMarking = inr (inl (omega arith, omega arith))
+of_refused _ = inr (inl (omega arith, omega arith))
 
 of_numbers : (r : Reply) → IsCode (numbers r).code
-of_numbers replies.Done = inl (omega arith)
-of_numbers (replies.Named None) = inl (omega arith)
-of_numbers (replies.Named (Some name)) = inl (omega arith)
-of_numbers (replies.Word value) = inl (omega arith)
-of_numbers (replies.Shape pointers values) = inl (omega arith)
-of_numbers (replies.Marked count) = inl (omega arith)
-of_numbers (replies.Reclaimed count) = inl (omega arith)
-of_numbers (replies.Refined count) = inl (omega arith)
-of_numbers (replies.Moved regions words) = inl (omega arith)
 of_numbers (replies.Refused why) = of_refused why
+of_numbers (replies.Named None) = inl (omega arith)
+of_numbers _ = inl (omega arith)
 
 of_counted : (n : ℕ) (r : Reply) → IsCode (counted n r).code
-of_counted n replies.Done = inl (omega arith)
 of_counted n (replies.Named name) = of_numbers (replies.Named name)
-of_counted n (replies.Word value) = inl (omega arith)
-of_counted n (replies.Shape pointers values) = inl (omega arith)
-of_counted n (replies.Marked count) = inl (omega arith)
-of_counted n (replies.Reclaimed count) = inl (omega arith)
-of_counted n (replies.Refined count) = inl (omega arith)
-of_counted n (replies.Moved regions words) = inl (omega arith)
 of_counted n (replies.Refused why) = of_refused why
+of_counted n _ = inl (omega arith)
 
 of_telling : (step : Step) (c d : CoreState) (r : Reply) → IsCode (telling step c d r).code
-of_telling (steps.Mutator o) c d r = of_numbers r
-of_telling (steps.Collector collector.Begin) c d r = of_numbers r
 of_telling (steps.Collector (collector.Mark k)) c d r = of_counted (d.marker.scans.since - c.marker.scans.since) r
-of_telling (steps.Collector collector.Remark) c d r = of_numbers r
-of_telling (steps.Collector collector.Cleanup) c d r = of_numbers r
-of_telling (steps.Collector (collector.Refine k)) c d r = of_numbers r
-of_telling (steps.Collector (collector.Pause k)) c d r = of_numbers r
-of_telling (steps.Collector (collector.Compact k)) c d r = of_numbers r
+of_telling _ c d r = of_numbers r
 
 -- an answer that equals another one has its code
 alike : (y z : Answer) → y ≡ z → IsCode z.code → IsCode y.code
 alike y z e h = subst (λ (x : Answer). IsCode x.code) (sym e) h
 
 of_question : (q : Question) (c : CoreState) (y : Answer) → IsAnswerTo q c y → IsCode y.code
-of_question FreeRegions c y h = alike y _ h (inl (omega arith))
 of_question FreeRun c y h = alike y _ h.is (inl (omega arith))
-of_question UsedWords c y h = alike y _ h (inl (omega arith))
-of_question LiveWords c y h = alike y _ h (inl (omega arith))
 of_question Marking c y (inl h) = alike y _ h.0 (inl (omega arith))
 of_question Marking c y (inr h) = alike y _ h.0 (inl (omega arith))
 of_question Grey c y (inl h) = alike y _ h.0 (inl (omega arith))
 of_question Grey c y (inr h) = alike y _ h.0 (inl (omega arith))
-of_question Queued c y h = alike y _ h (inl (omega arith))
-of_question Globals c y h = alike y _ h (inl (omega arith))
-of_question Registers c y h = alike y _ h (inl (omega arith))
 of_question (Name m r) c y h = elim (is_register c m r) [
   | inl is ↦ alike y _ (h.name is) (of_numbers (replies.Named (name_in c.table (register_of c m (register r)))))
   | inr isnt ↦ alike y _ (h.none isnt) none
 ]
+of_question _ c y h = alike y _ h (inl (omega arith))
 
 of_call : (c : CoreState) (es : List Event) (call : Call) (y : Answer) (d : CoreState) → HasEvents c es call y d → IsCode y.code
 of_call c es (NewCall config) y d h = alike y _ h.tells live
 of_call c es (StepCall step) y d (inl h) = alike y _ h.1.tells (of_telling step c d h.1.reply)
-of_call c es (StepCall step) y d (inr h) = alike y _ h.1.tells none
 of_call c es (NewFilledCall m to from words) y d (inl h) = alike y _ h.1.tells (of_numbers h.1.reply)
-of_call c es (NewFilledCall m to from words) y d (inr h) = alike y _ h.1.tells none
 of_call c es (MakeCall op) y d (inl h) = alike y _ h.1.tells (of_numbers h.1.reply)
-of_call c es (MakeCall op) y d (inr h) = alike y _ h.1.tells none
 of_call c es (MakeFilledCall m to from words) y d (inl h) = alike y _ h.1.tells (of_numbers h.1.reply)
-of_call c es (MakeFilledCall m to from words) y d (inr h) = alike y _ h.1.tells none
 of_call c es CollectCall y d h = alike y _ h.tells (inl (omega arith))
 of_call c es CollectAllCall y d h = alike y _ h.tells (inl (omega arith))
 of_call c es (ReadWordsCall m object from before after) y d (inl (is, inl h)) = alike y _ h.tells (inl (omega arith))
@@ -108,10 +75,10 @@ of_call c es (ReadWordsCall m object from before after) y d (inl (is, inr h)) = 
 of_call c es (ReadWordsCall m object from before after) y d (inr h) = alike y _ h.1.0.tells none
 of_call c es (WriteWordsCall m object from words) y d (inl (is, inl h)) = alike y _ h.tells (inl (omega arith))
 of_call c es (WriteWordsCall m object from words) y d (inl (is, inr h)) = alike y _ h.tells (of_refused h.why)
-of_call c es (WriteWordsCall m object from words) y d (inr h) = alike y _ h.1.tells none
 of_call c es (AskCall question) y d h = of_question question c y h.answers
 of_call c es NoStepCall y d h = alike y _ h.tells none
 of_call c es FreeCall y d h = absurd h
+of_call c es _ y d (inr h) = alike y _ h.1.tells none
 
 of_calls : (calls : List Called) (s : State) (c : CoreState) (es : List Event) (last : State) → CallsRun s c es calls last
     → All HasCode calls

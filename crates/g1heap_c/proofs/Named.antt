@@ -83,30 +83,12 @@ third (V2 card) = inr (λ h. h)
 third (V3 card globals registers) = inl tt
 
 action : (f : Format) (a : Action) → OrNot (HasAction f a)
-action f (actions.New to counts) = inl tt
-action f (actions.Get to object i) = inl tt
-action f (actions.Put object i value) = inl tt
-action f (actions.Read object j) = inl tt
-action f (actions.Write object j value) = inl tt
-action f (actions.Move to from) = inl tt
-action f (actions.Drop register) = inl tt
-action f (actions.Load to from) = inl tt
-action f (actions.Save to from) = inl tt
-action f (actions.Shape object) = inl tt
-action f (actions.NewWeak to counts weaks) = inl tt
-action f (actions.GetWeak to object i) = inl tt
-action f (actions.PutWeak object i value) = inl tt
-action f (actions.Weaks object) = inl tt
 action f (actions.Scope from) = third f
+action f _ = inl tt
 
 collection : (f : Format) (k : CollectorStep) → OrNot (HasCollection f k)
-collection f collector.Begin = inl tt
-collection f (collector.Mark n) = inl tt
-collection f collector.Remark = inl tt
-collection f collector.Cleanup = inl tt
-collection f (collector.Refine n) = inl tt
-collection f (collector.Pause n) = inl tt
 collection f (collector.Compact n) = third f
+collection f _ = inl tt
 
 pub is_op : (c : Config) (o : Op) → OrNot (IsOp c o)
 is_op c o = elim (both _ _ (less o.mutator c.mutators) (both _ _ (roots (places_of c) o.action) (action c.format o.action))) [

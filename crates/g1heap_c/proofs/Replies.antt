@@ -36,35 +36,17 @@ events_in step y = if y.code == 32 then [] else event_of step (reply_of y) ∷ [
 
 in_refused : (step : Step) (why : Refusal) → events_in step (refused why) ≡ event_of step (replies.Refused why) ∷ []
 in_refused step refusals.Nil = refl
-in_refused step refusals.NoField = refl
-in_refused step refusals.Full = refl
-in_refused step refusals.TooBig = refl
-in_refused step refusals.NamesSpent = refl
-in_refused step refusals.MarkRunning = refl
-in_refused step refusals.NotMarking = refl
+in_refused step _ = refl
 
 in_numbers : (step : Step) (r : Reply) → events_in step (numbers r) ≡ event_of step r ∷ []
-in_numbers step replies.Done = refl
-in_numbers step (replies.Named None) = refl
-in_numbers step (replies.Named (Some name)) = refl
-in_numbers step (replies.Word value) = refl
-in_numbers step (replies.Shape pointers values) = refl
-in_numbers step (replies.Marked count) = refl
-in_numbers step (replies.Reclaimed count) = refl
-in_numbers step (replies.Refined count) = refl
-in_numbers step (replies.Moved regions words) = refl
 in_numbers step (replies.Refused why) = in_refused step why
+in_numbers step (replies.Named None) = refl
+in_numbers step _ = refl
 
 in_counted : (step : Step) (n : ℕ) (r : Reply) → events_in step (counted n r) ≡ event_of step r ∷ []
-in_counted step n replies.Done = refl
 in_counted step n (replies.Named name) = in_numbers step (replies.Named name)
-in_counted step n (replies.Word value) = refl
-in_counted step n (replies.Shape pointers values) = refl
-in_counted step n (replies.Marked count) = refl
-in_counted step n (replies.Reclaimed count) = refl
-in_counted step n (replies.Refined count) = refl
-in_counted step n (replies.Moved regions words) = refl
 in_counted step n (replies.Refused why) = in_refused step why
+in_counted step n _ = refl
 
 in_telling : (step : Step) (c d : CoreState) (r : Reply) → events_in step (telling step c d r) ≡ event_of step r ∷ []
 in_telling (steps.Mutator o) c d r = in_numbers (steps.Mutator o) r

@@ -135,21 +135,16 @@ module _ (c : CoreState) (es : List Event) (y z : Answer) (d : CoreState) where
   sign_one P (inr h) (inr k) = h.0 ∙ sym k.0
 
   ask_one : (q : Question) → IsAnswerTo q c y → IsAnswerTo q c z → y ≡ z
-  ask_one FreeRegions h k = h ∙ sym k
   ask_one FreeRun h k =
       let same : h.count ≡ k.count = longest_one h.count k.count h.longest k.longest in
       h.is ∙ ap (λ (n : ℕ). told 10 n 0) same ∙ sym k.is
-  ask_one UsedWords h k = h ∙ sym k
-  ask_one LiveWords h k = h ∙ sym k
   ask_one Marking h k = sign_one IsMarking h k
   ask_one Grey h k = sign_one HasGrey h k
-  ask_one Queued h k = h ∙ sym k
-  ask_one Globals h k = h ∙ sym k
-  ask_one Registers h k = h ∙ sym k
   ask_one (Name m r) h k = elim (is_register c m r) [
     | inl is ↦ h.name is ∙ sym (k.name is)
     | inr isnt ↦ h.none isnt ∙ sym (k.none isnt)
   ]
+  ask_one _ h k = h ∙ sym k
 
   none_else : HasNone c es (told 32 0 0) y d → HasNone c es (told 32 0 0) z d → y ≡ z
   none_else h k = none_one (told 32 0 0) h k

@@ -54,10 +54,6 @@ act_keeps g m (actions.Read object i) = on_name_law (KeepsPlaces g) g (root_at g
 act_keeps g m (actions.Write object i value) =
     on_name_law (KeepsPlaces g) g (root_at g (register_place g.places m object.number)) _ refl
     (λ n x. on_field_law (KeepsPlaces g) g (slice_get x.values i) _ refl (λ v. refl))
-act_keeps g m (actions.Move to from) = refl
-act_keeps g m (actions.Drop register) = refl
-act_keeps g m (actions.Load to from) = refl
-act_keeps g m (actions.Save to from) = refl
 act_keeps g m (actions.Shape object) = on_name_law (KeepsPlaces g) g (root_at g (register_place g.places m object.number)) _ refl
     (λ n x. refl)
 act_keeps g m (actions.NewWeak to counts weaks) = made_keeps g m to counts weaks
@@ -67,9 +63,9 @@ act_keeps g m (actions.GetWeak to object i) =
 act_keeps g m (actions.PutWeak object i value) =
     on_name_law (KeepsPlaces g) g (root_at g (register_place g.places m object.number)) _ refl
     (λ n x. on_field_law (KeepsPlaces g) g (slice_get x.weaks i) _ refl (λ v. refl))
-act_keeps g m (actions.Scope from) = refl
 act_keeps g m (actions.Weaks object) = on_name_law (KeepsPlaces g) g (root_at g (register_place g.places m object.number)) _ refl
     (λ n x. refl)
+act_keeps g m _ = refl
 
 pub outcome_of-places : (g : Graph) (o : Op) → (outcome_of g o).1.places ≡ g.places
 outcome_of-places g o = act_keeps g o.mutator o.action
@@ -103,10 +99,6 @@ act-not_full g m (actions.Read object i) =
 act-not_full g m (actions.Write object i value) =
     on_name_law NotFull g (root_at g (register_place g.places m object.number)) _ (λ h. cc)
     (λ n x. on_field_law NotFull g (slice_get x.values i) _ (λ h. cc) (λ v h. cc))
-act-not_full g m (actions.Move to from) = λ h. cc
-act-not_full g m (actions.Drop register) = λ h. cc
-act-not_full g m (actions.Load to from) = λ h. cc
-act-not_full g m (actions.Save to from) = λ h. cc
 act-not_full g m (actions.Shape object) = on_name_law NotFull g (root_at g (register_place g.places m object.number)) _ (λ h. cc)
     (λ n x h. cc)
 act-not_full g m (actions.NewWeak to counts weaks) = made-not_full g m to counts weaks
@@ -116,6 +108,6 @@ act-not_full g m (actions.GetWeak to object i) =
 act-not_full g m (actions.PutWeak object i value) =
     on_name_law NotFull g (root_at g (register_place g.places m object.number)) _ (λ h. cc)
     (λ n x. on_field_law NotFull g (slice_get x.weaks i) _ (λ h. cc) (λ v h. cc))
-act-not_full g m (actions.Scope from) = λ h. cc
 act-not_full g m (actions.Weaks object) = on_name_law NotFull g (root_at g (register_place g.places m object.number)) _ (λ h. cc)
     (λ n x h. cc)
+act-not_full g m _ = λ h. cc

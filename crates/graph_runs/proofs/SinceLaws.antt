@@ -278,10 +278,6 @@ module _ (s g : Graph) (k : IsSince s g) (holds : HoldsNames g) (earlier : IsEar
     act_slots m (actions.Write object i value) =
         object_slots m object _ (λ n x weaks. field_slots (slice_get x.values i) _
         (λ v. slots_changed s g n (record x { values = slice_set x.values i value }) slots weaks))
-    act_slots m (actions.Move to from) = slots
-    act_slots m (actions.Drop register) = slots
-    act_slots m (actions.Load to from) = slots
-    act_slots m (actions.Save to from) = slots
     act_slots m (actions.Shape object) = object_slots m object _ (λ n x weaks. slots)
     act_slots m (actions.NewWeak to counts weaks) = made_slots m to counts weaks
     act_slots m (actions.GetWeak to object i) = object_slots m object _ (λ n x weaks. field_slots (slice_get x.weaks i) _ (λ v. slots))
@@ -289,8 +285,8 @@ module _ (s g : Graph) (k : IsSince s g) (holds : HoldsNames g) (earlier : IsEar
         object_slots m object _ (λ n x weaks. field_slots (slice_get x.weaks i) _
         (λ v. slots_changed s g n (record x { weaks = slice_set x.weaks i (stored g m value) }) slots
         (set_known s x.weaks i (stored g m value) weaks (stored_known m value))))
-    act_slots m (actions.Scope from) = slots
     act_slots m (actions.Weaks object) = object_slots m object _ (λ n x weaks. slots)
+    act_slots m _ = slots
 
 slots_on : (s g : Graph) (v : Option ℕ) → HoldsKnown s g → HoldsKnown (touched s v) g
 slots_on s g v slots p i n x at e = known_on s v n (slots p i n x at e)

@@ -296,28 +296,7 @@ earlier_on (Some s) g h f l k = let a = k.next_name in
 pub after_law : (P : Graph → Type 0) (s : Graph) (a : Action) (r : Reply) → P s → ((v : Option ℕ) → r ≡ replies.Named v → P (touched s v))
     → ForSnapshot (snapshot_after (Some s) a r) P
 after_law P s (actions.GetWeak to object i) (replies.Named v) k touch = touch v refl
-after_law P s (actions.GetWeak to object i) replies.Done k touch = k
-after_law P s (actions.GetWeak to object i) (replies.Word w) k touch = k
-after_law P s (actions.GetWeak to object i) (replies.Shape p d) k touch = k
-after_law P s (actions.GetWeak to object i) (replies.Marked n) k touch = k
-after_law P s (actions.GetWeak to object i) (replies.Reclaimed n) k touch = k
-after_law P s (actions.GetWeak to object i) (replies.Refined n) k touch = k
-after_law P s (actions.GetWeak to object i) (replies.Moved n w) k touch = k
-after_law P s (actions.GetWeak to object i) (replies.Refused why) k touch = k
-after_law P s (actions.New to counts) r k touch = k
-after_law P s (actions.Get to object i) r k touch = k
-after_law P s (actions.Put object i v) r k touch = k
-after_law P s (actions.Read object i) r k touch = k
-after_law P s (actions.Write object i v) r k touch = k
-after_law P s (actions.Move to from) r k touch = k
-after_law P s (actions.Drop register) r k touch = k
-after_law P s (actions.Load to from) r k touch = k
-after_law P s (actions.Save to from) r k touch = k
-after_law P s (actions.Shape object) r k touch = k
-after_law P s (actions.NewWeak to counts weaks) r k touch = k
-after_law P s (actions.PutWeak object i v) r k touch = k
-after_law P s (actions.Scope from) r k touch = k
-after_law P s (actions.Weaks object) r k touch = k
+after_law P s _ _ k touch = k
 
 touch_on : (s : Option Graph) (g : Graph) (a : Action) (r : Reply) → ForSnapshot s (λ t. IsEarlier t g)
     → ((v : Option ℕ) → r ≡ replies.Named v → IsValue g v) → ForSnapshot (snapshot_after s a r) (λ t. IsEarlier t g)

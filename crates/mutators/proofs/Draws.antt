@@ -44,12 +44,10 @@ open_few k (suc n ∷ ns) = let h = open_few (suc k) ns in omega arith
 
 -- an actor that has lines left after its turn stays open
 pub open_same : (k : ℕ) (ns : List ℕ) (p : ℕ) → 1 < get_or ns p 0 → open_from k (one_less ns p) ≡ open_from k ns
-open_same k [] p more = absurd (omega arith)
-open_same k (zero ∷ ns) zero more = absurd (omega arith)
-open_same k (suc zero ∷ ns) zero more = absurd (omega arith)
 open_same k (suc (suc m) ∷ ns) zero more = let e : suc (suc m) - 1 ≡ suc m = omega arith in rw e refl
 open_same k (zero ∷ ns) (suc p) more = open_same (suc k) ns p more
 open_same k (suc m ∷ ns) (suc p) more = ap (λ (l : List ℕ). k ∷ l) (open_same (suc k) ns p more)
+open_same k _ _ more = absurd (omega arith)
 
 -- one whose last line is done doesn't
 pub open_gone : (k : ℕ) (ns : List ℕ) (n p : ℕ) → get_or ns p 0 ≡ 1 → n < length (open_from k ns) → get_or (open_from k ns) n 0 ≡ k + p

@@ -16,11 +16,9 @@ pub bad_exactly : {A P : Type 0} (config : Config) (f : RunFault) (r : Result A 
 bad_exactly {A} {P} config f r fails is none = (λ same. let both = fails in absurd (not_bad config f is (cc)), λ p. absurd (none p))
 
 pub threads_fault : (config : Config) (f : RunFault) → IsRunFault config f → IsThreadsFault config f
-threads_fault config faults.NoMemory is = is
-threads_fault config (faults.Heap e) is = is
-threads_fault config faults.BadWorkers is = is
 threads_fault config faults.NoWorker is = absurd is
 threads_fault config faults.Unfinished is = absurd is
+threads_fault config _ is = is
 
 -- what runs once the counts are in range doesn't answer that they aren't
 pub never_bad : {A P : Type 0} (config : Config) (r : Result A RunFault) → IfErr r (λ f. Suits config → IsThreadsFault config f)

@@ -22,21 +22,10 @@ use Rattle.step_core.proofs.Cores.Running.{runs_none}
 
 same_is : (a b : Actor) → same_actor a b ≡ true → b ≡ a
 same_is (Mutator i) (Mutator j) e = ap (λ (n : ℕ). Mutator n) (sym (eqb-true i j e))
-same_is (Mutator i) Collector e = absurd (cc)
-same_is (Mutator i) (Marker j) e = absurd (cc)
-same_is (Mutator i) (Refiner j) e = absurd (cc)
-same_is Collector (Mutator j) e = absurd (cc)
 same_is Collector Collector e = refl
-same_is Collector (Marker j) e = absurd (cc)
-same_is Collector (Refiner j) e = absurd (cc)
-same_is (Marker i) (Mutator j) e = absurd (cc)
-same_is (Marker i) Collector e = absurd (cc)
 same_is (Marker i) (Marker j) e = ap (λ (n : ℕ). Marker n) (sym (eqb-true i j e))
-same_is (Marker i) (Refiner j) e = absurd (cc)
-same_is (Refiner i) (Mutator j) e = absurd (cc)
-same_is (Refiner i) Collector e = absurd (cc)
-same_is (Refiner i) (Marker j) e = absurd (cc)
 same_is (Refiner i) (Refiner j) e = ap (λ (n : ℕ). Refiner n) (sym (eqb-true i j e))
+same_is _ _ e = absurd (cc)
 
 abbrev IsLineOf : Config → Actor → Step → Type 0
 IsLineOf config a s = IsStep config s × (actor_of s ≡ a)

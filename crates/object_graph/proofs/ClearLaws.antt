@@ -1,11 +1,10 @@
 -- Clearing slot after slot, and object after object, clears them all.
-use Rattle.std.proofs.Common.{◌≡◌, ◌+◌, ◌<◌, ◌≤◌, ◌∷◌, ◌++◌, ◌∙◌}
-use Rattle.std.proofs.Common.{ℕ, zero, suc, List, [], Option, Some, slice_get, length, get_or, set, map, take, drop, refl, sym, ap, arith}
-use Rattle.std.proofs.lemmas.List.{get_or-set_same, set-get_or}
+use Rattle.std.proofs.Common.{◌≡◌, ◌+◌, ◌<◌, ◌∷◌, ◌++◌, ◌∙◌}
+use Rattle.std.proofs.Common.{ℕ, zero, suc, List, [], Option, Some, slice_get, length, get_or, set, map, take, drop, refl, sym, ap}
+use Rattle.std.proofs.lemmas.List.{get_or-set_same}
 use Rattle.std.proofs.lemmas.List.Edits.{map_over_more}
 use Rattle.std.proofs.lemmas.Option.{get_or_from_slice_get, slice_get-get_or}
 use Rattle.heap_model.specs.Graph.{Object}
-use Rattle.heap_model.proofs.Lists.{length-set}
 use Rattle.object_graph.specs.Fields.{object_in}
 
 -- the object with its first slots cleared
@@ -16,9 +15,6 @@ cleared_part f slot x = record x { weaks = map f (take slot x.weaks) ++ drop slo
 abbrev pub cleared_in : (Option ℕ → Option ℕ) → List Object → ℕ → ℕ → List Object
 cleared_in f objects place slot = set objects place (cleared_part f slot (object_in objects place))
 
-pub no_part : (f : Option ℕ → Option ℕ) (objects : List Object) (place : ℕ) → objects ≡ cleared_in f objects place 0
-no_part f objects place = sym (set-get_or objects place _)
-
 set-set : (xs : List Object) (i : ℕ) (a b : Object) → set (set xs i a) i b ≡ set xs i b
 set-set [] i a b = refl
 set-set (x ∷ xs) zero a b = refl
@@ -28,22 +24,6 @@ part_at : (f : Option ℕ → Option ℕ) (old cur : List Object) (place slot : 
     → object_in cur place ≡ cleared_part f slot (object_in old place)
 part_at f old cur place slot inside is = ap (λ (xs : List Object). object_in xs place) is
     ∙ get_or-set_same old place (cleared_part f slot (object_in old place)) _ inside
-
-pub part_length : (f : Option ℕ → Option ℕ) (old cur : List Object) (place slot : ℕ) → place < length old
-    → cur ≡ cleared_in f old place slot → length cur ≡ length old
-part_length f old cur place slot inside is = ap length is ∙ length-set old place (cleared_part f slot (object_in old place))
-
-pub part_weaks : (f : Option ℕ → Option ℕ) (old cur : List Object) (place slot : ℕ) → place < length old
-    → slot ≤ length (object_in old place).weaks → cur ≡ cleared_in f old place slot
-    → length (object_in cur place).weaks ≡ length (object_in old place).weaks
-part_weaks f old cur place slot inside le is =
-    ap (λ (x : Object). length x.weaks) (part_at f old cur place slot inside is) ∙ by_length (object_in old place).weaks slot
-  where
-    by_length : (ws : List (Option ℕ)) (n : ℕ) → length (map f (take n ws) ++ drop n ws) ≡ length ws
-    by_length [] zero = refl
-    by_length [] (suc n) = refl
-    by_length (w ∷ ws) zero = refl
-    by_length (w ∷ ws) (suc n) = ap suc (by_length ws n)
 
 -- one slot more
 pub part_more : (f : Option ℕ → Option ℕ) (old cur new : List Object) (place slot : ℕ) (was value : Option ℕ) → place < length old
@@ -70,18 +50,6 @@ part_more f old cur new place slot was value inside field is there given made =
     same_but : (x y : Object) {u v : List (Option ℕ)} → x.pointers ≡ y.pointers → x.values ≡ y.values → u ≡ v
         → ◌≡◌ {A = Object} (record x { weaks = u }) (record y { weaks = v })
     same_but x y a b c = cc
-
--- all slots
-pub part_all : (f : Option ℕ → Option ℕ) (old cur : List Object) (place slot : ℕ) → length (object_in old place).weaks ≤ slot
-    → cur ≡ cleared_in f old place slot → cur ≡ set old place (record (object_in old place) { weaks = map f (object_in old place).weaks })
-part_all f old cur place slot le is = is ∙ ap (λ (ws : List (Option ℕ)). set old place (record (object_in old place) { weaks = ws }))
-    (all (object_in old place).weaks slot le)
-  where
-    all : (ws : List (Option ℕ)) (n : ℕ) → length ws ≤ n → map f (take n ws) ++ drop n ws ≡ map f ws
-    all [] zero le = refl
-    all [] (suc n) le = refl
-    all (w ∷ ws) zero le = absurd (omega arith)
-    all (w ∷ ws) (suc n) le = ap (λ (vs : List (Option ℕ)). f w ∷ vs) (all ws n (omega arith))
 
 -- one object more
 pub object_more : (f : Object → Object) (old cur new : List Object) (place : ℕ) → place < length old → place < length cur

@@ -2,10 +2,9 @@
 use Rattle.std.proofs.Common.{◌≡◌, ◌↔◌, ◌⊎◌, ◌+◌, ◌-◌, ◌<◌, ◌≤◌, ◌++◌, ◌∷◌, ◌∙◌}
 use Rattle.std.proofs.Common.{ℕ, Option, Some, None, List, [], take, length, get_or, slice_get, Result, Ok, Err, refl, sym, ap, subst, inl}
 use Rattle.std.proofs.Common.{inr, arith}
-use Rattle.std.specs.Prelude.{nat_lt, ◌==◌, ◌^◌, IfOk}
+use Rattle.std.specs.Prelude.{IfOk}
 use Rattle.std.proofs.lemmas.List.{take_all, take_more}
 use Rattle.std.proofs.lemmas.Option.{slice_get-get_or}
-use Rattle.heap_words.specs.Sizes.{size_of}
 use Rattle.heap_words.specs.declared.config.Config.{Config}
 use Rattle.heap_model.specs.Graph.{Graph, Places, next_name}
 use Rattle.heap_model.specs.Weak.{cleared_graph}
@@ -13,18 +12,14 @@ use Rattle.heap_steps.specs.Actors.{IsStepOf, IsEvent}
 use Rattle.heap_steps.specs.Roots.{IsOpAt}
 use Rattle.graph_runs.specs.State.{State, IsSoundState, ForSnapshot, IsEarlier, first_state, places_of}
 use Rattle.object_graph.specs.Reached.{started, all_found, searched, flag_of}
-use Rattle.graph_runs.specs.Machine.{Outcome, refused, made, act, outcome_of, reply_of}
-use Rattle.graph_runs.specs.Run.{ForMutator, IsNew, Creates, ClearsBy, Collects, Happens, EventHappens, IsRun, snapshot_after}
+use Rattle.graph_runs.specs.Machine.{Outcome, outcome_of, reply_of}
+use Rattle.graph_runs.specs.Run.{ForMutator, ClearsBy, Collects, Happens, EventHappens, IsRun, snapshot_after}
 use Rattle.object_graph.specs.Judged.{Judged}
 use Rattle.object_graph.specs.Reasons.{IsGiven, MayStand, Refuses, Finds, verdict_of, Judging, HasJudged, JudgesNext, SparingJudges}
 use Rattle.heap_steps.specs.declared.step.Actor.{Actor}
 use Rattle.heap_steps.specs.declared.step.Actor.TheVariants as actors
-use Rattle.heap_steps.specs.declared.step.Action.{Action}
-use Rattle.heap_steps.specs.declared.step.Action.TheVariants as actions
 use Rattle.heap_steps.specs.declared.step.CollectorStep.{CollectorStep}
-use Rattle.heap_steps.specs.declared.step.Counts.{Counts}
 use Rattle.heap_steps.specs.declared.step.Op.{Op}
-use Rattle.heap_steps.specs.declared.step.Register.{Register}
 use Rattle.heap_steps.specs.declared.step.Event.{Event}
 use Rattle.heap_steps.specs.declared.step.Step.{Step}
 use Rattle.heap_steps.specs.declared.step.Step.TheVariants as steps
@@ -36,56 +31,11 @@ use Rattle.object_graph.specs.declared.given.Given.TheVariants as givens
 use Rattle.object_graph.specs.declared.judge.Finding.{Finding}
 use Rattle.object_graph.specs.declared.judge.Finding.TheVariants as findings
 use Rattle.graph_runs.proofs.Collected.{kind}
-use Rattle.graph_runs.proofs.MachineLaws.{cond_law}
 use Rattle.object_graph.proofs.Reaching.{view_reached, cleared_by_flags}
 use Rattle.graph_runs.proofs.RunLaws.{IsRun-more}
 use Rattle.graph_runs.proofs.Sound.{get_in, first_sound, run_sound, run_places}
 use Rattle.graph_runs.proofs.SinceLaws.{run_since}
 use Rattle.object_graph.proofs.SparingLaws.{follows, allowed, stands_sound}
-
--- an object that the graph makes has the next name
-abbrev NamesNext : Graph → Outcome → Type 0
-NamesNext g out = (n : ℕ) → replies.Named (Some n) ≡ out.0 → n ≡ next_name g
-
-made_next : (g : Graph) (m : ℕ) (to : Register) (counts : Counts) (weaks : ℕ) → NamesNext g (made g m to counts weaks)
-made_next g m to counts weaks =
-    cond_law (NamesNext g) (nat_lt g.room (size_of counts.pointers weaks counts.values)) (refused g refusals.TooBig) _ (λ n h. cc)
-    (cond_law (NamesNext g) (next_name g == 2 ^ 64 - 1) (refused g refusals.NamesSpent) _ (λ n h. cc) (λ n h. cc))
-
-next_named : (g : Graph) (m : ℕ) (a : Action) (n : ℕ) → IsNew a → replies.Named (Some n) ≡ (act g m a).0 → n ≡ next_name g
-next_named g m (actions.New to counts) n new h = made_next g m to counts 0 n h
-next_named g m (actions.NewWeak to counts weaks) n new h = made_next g m to counts weaks n h
-next_named g m (actions.Get to object i) n new h = absurd new
-next_named g m (actions.Put object i value) n new h = absurd new
-next_named g m (actions.Read object j) n new h = absurd new
-next_named g m (actions.Write object j value) n new h = absurd new
-next_named g m (actions.Move to from) n new h = absurd new
-next_named g m (actions.Drop register) n new h = absurd new
-next_named g m (actions.Load to from) n new h = absurd new
-next_named g m (actions.Save to from) n new h = absurd new
-next_named g m (actions.Shape object) n new h = absurd new
-next_named g m (actions.GetWeak to object i) n new h = absurd new
-next_named g m (actions.PutWeak object i value) n new h = absurd new
-next_named g m (actions.Weaks object) n new h = absurd new
-next_named g m (actions.Scope from) n new h = absurd new
-
--- the name of the object that is made is given
-pub object_given : (g : Graph) (m : ℕ) (a : Action) (n : ℕ) → IsNew a → replies.Named (Some n) ≡ (act g m a).0
-    → IsGiven g (steps.Mutator (record { mutator = m; action = a })) (givens.Object n)
-object_given g m a n new h =
-    let e = next_named g m a n new h in
-    (e, (new, sym h ∙ ap (λ (k : ℕ). replies.Named (Some k)) e))
-
--- a reply that is no new object's name is given
-pub reply_given : (g : Graph) (m : ℕ) (a : Action) (r : Reply) → r ≡ (act g m a).0 → (IsNew a → (n : ℕ) → r ≡ replies.Named (Some n) → ⊥)
-    → IsGiven g (steps.Mutator (record { mutator = m; action = a })) (givens.Reply r)
-reply_given g m a r h other = (h, λ creates. other creates.0 (next_name g) (h ∙ creates.1))
-
--- a mutator's step may not have another reply than the graph's, unless the heap may be full
-pub not_served : (old after : State) (o : Op) (r given : Reply) → given ≡ reply_of old.graph o → (given ≡ r → ⊥)
-    → (r ≡ replies.Refused refusals.Full → Creates old.graph o → ⊥) → Happens old (steps.Mutator o) r after → ⊥
-not_served old after o r given is other full (inl h) = other (is ∙ sym (ap (λ (out : Outcome). out.0) h.0))
-not_served old after o r given is other full (inr h) = full h.1 h.0
 
 -- what is given for a step does not hang on the snapshot
 pub given_same : (g h : Graph) (k : Step) (given : Given) → g ≡ h → IsGiven g k given → IsGiven h k given
@@ -181,21 +131,17 @@ may_stand old (steps.Mutator o) (givens.Object n) r sound is = (λ m. here m.0 m
     there : (r ≡ replies.Named (Some n)) ⊎ (r ≡ replies.Refused refusals.Full) → (new : State) × Happens old (steps.Mutator o) r new
     there (inl e) = served old o r (e ∙ ap (λ (k : ℕ). replies.Named (Some k)) is.0 ∙ sym is.1.1)
     there (inr e) = (old, inr (is.1, e, refl))
-may_stand old (steps.Mutator o) (givens.Form k) r sound is = absurd is
 may_stand old (steps.Collector k) (givens.Form j) r sound is = (
   λ n. subst (λ (c : CollectorStep). MayStand (givens.Form c) r) (sym is) n.1.0,
   λ form. (let next = collected old k r sound in (next.0, (subst (λ (c : CollectorStep). MayStand (givens.Form c) r) is form, next.1))),
 )
-may_stand old (steps.Collector k) (givens.Reply g) r sound is = absurd is
-may_stand old (steps.Collector k) (givens.Object n) r sound is = absurd is
+may_stand old _ _ r sound is = absurd is
 
 -- a step of an actor, where it is a mutator's, names roots that there are
 op_of : (c : Config) (a : Actor) (s : Step) → IsStepOf c a s → ForMutator s (IsOpAt (places_of c))
 op_of c (actors.Mutator m) (steps.Mutator o) h = h.1.at
-op_of c actors.Collector (steps.Mutator o) h = absurd h
-op_of c (actors.Marker i) (steps.Mutator o) h = absurd h
-op_of c (actors.Refiner i) (steps.Mutator o) h = absurd h
 op_of c a (steps.Collector k) h = tt
+op_of c _ (steps.Mutator o) h = absurd h
 
 -- so in a judge's state
 pub op_judged : (j : Judging) (es : List Event) (e : Event) → HasJudged j es → IsEvent j.config e

@@ -5,10 +5,9 @@ use Rattle.std.proofs.Common.{arith}
 use Rattle.std.specs.Prelude.{slice_get, nat_lt}
 use Rattle.std.specs.List.{AllZip}
 use Rattle.std.proofs.lemmas.Bool.{lt-ltb}
-use Rattle.heap_words.specs.declared.config.Config.{Config}
 use Rattle.heap_model.specs.Graph.{Graph, Object}
 use Rattle.heap_model.specs.Weak.{IsClearedSlot, ClearsObject, Clears}
-use Rattle.graph_runs.specs.State.{State, HoldsNames, IsEarlier, ForSnapshot, IsSoundState, first_state}
+use Rattle.graph_runs.specs.State.{State, HoldsNames, IsEarlier, ForSnapshot, IsSoundState}
 use Rattle.graph_runs.specs.Since.{IsKnown, IsSince, IsSinceState}
 use Rattle.graph_runs.specs.Sparing.{have_weaks, kept_snapshot, SparingCollects, SparingHappens, HoldsKnown, Spares, StandsFor}
 use Rattle.graph_runs.specs.Machine.{outcome_of}
@@ -189,9 +188,6 @@ allowed judge old new (steps.Collector c) r stands h = elim (kind c r) [
     | inr n ↦ (judge, (h.0, (n.1 judge judge).1 refl))
   ]
 ]
-
-pub stands_first : (c : Config) → StandsFor (first_state c) (first_state c)
-stands_first c = record { graph = refl; snapshot = tt }
 
 -- the judge's state is as sound as the machine's
 pub stands_sound : (judge old : State) → IsSoundState old → StandsFor judge old → IsSoundState judge

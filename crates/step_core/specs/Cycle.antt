@@ -26,6 +26,7 @@ use Rattle.heap_steps.specs.declared.step.Step.{Step}
 use Rattle.heap_steps.specs.declared.step.Step.TheVariants as steps
 use Rattle.heap_steps.specs.declared.step.Reply.{Reply}
 use Rattle.heap_steps.specs.declared.step.Reply.TheVariants as replies
+use Rattle.heap_steps.specs.declared.step.Refusal.{Refusal}
 use Rattle.heap_steps.specs.declared.step.Refusal.TheVariants as refusals
 use Rattle.graph_runs.specs.State.{State, ForSnapshot}
 use Rattle.step_core.specs.Stands.{CoreState, kept_of, heap_of, marking_of, ShowsGraph, Stands}
@@ -152,21 +153,24 @@ pub record HasCleaned (n : ℕ) (c c' : CoreState) : Type 0 where
   pub dead : (k : ℕ) → IsDead c k → IsAsNew c' k
   pub others : (k : ℕ) → (IsDead c k → ⊥) → IsAsBefore c c' k
 
--- a step of the collector is done, or refused, which changes nothing. Begin and cleanup are refused while marking runs,
--- mark and remark while it doesn't
+-- the step is refused, and nothing changes
+pub record IsRefused (why : Refusal) (reply : Reply) (c c' : CoreState) : Type 0 where
+  pub reply_is : reply ≡ replies.Refused why
+  pub same : c' ≡ c
+
+-- What a step of the collector replies and does. Begin and cleanup are refused while marking runs, mark and remark while it doesn't
 abbrev pub Collects : CollectorStep → Reply → CoreState → CoreState → Type 0
-Collects collector.Begin replies.Done c c' = (c.marker.running ≡ false) × HasBegun c c'
-Collects collector.Begin (replies.Refused refusals.MarkRunning) c c' = (c.marker.running ≡ true) × (c' ≡ c)
-Collects (collector.Mark k) replies.Done c c' = (c.marker.running ≡ true) × HasMarked k c c'
-Collects (collector.Mark k) (replies.Refused refusals.NotMarking) c c' = (c.marker.running ≡ false) × (c' ≡ c)
-Collects collector.Remark (replies.Marked n) c c' = (c.marker.running ≡ true) × HasRemarked n c c'
-Collects collector.Remark (replies.Refused refusals.NotMarking) c c' = (c.marker.running ≡ false) × (c' ≡ c)
-Collects collector.Cleanup (replies.Reclaimed n) c c' = (c.marker.running ≡ false) × HasCleaned n c c'
-Collects collector.Cleanup (replies.Refused refusals.MarkRunning) c c' = (c.marker.running ≡ true) × (c' ≡ c)
-Collects (collector.Refine k) (replies.Refined n) c c' = HasRefined k n c c'
-Collects (collector.Pause budget) (replies.Moved n w) c c' = HasPaused budget n w c c'
-Collects (collector.Compact budget) (replies.Moved n w) c c' = HasCompacted budget n w c c'
-Collects _ _ _ _ = ⊥
+Collects collector.Begin reply c c' = ((c.marker.running ≡ false) × (reply ≡ replies.Done) × HasBegun c c')
+    ⊎ ((c.marker.running ≡ true) × IsRefused refusals.MarkRunning reply c c')
+Collects (collector.Mark k) reply c c' = ((c.marker.running ≡ true) × (reply ≡ replies.Done) × HasMarked k c c')
+    ⊎ ((c.marker.running ≡ false) × IsRefused refusals.NotMarking reply c c')
+Collects collector.Remark reply c c' = ((c.marker.running ≡ true) × (n : ℕ) × (reply ≡ replies.Marked n) × HasRemarked n c c')
+    ⊎ ((c.marker.running ≡ false) × IsRefused refusals.NotMarking reply c c')
+Collects collector.Cleanup reply c c' = ((c.marker.running ≡ false) × (n : ℕ) × (reply ≡ replies.Reclaimed n) × HasCleaned n c c')
+    ⊎ ((c.marker.running ≡ true) × IsRefused refusals.MarkRunning reply c c')
+Collects (collector.Refine k) reply c c' = (n : ℕ) × (reply ≡ replies.Refined n) × HasRefined k n c c'
+Collects (collector.Pause budget) reply c c' = (n w : ℕ) × (reply ≡ replies.Moved n w) × HasPaused budget n w c c'
+Collects (collector.Compact budget) reply c c' = (n w : ℕ) × (reply ≡ replies.Moved n w) × HasCompacted budget n w c c'
 
 -- the heap's sizes stay, and each region in use stays in use
 pub record LeavesRegions (c c' : CoreState) : Type 0 where

@@ -26,7 +26,8 @@
 //! reclaiming, `refine` refinement, `candidates` the choice of what a pause evacuates, `highest` of what a compaction does, `pause` both of
 //! them, `step` any step, `runs` a list of them, `words` several data words at once, `filling` fields of an object whose address is known,
 //! `near` its pointers one after another, `readers` what is read of a core from outside, `names` which object starts at an address,
-//! `measures` what a policy of collection asks of it, `layers` the parts that a new core is made of.
+//! `measures` what a policy of collection asks of it, `layers` the parts that a new core is made of, `laws` that what a core came to is a
+//! run of the graph.
 //!
 //! A field is read or written in constant time: no step tests or walks its region to see that an address is an object.
 //!
@@ -54,6 +55,7 @@ mod cycle;
 mod filling;
 mod heap;
 mod highest;
+mod laws;
 mod layers;
 mod measures;
 mod mutator;
@@ -68,6 +70,7 @@ mod words;
 
 pub use candidates::Choice;
 pub use heap::Core;
+pub use laws::passage_law;
 pub use mutator::{NewObject, new_reply};
 pub use names::object_name;
 pub use runs::{run, run_to_core};

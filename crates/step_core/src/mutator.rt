@@ -16,10 +16,11 @@ ghost use Rattle.heap_steps.specs.declared.step.Refusal.TheVariants as refusals;
 ghost use Rattle.regions.specs.Table.{new_object, fields_at, pointers_at, values_at, set_pointer, set_value};
 ghost use Rattle.alloc_buffers.specs.Placement.{address_of, place_of, CanHold, CanPlace, IsMadeAt, Placement, made_at};
 ghost use Rattle.step_core.specs.Stands.{ShowsGraph, KeepsFrom, Leads, Stands, heap_of, IsWordOf, IsRootWord};
-ghost use Rattle.step_core.specs.Answers.{Acts, IsFull, IsWithin, Follows, new_reply};
+ghost use Rattle.step_core.specs.Answers.{Acts, IsWithin, new_reply};
 ghost use Rattle.step_core.specs.Making.{HasMade, MakesObject};
 ghost use Rattle.step_core.specs.Mutators.{ActsOn, register_of, value_of, weaks_made};
 ghost use Rattle.step_core.specs.Cycle.{LeavesRegions};
+ghost use Rattle.step_core.specs.Words.{Takes};
 
 use crate::heap::Core;
 use alloc_buffers::{AllocBuffers, Full, Place};
@@ -694,10 +695,7 @@ impl Core {
     #[inline(always)]
     pub(crate) fn act(&mut self, op: Op) -> Reply
         requires { IsOpAt (places_of self.old.config) op }
-        ensures follows { (s : State) → Stands s self.old → Follows s (steps.Mutator op) result self.new }
-        ensures full { (s : State) → Stands s self.old
-            → (result ≡ replies.Refused refusals.Full) ↔ IsFull s.graph op.mutator op.action self.old }
-        ensures after { ActsOn op.mutator op.action result self.old self.new }
+        ensures takes { Takes self.old (steps.Mutator op) result self.new }
         ensures leaves { LeavesRegions self.old self.new }
         ensures within { IsWithin self.old.config op.action result }
         ensures made { HasMade op.mutator op.action result self.new }

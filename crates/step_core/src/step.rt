@@ -9,8 +9,9 @@ ghost use Rattle.graph_runs.specs.State.{State};
 ghost use Rattle.step_core.specs.Stands.{Stands};
 ghost use Rattle.step_core.specs.Answers.{Follows, IsFullStep, IsWithinStep};
 ghost use Rattle.step_core.specs.Reclaimed.{IsReclaimed};
-ghost use Rattle.step_core.specs.Cycle.{Collects, Does, MayReclaim};
+ghost use Rattle.step_core.specs.Cycle.{Does, MayReclaim};
 ghost use Rattle.step_core.specs.Making.{HasMadeStep};
+ghost use Rattle.step_core.specs.Words.{Takes};
 
 use crate::heap::Core;
 use heap_steps::{CollectorStep, Refusal, Reply, Step};
@@ -18,10 +19,7 @@ use heap_steps::{CollectorStep, Refusal, Reply, Step};
 impl Core {
     /// Does a step of the collector, or refuses it.
     fn collect(&mut self, step: CollectorStep) -> Reply
-        ensures follows { (s : State) → Stands s self.old → Follows s (steps.Collector step) result self.new }
-        ensures collects { Collects step result self.old self.new }
-        ensures reclaims { (k : ℕ) → IsReclaimed self.old.table self.new.table k → MayReclaim (steps.Collector step) self.old k }
-        ensures config { self.new.config ≡ self.old.config }
+        ensures { Takes self.old (steps.Collector step) result self.new }
     {
         match step {
             CollectorStep::Begin => {

@@ -25,11 +25,6 @@ pub stays : (s : State) (k : CollectorStep) (r : Reply) (c c' : CoreState) → S
 stays s k r c c' st reply collects run shows keeps =
     follows_by s s (steps.Collector k) r c c' st (reply, collects) (shows s.graph st.shows) (keeps_for s.snapshot c c' run keeps st.keeps)
 
--- a refused step
-pub refuses : (s : State) (k : CollectorStep) (r : Reply) (c : CoreState) → Stands s c → IsCollectorReply k r
-    → Collects s k r s → Follows s (steps.Collector k) r c
-refuses s k r c st reply collects = follows_by s s (steps.Collector k) r c c st (reply, collects) st.shows st.keeps
-
 -- marking begins: the graph is the snapshot
 pub begins : (s : State) (c c' : CoreState) → Stands s c → c'.marker.running ≡ true → ((g : Graph) → ShowsGraph g c → ShowsGraph g c')
     → ((g : Graph) → ShowsGraph g c → KeepsFrom g c') → Follows s (steps.Collector collector.Begin) replies.Done c'

@@ -89,15 +89,8 @@ created_plain s o m to counts reply c c' em ea st (inr h) keeps =
 -- what it does to the core
 acts_plain : (m : ℕ) (to : Register) (counts : Counts) (r : Reply) (c c' : CoreState) → ActsOn m (actions.NewWeak to counts 0) r c c'
     → ActsOn m (actions.New to counts) r c c'
-acts_plain m to counts replies.Done c c' h = record { core = h.core; marker = h.marker }
-acts_plain m to counts (replies.Named v) c c' h = record { core = h.core; marker = h.marker }
-acts_plain m to counts (replies.Word w) c c' h = record { core = h.core; marker = h.marker }
-acts_plain m to counts (replies.Shape p d) c c' h = record { core = h.core; marker = h.marker }
-acts_plain m to counts (replies.Marked n) c c' h = record { core = h.core; marker = h.marker }
-acts_plain m to counts (replies.Reclaimed n) c c' h = record { core = h.core; marker = h.marker }
-acts_plain m to counts (replies.Refined n) c c' h = record { core = h.core; marker = h.marker }
-acts_plain m to counts (replies.Moved n w) c c' h = record { core = h.core; marker = h.marker }
 acts_plain m to counts (replies.Refused why) c c' h = h
+acts_plain m to counts _ c c' h = record { core = h.core; marker = h.marker }
 
 -- the action makes an object with as many weak slots as it says, 0 where it says none: what it does to the core
 pub acts_as : (m : ℕ) (a : Action) (to : Register) (counts : Counts) (weaks : ℕ) (r : Reply) (c c' : CoreState)

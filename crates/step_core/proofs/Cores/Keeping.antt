@@ -3,7 +3,7 @@ use Rattle.std.proofs.Common.{◌≡◌, ℕ, ◌+◌, ◌<◌, Option, Some, No
 use Rattle.std.specs.Prelude.{slice_get, slice_set, IsSome, IfSome}
 use Rattle.std.proofs.lemmas.List.{length-set}
 use Rattle.heap_words.specs.declared.config.Config.{Config}
-use Rattle.heap_words.specs.Configs.{globals_of, registers_of}
+use Rattle.heap_words.specs.Configs.{registers_of}
 use Rattle.root_table.proofs.Rows.{register_within}
 use Rattle.heap_model.specs.Graph.{Graph, Object, Places, IsSound}
 use Rattle.heap_model.specs.Heap.{Heap, Stored, IsShown, IsRoot, IsHeld, ObjectSet}
@@ -66,9 +66,6 @@ register_shows c d m r w each g v s shown =
 pub register_inside : (c : Config) (m r : ℕ) → m < c.mutators → r < registers_of c
     → register_place (places_of c) m r < root_places (places_of c)
 register_inside c m r known inside = register_within (places_of c) m r known inside
-
-pub global_inside : (c : Config) (n : ℕ) → n < globals_of c → n < root_places (places_of c)
-global_inside c n inside = omega (arith, inside)
 
 pub root_within : (k c : CoreState) (place : ℕ) → k ≡ c → IsCore k → place < root_places (places_of c.config) → place < length k.roots
 root_within k c place e core less =

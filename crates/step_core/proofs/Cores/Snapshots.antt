@@ -1,5 +1,5 @@
 -- What a step keeps of the snapshot: marking runs on as it did, and what is needed is kept.
-use Rattle.std.proofs.Common.{◌≡◌, ℕ, Bool, true, false, Option, Some, None, refl, sym, ◌∙◌, ap, subst}
+use Rattle.std.proofs.Common.{◌≡◌, ◌⊎◌, ℕ, Bool, true, false, Option, Some, None, inl, inr, refl, sym, ◌∙◌, ap, subst}
 use Rattle.std.specs.Prelude.{◌==◌, length, if◌then◌else◌, slice_set, ◌++◌, ◌∷◌, []}
 use Rattle.heap_model.specs.Graph.{Graph}
 use Rattle.regions.specs.Table.{Table}
@@ -11,11 +11,13 @@ use Rattle.graph_runs.specs.State.{ForSnapshot}
 use Rattle.graph_runs.specs.Run.{snapshot_after}
 use Rattle.heap_steps.specs.declared.step.Action.{Action}
 use Rattle.heap_steps.specs.declared.step.Action.TheVariants as actions
+use Rattle.heap_steps.specs.declared.step.Refusal.{Refusal}
 use Rattle.heap_steps.specs.declared.step.Register.{Register}
 use Rattle.heap_steps.specs.declared.step.Reply.{Reply}
 use Rattle.heap_steps.specs.declared.step.Reply.TheVariants as replies
 use Rattle.step_core.specs.Stands.{CoreState, KeepsFrom, KeepsFor}
-use Rattle.step_core.specs.Mutators.{ActsOn, MarkerAfter}
+use Rattle.step_core.specs.Cycle.{IsRefused}
+use Rattle.step_core.specs.Mutators.{ActsOn, HasActed, MarkerAfter}
 
 -- marking runs on, or doesn't run, as before
 saved_running : (t : Table) (m : Marker) (mutator : ℕ) (w : Option ℕ) → (saved t m mutator w).running ≡ m.running
@@ -39,32 +41,21 @@ overwrites_running true t mutator w m m' h =
     ∙ saved_running t m mutator w
 
 marker_running : (c : CoreState) (m : ℕ) (a : Action) (m' : Marker) → MarkerAfter c m a m' → m'.running ≡ c.marker.running
-marker_running c m (actions.New to counts) m' h = ap (λ (x : Marker). x.running) h
-marker_running c m (actions.Get to object i) m' h = ap (λ (x : Marker). x.running) h
 marker_running c m (actions.Put object i v) m' h = overwrites_running c.marker.running c.table m _ c.marker m' h
-marker_running c m (actions.Read object i) m' h = ap (λ (x : Marker). x.running) h
-marker_running c m (actions.Write object i v) m' h = ap (λ (x : Marker). x.running) h
-marker_running c m (actions.Move to from) m' h = ap (λ (x : Marker). x.running) h
-marker_running c m (actions.Drop register) m' h = ap (λ (x : Marker). x.running) h
-marker_running c m (actions.Load to from) m' h = ap (λ (x : Marker). x.running) h
-marker_running c m (actions.Save to from) m' h = ap (λ (x : Marker). x.running) h
-marker_running c m (actions.Shape object) m' h = ap (λ (x : Marker). x.running) h
-marker_running c m (actions.NewWeak to counts weaks) m' h = ap (λ (x : Marker). x.running) h
 marker_running c m (actions.GetWeak to object i) m' h = overwrites_running c.marker.running c.table m _ c.marker m' h
-marker_running c m (actions.PutWeak object i v) m' h = ap (λ (x : Marker). x.running) h
-marker_running c m (actions.Weaks object) m' h = ap (λ (x : Marker). x.running) h
-marker_running c m (actions.Scope from) m' h = ap (λ (x : Marker). x.running) h
+marker_running c m _ m' h = ap (λ (x : Marker). x.running) h
+
+-- a mutator's step is refused and nothing changes, or it is done
+pub acts_cases : (m : ℕ) (a : Action) (r : Reply) (c c' : CoreState) → ActsOn m a r c c'
+    → ((why : Refusal) × IsRefused why r c c') ⊎ HasActed m a c c'
+acts_cases m a (replies.Refused why) c c' h = inl (why, record { reply_is = refl; same = h })
+acts_cases m a _ c c' h = inr h
 
 pub acts_running : (m : ℕ) (a : Action) (r : Reply) (c c' : CoreState) → ActsOn m a r c c' → c'.marker.running ≡ c.marker.running
-acts_running m a replies.Done c c' h = marker_running c m a c'.marker h.marker
-acts_running m a (replies.Named v) c c' h = marker_running c m a c'.marker h.marker
-acts_running m a (replies.Word w) c c' h = marker_running c m a c'.marker h.marker
-acts_running m a (replies.Shape p d) c c' h = marker_running c m a c'.marker h.marker
-acts_running m a (replies.Marked n) c c' h = marker_running c m a c'.marker h.marker
-acts_running m a (replies.Reclaimed n) c c' h = marker_running c m a c'.marker h.marker
-acts_running m a (replies.Refined n) c c' h = marker_running c m a c'.marker h.marker
-acts_running m a (replies.Moved n w) c c' h = marker_running c m a c'.marker h.marker
-acts_running m a (replies.Refused why) c c' h = ap (λ (d : CoreState). d.marker.running) h
+acts_running m a r c c' h = elim (acts_cases m a r c c' h) [
+  | inl refused ↦ ap (λ (d : CoreState). d.marker.running) refused.1.same
+  | inr acted ↦ marker_running c m a c'.marker acted.marker
+]
 
 -- the same snapshot
 pub keeps_for : (sn : Option Graph) (c c' : CoreState) → c'.marker.running ≡ c.marker.running
@@ -78,22 +69,8 @@ touches (actions.GetWeak to object i) = true
 touches _ = false
 
 same_after : (sn : Option Graph) (a : Action) (r : Reply) → touches a ≡ false → snapshot_after sn a r ≡ sn
-same_after None a r e = refl
-same_after (Some s) (actions.New to counts) r e = refl
-same_after (Some s) (actions.Get to object i) r e = refl
-same_after (Some s) (actions.Put object i v) r e = refl
-same_after (Some s) (actions.Read object i) r e = refl
-same_after (Some s) (actions.Write object i v) r e = refl
-same_after (Some s) (actions.Move to from) r e = refl
-same_after (Some s) (actions.Drop register) r e = refl
-same_after (Some s) (actions.Load to from) r e = refl
-same_after (Some s) (actions.Save to from) r e = refl
-same_after (Some s) (actions.Shape object) r e = refl
-same_after (Some s) (actions.NewWeak to counts weaks) r e = refl
 same_after (Some s) (actions.GetWeak to object i) r e = absurd (let apart : true ≡ false = e in cc)
-same_after (Some s) (actions.PutWeak object i v) r e = refl
-same_after (Some s) (actions.Weaks object) r e = refl
-same_after (Some s) (actions.Scope from) r e = refl
+same_after _ _ r e = refl
 
 -- after a step that reads no weak slot
 pub keeps_after : (sn : Option Graph) (m : ℕ) (a : Action) (r : Reply) (c c' : CoreState) → touches a ≡ false → ActsOn m a r c c'
@@ -106,14 +83,7 @@ running_too : (s : Graph) (to object : Register) (i : ℕ) (r : Reply) (c : Core
     → ForSnapshot (snapshot_after (Some s) (actions.GetWeak to object i) r) (λ t. KeepsFrom t c)
     → KeepsFor (snapshot_after (Some s) (actions.GetWeak to object i) r) c
 running_too s to object i replies.Done c run k = (run, k)
-running_too s to object i (replies.Named v) c run k = (run, k)
-running_too s to object i (replies.Word w) c run k = (run, k)
-running_too s to object i (replies.Shape p d) c run k = (run, k)
-running_too s to object i (replies.Marked n) c run k = (run, k)
-running_too s to object i (replies.Reclaimed n) c run k = (run, k)
-running_too s to object i (replies.Refined n) c run k = (run, k)
-running_too s to object i (replies.Moved n w) c run k = (run, k)
-running_too s to object i (replies.Refused why) c run k = (run, k)
+running_too s to object i _ c run k = (run, k)
 
 pub keeps_touched : (sn : Option Graph) (m : ℕ) (to object : Register) (i : ℕ) (r : Reply) (c c' : CoreState)
     → ActsOn m (actions.GetWeak to object i) r c c'

@@ -1,5 +1,5 @@
 -- Several data words at once: each as by a step of its own.
-use Rattle.std.proofs.Common.{◌≡◌, ◌+◌, ◌-◌, ◌<◌, ◌≤◌, ◌∷◌, ◌∙◌, ℕ, suc, Option, Some, None, List, [], length, take, drop}
+use Rattle.std.proofs.Common.{◌≡◌, ◌+◌, ◌-◌, ◌<◌, ◌≤◌, ◌∷◌, ◌∙◌, ℕ, suc, Option, Some, List, [], length, take, drop}
 use Rattle.std.proofs.Common.{refl, sym, ap, subst, arith}
 use Rattle.std.specs.Prelude.{slice_get, slice_index, unwrap_or}
 use Rattle.std.proofs.lemmas.List.{get_or-drop, get_or-take}
@@ -12,32 +12,18 @@ use Rattle.graph_runs.specs.State.{register_place, places_of}
 use Rattle.heap_steps.specs.declared.step.Op.{Op}
 use Rattle.heap_steps.specs.declared.step.Register.{Register}
 use Rattle.heap_steps.specs.declared.step.Action.TheVariants as actions
-use Rattle.heap_steps.specs.declared.step.Reply.{Reply}
 use Rattle.heap_steps.specs.declared.step.Reply.TheVariants as replies
 use Rattle.heap_steps.specs.declared.step.Refusal.{Refusal}
 use Rattle.heap_steps.specs.declared.step.Refusal.TheVariants as refusals
-use Rattle.heap_steps.specs.declared.step.Step.TheVariants as steps
 use Rattle.step_core.specs.Stands.{CoreState, IsCore, Leads, ShowsGraph}
 use Rattle.step_core.specs.Answers.{Acts}
-use Rattle.step_core.specs.Cycle.{LeavesRegions}
 use Rattle.step_core.specs.Mutators.{ActsOn, register_of, object_of}
 use Rattle.step_core.specs.Words.{Takes, reading, writing, AreRead, AreWritten, IsUnread, IsUnwritten}
-use Rattle.step_core.proofs.Cores.Acted.{Acted, acted_plain}
+use Rattle.step_core.proofs.Cores.Acted.{acted_plain, still}
 use Rattle.step_core.proofs.Cores.Sizes.{some_words}
 use Rattle.step_core.proofs.Cores.Keeping.{core_of, register_inside, write_after, write_kept, write_kept_from, write_leaves}
 use Rattle.step_core.proofs.Mutating.Reading.{leads}
-use Rattle.step_core.proofs.Mutating.Acting.{read_done, read_nil, read_past, write_nil, write_past}
-
-pub takes : (o : Op) (r : Reply) (c c' : CoreState) → Acted o r c c' → LeavesRegions c c' → Takes c (steps.Mutator o) r c'
-takes o r c c' a l = record {
-  follows = a.follows;
-  does = a.after;
-  reclaims = λ k h. absurd (l.in_use k h.used h.free);
-  full = a.full;
-}
-
-pub still : (c : CoreState) → LeavesRegions c c
-still c = record { config = refl; in_use = λ k h. h }
+use Rattle.step_core.proofs.Mutating.Acting.{read_done, read_past, write_past}
 
 abbrev read_op : ℕ → Register → ℕ → Op
 read_op m object i = record { mutator = m; action = actions.Read object i }
@@ -49,12 +35,8 @@ write_op m object i v = record { mutator = m; action = actions.Write object i v 
 read_refused : (c : CoreState) (m : ℕ) (object : Register) (i : ℕ) (why : Refusal)
     → ((g : Graph) → ShowsGraph g c → Acts g m (actions.Read object i) (replies.Refused why) c)
     → Takes c (reading m object i) (replies.Refused why) c
-read_refused c m object i why acts = takes (read_op m object i) (replies.Refused why) c c
-    (acted_plain (read_op m object i) (actions.Read object i) (replies.Refused why) c c refl refl (λ g f. f) acts (λ s f. f) refl) (still c)
-
-pub unread_nil : (c : CoreState) (m : ℕ) (object : Register) (from count : ℕ)
-    → Leads c (register_place (places_of c.config) m object.number) None → IsUnread c m object from count refusals.Nil
-unread_nil c m object from count l = read_refused c m object _ refusals.Nil (λ g s. read_nil g c s m object _ l)
+read_refused c m object i why acts = acted_plain (read_op m object i) (actions.Read object i) (replies.Refused why) c c refl refl (λ g f. f)
+    acts (λ s f. f) refl (still c)
 
 pub unread_past : (c : CoreState) (m : ℕ) (object : Register) (a from count : ℕ)
     → Leads c (register_place (places_of c.config) m object.number) (Some a) → length (values_at c.table a) < from + count
@@ -76,21 +58,15 @@ all_read c m object a from words l h is i k =
     let word : ℕ = slice_index words i in
     let there : slice_get (values_at c.table a) (from + i) ≡ Some word =
     part_at (values_at c.table a) from (length words) i k h ∙ ap (λ (ws : List ℕ). Some (slice_index ws i)) (sym is) in
-    takes (read_op m object (from + i)) (replies.Word word) c c
-    (acted_plain (read_op m object (from + i)) (actions.Read object (from + i)) (replies.Word word) c c refl refl (λ g f. f)
-    (λ g s. read_done g c s m object a l (from + i) word there) (λ s f. f) (record { core = refl; marker = refl })) (still c)
+    acted_plain (read_op m object (from + i)) (actions.Read object (from + i)) (replies.Word word) c c refl refl (λ g f. f)
+    (λ g s. read_done g c s m object a l (from + i) word there) (λ s f. f) (record { core = refl; marker = refl }) (still c)
 
 -- ---- writes
 write_refused : (c : CoreState) (m : ℕ) (object : Register) (i v : ℕ) (why : Refusal)
     → ((g : Graph) → ShowsGraph g c → Acts g m (actions.Write object i v) (replies.Refused why) c)
     → Takes c (writing m object i v) (replies.Refused why) c
-write_refused c m object i v why acts = takes (write_op m object i v) (replies.Refused why) c c
-    (acted_plain (write_op m object i v) (actions.Write object i v) (replies.Refused why) c c refl refl (λ g f. f) acts (λ s f. f) refl)
-    (still c)
-
-pub unwritten_nil : (c : CoreState) (m : ℕ) (object : Register) (from : ℕ) (words : List ℕ)
-    → Leads c (register_place (places_of c.config) m object.number) None → IsUnwritten c m object from words refusals.Nil
-unwritten_nil c m object from words l = write_refused c m object _ _ refusals.Nil (λ g s. write_nil g c s m object _ _ l)
+write_refused c m object i v why acts = acted_plain (write_op m object i v) (actions.Write object i v) (replies.Refused why) c c refl refl
+    (λ g f. f) acts (λ s f. f) refl (still c)
 
 pub unwritten_past : (c : CoreState) (m : ℕ) (object : Register) (a from : ℕ) (words : List ℕ)
     → Leads c (register_place (places_of c.config) m object.number) (Some a) → length (values_at c.table a) < from + length words
@@ -120,8 +96,7 @@ all_written c m object a from (w ∷ ws) core inside named h =
       core = ap (λ (x : ℕ). record c { table = set_value c.table x from w }) (sym is);
       marker = refl;
     } in
-    let one = takes (write_op m object from w) replies.Done c b
-    (acted_plain (write_op m object from w) (actions.Write object from w) replies.Done c b refl refl (λ g f. f) acts keeps after)
+    let one = acted_plain (write_op m object from w) (actions.Write object from w) replies.Done c b refl refl (λ g f. f) acts keeps after
     (write_leaves c c refl core m object a from w t l first refl) in
     let many = values_stay c.table a from w (some_words c core) first in
     let rest = all_written b m object a (suc from) ws (write_kept c c refl core m object a from w t l first refl) inside named

@@ -5,13 +5,13 @@ use Rattle.collection.proofs.whole.end_marking.Goals as goal
 
 pub returns-then-marking-clause-idle : goal.returns-then-marking-clause-idle
 returns-then-marking-clause-idle g c =
-    let (n, r) = remarked c.take.result c.args.core.now c.take.new.core (let e = c.marking.ensures in let f = c.if-marking.true in cc)
+    let (n, is, r) = remarked c.take.result c.args.core.now c.take.new.core (let e = c.marking.ensures in let f = c.if-marking.true in cc)
     c.take.ensures.does in
     r.over
 
 pub returns-then-marking-clause-free : goal.returns-then-marking-clause-free
 returns-then-marking-clause-free g c =
-    let (n, r) = remarked c.take.result c.args.core.now c.take.new.core (let e = c.marking.ensures in let f = c.if-marking.true in cc)
+    let (n, is, r) = remarked c.take.result c.args.core.now c.take.new.core (let e = c.marking.ensures in let f = c.if-marking.true in cc)
     c.take.ensures.does in
     remark_free n c.args.core.now c.take.new.core r
 

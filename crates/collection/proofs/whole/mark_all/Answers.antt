@@ -21,8 +21,8 @@ returns-clause-quiet g c s stands =
 
 pub returns-clause-free : goal.returns-clause-free
 returns-clause-free g c =
-    let b = begun c.take.result c.args.core.now c.take.new.core c.requires.idle c.take.ensures.does in
-    let (n, r) = remarked c.take-2.result c.take.new.core c.take-2.new.core b.running c.take-2.ensures.does in
+    let (done, b) = begun c.take.result c.args.core.now c.take.new.core c.requires.idle c.take.ensures.does in
+    let (n, counted, r) = remarked c.take-2.result c.take.new.core c.take-2.new.core b.running c.take-2.ensures.does in
     let (m, w) = cleaned c.take-3.result c.take-2.new.core c.take-3.new.core r.over c.take-3.ensures.does in
     let e = same_length c.take-2.new.core c.take-3.new.core c.take-3.ensures.before c.take-3.ensures.after c.take-3.ensures.config in
     let p = begin_free c.args.core.now c.take.new.core b in
