@@ -4,7 +4,7 @@ pub mod Reading
 pub mod Done
 pub mod Written
 pub mod Acting
-pub mod Overwritten
+pub mod Logging
 pub mod Storing
 pub mod Stored
 pub mod Noting
@@ -13,3 +13,4 @@ pub mod Made
 pub mod WeakStoring
 pub mod Touching
 pub mod Near
+pub mod Setting

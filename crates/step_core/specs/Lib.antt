@@ -10,6 +10,7 @@ pub mod Refining
 pub mod Pause
 pub mod Cycle
 pub mod Cleaning
+pub mod Parts
 pub mod Passages
 pub mod Words
 pub mod Near

@@ -1,20 +1,24 @@
 -- What making an object does to a core.
-use Rattle.std.specs.Prelude.{◌≡◌, ◌≢◌, ◌⊎◌, ℕ, ⊤, Option, Some, length}
+use Rattle.std.specs.Prelude.{◌≡◌, ◌≢◌, ◌⊎◌, ◌<◌, ◌≤◌, ◌*◌, ℕ, ⊤, Option, Some, Result, IfOk, length}
+use Rattle.heap_words.specs.Configs.{max_object_words}
 use Rattle.heap_words.specs.Sizes.{size_of}
 use Rattle.heap_model.specs.Graph.{Graph}
-use Rattle.regions.specs.Table.{pointers_at, weaks_at, values_at}
+use Rattle.regions.specs.Table.{Table, pointers_at, weaks_at, values_at}
+use Rattle.alloc_buffers.specs.Placement.{Buffers, CanPlace}
 use Rattle.heap_steps.specs.declared.step.Action.{Action}
 use Rattle.heap_steps.specs.declared.step.Action.TheVariants as actions
 use Rattle.heap_steps.specs.declared.step.Counts.{Counts}
 use Rattle.heap_steps.specs.declared.step.Register.{Register}
 use Rattle.heap_steps.specs.declared.step.Reply.{Reply}
 use Rattle.heap_steps.specs.declared.step.Reply.TheVariants as replies
+use Rattle.heap_steps.specs.declared.step.Refusal.{Refusal}
 use Rattle.heap_steps.specs.declared.step.Step.{Step}
 use Rattle.heap_steps.specs.declared.step.Step.TheVariants as steps
-use Rattle.step_core.specs.Answers.{Acts, HasNoPlace, IsWithin, RepliesFull}
+use Rattle.step_core.specs.Answers.{Acts, HasNoPlace, IsWithin, RepliesFull, new_reply}
 use Rattle.step_core.specs.Cycle.{LeavesRegions}
 use Rattle.step_core.specs.Mutators.{ActsOn, register_of}
 use Rattle.step_core.specs.Stands.{CoreState, ShowsGraph, KeepsFrom}
+use Rattle.step_core.specs.declared.mutator.NewObject.{NewObject}
 
 -- mutator m's register names an object of so many pointers, weak slots and data words
 pub record NamesObject (c : CoreState) (m : ℕ) (to : Register) (p w d : ℕ) : Type 0 where
@@ -47,3 +51,16 @@ pub record MakesObject (m : ℕ) (to : Register) (counts : Counts) (weaks : ℕ)
   pub full : HasNoPlace c m (size_of counts.pointers weaks counts.values) → (name : Option ℕ) → reply ≢ replies.Named name
   pub within : IsWithin c.config (actions.NewWeak to counts weaks) reply
   pub made : HasMade m (actions.NewWeak to counts weaks) reply c'
+
+-- and where an object was made, the register holds its address
+pub record MakesNew (m : ℕ) (to : Register) (counts : Counts) (weaks : ℕ) (made : Result NewObject Refusal) (c c' : CoreState) : Type 0 where
+  pub makes : MakesObject m to counts weaks (new_reply made) c c'
+  pub at : IfOk made (λ x. register_of c' m to ≡ Some x.at)
+
+-- an object of so many words, which its counts come to, can be placed for a mutator
+pub record CanMake (t : Table) (b : Buffers) (m words : ℕ) (counts : Counts) (weaks : ℕ) : Type 0 where
+  pub mutator : m < length b.open_buffers
+  pub within : words ≤ length t.regions * t.words_per_region
+  pub small : words ≤ max_object_words
+  pub ready : CanPlace t b words
+  pub size : words ≡ size_of counts.pointers weaks counts.values

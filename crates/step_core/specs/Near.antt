@@ -1,9 +1,12 @@
 -- Pointers that are stored one after another.
-use Rattle.std.specs.Prelude.{◌≡◌, ◌/◌, ◌==◌, ℕ, zero, suc, ⊤, List, Option, Some, None, if◌then◌else◌, length, slice_index}
+use Rattle.std.specs.Prelude.{◌≡◌, ◌≢◌, ◌/◌, ◌^◌, ◌<◌, ◌≤◌, ◌==◌, ℕ, zero, suc, ⊤, List, Option, Some, None, if◌then◌else◌, length}
+use Rattle.std.specs.Prelude.{slice_index}
 use Rattle.regions.specs.Table.{pointers_at, weaks_at, values_at}
 use Rattle.heap_steps.specs.declared.step.Register.{Register}
 use Rattle.heap_steps.specs.declared.step.Reply.TheVariants as replies
-use Rattle.step_core.specs.Stands.{CoreState}
+use Rattle.heap_steps.specs.Roots.{IsRegister, IsValue}
+use Rattle.step_core.specs.Stands.{CoreState, places_of}
+use Rattle.step_core.specs.Mutators.{register_of}
 use Rattle.step_core.specs.Words.{Takes, putting}
 
 -- a pointer's source by its number: nil by the largest of 32 bits, a register by any other
@@ -25,7 +28,21 @@ pub record HasPut (c : CoreState) (m : ℕ) (object : Register) (from : List ℕ
   pub weaks : length (weaks_at d.table a) ≡ length (weaks_at c.table a)
   pub values : length (values_at d.table a) ≡ length (values_at c.table a)
 
+-- a mutator may store these in the first pointers of the object at an address, which its register names
+pub record CanPut (c : CoreState) (m : ℕ) (object : Register) (a : ℕ) (from : List ℕ) : Type 0 where
+  pub few : length from < 2 ^ 32
+  pub mutator : m < c.config.mutators
+  pub register : IsRegister (places_of c.config) object
+  pub values : (i : ℕ) → i < length from → IsValue (places_of c.config) (source (slice_index from i))
+  pub held : register_of c m object ≡ Some a
+  pub fields : length from ≤ length (pointers_at c.table a)
+
 -- a value is nil, or leads into the region of a word, where a region has so many words
 abbrev pub LeadsNear : ℕ → ℕ → Option ℕ → Type 0
 LeadsNear words word None = ⊤
 LeadsNear words word (Some target) = target / words ≡ word / words
+
+-- it leads into another one
+abbrev pub LeadsFar : ℕ → ℕ → Option ℕ → Type 0
+LeadsFar words word None = ⊥
+LeadsFar words word (Some target) = target / words ≢ word / words

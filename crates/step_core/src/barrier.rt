@@ -22,21 +22,19 @@
 //!   put r0 0 r4       field at 2, target 32, regions of 16 words, cards of 8: card 0 becomes dirty
 //! ```
 
-ghost use Rattle.std.specs.Prelude.{◌≡◌, ℕ, ◌<◌, Option, Some, length, slice_set};
-ghost use Rattle.heap_model.specs.Graph.{Graph, Object, object_named, with_changed};
-ghost use Rattle.heap_model.specs.Heap.{Stored, IsRoot, IsHeld, IsShown};
-ghost use Rattle.heap_model.specs.Weak.{touched, KeepsUnreached};
-ghost use Rattle.graph_runs.specs.State.{with_root, register_place, places_of};
+ghost use Rattle.std.specs.Prelude.{◌≡◌, ◌<◌, ◌/◌, length, true};
+ghost use Rattle.heap_model.specs.Heap.{IsRoot};
+ghost use Rattle.graph_runs.specs.State.{places_of};
 ghost use Rattle.heap_steps.specs.Roots.{IsRegister};
-ghost use Rattle.regions.specs.Table.{pointers_at, weaks_at, fields_at, set_pointer, set_weak};
-ghost use Rattle.cards.specs.Cards.{is_dirty};
-ghost use Rattle.refinement.specs.Remembering.{field_word, IsNoted};
+ghost use Rattle.regions.specs.Table.{weaks_at, fields_at};
+ghost use Rattle.cards.specs.Cards.{is_dirty, dirtied};
+ghost use Rattle.refinement.specs.Remembering.{field_word};
 ghost use Rattle.heap_words.specs.Configs.{card_words};
-ghost use Rattle.step_core.specs.Stands.{ShowsGraph, KeepsFrom, heap_of, kept_of, IsWordOf};
-ghost use Rattle.marker.specs.Steps.{Overwrites};
-ghost use Rattle.step_core.specs.Mutators.{noted, pointer_of, weak_field, with_weak, with_root_word};
-ghost use Rattle.step_core.specs.Storing.{StoresPointer};
-ghost use Rattle.step_core.specs.Cycle.{LeavesRegions};
+ghost use Rattle.step_core.specs.Stands.{heap_of, IsWordOf};
+ghost use Rattle.step_core.specs.Mutators.{noted, weak_field};
+ghost use Rattle.step_core.specs.Near.{LeadsFar};
+ghost use Rattle.step_core.specs.Parts.{Touches};
+ghost use Rattle.step_core.specs.Storing.{CanStore, HasNoted, StoresPointer, StoresWeak, StoresWith};
 
 use crate::heap::Core;
 use heap_steps::Register;
@@ -44,6 +42,22 @@ use heap_words::addr::{Addr, Card, Ptr};
 use heap_words::powers::quotient;
 
 impl Core {
+    /// The card of a field's word becomes dirty.
+    #[inline(always)]
+    fn note_far(&mut self, mutator: u32, object: Addr, field: u32)
+        requires known { mutator < self.old.config.mutators }
+        requires rooted { IsRoot (heap_of self.old) object }
+        requires field { field < length (fields_at self.old.table object) }
+        ensures same { self.new ≡ record self.old { cards = self.new.cards } }
+        ensures cards { self.new.cards ≡ dirtied self.old.cards mutator (field_word object field / card_words self.old.config) }
+        ensures dirty { is_dirty self.new.cards (field_word object field / card_words self.old.config) ≡ true }
+    {
+        self.table.law();
+        let word = object.field(field) as u32;
+        let card = quotient(word, self.config.card_words());
+        self.cards.dirty(mutator, Card::new(card));
+    }
+
     /// A value is about to be stored in a pointer or a weak slot: the field's card becomes dirty if the value leads into another
     /// region than the field's word lies in.
     #[inline(always)]
@@ -53,28 +67,11 @@ impl Core {
         requires field { field < length (fields_at self.old.table object) }
         ensures same { self.new ≡ record self.old { cards = self.new.cards } }
         ensures cards { self.new.cards ≡ noted self.old mutator (field_word object field) target.now }
-        ensures noted { IsNoted self.new.table.words_per_region (card_words self.new.config) (is_dirty self.new.cards)
-            (field_word object field) target.now }
+        ensures noted { HasNoted self.new (field_word object field) target.now }
     {
-        let Some(to) = target else {
-            return;
-        };
-        self.table.law();
-        let word = object.field(field) as u32;
-        if self.table.leads_out(word, *to) {
-            let card = quotient(word, self.config.card_words());
-            self.cards.dirty(mutator, Card::new(card));
+        if !self.is_near(object, field, target) {
+            self.note_far(mutator, object, field);
         }
-    }
-
-    /// Whether a value leads into another region than the field's word lies in. No promise hangs on the answer.
-    #[inline(always)]
-    fn leads_out(&self, object: Addr, field: u32, target: &Ptr) -> bool {
-        let Some(to) = target else {
-            return false;
-        };
-        let word = (object.field(field) & 0xffff_ffff) as u32;
-        self.table.leads_out(word, *to)
     }
 
     /// Stores a pointer into an object that a root names, and keeps marking and remembering right. A store within a region is part of the
@@ -82,38 +79,35 @@ impl Core {
     #[inline(always)]
     pub(crate) fn store(&mut self, mutator: u32, object: Addr, field: u32, target: Ptr)
         requires known { mutator < self.old.config.mutators }
-        requires rooted { IsRoot (heap_of self.old) object }
-        requires field { field < length (pointers_at self.old.table object) }
-        requires held { IsHeld (heap_of self.old) target }
+        requires can { CanStore object field target self.old }
         ensures { StoresPointer mutator object field target self.old self.new }
     {
-        if self.leads_out(object, field, &target) {
-            self.store_apart(mutator, object, field, target);
+        if self.is_near(object, field, &target) {
+            self.store_noted(mutator, object, field, target);
         } else {
-            self.store_here(mutator, object, field, target);
+            self.store_far(mutator, object, field, target);
         }
     }
 
-    /// The same, as a call.
+    /// The same of a value that leads into another region, as a call: that isn't tested again.
+    #[cold]
+    #[inline(never)]
+    pub(crate) fn store_far(&mut self, mutator: u32, object: Addr, field: u32, target: Ptr)
+        requires known { mutator < self.old.config.mutators }
+        requires can { CanStore object field target self.old }
+        requires far { LeadsFar self.old.table.words_per_region (field_word object field) target }
+        ensures { StoresPointer mutator object field target self.old self.new }
+    {
+        self.note_far(mutator, object, field);
+        self.store_noted(mutator, object, field, target);
+    }
+
+    /// The same of any value, as a call.
     #[cold]
     #[inline(never)]
     pub(crate) fn store_apart(&mut self, mutator: u32, object: Addr, field: u32, target: Ptr)
         requires known { mutator < self.old.config.mutators }
-        requires rooted { IsRoot (heap_of self.old) object }
-        requires field { field < length (pointers_at self.old.table object) }
-        requires held { IsHeld (heap_of self.old) target }
-        ensures { StoresPointer mutator object field target self.old self.new }
-    {
-        self.store_here(mutator, object, field, target);
-    }
-
-    /// The same, as part of the caller.
-    #[inline(always)]
-    fn store_here(&mut self, mutator: u32, object: Addr, field: u32, target: Ptr)
-        requires known { mutator < self.old.config.mutators }
-        requires rooted { IsRoot (heap_of self.old) object }
-        requires field { field < length (pointers_at self.old.table object) }
-        requires held { IsHeld (heap_of self.old) target }
+        requires can { CanStore object field target self.old }
         ensures { StoresPointer mutator object field target self.old self.new }
     {
         self.note(mutator, object, field, &target);
@@ -124,20 +118,9 @@ impl Core {
     #[inline(always)]
     fn store_noted(&mut self, mutator: u32, object: Addr, field: u32, target: Ptr)
         requires known { mutator < self.old.config.mutators }
-        requires rooted { IsRoot (heap_of self.old) object }
-        requires field { field < length (pointers_at self.old.table object) }
-        requires held { IsHeld (heap_of self.old) target }
-        requires noted { IsNoted self.old.table.words_per_region (card_words self.old.config) (is_dirty self.old.cards)
-            (field_word object field) target }
-        ensures shows { (g : Graph) (x : Stored) (o : Object) (v : Option ℕ) → ShowsGraph g self.old → kept_of self.old object ≡ Some x
-            → object_named g x.name ≡ Some o
-            → IsShown (heap_of self.old) target v
-            → ShowsGraph (with_changed g x.name (record o { pointers = slice_set o.pointers field v })) self.new }
-        ensures keeps { (s : Graph) → KeepsFrom s self.old → KeepsFrom s self.new }
-        ensures core { self.new ≡ record self.old { table = set_pointer self.old.table object field target; marker = self.new.marker } }
-        ensures marker { Overwrites self.old.marker.running self.old.table mutator (pointer_of self.old object field) self.old.marker
-            self.new.marker }
-        ensures leaves { LeavesRegions self.old self.new }
+        requires can { CanStore object field target self.old }
+        requires noted { HasNoted self.old (field_word object field) target }
+        ensures { StoresWith self.old.cards mutator object field target self.old self.new }
     {
         if !self.marker.running {
             self.table.set_ptr(object, field, target);
@@ -157,13 +140,8 @@ impl Core {
         requires rooted { IsRoot (heap_of self.old) object }
         requires slot { slot < length (weaks_at self.old.table object) }
         requires word { IsWordOf (heap_of self.old) target }
-        ensures shows { (g : Graph) (x : Stored) (o : Object) (v : Option ℕ) → ShowsGraph g self.old → kept_of self.old object ≡ Some x
-            → object_named g x.name ≡ Some o
-            → IsShown (heap_of self.old) target v
-            → ShowsGraph (with_changed g x.name (record o { weaks = slice_set o.weaks slot v })) self.new }
-        ensures keeps { (s : Graph) → KeepsFrom s self.old → KeepsFrom s self.new }
-        ensures after { self.new ≡ with_weak self.old mutator object slot target }
-        ensures leaves { LeavesRegions self.old self.new }
+        ensures { StoresWeak (noted self.old mutator (field_word object (weak_field self.old object slot)) target) object slot target
+            self.old self.new }
     {
         self.table.law();
         let index = self.table.pointer_count(object) + slot;
@@ -176,15 +154,8 @@ impl Core {
         requires rooted { IsRoot (heap_of self.old) object }
         requires slot { slot < length (weaks_at self.old.table object) }
         requires word { IsWordOf (heap_of self.old) target }
-        requires noted { IsNoted self.old.table.words_per_region (card_words self.old.config) (is_dirty self.old.cards)
-            (field_word object (weak_field self.old object slot)) target }
-        ensures shows { (g : Graph) (x : Stored) (o : Object) (v : Option ℕ) → ShowsGraph g self.old → kept_of self.old object ≡ Some x
-            → object_named g x.name ≡ Some o
-            → IsShown (heap_of self.old) target v
-            → ShowsGraph (with_changed g x.name (record o { weaks = slice_set o.weaks slot v })) self.new }
-        ensures keeps { (s : Graph) → KeepsFrom s self.old → KeepsFrom s self.new }
-        ensures after { self.new ≡ record self.old { table = set_weak self.old.table object slot target } }
-        ensures leaves { LeavesRegions self.old self.new }
+        requires noted { HasNoted self.old (field_word object (weak_field self.old object slot)) target }
+        ensures { StoresWeak self.old.cards object slot target self.old self.new }
     {
         self.table.set_weak(object, slot, target);
     }
@@ -194,14 +165,7 @@ impl Core {
         requires known { mutator < self.old.config.mutators }
         requires to { IsRegister (places_of self.old.config) to }
         requires word { IsWordOf (heap_of self.old) value.now }
-        ensures shows { (g : Graph) (v : Option ℕ) → ShowsGraph g self.old → IsShown (heap_of self.old) value.now v
-            → ShowsGraph (with_root g (register_place g.places mutator to.number) v) self.new }
-        ensures keeps { (s g : Graph) (v : Option ℕ) → ShowsGraph g self.old → KeepsUnreached s g → IsShown (heap_of self.old) value.now v
-            → KeepsFrom s self.old → KeepsFrom (touched s v) self.new }
-        ensures core { self.new ≡ record (with_root_word self.old (register_place (places_of self.old.config) mutator to.number) value.now)
-            { marker = self.new.marker } }
-        ensures marker { Overwrites self.old.marker.running self.old.table mutator value.now self.old.marker self.new.marker }
-        ensures leaves { LeavesRegions self.old self.new }
+        ensures { Touches mutator to value.now self.old self.new }
     {
         self.roots.set_register(mutator, to.number, *value);
         if !self.marker.running {

@@ -12,11 +12,11 @@
 ghost use Rattle.std.specs.Prelude.{◌≡◌, ◌<◌, IfNone, IfOk, Some, length};
 ghost use Rattle.graph_runs.specs.State.{places_of};
 ghost use Rattle.heap_steps.specs.Roots.{IsRegister, IsValue};
-ghost use Rattle.heap_steps.specs.declared.step.Reply.TheVariants as replies;
 ghost use Rattle.regions.specs.Table.{pointers_at, weaks_at, values_at};
 ghost use Rattle.step_core.specs.Mutators.{register_of};
 ghost use Rattle.step_core.specs.Answers.{new_reply};
 ghost use Rattle.step_core.specs.Making.{HasMade};
+ghost use Rattle.step_core.specs.Parts.{Fills};
 ghost use Rattle.step_core.specs.Words.{AreRefused, Takes, making, putting, writing};
 
 use crate::heap::Core;
@@ -88,12 +88,7 @@ impl Core {
         requires value { IsValue (places_of self.old.config) value }
         requires held { register_of self.old mutator object ≡ Some at }
         requires field { field < length (pointers_at self.old.table at) }
-        ensures takes { Takes self.old (putting mutator object field value) replies.Done self.new }
-        ensures roots { self.new.roots ≡ self.old.roots }
-        ensures config { self.new.config ≡ self.old.config }
-        ensures pointers { length (pointers_at self.new.table at) ≡ length (pointers_at self.old.table at) }
-        ensures weaks { length (weaks_at self.new.table at) ≡ length (weaks_at self.old.table at) }
-        ensures values { length (values_at self.new.table at) ≡ length (values_at self.old.table at) }
+        ensures { Fills self.old (putting mutator object field value) at self.new }
     {
         self.remembers();
         self.put_known(mutator, object, at, field, value);
@@ -122,12 +117,7 @@ impl Core {
         requires pointers { length (pointers_at self.old.table at) ≡ pointers }
         requires weaks { length (weaks_at self.old.table at) ≡ 0 }
         requires field { field < length (values_at self.old.table at) }
-        ensures takes { Takes self.old (writing mutator object field value) replies.Done self.new }
-        ensures roots { self.new.roots ≡ self.old.roots }
-        ensures config { self.new.config ≡ self.old.config }
-        ensures pointers { length (pointers_at self.new.table at) ≡ length (pointers_at self.old.table at) }
-        ensures weaks { length (weaks_at self.new.table at) ≡ length (weaks_at self.old.table at) }
-        ensures values { length (values_at self.new.table at) ≡ length (values_at self.old.table at) }
+        ensures { Fills self.old (writing mutator object field value) at self.new }
     {
         self.remembers();
         self.write_known(mutator, object, at, pointers, field, value);

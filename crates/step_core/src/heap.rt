@@ -1,6 +1,6 @@
 //! The core: the heap's layers in one value, and its root places.
 
-ghost use Rattle.std.specs.Prelude.{◌≡◌, ℕ, ◌<◌, ◌-◌, length, Option, None, slice_index_or, IfOk, IfErr, OnOk};
+ghost use Rattle.std.specs.Prelude.{◌≡◌, ℕ, ◌<◌, ◌-◌, length, Option, IfOk, IfErr, OnOk};
 ghost use Rattle.heap_words.specs.Configs.{Suits, IsNewFault};
 ghost use Rattle.heap_model.specs.Graph.{Graph};
 ghost use Rattle.heap_model.specs.Heap.{IsShown, IsHeld};
@@ -8,11 +8,12 @@ ghost use Rattle.graph_runs.specs.State.{State, root_places, register_place, pla
 ghost use Rattle.heap_words.specs.Configs.{registers_of};
 ghost use Rattle.heap_steps.specs.Roots.{IsRegister, IsGlobal};
 ghost use Rattle.step_core.specs.Stands.{ShowsGraph, KeepsFrom, Stands, IsCore, IsWhole, heap_of};
-ghost use Rattle.step_core.specs.Stands.{IsWordOf, IsRootWord, Leads, name_in, RemembersFields};
+ghost use Rattle.step_core.specs.Stands.{IsWordOf, name_in, RemembersFields};
 ghost use Rattle.cards.specs.Cards.{ListsDirtyOnce};
 ghost use Rattle.regions.specs.Shaped.{IsShaped};
 ghost use Rattle.step_core.specs.Fresh.{fresh_core};
-ghost use Rattle.step_core.specs.Mutators.{register_of, with_root_word, with_nil_words};
+ghost use Rattle.step_core.specs.Mutators.{register_of, with_nil_words};
+ghost use Rattle.step_core.specs.Parts.{HoldsRegister, HoldsRoot, SetsRoot};
 ghost use Rattle.step_core.specs.Cycle.{LeavesRegions};
 
 use crate::layers::{Collecting, Mutating, Pausing, Remembering, new_collecting, new_mutating};
@@ -227,11 +228,7 @@ impl Core {
     /// What a root place holds.
     pub(crate) fn root(&self, place: usize) -> Ptr
         requires { place < root_places (places_of self.now.config) }
-        ensures value { result ≡ slice_index_or self.now.roots place None }
-        ensures word { IsWordOf (heap_of self.now) result }
-        ensures rooted { IsRootWord (heap_of self.now) result }
-        ensures leads { Leads self.now place result }
-        ensures shows { (g : Graph) → ShowsGraph g self.now → IsShown (heap_of self.now) result (root_at g place) }
+        ensures { HoldsRoot self.now place result }
     {
         self.roots.get(place)
     }
@@ -240,12 +237,7 @@ impl Core {
     pub(crate) fn register(&self, mutator: u32, register: Register) -> Ptr
         requires mutator { mutator < self.now.config.mutators }
         requires register { IsRegister (places_of self.now.config) register }
-        ensures value { result ≡ register_of self.now mutator register }
-        ensures word { IsWordOf (heap_of self.now) result }
-        ensures rooted { IsRootWord (heap_of self.now) result }
-        ensures leads { Leads self.now (register_place (places_of self.now.config) mutator register.number) result }
-        ensures shows { (g : Graph) → ShowsGraph g self.now
-            → IsShown (heap_of self.now) result (root_at g (register_place g.places mutator register.number)) }
+        ensures { HoldsRegister self.now mutator register result }
     {
         self.roots.register(mutator, register.number)
     }
@@ -257,9 +249,7 @@ impl Core {
         requires held { IsHeld (heap_of self.old) value }
         ensures shows { (g : Graph) (v : Option ℕ) → ShowsGraph g self.old → IsShown (heap_of self.old) value v
             → ShowsGraph (with_root g (register_place g.places mutator register.number) v) self.new }
-        ensures keeps { (s : Graph) → KeepsFrom s self.old → KeepsFrom s self.new }
-        ensures after { self.new ≡ with_root_word self.old (register_place (places_of self.old.config) mutator register.number) value }
-        ensures leaves { LeavesRegions self.old self.new }
+        ensures sets { SetsRoot (register_place (places_of self.old.config) mutator register.number) value self.old self.new }
     {
         self.roots.set_register(mutator, register.number, value);
     }
@@ -273,10 +263,8 @@ impl Core {
         ensures shows { (g : Graph) → ShowsGraph g self.old
             → ShowsGraph (with_root g (register_place g.places mutator to.number) (root_at g (register_place g.places mutator from.number)))
             self.new }
-        ensures keeps { (s : Graph) → KeepsFrom s self.old → KeepsFrom s self.new }
-        ensures after { self.new ≡ with_root_word self.old (register_place (places_of self.old.config) mutator to.number)
-            (register_of self.old mutator from) }
-        ensures leaves { LeavesRegions self.old self.new }
+        ensures sets { SetsRoot (register_place (places_of self.old.config) mutator to.number) (register_of self.old mutator from)
+            self.old self.new }
     {
         self.roots.copy_register(mutator, to.number, from.number);
     }
@@ -289,9 +277,7 @@ impl Core {
         requires from { IsRegister (places_of self.old.config) from }
         ensures shows { (g : Graph) → ShowsGraph g self.old
             → ShowsGraph (with_root g to.number (root_at g (register_place g.places mutator from.number))) self.new }
-        ensures keeps { (s : Graph) → KeepsFrom s self.old → KeepsFrom s self.new }
-        ensures after { self.new ≡ with_root_word self.old to.number (register_of self.old mutator from) }
-        ensures leaves { LeavesRegions self.old self.new }
+        ensures sets { SetsRoot to.number (register_of self.old mutator from) self.old self.new }
     {
         self.roots.copy_to_global(to.number, mutator, from.number);
     }
@@ -331,9 +317,7 @@ impl Core {
         ensures name { result ≡ name_in self.old.table value }
         ensures shows { (g : Graph) (v : Option ℕ) → ShowsGraph g self.old → IsShown (heap_of self.old) value v
             → ShowsGraph (with_root g (register_place g.places mutator register.number) v) self.new }
-        ensures keeps { (s : Graph) → KeepsFrom s self.old → KeepsFrom s self.new }
-        ensures after { self.new ≡ with_root_word self.old (register_place (places_of self.old.config) mutator register.number) value }
-        ensures leaves { LeavesRegions self.old self.new }
+        ensures sets { SetsRoot (register_place (places_of self.old.config) mutator register.number) value self.old self.new }
     {
         match value {
             None => {

@@ -1,25 +1,23 @@
 //! The mutator's steps.
 
-ghost use Rattle.std.specs.Prelude.{◌≡◌, ℕ, ◌<◌, ◌≤◌, ◌*◌, ◌↔◌, ◌≢◌, ◌⊎◌, Option, Some, None, IfSome, IfNone, IfOk, IsErr, OnErr, length};
-ghost use Rattle.std.specs.Prelude.{true, false};
+ghost use Rattle.std.specs.Prelude.{◌≡◌, ◌<◌, ◌≤◌, ◌*◌, ◌↔◌, Some, None, IfSome, IfNone, IfOk, IsErr, OnErr, length, true, false};
 ghost use Rattle.heap_words.specs.Configs.{max_object_words, object_limit};
 ghost use Rattle.heap_words.specs.Sizes.{size_of};
 ghost use Rattle.heap_model.specs.Graph.{Graph};
-ghost use Rattle.heap_model.specs.Heap.{IsRoot, IsShown};
 ghost use Rattle.heap_model.specs.Weak.{KeepsUnreached};
-ghost use Rattle.graph_runs.specs.State.{State, ForSnapshot, places_of, register_place};
+ghost use Rattle.graph_runs.specs.State.{State, ForSnapshot, places_of};
 ghost use Rattle.heap_steps.specs.Roots.{IsRegister, IsGlobal, IsValue, IsOpAt};
 ghost use Rattle.graph_runs.specs.Run.{snapshot_after};
-ghost use Rattle.graph_runs.specs.Machine.{stored};
 ghost use Rattle.heap_steps.specs.declared.step.Reply.TheVariants as replies;
 ghost use Rattle.heap_steps.specs.declared.step.Refusal.TheVariants as refusals;
 ghost use Rattle.regions.specs.Table.{new_object, fields_at, pointers_at, values_at, set_pointer, set_value};
-ghost use Rattle.alloc_buffers.specs.Placement.{address_of, place_of, CanHold, CanPlace, IsMadeAt, Placement, made_at};
-ghost use Rattle.step_core.specs.Stands.{ShowsGraph, KeepsFrom, Leads, Stands, heap_of, IsWordOf, IsRootWord};
+ghost use Rattle.alloc_buffers.specs.Placement.{address_of, place_of, CanHold, IsMadeAt, Placement, made_at};
+ghost use Rattle.step_core.specs.Stands.{ShowsGraph, KeepsFrom};
 ghost use Rattle.step_core.specs.Answers.{Acts, IsWithin, new_reply};
-ghost use Rattle.step_core.specs.Making.{HasMade, MakesObject};
-ghost use Rattle.step_core.specs.Mutators.{ActsOn, register_of, value_of, weaks_made};
+ghost use Rattle.step_core.specs.Making.{CanMake, HasMade, MakesNew, MakesObject};
+ghost use Rattle.step_core.specs.Mutators.{ActsOn, value_of, weaks_made};
 ghost use Rattle.step_core.specs.Cycle.{LeavesRegions};
+ghost use Rattle.step_core.specs.Parts.{DoesAction, HoldsValue, NamesAt};
 ghost use Rattle.step_core.specs.Words.{Takes};
 
 use crate::heap::Core;
@@ -77,12 +75,8 @@ fn make_inside(
     counts: Counts,
     weaks: u8,
 ) -> Option<Addr>
-    requires mutator { mutator < length buffers.old.open_buffers }
-    requires within { size ≤ length table.old.regions * table.old.words_per_region }
-    requires small { size ≤ max_object_words }
-    requires ready { CanPlace table.old buffers.old size }
+    requires can { CanMake table.old buffers.old mutator size counts weaks }
     requires half { 2 * size ≤ table.old.words_per_region }
-    requires size { size ≡ size_of counts.pointers weaks counts.values }
     ensures made { IfSome result (λ a. (p : Placement) × IsMadeAt table.old table.new buffers.old buffers.new mutator size
         (new_object name counts.pointers weaks counts.values) a p) }
     ensures table_same { IfNone result (table.new ≡ table.old) }
@@ -111,11 +105,7 @@ fn make_in_place(
     counts: Counts,
     weaks: u8,
 ) -> Result<Addr, Full>
-    requires mutator { mutator < length buffers.old.open_buffers }
-    requires within { size ≤ length table.old.regions * table.old.words_per_region }
-    requires small { size ≤ max_object_words }
-    requires ready { CanPlace table.old buffers.old size }
-    requires size { size ≡ size_of counts.pointers weaks counts.values }
+    requires { CanMake table.old buffers.old mutator size counts weaks }
     ensures made { IfOk result (λ a. (p : Placement) × IsMadeAt table.old table.new buffers.old buffers.new mutator size
         (new_object name counts.pointers weaks counts.values) a p) }
     ensures full { IsErr result ↔ (place_of table.old buffers.old mutator size ≡ None) }
@@ -141,12 +131,8 @@ fn create(
     counts: Counts,
     weaks: u8,
 ) -> Result<Addr, Full>
-    requires mutator { mutator < length buffers.old.open_buffers }
-    requires within { size ≤ length table.old.regions * table.old.words_per_region }
-    requires small { size ≤ max_object_words }
-    requires ready { CanPlace table.old buffers.old size }
+    requires can { CanMake table.old buffers.old mutator size counts weaks }
     requires half { humongous ≡ false → 2 * size ≤ table.old.words_per_region }
-    requires size { size ≡ size_of counts.pointers weaks counts.values }
     ensures made { IfOk result (λ a. (p : Placement) × IsMadeAt table.old table.new buffers.old buffers.new mutator size
         (new_object name counts.pointers weaks counts.values) a p) }
     ensures full { IsErr result ↔ (place_of table.old buffers.old mutator size ≡ None) }
@@ -202,10 +188,7 @@ impl Core {
         requires mutator { mutator < self.old.config.mutators }
         requires to { IsRegister (places_of self.old.config) to }
         requires object { IsRegister (places_of self.old.config) object }
-        ensures acts { (g : Graph) → ShowsGraph g self.old → Acts g mutator (actions.Get to object field) result self.new }
-        ensures keeps { (s : Graph) → KeepsFrom s self.old → KeepsFrom s self.new }
-        ensures after { ActsOn mutator (actions.Get to object field) result self.old self.new }
-        ensures leaves { LeavesRegions self.old self.new }
+        ensures { DoesAction mutator (actions.Get to object field) result self.old self.new }
     {
         let Some(at) = self.register(mutator, object) else {
             return Reply::Refused(Refusal::Nil);
@@ -221,8 +204,7 @@ impl Core {
     fn read(&self, mutator: u32, object: Register, field: u32) -> Reply
         requires mutator { mutator < self.now.config.mutators }
         requires object { IsRegister (places_of self.now.config) object }
-        ensures acts { (g : Graph) → ShowsGraph g self.now → Acts g mutator (actions.Read object field) result self.now }
-        ensures after { ActsOn mutator (actions.Read object field) result self.now self.now }
+        ensures { DoesAction mutator (actions.Read object field) result self.now self.now }
     {
         let Some(at) = self.register(mutator, object) else {
             return Reply::Refused(Refusal::Nil);
@@ -237,10 +219,7 @@ impl Core {
     fn stored(&self, mutator: u32, value: Option<Register>) -> Ptr
         requires mutator { mutator < self.now.config.mutators }
         requires value { IsValue (places_of self.now.config) value }
-        ensures value { result ≡ value_of self.now mutator value }
-        ensures word { IsWordOf (heap_of self.now) result }
-        ensures rooted { IsRootWord (heap_of self.now) result }
-        ensures shows { (g : Graph) → ShowsGraph g self.now → IsShown (heap_of self.now) result (stored g mutator value) }
+        ensures { HoldsValue self.now mutator value result }
     {
         match value {
             None => None,
@@ -253,10 +232,7 @@ impl Core {
         requires mutator { mutator < self.old.config.mutators }
         requires object { IsRegister (places_of self.old.config) object }
         requires value { IsValue (places_of self.old.config) value }
-        ensures acts { (g : Graph) → ShowsGraph g self.old → Acts g mutator (actions.Put object field value) result self.new }
-        ensures keeps { (s : Graph) → KeepsFrom s self.old → KeepsFrom s self.new }
-        ensures after { ActsOn mutator (actions.Put object field value) result self.old self.new }
-        ensures leaves { LeavesRegions self.old self.new }
+        ensures { DoesAction mutator (actions.Put object field value) result self.old self.new }
     {
         let Some(at) = self.register(mutator, object) else {
             return Reply::Refused(Refusal::Nil);
@@ -276,13 +252,8 @@ impl Core {
     ) -> Reply
         requires mutator { mutator < self.old.config.mutators }
         requires value { IsValue (places_of self.old.config) value }
-        requires held { register_of self.old mutator object ≡ Some at }
-        requires rooted { IsRoot (heap_of self.old) at }
-        requires leads { Leads self.old (register_place (places_of self.old.config) mutator object.number) (Some at) }
-        ensures acts { (g : Graph) → ShowsGraph g self.old → Acts g mutator (actions.Put object field value) result self.new }
-        ensures keeps { (s : Graph) → KeepsFrom s self.old → KeepsFrom s self.new }
-        ensures after { ActsOn mutator (actions.Put object field value) result self.old self.new }
-        ensures leaves { LeavesRegions self.old self.new }
+        requires names { NamesAt self.old mutator object at }
+        ensures { DoesAction mutator (actions.Put object field value) result self.old self.new }
     {
         match self.stored(mutator, value) {
             None => self.put_word(mutator, object, at, field, value, None),
@@ -302,16 +273,9 @@ impl Core {
         target: Ptr,
     ) -> Reply
         requires mutator { mutator < self.old.config.mutators }
-        requires held { register_of self.old mutator object ≡ Some at }
-        requires rooted { IsRoot (heap_of self.old) at }
-        requires leads { Leads self.old (register_place (places_of self.old.config) mutator object.number) (Some at) }
-        requires target { target ≡ value_of self.old mutator value }
-        requires known { IsRootWord (heap_of self.old) target }
-        requires shows { (g : Graph) → ShowsGraph g self.old → IsShown (heap_of self.old) target (stored g mutator value) }
-        ensures acts { (g : Graph) → ShowsGraph g self.old → Acts g mutator (actions.Put object field value) result self.new }
-        ensures keeps { (s : Graph) → KeepsFrom s self.old → KeepsFrom s self.new }
-        ensures after { ActsOn mutator (actions.Put object field value) result self.old self.new }
-        ensures leaves { LeavesRegions self.old self.new }
+        requires names { NamesAt self.old mutator object at }
+        requires target { HoldsValue self.old mutator value target }
+        ensures { DoesAction mutator (actions.Put object field value) result self.old self.new }
     {
         if field >= self.table.pointer_count(at) {
             return Reply::Refused(Refusal::NoField);
@@ -332,14 +296,9 @@ impl Core {
     )
         requires mutator { mutator < self.old.config.mutators }
         requires value { IsValue (places_of self.old.config) value }
-        requires held { register_of self.old mutator object ≡ Some at }
-        requires rooted { IsRoot (heap_of self.old) at }
-        requires leads { Leads self.old (register_place (places_of self.old.config) mutator object.number) (Some at) }
+        requires names { NamesAt self.old mutator object at }
         requires field { field < length (pointers_at self.old.table at) }
-        ensures acts { (g : Graph) → ShowsGraph g self.old → Acts g mutator (actions.Put object field value) replies.Done self.new }
-        ensures keeps { (s : Graph) → KeepsFrom s self.old → KeepsFrom s self.new }
-        ensures after { ActsOn mutator (actions.Put object field value) replies.Done self.old self.new }
-        ensures leaves { LeavesRegions self.old self.new }
+        ensures does { DoesAction mutator (actions.Put object field value) replies.Done self.old self.new }
         ensures table { self.new.table ≡ set_pointer self.old.table at field (value_of self.old mutator value) }
     {
         let target = self.stored(mutator, value);
@@ -349,10 +308,7 @@ impl Core {
     fn write(&mut self, mutator: u32, object: Register, field: u32, value: u64) -> Reply
         requires mutator { mutator < self.old.config.mutators }
         requires object { IsRegister (places_of self.old.config) object }
-        ensures acts { (g : Graph) → ShowsGraph g self.old → Acts g mutator (actions.Write object field value) result self.new }
-        ensures keeps { (s : Graph) → KeepsFrom s self.old → KeepsFrom s self.new }
-        ensures after { ActsOn mutator (actions.Write object field value) result self.old self.new }
-        ensures leaves { LeavesRegions self.old self.new }
+        ensures { DoesAction mutator (actions.Write object field value) result self.old self.new }
     {
         let Some(at) = self.register(mutator, object) else {
             return Reply::Refused(Refusal::Nil);
@@ -370,12 +326,8 @@ impl Core {
         field: u32,
         value: u64,
     ) -> Reply
-        requires held { register_of self.old mutator object ≡ Some at }
-        requires leads { Leads self.old (register_place (places_of self.old.config) mutator object.number) (Some at) }
-        ensures acts { (g : Graph) → ShowsGraph g self.old → Acts g mutator (actions.Write object field value) result self.new }
-        ensures keeps { (s : Graph) → KeepsFrom s self.old → KeepsFrom s self.new }
-        ensures after { ActsOn mutator (actions.Write object field value) result self.old self.new }
-        ensures leaves { LeavesRegions self.old self.new }
+        requires { NamesAt self.old mutator object at }
+        ensures { DoesAction mutator (actions.Write object field value) result self.old self.new }
     {
         if field >= self.table.value_count(at) {
             return Reply::Refused(Refusal::NoField);
@@ -395,14 +347,10 @@ impl Core {
         field: u32,
         value: u64,
     )
-        requires held { register_of self.old mutator object ≡ Some at }
-        requires leads { Leads self.old (register_place (places_of self.old.config) mutator object.number) (Some at) }
+        requires names { NamesAt self.old mutator object at }
         requires fields { fields ≡ length (fields_at self.old.table at) }
         requires field { field < length (values_at self.old.table at) }
-        ensures acts { (g : Graph) → ShowsGraph g self.old → Acts g mutator (actions.Write object field value) replies.Done self.new }
-        ensures keeps { (s : Graph) → KeepsFrom s self.old → KeepsFrom s self.new }
-        ensures after { ActsOn mutator (actions.Write object field value) replies.Done self.old self.new }
-        ensures leaves { LeavesRegions self.old self.new }
+        ensures does { DoesAction mutator (actions.Write object field value) replies.Done self.old self.new }
         ensures table { self.new.table ≡ set_value self.old.table at field value }
     {
         self.table.set_value_behind(at, fields, field, value);
@@ -412,10 +360,7 @@ impl Core {
         requires mutator { mutator < self.old.config.mutators }
         requires to { IsRegister (places_of self.old.config) to }
         requires from { IsRegister (places_of self.old.config) from }
-        ensures acts { (g : Graph) → ShowsGraph g self.old → Acts g mutator (actions.Move to from) result self.new }
-        ensures keeps { (s : Graph) → KeepsFrom s self.old → KeepsFrom s self.new }
-        ensures after { ActsOn mutator (actions.Move to from) result self.old self.new }
-        ensures leaves { LeavesRegions self.old self.new }
+        ensures { DoesAction mutator (actions.Move to from) result self.old self.new }
     {
         self.copy_register(mutator, to, from);
         Reply::Done
@@ -424,10 +369,7 @@ impl Core {
     fn drop_register(&mut self, mutator: u32, register: Register) -> Reply
         requires mutator { mutator < self.old.config.mutators }
         requires register { IsRegister (places_of self.old.config) register }
-        ensures acts { (g : Graph) → ShowsGraph g self.old → Acts g mutator (actions.Drop register) result self.new }
-        ensures keeps { (s : Graph) → KeepsFrom s self.old → KeepsFrom s self.new }
-        ensures after { ActsOn mutator (actions.Drop register) result self.old self.new }
-        ensures leaves { LeavesRegions self.old self.new }
+        ensures { DoesAction mutator (actions.Drop register) result self.old self.new }
     {
         self.set_register(mutator, register, None);
         Reply::Done
@@ -437,10 +379,7 @@ impl Core {
         requires mutator { mutator < self.old.config.mutators }
         requires to { IsRegister (places_of self.old.config) to }
         requires from { IsGlobal (places_of self.old.config) from }
-        ensures acts { (g : Graph) → ShowsGraph g self.old → Acts g mutator (actions.Load to from) result self.new }
-        ensures keeps { (s : Graph) → KeepsFrom s self.old → KeepsFrom s self.new }
-        ensures after { ActsOn mutator (actions.Load to from) result self.old self.new }
-        ensures leaves { LeavesRegions self.old self.new }
+        ensures { DoesAction mutator (actions.Load to from) result self.old self.new }
     {
         let value = self.root(from.number as usize);
         let name = self.name_of(&value);
@@ -452,10 +391,7 @@ impl Core {
         requires mutator { mutator < self.old.config.mutators }
         requires to { IsGlobal (places_of self.old.config) to }
         requires from { IsRegister (places_of self.old.config) from }
-        ensures acts { (g : Graph) → ShowsGraph g self.old → Acts g mutator (actions.Save to from) result self.new }
-        ensures keeps { (s : Graph) → KeepsFrom s self.old → KeepsFrom s self.new }
-        ensures after { ActsOn mutator (actions.Save to from) result self.old self.new }
-        ensures leaves { LeavesRegions self.old self.new }
+        ensures { DoesAction mutator (actions.Save to from) result self.old self.new }
     {
         self.copy_to_global(to, mutator, from);
         Reply::Done
@@ -464,8 +400,7 @@ impl Core {
     fn shape(&self, mutator: u32, object: Register) -> Reply
         requires mutator { mutator < self.now.config.mutators }
         requires object { IsRegister (places_of self.now.config) object }
-        ensures acts { (g : Graph) → ShowsGraph g self.now → Acts g mutator (actions.Shape object) result self.now }
-        ensures after { ActsOn mutator (actions.Shape object) result self.now self.now }
+        ensures { DoesAction mutator (actions.Shape object) result self.now self.now }
     {
         let Some(at) = self.register(mutator, object) else {
             return Reply::Refused(Refusal::Nil);
@@ -509,10 +444,7 @@ impl Core {
         requires mutator { mutator < self.old.config.mutators }
         requires object { IsRegister (places_of self.old.config) object }
         requires value { IsValue (places_of self.old.config) value }
-        ensures acts { (g : Graph) → ShowsGraph g self.old → Acts g mutator (actions.PutWeak object slot value) result self.new }
-        ensures keeps { (s : Graph) → KeepsFrom s self.old → KeepsFrom s self.new }
-        ensures after { ActsOn mutator (actions.PutWeak object slot value) result self.old self.new }
-        ensures leaves { LeavesRegions self.old self.new }
+        ensures { DoesAction mutator (actions.PutWeak object slot value) result self.old self.new }
     {
         let Some(at) = self.register(mutator, object) else {
             return Reply::Refused(Refusal::Nil);
@@ -528,8 +460,7 @@ impl Core {
     fn weaks(&self, mutator: u32, object: Register) -> Reply
         requires mutator { mutator < self.now.config.mutators }
         requires object { IsRegister (places_of self.now.config) object }
-        ensures acts { (g : Graph) → ShowsGraph g self.now → Acts g mutator (actions.Weaks object) result self.now }
-        ensures after { ActsOn mutator (actions.Weaks object) result self.now self.now }
+        ensures { DoesAction mutator (actions.Weaks object) result self.now self.now }
     {
         let Some(at) = self.register(mutator, object) else {
             return Reply::Refused(Refusal::Nil);
@@ -540,10 +471,7 @@ impl Core {
     fn scope(&mut self, mutator: u32, from: Register) -> Reply
         requires mutator { mutator < self.old.config.mutators }
         requires from { IsRegister (places_of self.old.config) from }
-        ensures acts { (g : Graph) → ShowsGraph g self.old → Acts g mutator (actions.Scope from) result self.new }
-        ensures keeps { (s : Graph) → KeepsFrom s self.old → KeepsFrom s self.new }
-        ensures after { ActsOn mutator (actions.Scope from) result self.old self.new }
-        ensures leaves { LeavesRegions self.old self.new }
+        ensures { DoesAction mutator (actions.Scope from) result self.old self.new }
     {
         self.leave(mutator, from);
         Reply::Done
@@ -592,8 +520,7 @@ impl Core {
     ) -> Result<NewObject, Refusal>
         requires mutator { mutator < self.old.config.mutators }
         requires to { IsRegister (places_of self.old.config) to }
-        ensures makes { MakesObject mutator to counts weaks (new_reply result) self.old self.new }
-        ensures at { IfOk result (λ x. register_of self.new mutator to ≡ Some x.at) }
+        ensures { MakesNew mutator to counts weaks result self.old self.new }
     {
         if self.is_small(mutator, counts, weaks) {
             self.new_here(mutator, to, counts, weaks)
@@ -624,8 +551,7 @@ impl Core {
     ) -> Result<NewObject, Refusal>
         requires mutator { mutator < self.old.config.mutators }
         requires to { IsRegister (places_of self.old.config) to }
-        ensures makes { MakesObject mutator to counts weaks (new_reply result) self.old self.new }
-        ensures at { IfOk result (λ x. register_of self.new mutator to ≡ Some x.at) }
+        ensures { MakesNew mutator to counts weaks result self.old self.new }
     {
         self.new_apart(mutator, to, counts, weaks)
     }
@@ -642,8 +568,7 @@ impl Core {
     ) -> Result<NewObject, Refusal>
         requires mutator { mutator < self.old.config.mutators }
         requires to { IsRegister (places_of self.old.config) to }
-        ensures makes { MakesObject mutator to counts weaks (new_reply result) self.old self.new }
-        ensures at { IfOk result (λ x. register_of self.new mutator to ≡ Some x.at) }
+        ensures { MakesNew mutator to counts weaks result self.old self.new }
     {
         self.new_here(mutator, to, counts, weaks)
     }
@@ -659,8 +584,7 @@ impl Core {
     ) -> Result<NewObject, Refusal>
         requires mutator { mutator < self.old.config.mutators }
         requires to { IsRegister (places_of self.old.config) to }
-        ensures makes { MakesObject mutator to counts weaks (new_reply result) self.old self.new }
-        ensures at { IfOk result (λ x. register_of self.new mutator to ≡ Some x.at) }
+        ensures { MakesNew mutator to counts weaks result self.old self.new }
     {
         let size = counts.size(weaks);
         if self.is_too_big(size) {

@@ -7,21 +7,19 @@
 //!   put_all_at(0, r0, 4, [1, nil, 2])     8 and nil are stored here; 32 is in another region, so its store is a call
 //! ```
 
-ghost use Rattle.std.specs.Prelude.{◌≡◌, ℕ, ◌+◌, ◌<◌, ◌≤◌, ◌^◌, Option, Some, length, slice_index, slice_set, true, false};
+ghost use Rattle.std.specs.Prelude.{◌≡◌, ℕ, ◌+◌, ◌<◌, ◌≤◌, ◌^◌, Some, length, slice_index, true, false};
 ghost use Rattle.heap_words.specs.Configs.{globals_of};
-ghost use Rattle.heap_model.specs.Graph.{Graph, Object, object_named, with_changed};
-ghost use Rattle.heap_model.specs.Heap.{Stored, IsHeld, IsRoot, IsShown};
-ghost use Rattle.graph_runs.specs.State.{places_of, register_place, root_at};
-ghost use Rattle.graph_runs.specs.Machine.{stored};
+ghost use Rattle.heap_model.specs.Heap.{IsRoot};
+ghost use Rattle.graph_runs.specs.State.{places_of, register_place};
 ghost use Rattle.heap_steps.specs.Roots.{IsRegister, IsValue};
-ghost use Rattle.heap_steps.specs.declared.step.Reply.TheVariants as replies;
-ghost use Rattle.regions.specs.Table.{fields_at, pointers_at, weaks_at, set_pointer, values_at};
+ghost use Rattle.regions.specs.Table.{fields_at, pointers_at};
 ghost use Rattle.refinement.specs.Remembering.{field_word};
-ghost use Rattle.step_core.specs.Cycle.{LeavesRegions};
-ghost use Rattle.step_core.specs.Mutators.{register_of, value_of};
-ghost use Rattle.step_core.specs.Near.{HasPut, LeadsNear, source};
-ghost use Rattle.step_core.specs.Stands.{IsRootWord, KeepsFrom, ShowsGraph, heap_of, kept_of};
-ghost use Rattle.step_core.specs.Words.{Takes, putting};
+ghost use Rattle.step_core.specs.Mutators.{register_of};
+ghost use Rattle.step_core.specs.Near.{CanPut, HasPut, LeadsFar, LeadsNear, source};
+ghost use Rattle.step_core.specs.Parts.{Fills, HoldsRegister, HoldsValue};
+ghost use Rattle.step_core.specs.Stands.{heap_of};
+ghost use Rattle.step_core.specs.Storing.{CanStore, StoresWith};
+ghost use Rattle.step_core.specs.Words.{putting};
 
 use crate::heap::Core;
 use heap_steps::Register;
@@ -39,8 +37,6 @@ fn source_of(number: u32) -> Option<Register>
 }
 
 impl Core {
-    ghost use Rattle.heap_steps.specs.declared.step.Action.TheVariants as actions;
-
     /// Where a mutator's registers begin among all registers.
     #[inline(always)]
     fn row(&self, mutator: u32) -> u32
@@ -56,10 +52,7 @@ impl Core {
         requires mutator { mutator < self.now.config.mutators }
         requires register { IsRegister (places_of self.now.config) register }
         requires row { globals_of self.now.config + row ≡ register_place (places_of self.now.config) mutator 0 }
-        ensures value { result ≡ register_of self.now mutator register }
-        ensures rooted { IsRootWord (heap_of self.now) result }
-        ensures shows { (g : Graph) → ShowsGraph g self.now
-            → IsShown (heap_of self.now) result (root_at g (register_place g.places mutator register.number)) }
+        ensures { HoldsRegister self.now mutator register result }
     {
         self.roots.in_row(row, register.number)
     }
@@ -70,9 +63,7 @@ impl Core {
         requires mutator { mutator < self.now.config.mutators }
         requires value { IsValue (places_of self.now.config) value }
         requires row { globals_of self.now.config + row ≡ register_place (places_of self.now.config) mutator 0 }
-        ensures value { result ≡ value_of self.now mutator value }
-        ensures rooted { IsRootWord (heap_of self.now) result }
-        ensures shows { (g : Graph) → ShowsGraph g self.now → IsShown (heap_of self.now) result (stored g mutator value) }
+        ensures { HoldsValue self.now mutator value result }
     {
         match value {
             None => None,
@@ -82,10 +73,11 @@ impl Core {
 
     /// Whether a value is nil, or leads into the region that the field's word is in.
     #[inline(always)]
-    fn is_near(&self, object: Addr, field: u32, target: &Ptr) -> bool
+    pub(crate) fn is_near(&self, object: Addr, field: u32, target: &Ptr) -> bool
         requires rooted { IsRoot (heap_of self.now) object }
         requires field { field < length (fields_at self.now.table object) }
-        ensures { result ≡ true → LeadsNear self.now.table.words_per_region (field_word object field) target.now }
+        ensures near { result ≡ true → LeadsNear self.now.table.words_per_region (field_word object field) target.now }
+        ensures far { result ≡ false → LeadsFar self.now.table.words_per_region (field_word object field) target.now }
     {
         let Some(to) = target else {
             return true;
@@ -98,23 +90,15 @@ impl Core {
     /// Stores such a value in a pointer while marking doesn't run.
     #[inline(always)]
     fn store_near(&mut self, object: Addr, field: u32, target: Ptr)
-        requires rooted { IsRoot (heap_of self.old) object }
-        requires field { field < length (pointers_at self.old.table object) }
-        requires held { IsHeld (heap_of self.old) target }
+        requires can { CanStore object field target self.old }
         requires idle { self.old.marker.running ≡ false }
         requires near { LeadsNear self.old.table.words_per_region (field_word object field) target }
-        ensures shows { (g : Graph) (x : Stored) (o : Object) (v : Option ℕ) → ShowsGraph g self.old → kept_of self.old object ≡ Some x
-            → object_named g x.name ≡ Some o
-            → IsShown (heap_of self.old) target v
-            → ShowsGraph (with_changed g x.name (record o { pointers = slice_set o.pointers field v })) self.new }
-        ensures keeps { (s : Graph) → KeepsFrom s self.old → KeepsFrom s self.new }
-        ensures core { self.new ≡ record self.old { table = set_pointer self.old.table object field target } }
-        ensures leaves { LeavesRegions self.old self.new }
+        ensures { (mutator : ℕ) → StoresWith self.old.cards mutator object field target self.old self.new }
     {
         self.table.set_ptr(object, field, target);
     }
 
-    /// Does the step `put` while marking doesn't run: by such a store, or by a call where the value leads further.
+    /// Does the step `put` while marking doesn't run: by such a store, or by a call if the value leads further.
     #[inline(always)]
     fn put_near(
         &mut self,
@@ -132,33 +116,23 @@ impl Core {
         requires field { field < length (pointers_at self.old.table at) }
         requires row { globals_of self.old.config + row ≡ register_place (places_of self.old.config) mutator 0 }
         requires idle { self.old.marker.running ≡ false }
-        ensures takes { Takes self.old (putting mutator object field value) replies.Done self.new }
-        ensures roots { self.new.roots ≡ self.old.roots }
-        ensures config { self.new.config ≡ self.old.config }
+        ensures fills { Fills self.old (putting mutator object field value) at self.new }
         ensures idle { self.new.marker.running ≡ false }
-        ensures pointers { length (pointers_at self.new.table at) ≡ length (pointers_at self.old.table at) }
-        ensures weaks { length (weaks_at self.new.table at) ≡ length (weaks_at self.old.table at) }
-        ensures values { length (values_at self.new.table at) ≡ length (values_at self.old.table at) }
     {
         self.remembers();
         let target = self.stored_in(row, mutator, value);
         if self.is_near(at, field, &target) {
             self.store_near(at, field, target);
         } else {
-            self.put_at(mutator, object, at, field, value);
+            self.store_far(mutator, at, field, target);
         }
     }
 
     /// Does the step `put` for each of the first pointers while marking doesn't run.
     #[inline(always)]
     fn put_idle(&mut self, mutator: u32, object: Register, at: Addr, from: &[u32])
-        requires few { length from.now < 2 ^ 32 }
-        requires mutator { mutator < self.old.config.mutators }
-        requires object { IsRegister (places_of self.old.config) object }
-        requires values { (i : ℕ) → i < length from.now → IsValue (places_of self.old.config) (source (slice_index from.now i)) }
-        requires held { register_of self.old mutator object ≡ Some at }
-        requires fields { length from.now ≤ length (pointers_at self.old.table at) }
         requires idle { self.old.marker.running ≡ false }
+        requires can { CanPut self.old mutator object at from.now }
         ensures { HasPut self.old mutator object from.now at (length from.now) self.new }
     {
         let row = self.row(mutator);
@@ -171,12 +145,7 @@ impl Core {
     /// Does it by a call each.
     #[inline(always)]
     fn put_apart(&mut self, mutator: u32, object: Register, at: Addr, from: &[u32])
-        requires few { length from.now < 2 ^ 32 }
-        requires mutator { mutator < self.old.config.mutators }
-        requires object { IsRegister (places_of self.old.config) object }
-        requires values { (i : ℕ) → i < length from.now → IsValue (places_of self.old.config) (source (slice_index from.now i)) }
-        requires held { register_of self.old mutator object ≡ Some at }
-        requires fields { length from.now ≤ length (pointers_at self.old.table at) }
+        requires { CanPut self.old mutator object at from.now }
         ensures { HasPut self.old mutator object from.now at (length from.now) self.new }
     {
         for field in 0..from.len() as u32 {

@@ -21,6 +21,7 @@ use Rattle.step_core.specs.Cycle.{LeavesRegions}
 use Rattle.step_core.specs.Making.{MakesObject}
 use Rattle.step_core.specs.Mutators.{ActsOn, weaks_made}
 use Rattle.step_core.specs.Reclaimed.{IsReclaimed}
+use Rattle.step_core.specs.Parts.{DoesAction}
 use Rattle.step_core.specs.Words.{Takes}
 use Rattle.step_core.proofs.Cores.Following.{acted, acts_as, created_as}
 use Rattle.step_core.proofs.Cores.Snapshots.{touches, keeps_after}
@@ -49,10 +50,9 @@ acted_by o a r c c' e never acts keeps after leaves = record {
 
 -- and by one that touches no name either
 pub acted_plain : (o : Op) (a : Action) (r : Reply) (c c' : CoreState) → o.action ≡ a → touches a ≡ false
-    → ((g : Graph) → IsFull g o.mutator a c → ⊥) → ((g : Graph) → ShowsGraph g c → Acts g o.mutator a r c')
-    → ((s : Graph) → KeepsFrom s c → KeepsFrom s c') → ActsOn o.mutator a r c c' → LeavesRegions c c' → Takes c (steps.Mutator o) r c'
-acted_plain o a r c c' e plain never acts keeps after =
-    acted_by o a r c c' e never acts (λ s st. keeps_after s.snapshot o.mutator a r c c' plain after keeps st.keeps) after
+    → ((g : Graph) → IsFull g o.mutator a c → ⊥) → DoesAction o.mutator a r c c' → Takes c (steps.Mutator o) r c'
+acted_plain o a r c c' e plain never d = acted_by o a r c c' e never d.acts
+    (λ s st. keeps_after s.snapshot o.mutator a r c c' plain d.after d.keeps st.keeps) d.after d.leaves
 
 full_new : (g : Graph) (m : ℕ) (to : Register) (counts : Counts) (weaks : ℕ) (r : Reply) (c c' : CoreState)
     → Acts g m (actions.NewWeak to counts weaks) r c' ⊎ RepliesFull g m (actions.NewWeak to counts weaks) c r c'

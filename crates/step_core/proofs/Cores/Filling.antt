@@ -18,11 +18,12 @@ use Rattle.step_core.specs.Answers.{Acts}
 use Rattle.step_core.specs.Cycle.{LeavesRegions}
 use Rattle.step_core.specs.Mutators.{ActsOn, core_after, register_of}
 use Rattle.step_core.specs.Making.{MakesObject}
+use Rattle.step_core.specs.Parts.{NamesAt}
 use Rattle.step_core.specs.Words.{AreRefused, Takes, making, putting, writing}
-use Rattle.step_core.proofs.Cores.Acted.{acted_new, acted_plain, still}
+use Rattle.step_core.proofs.Cores.Acted.{acted_new}
 use Rattle.step_core.proofs.Cores.Snapshots.{acts_cases}
 use Rattle.step_core.proofs.Cores.Keeping.{register_inside}
-use Rattle.step_core.proofs.Cores.Words.{write_op}
+use Rattle.step_core.proofs.Cores.Words.{put_op, refused_takes, write_op}
 use Rattle.step_core.proofs.Mutating.Reading.{leads, root_rooted}
 use Rattle.step_core.proofs.Mutating.Acting.{put_nil, write_nil}
 
@@ -33,21 +34,6 @@ pub new_takes : (c c' : CoreState) (m : ℕ) (to : Register) (counts : Counts) (
     → Takes c (making m to counts) r c'
 new_takes c c' m to counts r h = acted_new (new_op m to counts) to counts 0 r c c' (inl refl) refl h
 
-abbrev put_op : ℕ → Register → ℕ → Option Register → Op
-put_op m object i value = record { mutator = m; action = actions.Put object i value }
-
-pub put_takes : (c c' : CoreState) (m : ℕ) (object : Register) (i : ℕ) (value : Option Register) (r : Reply)
-    → ((g : Graph) → ShowsGraph g c → Acts g m (actions.Put object i value) r c')
-    → ((s : Graph) → KeepsFrom s c → KeepsFrom s c') → ActsOn m (actions.Put object i value) r c c' → LeavesRegions c c'
-    → Takes c (putting m object i value) r c'
-put_takes c c' m object i value r = acted_plain (put_op m object i value) (actions.Put object i value) r c c' refl refl (λ g f. f)
-
-pub write_takes : (c c' : CoreState) (m : ℕ) (object : Register) (i v : ℕ) (r : Reply)
-    → ((g : Graph) → ShowsGraph g c → Acts g m (actions.Write object i v) r c')
-    → ((s : Graph) → KeepsFrom s c → KeepsFrom s c') → ActsOn m (actions.Write object i v) r c c' → LeavesRegions c c'
-    → Takes c (writing m object i v) r c'
-write_takes c c' m object i v r = acted_plain (write_op m object i v) (actions.Write object i v) r c c' refl refl (λ g f. f)
-
 -- ---- a step changes no root where it changes none if it is done
 pub roots_stay : (c c' : CoreState) (m : ℕ) (a : Action) (r : Reply) → (core_after c m a).roots ≡ c.roots → ActsOn m a r c c'
     → c'.roots ≡ c.roots
@@ -57,25 +43,19 @@ roots_stay c c' m a r e h = elim (acts_cases m a r c c' h) [
 ]
 
 -- ---- what the register holds, and that each store is refused if that is nil
-pub record HeldFacts (c : CoreState) (m : ℕ) (object : Register) (a : ℕ) : Type 0 where
-  pub rooted : IsRoot (heap_of c) a
-  pub leads : Leads c (register_place (places_of c.config) m object.number) (Some a)
-
-pub held_facts : (c : CoreState) (m : ℕ) (object : Register) (a : ℕ) → IsCore c → m < c.config.mutators
-    → object.number < registers_of c.config → register_of c m object ≡ Some a → HeldFacts c m object a
-held_facts c m object a core known inside held =
+pub names_at : (c : CoreState) (m : ℕ) (object : Register) (a : ℕ) → IsCore c → m < c.config.mutators
+    → object.number < registers_of c.config → register_of c m object ≡ Some a → NamesAt c m object a
+names_at c m object a core known inside held =
     let all = core.places in
     let place : ℕ = register_place (places_of c.config) m object.number in
     let within : place < length c.roots = omega (arith, register_inside c.config m object.number known inside, all) in
-    record { rooted = root_rooted c place (Some a) within (sym held); leads = leads c place (Some a) within (sym held) }
+    record { held = held; rooted = root_rooted c place (Some a) within (sym held); leads = leads c place (Some a) within (sym held) }
 
 pub all_refused : (c : CoreState) (m : ℕ) (object : Register)
     → Leads c (register_place (places_of c.config) m object.number) None → AreRefused c m object
 all_refused c m object l = record {
-  put = λ i value. put_takes c c m object i value (replies.Refused refusals.Nil) (λ g s. put_nil g c s m object i value l) (λ s f. f) refl
-      (still c);
-  written = λ i v. write_takes c c m object i v (replies.Refused refusals.Nil) (λ g s. write_nil g c s m object i v l) (λ s f. f) refl
-      (still c);
+  put = λ i value. refused_takes (put_op m object i value) refusals.Nil c refl (λ g f. f) (λ g s. put_nil g c s m object i value l);
+  written = λ i v. refused_takes (write_op m object i v) refusals.Nil c refl (λ g f. f) (λ g s. write_nil g c s m object i v l);
 }
 
 pub nil_refused : (c : CoreState) (m : ℕ) (object : Register) (w : Option ℕ)

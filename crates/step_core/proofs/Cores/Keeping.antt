@@ -1,6 +1,6 @@
 -- What each part of a step keeps: k is the core by its fields, c the same by its value.
 use Rattle.std.proofs.Common.{◌≡◌, ℕ, ◌+◌, ◌<◌, Option, Some, None, List, length, get_or, inl, refl, sym, ◌∙◌, ap, subst, arith}
-use Rattle.std.specs.Prelude.{slice_get, slice_set, IsSome, IfSome}
+use Rattle.std.specs.Prelude.{slice_get, slice_set, unwrap_or, IsSome, IfSome}
 use Rattle.std.proofs.lemmas.List.{length-set}
 use Rattle.heap_words.specs.declared.config.Config.{Config}
 use Rattle.heap_words.specs.Configs.{registers_of}
@@ -20,6 +20,8 @@ use Rattle.heap_steps.specs.declared.step.Register.{Register}
 use Rattle.step_core.specs.Stands.{places_of, CoreState, kept_of, heap_of, RemembersFields, ShowsGraph, KeepsFrom, IsCore, IsWordOf}
 use Rattle.step_core.specs.Stands.{IsRootWord, HasObject, Leads, name_in, name_of}
 use Rattle.step_core.specs.Cycle.{LeavesRegions}
+use Rattle.step_core.specs.Mutators.{with_root_word}
+use Rattle.step_core.specs.Parts.{DoesAction, HoldsRegister, HoldsRoot, NamesAt}
 use Rattle.step_core.specs.Answers.{Acts}
 use Rattle.step_core.proofs.Cores.Sizes.{some_words}
 use Rattle.step_core.proofs.Cores.Resting.{root_rests, object_rests}
@@ -28,17 +30,10 @@ use Rattle.step_core.proofs.Mutating.Written.{object_written, write_keeps, root_
 use Rattle.step_core.proofs.Cores.Remembering.{remembers_on, written_fields}
 use Rattle.step_core.proofs.Mutating.Reading.{root_shown, leads, root_word, root_rooted, object_kept}
 use Rattle.step_core.proofs.Mutating.Reading.{pointers_there, field_held, led_object, word_object}
-use Rattle.step_core.proofs.Mutating.Acting.{root_shows, with_root_word, write_is, write_done, field_word, slot_word}
+use Rattle.step_core.proofs.Mutating.Acting.{root_shows, write_is, write_done, field_word, slot_word}
 
 pub core_of : (k c : CoreState) → k ≡ c → IsCore k → IsCore c
 core_of k c e core = subst (λ (d : CoreState). IsCore d) e core
-
-pub record RootFacts (c : CoreState) (place : ℕ) (w : Option ℕ) : Type 0 where
-  pub value : w ≡ get_or c.roots place None
-  pub word : IsWordOf (heap_of c) w
-  pub rooted : IsRootWord (heap_of c) w
-  pub leads : Leads c place w
-  pub shows : (g : Graph) → ShowsGraph g c → IsShown (heap_of c) w (root_at g place)
 
 -- it has as many globals, mutators and registers as steps may name
 pub placed_in : (k c : CoreState) → k ≡ c → IsCore k → k.places ≡ places_of c.config
@@ -72,7 +67,7 @@ root_within k c place e core less =
     subst (λ (d : CoreState). place < length d.roots) (sym e) (let all = (core_of k c e core).places in omega (arith, less, all))
 
 pub root_facts : (k c : CoreState) (place : ℕ) (w : Option ℕ) → k ≡ c → IsCore k → place < root_places (places_of c.config)
-    → w ≡ get_or k.roots place None → RootFacts c place w
+    → w ≡ get_or k.roots place None → HoldsRoot c place w
 root_facts k c place w e core less r =
     let core' = core_of k c e core in
     let all = core'.places in
@@ -86,18 +81,19 @@ root_facts k c place w e core less r =
       shows = λ g s. (root_shown g c place w s within is).shown;
     }
 
--- the same of a register, at the place that the code has
-pub register_facts : (k c : CoreState) (m r : ℕ) (w : Option ℕ) → k ≡ c → IsCore k → m < c.config.mutators → r < registers_of c.config
-    → w ≡ get_or k.roots (register_place k.places m r) None → RootFacts c (register_place (places_of c.config) m r) w
+-- the same of a register
+pub register_facts : (k c : CoreState) (m : ℕ) (r : Register) (w : Option ℕ) → k ≡ c → IsCore k → m < c.config.mutators
+    → r.number < registers_of c.config → w ≡ get_or k.roots (register_place k.places m r.number) None → HoldsRegister c m r w
 register_facts k c m r w e core known inside is =
-    root_facts k c (register_place (places_of c.config) m r) w e core (register_inside c.config m r known inside)
-    (is ∙ ap (λ (place : ℕ). get_or k.roots place None) (register_at k c e core m r))
-
--- and of what the graph has there
-pub register_shown : (c : CoreState) (m r : ℕ) (w : Option ℕ) → RootFacts c (register_place (places_of c.config) m r) w
-    → (g : Graph) → ShowsGraph g c → IsShown (heap_of c) w (root_at g (register_place g.places m r))
-register_shown c m r w facts g s =
-    subst (λ (p : Places). IsShown (heap_of c) w (root_at g (register_place p m r))) (sym s.places) (facts.shows g s)
+    let f = root_facts k c (register_place (places_of c.config) m r.number) w e core (register_inside c.config m r.number known inside)
+    (is ∙ ap (λ (place : ℕ). get_or k.roots place None) (register_at k c e core m r.number)) in
+    record {
+      value = f.value;
+      word = f.word;
+      rooted = f.rooted;
+      leads = f.leads;
+      shows = λ g s. subst (λ (p : Places). IsShown (heap_of c) w (root_at g (register_place p m r.number))) (sym s.places) (f.shows g s);
+    }
 
 -- what a root holds may be stored
 pub root_held : (h : Heap) (w : Option ℕ) → IsRootWord h w → IsHeld h w
@@ -169,15 +165,14 @@ pub table_of : (k c : CoreState) → k ≡ c → k.table ≡ c.table
 table_of k c e = ap (λ (d : CoreState). d.table) e
 
 module _ (k c : CoreState) (e : k ≡ c) (core : IsCore k) (m : ℕ) (object : Register) (a i v : ℕ) (t : Table)
-    (l : Leads c (register_place (places_of c.config) m object.number) (Some a)) (within : i < length (values_at k.table a))
-    (is : t ≡ set_value k.table a i v) where
+    (names : NamesAt c m object a) (within : i < length (values_at k.table a)) (is : t ≡ set_value k.table a i v) where
+  l : Leads c (register_place (places_of c.config) m object.number) (Some a)
+  l = names.leads
+
   write_by : (g : Graph) → ShowsGraph g k → Acts g m (actions.Write object i v) replies.Done (record k { table = t })
   write_by g s = write_done g k s m object a
       (subst (λ (d : CoreState). Leads d (register_place (places_of d.config) m object.number) (Some a)) (sym e) l) i v t within
       (some_words k core) is
-
-  pub write_after : (g : Graph) → ShowsGraph g c → Acts g m (actions.Write object i v) replies.Done (record k { table = t })
-  write_after g s = write_by g (subst (λ (d : CoreState). ShowsGraph g d) (sym e) s)
 
   h : HasObject core.footing.graph k (register_place (places_of k.config) m object.number) a
   h = subst (λ (d : CoreState). Leads d (register_place (places_of d.config) m object.number) (Some a))
@@ -194,12 +189,20 @@ module _ (k c : CoreState) (e : k ≡ c) (core : IsCore k) (m : ℕ) (object : R
   keeps_by : (s : Graph) → KeepsFrom s k → KeepsFrom s (record k { table = t })
   keeps_by s f = write_keeps s k t a h.stored (with_value h.stored i v) writes refl h.at refl f
 
-  pub write_kept_from : (s : Graph) → KeepsFrom s c → KeepsFrom s (record k { table = t })
-  write_kept_from s f = keeps_by s (subst (λ (d : CoreState). KeepsFrom s d) (sym e) f)
-
-  pub write_leaves : LeavesRegions c (record k { table = t })
-  write_leaves = subst (λ (d : CoreState). LeavesRegions d (record k { table = t })) e
-      (record { config = refl; in_use = λ j n u. n (sym (writes.kinds j) ∙ u) })
+  -- the step `write` is done
+  pub write_does : DoesAction m (actions.Write object i v) replies.Done c (record k { table = t })
+  write_does = record {
+    acts = λ g s. write_by g (subst (λ (d : CoreState). ShowsGraph g d) (sym e) s);
+    keeps = λ s f. keeps_by s (subst (λ (d : CoreState). KeepsFrom s d) (sym e) f);
+    after = record {
+      core = ap (λ (u : Table). record k { table = u }) is
+          ∙ ap (λ (d : CoreState). record d { table = set_value d.table a i v; marker = k.marker }) e
+          ∙ ap (λ (w : Option ℕ). record c { table = set_value c.table (unwrap_or w 0) i v; marker = k.marker }) (sym names.held);
+      marker = ap (λ (d : CoreState). d.marker) e;
+    };
+    leaves = subst (λ (d : CoreState). LeavesRegions d (record k { table = t })) e
+        (record { config = refl; in_use = λ j n u. n (sym (writes.kinds j) ∙ u) });
+  }
 
   abbrev written : Object
   written = record h.object { values = slice_set h.object.values i v }

@@ -1,5 +1,5 @@
 -- Several data words at once: each as by a step of its own.
-use Rattle.std.proofs.Common.{◌≡◌, ◌+◌, ◌-◌, ◌<◌, ◌≤◌, ◌∷◌, ◌∙◌, ℕ, suc, Option, Some, List, [], length, take, drop}
+use Rattle.std.proofs.Common.{◌≡◌, ◌+◌, ◌-◌, ◌<◌, ◌≤◌, ◌∷◌, ◌∙◌, ℕ, false, suc, Option, Some, List, [], length, take, drop}
 use Rattle.std.proofs.Common.{refl, sym, ap, subst, arith}
 use Rattle.std.specs.Prelude.{slice_get, slice_index, unwrap_or}
 use Rattle.std.proofs.lemmas.List.{get_or-drop, get_or-take}
@@ -15,15 +15,18 @@ use Rattle.heap_steps.specs.declared.step.Action.TheVariants as actions
 use Rattle.heap_steps.specs.declared.step.Reply.TheVariants as replies
 use Rattle.heap_steps.specs.declared.step.Refusal.{Refusal}
 use Rattle.heap_steps.specs.declared.step.Refusal.TheVariants as refusals
+use Rattle.heap_steps.specs.declared.step.Step.TheVariants as steps
 use Rattle.step_core.specs.Stands.{CoreState, IsCore, Leads, ShowsGraph}
-use Rattle.step_core.specs.Answers.{Acts}
+use Rattle.step_core.specs.Answers.{Acts, IsFull}
+use Rattle.step_core.specs.Parts.{NamesAt}
 use Rattle.step_core.specs.Mutators.{ActsOn, register_of, object_of}
 use Rattle.step_core.specs.Words.{Takes, reading, writing, AreRead, AreWritten, IsUnread, IsUnwritten}
 use Rattle.step_core.proofs.Cores.Acted.{acted_plain, still}
+use Rattle.step_core.proofs.Cores.Snapshots.{touches}
 use Rattle.step_core.proofs.Cores.Sizes.{some_words}
-use Rattle.step_core.proofs.Cores.Keeping.{core_of, register_inside, write_after, write_kept, write_kept_from, write_leaves}
-use Rattle.step_core.proofs.Mutating.Reading.{leads}
-use Rattle.step_core.proofs.Mutating.Acting.{read_done, read_past, write_past}
+use Rattle.step_core.proofs.Cores.Keeping.{core_of, register_inside, write_does, write_kept}
+use Rattle.step_core.proofs.Mutating.Reading.{leads, root_rooted}
+use Rattle.step_core.proofs.Mutating.Acting.{read_done, read_past, refused_does, write_past}
 
 abbrev read_op : ℕ → Register → ℕ → Op
 read_op m object i = record { mutator = m; action = actions.Read object i }
@@ -31,18 +34,22 @@ read_op m object i = record { mutator = m; action = actions.Read object i }
 abbrev pub write_op : ℕ → Register → ℕ → ℕ → Op
 write_op m object i v = record { mutator = m; action = actions.Write object i v }
 
--- ---- reads
-read_refused : (c : CoreState) (m : ℕ) (object : Register) (i : ℕ) (why : Refusal)
-    → ((g : Graph) → ShowsGraph g c → Acts g m (actions.Read object i) (replies.Refused why) c)
-    → Takes c (reading m object i) (replies.Refused why) c
-read_refused c m object i why acts = acted_plain (read_op m object i) (actions.Read object i) (replies.Refused why) c c refl refl (λ g f. f)
-    acts (λ s f. f) refl (still c)
+abbrev pub put_op : ℕ → Register → ℕ → Option Register → Op
+put_op m object i value = record { mutator = m; action = actions.Put object i value }
 
+-- a step that makes no object and touches no name is refused
+pub refused_takes : (o : Op) (why : Refusal) (c : CoreState) → touches o.action ≡ false → ((g : Graph) → IsFull g o.mutator o.action c → ⊥)
+    → ((g : Graph) → ShowsGraph g c → Acts g o.mutator o.action (replies.Refused why) c) → Takes c (steps.Mutator o) (replies.Refused why) c
+refused_takes o why c plain never acts =
+    acted_plain o o.action (replies.Refused why) c c refl plain never (refused_does o.mutator o.action why c acts)
+
+-- ---- reads
 pub unread_past : (c : CoreState) (m : ℕ) (object : Register) (a from count : ℕ)
     → Leads c (register_place (places_of c.config) m object.number) (Some a) → length (values_at c.table a) < from + count
     → IsUnread c m object from count refusals.NoField
 unread_past c m object a from count l h =
-    read_refused c m object _ refusals.NoField (λ g s. read_past g c s m object a l (from + (count - 1)) (omega arith))
+    refused_takes (read_op m object (from + (count - 1))) refusals.NoField c refl (λ g f. f)
+    (λ g s. read_past g c s m object a l (from + (count - 1)) (omega arith))
 
 -- the i-th of so many from one on
 part_at : (values : List ℕ) (from n i : ℕ) → i < n → from + n ≤ length values
@@ -58,21 +65,20 @@ all_read c m object a from words l h is i k =
     let word : ℕ = slice_index words i in
     let there : slice_get (values_at c.table a) (from + i) ≡ Some word =
     part_at (values_at c.table a) from (length words) i k h ∙ ap (λ (ws : List ℕ). Some (slice_index ws i)) (sym is) in
-    acted_plain (read_op m object (from + i)) (actions.Read object (from + i)) (replies.Word word) c c refl refl (λ g f. f)
-    (λ g s. read_done g c s m object a l (from + i) word there) (λ s f. f) (record { core = refl; marker = refl }) (still c)
+    acted_plain (read_op m object (from + i)) (actions.Read object (from + i)) (replies.Word word) c c refl refl (λ g f. f) (record {
+      acts = λ g s. read_done g c s m object a l (from + i) word there;
+      keeps = λ s f. f;
+      after = record { core = refl; marker = refl };
+      leaves = still c;
+    })
 
 -- ---- writes
-write_refused : (c : CoreState) (m : ℕ) (object : Register) (i v : ℕ) (why : Refusal)
-    → ((g : Graph) → ShowsGraph g c → Acts g m (actions.Write object i v) (replies.Refused why) c)
-    → Takes c (writing m object i v) (replies.Refused why) c
-write_refused c m object i v why acts = acted_plain (write_op m object i v) (actions.Write object i v) (replies.Refused why) c c refl refl
-    (λ g f. f) acts (λ s f. f) refl (still c)
-
 pub unwritten_past : (c : CoreState) (m : ℕ) (object : Register) (a from : ℕ) (words : List ℕ)
     → Leads c (register_place (places_of c.config) m object.number) (Some a) → length (values_at c.table a) < from + length words
     → IsUnwritten c m object from words refusals.NoField
 unwritten_past c m object a from words l h =
-    write_refused c m object _ _ refusals.NoField (λ g s. write_past g c s m object a l (from + (length words - 1)) _ (omega arith))
+    refused_takes (write_op m object (from + (length words - 1)) (slice_index words (length words - 1))) refusals.NoField c refl (λ g f. f)
+    (λ g s. write_past g c s m object a l (from + (length words - 1)) _ (omega arith))
 
 -- the core with such words, and the steps that lead there
 pub record HasRun (c : CoreState) (m : ℕ) (object : Register) (from : ℕ) (words : List ℕ) (d : CoreState) : Type 0 where
@@ -88,18 +94,16 @@ all_written c m object a from (w ∷ ws) core inside named h =
     let t : Table = set_value c.table a from w in
     let b : CoreState = record c { table = t } in
     let first : from < length (values_at c.table a) = omega arith in
-    let l = leads c (register_place (places_of c.config) m object.number) (Some a) inside (sym named) in
-    let acts = write_after c c refl core m object a from w t l first refl in
-    let keeps = write_kept_from c c refl core m object a from w t l first refl in
-    let is : object_of c m object ≡ a = ap (λ (o : Option ℕ). unwrap_or o 0) named in
-    let after : ActsOn m (actions.Write object from w) replies.Done c b = record {
-      core = ap (λ (x : ℕ). record c { table = set_value c.table x from w }) (sym is);
-      marker = refl;
+    let place : ℕ = register_place (places_of c.config) m object.number in
+    let names : NamesAt c m object a = record {
+      held = named;
+      rooted = root_rooted c place (Some a) inside (sym named);
+      leads = leads c place (Some a) inside (sym named);
     } in
-    let one = acted_plain (write_op m object from w) (actions.Write object from w) replies.Done c b refl refl (λ g f. f) acts keeps after
-    (write_leaves c c refl core m object a from w t l first refl) in
+    let one = acted_plain (write_op m object from w) (actions.Write object from w) replies.Done c b refl refl (λ g f. f)
+    (write_does c c refl core m object a from w t names first refl) in
     let many = values_stay c.table a from w (some_words c core) first in
-    let rest = all_written b m object a (suc from) ws (write_kept c c refl core m object a from w t l first refl) inside named
+    let rest = all_written b m object a (suc from) ws (write_kept c c refl core m object a from w t names first refl) inside named
     (omega (arith, many, h)) in
     record { core = rest.core; written = (b, (one, rest.written)) }
 

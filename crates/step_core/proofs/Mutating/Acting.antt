@@ -17,10 +17,13 @@ use Rattle.heap_steps.specs.declared.step.Action.{Action}
 use Rattle.heap_steps.specs.declared.step.Action.TheVariants as actions
 use Rattle.heap_steps.specs.declared.step.Reply.{Reply}
 use Rattle.heap_steps.specs.declared.step.Reply.TheVariants as replies
+use Rattle.heap_steps.specs.declared.step.Refusal.{Refusal}
 use Rattle.heap_steps.specs.declared.step.Refusal.TheVariants as refusals
 use Rattle.heap_steps.specs.declared.step.Register.{Register}
 use Rattle.step_core.specs.Stands.{CoreState, kept_of, heap_of, ShowsGraph, IsCore, IsWordOf, HasObject, Leads, name_in}
 use Rattle.step_core.specs.Answers.{Acts}
+use Rattle.step_core.specs.Mutators.{with_root_word}
+use Rattle.step_core.specs.Parts.{DoesAction}
 use Rattle.step_core.proofs.Mutating.Reading.{field_shown, slot_shown, no_field, no_slot, no_value, shown_name}
 use Rattle.step_core.proofs.Mutating.Reading.{object_kept, pointers_there, weaks_there, AllZip-length}
 use Rattle.step_core.proofs.Mutating.Written.{SamePlaces, object_written}
@@ -43,27 +46,26 @@ nil_object : (g : Graph) (c : CoreState) → ShowsGraph g c → (m : ℕ) (r : R
 nil_object g c s m r f l =
     ap (λ (p : Places). on_name g (root_at g (register_place p m r.number)) f) s.places ∙ ap (λ (o : Option ℕ). on_name g o f) (l g s)
 
-pub read_nil : (g : Graph) (c : CoreState) → ShowsGraph g c → (m : ℕ) (object : Register) (i : ℕ)
-    → Leads c (register_place (places_of c.config) m object.number) None → Acts g m (actions.Read object i) (replies.Refused refusals.Nil) c
-read_nil g c s m object i l =
-    acts_by g m (actions.Read object i) (replies.Refused refusals.Nil) c (refused g refusals.Nil) (nil_object g c s m object _ l) refl s
+nil_acts : (g : Graph) (c : CoreState) → ShowsGraph g c → (m : ℕ) (r : Register) (a : Action) (f : ℕ → Object → Outcome)
+    → act g m a ≡ on_object g m r f → Leads c (register_place (places_of c.config) m r.number) None
+    → Acts g m a (replies.Refused refusals.Nil) c
+nil_acts g c s m r a f is l =
+    acts_by g m a (replies.Refused refusals.Nil) c (refused g refusals.Nil) (is ∙ nil_object g c s m r f l) refl s
 
 pub write_nil : (g : Graph) (c : CoreState) → ShowsGraph g c → (m : ℕ) (object : Register) (i v : ℕ)
     → Leads c (register_place (places_of c.config) m object.number) None
     → Acts g m (actions.Write object i v) (replies.Refused refusals.Nil) c
-write_nil g c s m object i v l =
-    acts_by g m (actions.Write object i v) (replies.Refused refusals.Nil) c (refused g refusals.Nil) (nil_object g c s m object _ l) refl s
+write_nil g c s m object i v = nil_acts g c s m object (actions.Write object i v) _ refl
 
 pub put_nil : (g : Graph) (c : CoreState) → ShowsGraph g c → (m : ℕ) (object : Register) (i : ℕ) (value : Option Register)
     → Leads c (register_place (places_of c.config) m object.number) None
     → Acts g m (actions.Put object i value) (replies.Refused refusals.Nil) c
-put_nil g c s m object i value l =
-    acts_by g m (actions.Put object i value) (replies.Refused refusals.Nil) c (refused g refusals.Nil) (nil_object g c s m object _ l)
-    refl s
+put_nil g c s m object i value = nil_acts g c s m object (actions.Put object i value) _ refl
 
--- the core with another word in a root place
-abbrev pub with_root_word : CoreState → ℕ → Option ℕ → CoreState
-with_root_word c place w = record c { roots = slice_set c.roots place w }
+-- a refused action changes nothing
+pub refused_does : (m : ℕ) (a : Action) (why : Refusal) (c : CoreState)
+    → ((g : Graph) → ShowsGraph g c → Acts g m a (replies.Refused why) c) → DoesAction m a (replies.Refused why) c c
+refused_does m a why c acts = record { acts = acts; keeps = λ s f. f; after = refl; leaves = record { config = refl; in_use = λ j n. n } }
 
 pub root_shows : (g : Graph) (c : CoreState) (place : ℕ) (w v : Option ℕ) → ShowsGraph g c → IsShown (heap_of c) w v
     → ShowsGraph (with_root g place v) (with_root_word c place w)
@@ -110,51 +112,41 @@ object_shows g c c' a x y o p s same set named pointers weaks values = record {
 
 module _ (g : Graph) (c : CoreState) (s : ShowsGraph g c) (m : ℕ) (object : Register) where
   module _ (a : ℕ) (l : Leads c (register_place (places_of c.config) m object.number) (Some a)) where
+    -- the object has no such field
+    past_acts : (b : Action) (f : ℕ → Object → Outcome) → act g m b ≡ on_object g m object f
+        → ((h : HasObject g c (register_place (places_of c.config) m object.number) a)
+        → f h.stored.name h.object ≡ refused g refusals.NoField)
+        → Acts g m b (replies.Refused refusals.NoField) c
+    past_acts b f is none = let h = l g s in
+        acts_by g m b (replies.Refused refusals.NoField) c (refused g refusals.NoField) (is ∙ on_found g c s m a object f h ∙ none h) refl s
+
     pub get_past : (to : Register) (i : ℕ) → length (pointers_at c.table a) ≤ i
         → Acts g m (actions.Get to object i) (replies.Refused refusals.NoField) c
-    get_past to i k =
-        let h = l g s in
-        let none = no_field g c _ a i h (rw (pointers_there c a h.stored h.at) at k) in
-        acts_by g m (actions.Get to object i) (replies.Refused refusals.NoField) c (refused g refusals.NoField)
-        (on_found g c s m a object _ h ∙ rw none refl) refl s
+    get_past to i k = past_acts (actions.Get to object i) _ refl
+        (λ h. let none = no_field g c _ a i h (rw (pointers_there c a h.stored h.at) at k) in rw none refl)
 
     pub put_past : (i : ℕ) (value : Option Register) → length (pointers_at c.table a) ≤ i
         → Acts g m (actions.Put object i value) (replies.Refused refusals.NoField) c
-    put_past i value k =
-        let h = l g s in
-        let none = no_field g c _ a i h (rw (pointers_there c a h.stored h.at) at k) in
-        acts_by g m (actions.Put object i value) (replies.Refused refusals.NoField) c (refused g refusals.NoField)
-        (on_found g c s m a object _ h ∙ rw none refl) refl s
+    put_past i value k = past_acts (actions.Put object i value) _ refl
+        (λ h. let none = no_field g c _ a i h (rw (pointers_there c a h.stored h.at) at k) in rw none refl)
 
     pub get_weak_past : (to : Register) (i : ℕ) → length (weaks_at c.table a) ≤ i
         → Acts g m (actions.GetWeak to object i) (replies.Refused refusals.NoField) c
-    get_weak_past to i k =
-        let h = l g s in
-        let none = no_slot g c _ a i h (rw (weaks_there c a h.stored h.at) at k) in
-        acts_by g m (actions.GetWeak to object i) (replies.Refused refusals.NoField) c (refused g refusals.NoField)
-        (on_found g c s m a object _ h ∙ rw none refl) refl s
+    get_weak_past to i k = past_acts (actions.GetWeak to object i) _ refl
+        (λ h. let none = no_slot g c _ a i h (rw (weaks_there c a h.stored h.at) at k) in rw none refl)
 
     pub put_weak_past : (i : ℕ) (value : Option Register) → length (weaks_at c.table a) ≤ i
         → Acts g m (actions.PutWeak object i value) (replies.Refused refusals.NoField) c
-    put_weak_past i value k =
-        let h = l g s in
-        let none = no_slot g c _ a i h (rw (weaks_there c a h.stored h.at) at k) in
-        acts_by g m (actions.PutWeak object i value) (replies.Refused refusals.NoField) c (refused g refusals.NoField)
-        (on_found g c s m a object _ h ∙ rw none refl) refl s
+    put_weak_past i value k = past_acts (actions.PutWeak object i value) _ refl
+        (λ h. let none = no_slot g c _ a i h (rw (weaks_there c a h.stored h.at) at k) in rw none refl)
 
     pub read_past : (i : ℕ) → length (values_at c.table a) ≤ i → Acts g m (actions.Read object i) (replies.Refused refusals.NoField) c
-    read_past i k =
-        let h = l g s in
-        let none = no_value g c _ a i h (rw (values_there c a h.stored h.at) at k) in
-        acts_by g m (actions.Read object i) (replies.Refused refusals.NoField) c (refused g refusals.NoField)
-        (on_found g c s m a object _ h ∙ rw none refl) refl s
+    read_past i k = past_acts (actions.Read object i) _ refl
+        (λ h. let none = no_value g c _ a i h (rw (values_there c a h.stored h.at) at k) in rw none refl)
 
     pub write_past : (i v : ℕ) → length (values_at c.table a) ≤ i → Acts g m (actions.Write object i v) (replies.Refused refusals.NoField) c
-    write_past i v k =
-        let h = l g s in
-        let none = no_value g c _ a i h (rw (values_there c a h.stored h.at) at k) in
-        acts_by g m (actions.Write object i v) (replies.Refused refusals.NoField) c (refused g refusals.NoField)
-        (on_found g c s m a object _ h ∙ rw none refl) refl s
+    write_past i v k = past_acts (actions.Write object i v) _ refl
+        (λ h. let none = no_value g c _ a i h (rw (values_there c a h.stored h.at) at k) in rw none refl)
 
     -- get: the register that the field goes to
     pub get_done : (to : Register) (i : ℕ) (w : Option ℕ) (n : Option ℕ) (c' : CoreState)

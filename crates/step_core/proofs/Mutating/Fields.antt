@@ -33,6 +33,10 @@ fields_count t a = go (object_at t a)
     go None = refl
     go (Some x) = length-append x.pointers x.weaks
 
+-- a pointer is a field
+pub pointer_within : (t : Table) (a i : ℕ) → i < length (pointers_at t a) → i < length (fields_at t a)
+pointer_within t a i within = let count = fields_count t a in omega (arith, count, within)
+
 -- the fields of an object just made are nil
 pub nil_get : (p i b : ℕ) → slice_get (replicate {A = Option ℕ} p None) i ≡ Some (Some b) → ⊥
 nil_get zero i b e = cc

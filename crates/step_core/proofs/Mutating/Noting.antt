@@ -1,9 +1,9 @@
 -- A field's card is made dirty before a pointer is stored.
 use Rattle.std.proofs.Common.{◌≡◌, ◌+◌, ◌*◌, ◌/◌, ◌<◌, ◌≤◌, ◌∙◌}
-use Rattle.std.proofs.Common.{ℕ, Bool, true, false, Option, Some, List, length, refl, sym, ap, subst, arith, inl, inr}
+use Rattle.std.proofs.Common.{ℕ, Bool, true, false, Option, Some, List, length, refl, sym, ap, subst, arith, inl}
 use Rattle.std.specs.Prelude.{◌||◌, ◌==◌}
 use Rattle.heap_model.specs.Heap.{Heap, Stored, IsRoot, IsHeld, IsShown}
-use Rattle.regions.specs.Table.{Table, object_at, fields_at}
+use Rattle.regions.specs.Table.{Table, object_at, fields_at, pointers_at}
 use Rattle.regions.specs.Tiles.{Object, tile_size}
 use Rattle.regions.specs.Shaped.{IsShaped}
 use Rattle.regions.proofs.Tiles.Laws.{object_tile}
@@ -14,12 +14,12 @@ use Rattle.std.proofs.lemmas.Grind.{common_steps}
 use Rattle.std.proofs.lemmas.List.{length-append}
 use Rattle.std.proofs.lemmas.Bool.Decides.{nat_tests}
 use Rattle.remembered_sets.specs.Sets.{may_lead}
-use Rattle.refinement.specs.Remembering.{field_word, IsNoted}
 use Rattle.refinement.proofs.Remembered as remembered
 use Rattle.heap_words.specs.Configs.{card_words}
 use Rattle.heap_words.proofs.Limits.{card_between}
 use Rattle.std.proofs.Math.Nat.{mul_assoc, mul-div_cancel, div-lt_iff_lt-mul}
 use Rattle.step_core.specs.Stands.{CoreState, kept_of, heap_of, ShowsGraph, KeepsFrom, IsCore, IsWordOf}
+use Rattle.step_core.specs.Storing.{CanStore}
 use Rattle.step_core.proofs.Mutating.Reading.{object_kept, fields_there}
 use Rattle.step_core.proofs.Mutating.Storing.{rooted}
 
@@ -28,15 +28,16 @@ tile_of : (t : Table) (a : ℕ) (x : Stored) → IsShaped t → object_at t a �
 unfolding object_at
 tile_of t a x shaped e = shaped.within a (Object x) (object_tile _ x e)
 
--- the word of a field lies in the heap
-pub field_inside : (k : CoreState) (a i : ℕ) → IsCore k → IsShaped k.table → IsRoot (heap_of k) a → i < length (fields_at k.table a)
-    → a + 2 + i < length k.table.regions * k.table.words_per_region
-field_inside k a i core shaped root within =
-    let r = rooted k a core root in
+-- the word of a field lies in the heap: k is the core by its fields, c the same by its value
+pub field_inside : (k c : CoreState) (a i : ℕ) → k ≡ c → IsCore k → IsShaped k.table → IsRoot (heap_of c) a
+    → i < length (fields_at c.table a) → a + 2 + i < length k.table.regions * k.table.words_per_region
+field_inside k c a i e core shaped root within =
+    let r = rooted k a core (subst (λ (d : CoreState). IsRoot (heap_of d) a) (sym e) root) in
+    let here : i < length (fields_at k.table a) = subst (λ (d : CoreState). i < length (fields_at d.table a)) (sym e) within in
     let whole = tile_of k.table a r.stored shaped (object_kept k a r.stored r.at) in
     let count =
     ap (λ (ps : List (Option ℕ)). length ps) (fields_there k a r.stored r.at) ∙ length-append r.stored.pointers r.stored.weaks in
-    omega (arith, whole, count, within)
+    omega (arith, whole, count, here)
 
 -- a card has a word
 pub some_card : (k : CoreState) → IsCore k → 0 < card_words k.config
@@ -64,6 +65,13 @@ card_inside k word core lt =
     subst (λ (n : ℕ). word / card < n) (sym fit.each_card)
     (below word (length k.sets.sets) k.sets.cards_per_region card (some_card k core) lt')
 
+-- so is a field's
+pub card_known : (k c : CoreState) (a i word card : ℕ) → k ≡ c → IsCore k → IsShaped k.table → IsRoot (heap_of c) a
+    → i < length (fields_at c.table a) → word ≡ a + 2 + i → card ≡ word / card_words k.config → card < length k.cards.dirty
+card_known k c a i word card e core shaped root within at is =
+    let inside = field_inside k c a i e core shaped root within in
+    subst (λ (n : ℕ). n < length k.cards.dirty) (sym is) (card_inside k word core (omega (arith, inside, at)))
+
 or_right : (b d : Bool) → d ≡ true → (b || d) ≡ true
 or_right true d e = refl
 or_right false d e = e
@@ -81,12 +89,6 @@ module _ (k : CoreState) (core : IsCore k) (m card : ℕ) (cs : Cards)
 
   pub now_dirty : is_dirty cs card ≡ true
   now_dirty = ap (λ (x : Cards). is_dirty x card) is ∙ dirty_after k.cards m card card known ∙ same_card card (is_dirty k.cards card)
-
-  pub noted_so : (a i : ℕ) (target : Option ℕ) (to : ℕ) → target ≡ Some to → card ≡ field_word a i / card_words k.config
-      → IsNoted k.table.words_per_region (card_words k.config) (is_dirty cs) (field_word a i) target
-  noted_so a i target to e at =
-      subst (λ (t : Option ℕ). IsNoted k.table.words_per_region (card_words k.config) (is_dirty cs) (field_word a i) t) (sym e)
-      (inr (ap (is_dirty cs) (sym at) ∙ now_dirty))
 
   pub dirtied_kept : IsCore (record k { cards = cs })
   unfolding kept_of
@@ -126,7 +128,7 @@ pub heap_noted : (c c' : CoreState) → c' ≡ record c { cards = c'.cards } →
 unfolding kept_of
 heap_noted c c' e = ap (λ (d : CoreState). heap_of d) e
 
-pub held_noted : (c c' : CoreState) (w : Option ℕ) → c' ≡ record c { cards = c'.cards } → IsHeld (heap_of c) w → IsHeld (heap_of c') w
+held_noted : (c c' : CoreState) (w : Option ℕ) → c' ≡ record c { cards = c'.cards } → IsHeld (heap_of c) w → IsHeld (heap_of c') w
 held_noted c c' w e h = subst (λ (x : Heap). IsHeld x w) (sym (heap_noted c c' e)) h
 
 pub word_noted : (c c' : CoreState) (w : Option ℕ) → c' ≡ record c { cards = c'.cards } → IsWordOf (heap_of c) w → IsWordOf (heap_of c') w
@@ -152,3 +154,10 @@ shows_noted c c' g e s = subst (λ (d : CoreState). ShowsGraph g d) (sym e) (sho
 
 pub keeps_noted : (c c' : CoreState) (s : Graph) → c' ≡ record c { cards = c'.cards } → KeepsFrom s c → KeepsFrom s c'
 keeps_noted c c' s e f = subst (λ (d : CoreState). KeepsFrom s d) (sym e) (keeps_with c c'.cards s f)
+
+pub can_noted : (c c' : CoreState) (a i : ℕ) (w : Option ℕ) → c' ≡ record c { cards = c'.cards } → CanStore a i w c → CanStore a i w c'
+can_noted c c' a i w e can = record {
+  rooted = subst (λ (x : Heap). IsRoot x a) (sym (heap_noted c c' e)) can.rooted;
+  field = subst (λ (d : CoreState). i < length (pointers_at d.table a)) (sym e) can.field;
+  held = held_noted c c' w e can.held;
+}

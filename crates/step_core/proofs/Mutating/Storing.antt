@@ -20,15 +20,15 @@ use Rattle.marker.specs.Views as views
 use Rattle.marker.specs.Stands.{MarkerStands, CanFollow, IsKept}
 use Rattle.marker.specs.Steps.{SameRoles, KeepsSnapshots}
 use Rattle.marker.specs.declared.marker.Marker.{Marker}
-use Rattle.heap_words.specs.Configs.{card_words}
 use Rattle.step_core.specs.Stands.{CoreState, kept_of, heap_of, marking_of, RemembersFields, ShowsGraph, KeepsFrom, IsCore}
 use Rattle.step_core.specs.Cycle.{LeavesRegions}
+use Rattle.step_core.specs.Storing.{CanStore, HasNoted}
 use Rattle.step_core.proofs.Cores.Sizes.{some_words}
 use Rattle.step_core.proofs.Cores.Resting.{object_rests, rooted_known}
 use Rattle.step_core.proofs.Mutating.Fields.{pointer_fields}
 use Rattle.step_core.proofs.Cores.Remembering.{remembers_stored}
-use Rattle.cards.specs.Cards.{is_dirty}
-use Rattle.refinement.specs.Remembering.{field_word, IsNoted}
+use Rattle.refinement.specs.Remembering.{field_word}
+use Rattle.step_core.proofs.Mutating.Logging.{roles_trans, same_roles}
 use Rattle.step_core.proofs.Mutating.Reading.{object_kept, pointers_there}
 use Rattle.step_core.proofs.Mutating.Written.{SameKeeping, object_written, marking_same}
 use Rattle.step_core.proofs.Mutating.Acting.{object_shows}
@@ -66,16 +66,18 @@ with_store c t m = record c { table = t; marker = m }
 pub same_keeping : (c : CoreState) (t : Table) (m : Marker) → SameRoles c.marker m → SameKeeping c (with_store c t m)
 same_keeping c t m same = record { tams = ap (λ tams. Tops.previous tams) same.tams; previous = same.previous; roots = refl }
 
-module _ (k : CoreState) (core : IsCore k) (a i : ℕ) (w : Option ℕ) (t : Table) (root : IsRoot (heap_of k) a)
-    (within : i < length (pointers_at k.table a)) (held : IsHeld (heap_of k) w) (is : t ≡ set_pointer k.table a i w) (r : Rooted k a)
-    (noted : IsNoted k.table.words_per_region (card_words k.config) (is_dirty k.cards) (field_word a i) w) where
-  abbrev pub x : Stored
+module _ (k : CoreState) (core : IsCore k) (a i : ℕ) (w : Option ℕ) (t : Table) (can : CanStore a i w k)
+    (is : t ≡ set_pointer k.table a i w) (noted : HasNoted k (field_word a i) w) where
+  pub r : Rooted k a
+  r = rooted k a core can.rooted
+
+  abbrev x : Stored
   x = r.stored
 
   pub at : kept_of k a ≡ Some x
   at = r.at
 
-  pub writes : WritesObject k.table t a x (with_pointer x i w)
+  writes : WritesObject k.table t a x (with_pointer x i w)
   writes = subst (λ (u : Table). WritesObject k.table u a x (with_pointer x i w)) (sym is)
       (pointer_put k.table a i w x (some_words k core) (object_kept k a x at))
 
@@ -118,15 +120,12 @@ module _ (k : CoreState) (core : IsCore k) (a i : ℕ) (w : Option ℕ) (t : Tab
       marking = λ run. subst (λ (marks : Marking). KeepsSnapshot s (heap_of after) marks) (sym (marking_same k.table t m writes.size))
           (object_set (IsReachable s) (next_name s) core.footing.graph (heap_of k) (marking_of k) core.rests.shows.shows
           (f.marking (sym same.running ∙ run)) (heap_of after) (views.marking_of k.table m)
-          a x (with_pointer x i w) i was w root held
+          a x (with_pointer x i w) i was w can.rooted can.held
           (ap (λ (ps : List (Option ℕ)). slice_get ps i) (sym (pointers_there k a x at)) ∙ there) set_in refl saved);
     }
 
   inside : i < length x.pointers
-  inside = subst (λ (ps : List (Option ℕ)). i < length ps) (pointers_there k a x at) within
-
-  pub same_roles : SameRoles k.marker k.marker
-  same_roles = record { previous = refl; tams = refl; running = refl }
+  inside = subst (λ (ps : List (Option ℕ)). i < length ps) (pointers_there k a x at) can.field
 
   -- the field's card is noted, so all stays remembered
   pub store_remembers : (m : Marker) (same : SameRoles k.marker m) → RemembersFields (with_store k t m)
@@ -139,7 +138,7 @@ module _ (k : CoreState) (core : IsCore k) (a i : ℕ) (w : Option ℕ) (t : Tab
 
   -- the word that is stored, as the invariant's graph has it
   pub held_name : (v : Option ℕ) × IsShown (heap_of k) w v
-  held_name = name w held
+  held_name = name w can.held
     where
       all : (b : ℕ) (z : Stored) → kept_of k b ≡ Some z → (v : Option ℕ) × IsShown (heap_of k) (Some b) v
       all b z e = (Some z.name, (z, e, refl))
@@ -178,13 +177,13 @@ module _ (k : CoreState) (core : IsCore k) (a i : ℕ) (w : Option ℕ) (t : Tab
     layers = layers_writes k.config k.table t k.buffers k.marker a x (with_pointer x i w) writes core.layers (λ run. absurd cc)
         (ap (λ (n : ℕ). 2 + n + length x.weaks + length x.values) (length-set x.pointers i w));
     cards = core.cards;
-    remembers = store_remembers k.marker same_roles;
+    remembers = store_remembers k.marker (same_roles k.marker);
     room = core.room;
     rows = core.rows;
     places = core.places;
     names = core.names;
     footing = record { graph = graph_after; snapshot = graph_after };
-    rests = (let shows = shows_after k.marker same_roles in let next = shows.next in record {
+    rests = (let shows = shows_after k.marker (same_roles k.marker) in let next = shows.next in record {
       shows = shows;
       keeps = record { earlier = omega (arith, next); marking = λ run. absurd cc };
       sound = sound_after;
@@ -218,13 +217,13 @@ module _ (k : CoreState) (core : IsCore k) (a i : ℕ) (w : Option ℕ) (t : Tab
         let o = core.rests.shows.shows.objects a x at in
         unreached_changed core.footing.snapshot core.footing.graph core.rests.unreached x.name o.object
         (record o.object { pointers = slice_set o.object.pointers i held_name.0 }) o.named
-        (rooted_known core.footing.graph core.footing.snapshot k a x core.rests.shows (core.rests.keeps.marking run) root at)
+        (rooted_known core.footing.graph core.footing.snapshot k a x core.rests.shows (core.rests.keeps.marking run) can.rooted at)
 
     -- a log of eight was taken, or none was full
     module _ (m2 : Marker) (then : SameRoles m m2) (snapshots : KeepsSnapshots t m m2) (st2 : MarkerStands t m2)
         (logs : length m2.logs ≡ length k.marker.logs) (room : (mutator : ℕ) → length (log_of m2.logs mutator) < 8) where
       same2 : SameRoles k.marker m2
-      same2 = record { previous = then.previous ∙ same.previous; tams = then.tams ∙ same.tams; running = then.running ∙ same.running }
+      same2 = roles_trans k.marker m m2 same then
 
       pub last_keeps : m.running ≡ true → (s : Graph) → KeepsFrom s k → KeepsFrom s (with_store k t m2)
       unfolding kept_of

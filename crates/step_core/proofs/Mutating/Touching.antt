@@ -10,25 +10,31 @@ use Rattle.heap_model.proofs.Changed.{root_set_shows}
 use Rattle.heap_model.proofs.Touched.{touched_invariant}
 use Rattle.heap_model.proofs.Unreached.{touched_next, unreached_root, unreached_touched}
 use Rattle.satb_log.specs.Logs.{log_of}
+use Rattle.root_table.specs.Roots.{RootTable}
+use Rattle.graph_runs.specs.State.{places_of, register_place}
+use Rattle.heap_steps.specs.declared.step.Register.{Register}
 use Rattle.marker.specs.Views as views
 use Rattle.marker.specs.Stands.{MarkerStands, IsKept}
-use Rattle.marker.specs.Steps.{SameRoles, KeepsSnapshots, HasTakenLog, TakesFull, Overwrites, saved}
+use Rattle.marker.specs.Steps.{SameRoles, KeepsSnapshots, Overwrites}
 use Rattle.marker.specs.declared.marker.Marker.{Marker}
 use Rattle.marker.proofs.Views.{same_heap}
 use Rattle.step_core.specs.Stands.{CoreState, kept_of, heap_of, marking_of, RemembersFields, ShowsGraph, KeepsFrom, IsCore, IsWordOf}
 use Rattle.step_core.specs.Cycle.{LeavesRegions}
+use Rattle.step_core.specs.Mutators.{with_root_word}
+use Rattle.step_core.specs.Parts.{Touches}
+use Rattle.step_core.proofs.Cores.Keeping.{register_at, register_shows}
 use Rattle.step_core.proofs.Cores.Layers.{layers_marked}
 use Rattle.step_core.proofs.Cores.Remembering.{remembers_on, same_fields}
 use Rattle.step_core.proofs.Cores.Resting.{root_rests}
+use Rattle.step_core.proofs.Mutating.Logging.{HaveRoom, Saves, TakesLog, idle_overwrites, overwrites_full, overwrites_room}
+use Rattle.step_core.proofs.Mutating.Logging.{roles_trans, same_roles, saved_room, taken_room}
 use Rattle.step_core.proofs.Mutating.Reading.{shown_there}
+use Rattle.step_core.proofs.Mutating.Stored.{Ends}
 use Rattle.step_core.proofs.Mutating.Storing.{is_kept}
 
 -- the core with a root word and the marker changed
 abbrev pub with_touch : CoreState → ℕ → Option ℕ → Marker → CoreState
 with_touch c place w m = record c { roots = slice_set c.roots place w; marker = m }
-
-pub same_roles : (m : Marker) → SameRoles m m
-same_roles m = record { previous = refl; tams = refl; running = refl }
 
 -- the core with another root word and marker, where what is kept stays
 module _ (k : CoreState) (core : IsCore k) (place : ℕ) (w : Option ℕ) (m : Marker) (same : SameRoles k.marker m) where
@@ -100,84 +106,69 @@ module _ (k : CoreState) (core : IsCore k) (place : ℕ) (w : Option ℕ) (m : M
             ((saved_by s g v shows u shown f).marking (same.running ∙ run));
       }
 
--- by the core's value
-module _ (k c : CoreState) (e : k ≡ c) (core : IsCore k) (place : ℕ) (w : Option ℕ) (word : IsWordOf (heap_of c) w) where
+-- by the core's value, and by what the table of roots did
+module _ (k c : CoreState) (e : k ≡ c) (core : IsCore k) (m : ℕ) (to : Register) (w : Option ℕ) (word : IsWordOf (heap_of c) w)
+    (rs : RootTable) (is : rs ≡ record { places = k.places; words = slice_set k.roots (register_place k.places m to.number) w }) where
+  abbrev place : ℕ
+  place = register_place (places_of c.config) m to.number
+
+  -- the core with the register and the marker changed
+  abbrev pub after : Marker → CoreState
+  after m2 = record k { places = rs.places; roots = rs.words; marker = m2 }
+
+  after_is : (m2 : Marker) → with_touch k place w m2 ≡ after m2
+  after_is m2 = ap (λ (p : ℕ). with_touch k p w m2) (sym (register_at k c e core m to.number))
+      ∙ ap (λ (r : RootTable). record k { places = r.places; roots = r.words; marker = m2 }) (sym is)
+
   word' : IsWordOf (heap_of k) w
   word' = subst (λ (d : CoreState). IsWordOf (heap_of d) w) (sym e) word
 
   -- what the word leads to is kept
   pub word_kept : (b : ℕ) → w ≡ Some b → IsKept k.table k.marker b
-  word_kept b is =
-      let there = shown_there (heap_of k) b word'.name (subst (λ (u : Option ℕ). IsShown (heap_of k) u word'.name) is word'.shown) in
+  word_kept b is_b =
+      let there = shown_there (heap_of k) b word'.name (subst (λ (u : Option ℕ). IsShown (heap_of k) u word'.name) is_b word'.shown) in
       is_kept k b there.0 there.1
 
-  pub touch_shows : (m : Marker) → SameRoles k.marker m → (g : Graph) (v : Option ℕ) → ShowsGraph g c → IsShown (heap_of c) w v
-      → ShowsGraph (with_root g place v) (with_touch k place w m)
-  touch_shows m same = subst (λ (d : CoreState).
-      (g : Graph) (v : Option ℕ) → ShowsGraph g d → IsShown (heap_of d) w v → ShowsGraph (with_root g place v) (with_touch k place w m)) e
-      (shows_by k core place w m same)
-
-  pub touch_leaves : (m : Marker) → LeavesRegions c (with_touch k place w m)
-  touch_leaves m = subst (λ (d : CoreState). LeavesRegions d (with_touch k place w m)) e (record { config = refl; in_use = λ j used. used })
+  -- what is left to show of the snapshot, the marker and its logs
+  ends : (m2 : Marker) → SameRoles k.marker m2
+      → ((s g : Graph) (v : Option ℕ) → ShowsGraph g k → KeepsUnreached s g → IsShown (heap_of k) w v → KeepsFrom s k
+      → KeepsFrom (touched s v) (with_touch k place w m2))
+      → MarkerStands k.table m2 → HaveRoom k.marker m2 → Overwrites c.marker.running c.table m w c.marker m2
+      → Ends (Touches m to w c) (after m2)
+  ends m2 same keeps st r over = subst (λ (d : CoreState). Ends (Touches m to w c) d) (after_is m2) (record {
+    core = kept_by_touch k core place w m2 same word'.name word'.shown (keeps core.footing.snapshot core.footing.graph word'.name
+        core.rests.shows core.rests.unreached word'.shown core.rests.keeps) st r.count r.room;
+    does = record {
+      shows = register_shows c (with_touch k place w m2) m to.number w (subst (λ (d : CoreState).
+          (g : Graph) (v : Option ℕ) → ShowsGraph g d → IsShown (heap_of d) w v → ShowsGraph (with_root g place v) (with_touch k place w m2))
+          e (shows_by k core place w m2 same));
+      keeps = subst (λ (d : CoreState).
+          (s g : Graph) (v : Option ℕ) → ShowsGraph g d → KeepsUnreached s g → IsShown (heap_of d) w v → KeepsFrom s d
+          → KeepsFrom (touched s v) (with_touch k place w m2)) e keeps;
+      core = ap (λ (d : CoreState). record (with_root_word d place w) { marker = m2 }) e;
+      marker = over;
+      leaves = subst (λ (d : CoreState). LeavesRegions d (with_touch k place w m2)) e (record { config = refl; in_use = λ j used. used });
+    };
+  })
 
   -- while marking doesn't run
-  module _ (idle : k.marker.running ≡ false) where
-    pub idle_shows : (g : Graph) (v : Option ℕ) → ShowsGraph g c → IsShown (heap_of c) w v
-        → ShowsGraph (with_root g place v) (with_touch k place w k.marker)
-    idle_shows = touch_shows k.marker (same_roles k.marker)
+  pub idle_ends : k.marker.running ≡ false → Ends (Touches m to w c) (after k.marker)
+  idle_ends idle = ends k.marker (same_roles k.marker)
+      (λ s g v shows u shown f. record {
+        earlier = earlier_by k core place w k.marker (same_roles k.marker) s v f;
+        marking = λ run. absurd cc;
+      }) core.layers.marker (record { count = refl; room = core.layers.room }) (idle_overwrites k c e m w idle)
 
-    idle_by : (s : Graph) (v : Option ℕ) → KeepsFrom s k → KeepsFrom (touched s v) (with_touch k place w k.marker)
-    idle_by s v f = record { earlier = earlier_by k core place w k.marker (same_roles k.marker) s v f; marking = λ run. absurd cc }
+  -- while it runs the word is saved
+  module _ (run : k.marker.running ≡ true) (m1 : Marker) (s : Saves k.table m w k.marker m1) where
+    -- no log was full
+    pub saved_ends : (length (log_of m1.logs m) == 8) ≡ false → Ends (Touches m to w c) (after m1)
+    saved_ends left = ends m1 s.same (saved_by k core place w m1 s.same run s.saved) s.stands (saved_room k c e core m w m1 s left)
+        (overwrites_room k c e m w run m1 m1 s.after left refl)
 
-    pub idle_keeps : (s g : Graph) (v : Option ℕ) → ShowsGraph g c → KeepsUnreached s g → IsShown (heap_of c) w v → KeepsFrom s c
-        → KeepsFrom (touched s v) (with_touch k place w k.marker)
-    idle_keeps s g v shows u shown f = idle_by s v (subst (λ (d : CoreState). KeepsFrom s d) (sym e) f)
-
-    pub idle_kept : IsCore (with_touch k place w k.marker)
-    idle_kept = kept_by_touch k core place w k.marker (same_roles k.marker) word'.name word'.shown
-        (idle_by core.footing.snapshot word'.name core.rests.keeps) core.layers.marker refl core.layers.room
-
-  -- while it runs
-  module _ (run : k.marker.running ≡ true) (m : Marker) (same : SameRoles k.marker m)
-      (kept : IsSaved (views.marking_of k.table k.marker) (views.marking_of k.table m) w)
-      (m2 : Marker) (then : SameRoles m m2) (snapshots : KeepsSnapshots k.table m m2) where
-    same2 : SameRoles k.marker m2
-    same2 = record { previous = then.previous ∙ same.previous; tams = then.tams ∙ same.tams; running = then.running ∙ same.running }
-
-    pub taken_shows : (g : Graph) (v : Option ℕ) → ShowsGraph g c → IsShown (heap_of c) w v
-        → ShowsGraph (with_root g place v) (with_touch k place w m2)
-    taken_shows = touch_shows m2 same2
-
-    pub taken_keeps : (s g : Graph) (v : Option ℕ) → ShowsGraph g c → KeepsUnreached s g → IsShown (heap_of c) w v → KeepsFrom s c
-        → KeepsFrom (touched s v) (with_touch k place w m2)
-    taken_keeps s g v shows u shown f =
-        taken_by k core place w m same run kept m2
-        then snapshots s g v (subst (λ (d : CoreState). ShowsGraph g d) (sym e) shows) u
-        (subst (λ (d : CoreState). IsShown (heap_of d) w v) (sym e) shown) (subst (λ (d : CoreState). KeepsFrom s d) (sym e) f)
-
-    pub taken_kept : MarkerStands k.table m2 → length m2.logs ≡ length k.marker.logs
-        → ((mutator : ℕ) → length (log_of m2.logs mutator) < 8) → IsCore (with_touch k place w m2)
-    taken_kept st logs room = kept_by_touch k core place w m2 same2 word'.name word'.shown
-        (taken_by k core place w m same run kept m2
-        then snapshots core.footing.snapshot core.footing.graph word'.name core.rests.shows
-        core.rests.unreached word'.shown core.rests.keeps) st logs room
-
--- what it does to the marker
-module _ (k c : CoreState) (e : k ≡ c) (mutator : ℕ) (w : Option ℕ) (run : k.marker.running ≡ true) (m m' : Marker)
-    (is : m ≡ saved k.table k.marker mutator w) where
-  overwrites : TakesFull (length (log_of m.logs mutator) == 8) k.table mutator m m'
-      → Overwrites c.marker.running c.table mutator w c.marker m'
-  overwrites taken =
-      let all : TakesFull (length (log_of (saved k.table k.marker mutator w).logs mutator) == 8) k.table
-      mutator (saved k.table k.marker mutator w) m'
-      = subst (λ (x : Marker). TakesFull (length (log_of x.logs mutator) == 8) k.table mutator x m') is taken in
-      let on : Overwrites k.marker.running k.table mutator w k.marker m' =
-      subst (λ (b : Bool). Overwrites b k.table mutator w k.marker m') (sym run) all in
-      subst (λ (d : CoreState). Overwrites d.marker.running d.table mutator w d.marker m') e on
-
-  pub touched_full : (length (log_of m.logs mutator) == 8) ≡ true → HasTakenLog k.table mutator m m'
-      → Overwrites c.marker.running c.table mutator w c.marker m'
-  touched_full full taken = overwrites (subst (λ (b : Bool). TakesFull b k.table mutator m m') (sym full) taken)
-
-  pub touched_room : (length (log_of m.logs mutator) == 8) ≡ false → m' ≡ m → Overwrites c.marker.running c.table mutator w c.marker m'
-  touched_room room same = overwrites (subst (λ (b : Bool). TakesFull b k.table mutator m m') (sym room) same)
+    -- a log of eight was taken
+    pub taken_ends : m < c.config.mutators → (length (log_of m1.logs m) == 8) ≡ true → (m2 : Marker) → TakesLog k.table m m1 m2
+        → Ends (Touches m to w c) (after m2)
+    taken_ends known full m2 l = ends m2 (roles_trans k.marker m1 m2 s.same l.took.same)
+        (taken_by k core place w m1 s.same run s.saved m2 l.took.same l.snapshots) l.stands
+        (taken_room k c e core m w m1 s known m2 l.took.emptied) (overwrites_full k c e m w run m1 m2 s.after full l.took)

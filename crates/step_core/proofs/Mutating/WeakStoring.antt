@@ -11,12 +11,12 @@ use Rattle.heap_model.proofs.Unreached.{unreached_written}
 use Rattle.regions.specs.Table.{Table, object_at, weaks_at, fields_at, set_weak}
 use Rattle.regions.proofs.Tiles.Changes.{WritesObject, weak_put}
 use Rattle.regions.proofs.Words.Fields.{with_weak}
-use Rattle.heap_words.specs.Configs.{card_words}
-use Rattle.cards.specs.Cards.{is_dirty}
-use Rattle.refinement.specs.Remembering.{field_word, IsNoted}
+use Rattle.cards.specs.Cards.{Cards}
+use Rattle.refinement.specs.Remembering.{field_word}
 use Rattle.step_core.specs.Stands.{CoreState, kept_of, heap_of, RemembersFields, ShowsGraph, KeepsFrom, IsCore, IsWordOf}
 use Rattle.step_core.specs.Mutators.{weak_field}
 use Rattle.step_core.specs.Cycle.{LeavesRegions}
+use Rattle.step_core.specs.Storing.{HasNoted, StoresWeak}
 use Rattle.step_core.proofs.Cores.Sizes.{some_words}
 use Rattle.step_core.proofs.Cores.Resting.{object_rests}
 use Rattle.step_core.proofs.Cores.Layers.{follows_of, layers_writes}
@@ -25,6 +25,7 @@ use Rattle.step_core.proofs.Mutating.Fields.{weak_fields, fields_count}
 use Rattle.step_core.proofs.Mutating.Reading.{object_kept, pointers_there}
 use Rattle.step_core.proofs.Mutating.Written.{object_written, write_keeps}
 use Rattle.step_core.proofs.Mutating.Acting.{object_shows}
+use Rattle.step_core.proofs.Mutating.Noting.{keeps_noted, kept_noted, shown_noted, shows_noted}
 use Rattle.step_core.proofs.Mutating.Storing.{Rooted, rooted}
 
 -- a root names an object
@@ -34,16 +35,12 @@ rooted_object k c a e core root =
     let is = object_kept k a r.stored r.at in rw is refl
 
 -- a weak slot counts among the fields, behind the pointers
-pub slot_within : (k c : CoreState) (a i : ℕ) → k ≡ c → i < length (weaks_at c.table a) → weak_field k a i < length (fields_at k.table a)
-slot_within k c a i e within =
-    let within' : i < length (weaks_at k.table a) = subst (λ (d : CoreState). i < length (weaks_at d.table a)) (sym e) within in
-    let count = fields_count k.table a in
-    omega (arith, count, within')
+pub slot_within : (c : CoreState) (a i : ℕ) → i < length (weaks_at c.table a) → weak_field c a i < length (fields_at c.table a)
+slot_within c a i within = let count = fields_count c.table a in omega (arith, count, within)
 
 module _ (k : CoreState) (core : IsCore k) (a i : ℕ) (w : Option ℕ) (t : Table) (root : IsRoot (heap_of k) a)
     (within : i < length (weaks_at k.table a)) (word : IsWordOf (heap_of k) w)
-    (noted : IsNoted k.table.words_per_region (card_words k.config) (is_dirty k.cards) (field_word a (weak_field k a i)) w)
-    (is : t ≡ set_weak k.table a i w) where
+    (noted : HasNoted k (field_word a (weak_field k a i)) w) (is : t ≡ set_weak k.table a i w) where
   r : Rooted k a
   r = rooted k a core root
 
@@ -135,8 +132,7 @@ module _ (k : CoreState) (core : IsCore k) (a i : ℕ) (w : Option ℕ) (t : Tab
 
 -- the same by the core's value c: k is the core by its fields
 module _ (k c : CoreState) (e : k ≡ c) (core : IsCore k) (a i : ℕ) (w : Option ℕ) (root : IsRoot (heap_of c) a)
-    (within : i < length (weaks_at c.table a)) (word : IsWordOf (heap_of c) w)
-    (noted : IsNoted c.table.words_per_region (card_words c.config) (is_dirty c.cards) (field_word a (weak_field c a i)) w)
+    (within : i < length (weaks_at c.table a)) (word : IsWordOf (heap_of c) w) (noted : HasNoted c (field_word a (weak_field c a i)) w)
     (t : Table) (is : t ≡ set_weak k.table a i w) where
   root' : IsRoot (heap_of k) a
   root' = subst (λ (d : CoreState). IsRoot (heap_of d) a) (sym e) root
@@ -147,24 +143,34 @@ module _ (k c : CoreState) (e : k ≡ c) (core : IsCore k) (a i : ℕ) (w : Opti
   word' : IsWordOf (heap_of k) w
   word' = subst (λ (d : CoreState). IsWordOf (heap_of d) w) (sym e) word
 
-  noted' : IsNoted k.table.words_per_region (card_words k.config) (is_dirty k.cards) (field_word a (weak_field k a i)) w
-  noted' = subst (λ (d : CoreState).
-      IsNoted d.table.words_per_region (card_words d.config) (is_dirty d.cards) (field_word a (weak_field d a i)) w) (sym e) noted
+  noted' : HasNoted k (field_word a (weak_field k a i)) w
+  noted' = subst (λ (d : CoreState). HasNoted d (field_word a (weak_field d a i)) w) (sym e) noted
 
   pub weak_kept : IsCore (record k { table = t })
   weak_kept = kept_by_store k core a i w t root' within' word' noted' is
 
-  pub weak_shows : (g : Graph) (y : Stored) (o : Object) (v : Option ℕ) → ShowsGraph g c → kept_of c a ≡ Some y
-      → object_named g y.name ≡ Some o → IsShown (heap_of c) w v
-      → ShowsGraph (with_changed g y.name (record o { weaks = slice_set o.weaks i v })) (record k { table = t })
-  weak_shows = subst (λ (d : CoreState). (g : Graph) (y : Stored) (o : Object) (v : Option ℕ) → ShowsGraph g d → kept_of d a ≡ Some y
-      → object_named g y.name ≡ Some o → IsShown (heap_of d) w v
-      → ShowsGraph (with_changed g y.name (record o { weaks = slice_set o.weaks i v })) (record k { table = t })) e
-      (shows_by k core a i w t root' within' word' noted' is)
+  pub weak_stores : StoresWeak c.cards a i w c (record k { table = t })
+  weak_stores = record {
+    shows = subst (λ (d : CoreState). (g : Graph) (y : Stored) (o : Object) (v : Option ℕ) → ShowsGraph g d → kept_of d a ≡ Some y
+        → object_named g y.name ≡ Some o → IsShown (heap_of d) w v
+        → ShowsGraph (with_changed g y.name (record o { weaks = slice_set o.weaks i v })) (record k { table = t })) e
+        (shows_by k core a i w t root' within' word' noted' is);
+    keeps = λ s f. keeps_by k core a i w t root' within' word' noted' is s (subst (λ (d : CoreState). KeepsFrom s d) (sym e) f);
+    after = ap (λ (u : Table). record k { table = u }) is ∙ ap (λ (d : CoreState). record d { table = set_weak d.table a i w }) e;
+    leaves = subst (λ (d : CoreState). LeavesRegions d (record k { table = t })) e
+        (leaves_by k core a i w t root' within' word' noted' is);
+  }
 
-  pub weak_keeps : (s : Graph) → KeepsFrom s c → KeepsFrom s (record k { table = t })
-  weak_keeps s f = keeps_by k core a i w t root' within' word' noted' is s (subst (λ (d : CoreState). KeepsFrom s d) (sym e) f)
-
-  pub weak_leaves : LeavesRegions c (record k { table = t })
-  weak_leaves =
-      subst (λ (d : CoreState). LeavesRegions d (record k { table = t })) e (leaves_by k core a i w t root' within' word' noted' is)
+-- with the card noted before
+pub noted_weak : (c c1 c' : CoreState) (a i : ℕ) (w : Option ℕ) (cards : Cards) → c1 ≡ record c { cards = c1.cards } → c1.cards ≡ cards
+    → StoresWeak c1.cards a i w c1 c' → StoresWeak cards a i w c c'
+noted_weak c c1 c' a i w cards same is st =
+    let leaves : LeavesRegions (record c { cards = c1.cards }) c' = subst (λ (d : CoreState). LeavesRegions d c') same st.leaves in
+    record {
+      shows = λ g x o v s at named shown. st.shows g x o v (shows_noted c c1 g same s) (kept_noted c c1 a same ∙ at) named
+          (shown_noted c c1 w v same shown);
+      keeps = λ s f. st.keeps s (keeps_noted c c1 s same f);
+      after = st.after ∙ ap (λ (d : CoreState). record d { table = set_weak d.table a i w; cards = c1.cards }) same
+          ∙ ap (λ (cs : Cards). record c { table = set_weak c.table a i w; cards = cs }) is;
+      leaves = record { config = leaves.config; in_use = leaves.in_use };
+    }

@@ -1,9 +1,7 @@
-use Rattle.std.proofs.Common.{◌<◌, ◌∙◌, Option, ℕ, ap, refl, subst, sym}
+use Rattle.std.proofs.Common.{◌<◌, subst, sym}
 use Rattle.heap_model.specs.Graph.{Places}
-use Rattle.graph_runs.specs.State.{register_place, places_of}
-use Rattle.step_core.specs.Mutators.{with_root_word}
-use Rattle.step_core.proofs.Cores.Keeping.{placed_in, register_at, register_facts, register_shown}
-use Rattle.step_core.proofs.Cores.Keeping.{register_shows, root_after, root_held, root_kept, root_kept_from, root_leaves, root_set}
+use Rattle.step_core.proofs.Cores.Keeping.{placed_in}
+use Rattle.step_core.proofs.Mutating.Setting.{register_core, register_held, register_sets, register_set_shows, register_word, sets_as}
 use Rattle.step_core.proofs.heap.Core.copy_register.Goals as goal
 
 pub copy_register-requires-clause-mutator : goal.copy_register-requires-clause-mutator
@@ -20,34 +18,17 @@ copy_register-requires-clause-from c =
 
 pub invariant_of-self : goal.invariant_of-self
 invariant_of-self c =
-    let f = register_facts _ _ c.args.mutator c.args.from.number _ c.self.view_is c.self.invariant c.requires.mutator
-    c.requires.from refl in
-    rw c.copy_register.ensures (root_kept _ _ _ _ c.self.view_is c.self.invariant (root_held _ _ f.rooted) f.word)
+    let f = register_word _ _ c.args.mutator c.args.from c.self.view_is c.self.invariant c.requires.mutator c.requires.from in
+    register_core _ _ c.self.view_is c.self.invariant c.args.mutator c.args.to _ _ c.copy_register.ensures (register_held _ _ _ _ f) f.word
 
 pub returns-clause-shows : goal.returns-clause-shows
-returns-clause-shows c =
-    let f = register_facts _ _ c.args.mutator c.args.from.number _ c.self.view_is c.self.invariant c.requires.mutator
-    c.requires.from refl in
-    rw (c.copy_register.ensures, register_at _ _ c.self.view_is c.self.invariant c.args.mutator c.args.to.number)
-    (λ g s. register_shows _ _ _ _ _ (root_after _ _ _ _ c.self.view_is) g _ s (register_shown _ c.args.mutator c.args.from.number _ f g s))
+returns-clause-shows c g s =
+    let f = register_word _ _ c.args.mutator c.args.from c.self.view_is c.self.invariant c.requires.mutator c.requires.from in
+    register_set_shows _ _ c.self.view_is c.self.invariant c.args.mutator c.args.to _ _ c.copy_register.ensures (register_held _ _ _ _ f)
+    g _ s (f.shows g s)
 
-pub returns-clause-keeps : goal.returns-clause-keeps
-returns-clause-keeps c =
-    let f = register_facts _ _ c.args.mutator c.args.from.number _ c.self.view_is c.self.invariant c.requires.mutator
-    c.requires.from refl in
-    rw c.copy_register.ensures (root_kept_from _ _ _ _ c.self.view_is c.self.invariant (root_held _ _ f.rooted))
-
-pub returns-clause-leaves : goal.returns-clause-leaves
-returns-clause-leaves c =
-    let f = register_facts _ _ c.args.mutator c.args.from.number _ c.self.view_is c.self.invariant c.requires.mutator
-    c.requires.from refl in
-    rw c.copy_register.ensures (root_leaves _ _ _ _ c.self.view_is c.self.invariant (root_held _ _ f.rooted))
-
-pub returns-clause-after : goal.returns-clause-after
-returns-clause-after c =
-    let f = register_facts _ _ c.args.mutator c.args.from.number _ c.self.view_is c.self.invariant c.requires.mutator
-    c.requires.from refl in
-    rw (c.copy_register.ensures, register_at _ _ c.self.view_is c.self.invariant c.args.mutator c.args.to.number)
-    (root_set _ _ c.self.view_is _ _
-    ∙ ap (λ (w : Option ℕ). with_root_word c.args.self.now
-    (register_place (places_of c.args.self.now.config) c.args.mutator c.args.to.number) w) f.value)
+pub returns-clause-sets : goal.returns-clause-sets
+returns-clause-sets c =
+    let f = register_word _ _ c.args.mutator c.args.from c.self.view_is c.self.invariant c.requires.mutator c.requires.from in
+    sets_as _ _ _ _ _ f.value
+    (register_sets _ _ c.self.view_is c.self.invariant c.args.mutator c.args.to _ _ c.copy_register.ensures (register_held _ _ _ _ f))

@@ -1,8 +1,7 @@
-use Rattle.std.proofs.Common.{◌<◌, ◌∙◌, Option, ℕ, ap, refl, subst, sym}
+use Rattle.std.proofs.Common.{◌<◌, subst, sym}
 use Rattle.heap_model.specs.Graph.{Places}
-use Rattle.step_core.specs.Mutators.{with_root_word}
-use Rattle.step_core.proofs.Cores.Keeping.{placed_in, register_facts, register_shown}
-use Rattle.step_core.proofs.Cores.Keeping.{root_after, root_held, root_kept, root_kept_from, root_leaves, root_set}
+use Rattle.step_core.proofs.Cores.Keeping.{placed_in}
+use Rattle.step_core.proofs.Mutating.Setting.{register_held, register_word, root_core, root_sets, root_set_shows, sets_as}
 use Rattle.step_core.proofs.heap.Core.copy_to_global.Goals as goal
 
 pub copy_to_global-requires-clause-global : goal.copy_to_global-requires-clause-global
@@ -19,32 +18,17 @@ copy_to_global-requires-clause-from c =
 
 pub invariant_of-self : goal.invariant_of-self
 invariant_of-self c =
-    let f = register_facts _ _ c.args.mutator c.args.from.number _ c.self.view_is c.self.invariant c.requires.mutator
-    c.requires.from refl in
-    rw c.copy_to_global.ensures (root_kept _ _ _ _ c.self.view_is c.self.invariant (root_held _ _ f.rooted) f.word)
+    let f = register_word _ _ c.args.mutator c.args.from c.self.view_is c.self.invariant c.requires.mutator c.requires.from in
+    root_core _ _ c.self.view_is c.self.invariant c.args.to.number _ _ c.copy_to_global.ensures (register_held _ _ _ _ f) f.word
 
 pub returns-clause-shows : goal.returns-clause-shows
-returns-clause-shows c =
-    let f = register_facts _ _ c.args.mutator c.args.from.number _ c.self.view_is c.self.invariant c.requires.mutator
-    c.requires.from refl in
-    rw c.copy_to_global.ensures
-    (λ g s. root_after _ _ _ _ c.self.view_is g _ s (register_shown _ c.args.mutator c.args.from.number _ f g s))
+returns-clause-shows c g s =
+    let f = register_word _ _ c.args.mutator c.args.from c.self.view_is c.self.invariant c.requires.mutator c.requires.from in
+    root_set_shows _ _ c.self.view_is c.self.invariant c.args.to.number _ _ c.copy_to_global.ensures (register_held _ _ _ _ f) g _ s
+    (f.shows g s)
 
-pub returns-clause-keeps : goal.returns-clause-keeps
-returns-clause-keeps c =
-    let f = register_facts _ _ c.args.mutator c.args.from.number _ c.self.view_is c.self.invariant c.requires.mutator
-    c.requires.from refl in
-    rw c.copy_to_global.ensures (root_kept_from _ _ _ _ c.self.view_is c.self.invariant (root_held _ _ f.rooted))
-
-pub returns-clause-leaves : goal.returns-clause-leaves
-returns-clause-leaves c =
-    let f = register_facts _ _ c.args.mutator c.args.from.number _ c.self.view_is c.self.invariant c.requires.mutator
-    c.requires.from refl in
-    rw c.copy_to_global.ensures (root_leaves _ _ _ _ c.self.view_is c.self.invariant (root_held _ _ f.rooted))
-
-pub returns-clause-after : goal.returns-clause-after
-returns-clause-after c =
-    let f = register_facts _ _ c.args.mutator c.args.from.number _ c.self.view_is c.self.invariant c.requires.mutator
-    c.requires.from refl in
-    rw c.copy_to_global.ensures
-    (root_set _ _ c.self.view_is _ _ ∙ ap (λ (w : Option ℕ). with_root_word c.args.self.now c.args.to.number w) f.value)
+pub returns-clause-sets : goal.returns-clause-sets
+returns-clause-sets c =
+    let f = register_word _ _ c.args.mutator c.args.from c.self.view_is c.self.invariant c.requires.mutator c.requires.from in
+    sets_as _ _ _ _ _ f.value
+    (root_sets _ _ c.self.view_is c.self.invariant c.args.to.number _ _ c.copy_to_global.ensures (register_held _ _ _ _ f))

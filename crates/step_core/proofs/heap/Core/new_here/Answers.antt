@@ -22,15 +22,8 @@ invariant_of-self-2 c =
     (new_kept _ c.args.mutator c.args.to _ _ _ c.args.counts.pointers c.args.weaks c.args.counts.values c.self.invariant w
     (omega (arith, fits, same, c.size-size.ensures)) c.if-self.false)
 
-pub returns-clause-at : goal.returns-clause-at
-returns-clause-at c =
-    rw (c.set_register.ensures, register_there _ c.self.invariant c.args.mutator c.args.to.number, c.in-Ok.ensures.made.1.at)
-    (register_taken _ c.args.mutator c.args.to _ c.self.invariant
-    (subst (λ (d : CoreState). c.args.mutator < d.config.mutators) (sym c.self.view_is) c.requires.mutator)
-    (subst (λ (d : CoreState). c.args.to.number < registers_of d.config) (sym c.self.view_is) c.requires.to))
-
-pub returns-clause-makes : goal.returns-clause-makes
-returns-clause-makes c =
+pub returns : goal.returns
+returns c =
     let m = c.in-Ok.ensures.made.1 in
     let fits = c.is_too_big.ensures.fits c.if-is_too_big.false in
     let same : object_limit c.self.inside.config ≡ object_limit c.args.self.now.config =
@@ -38,40 +31,31 @@ returns-clause-makes c =
     let layers = c.self.invariant.layers in
     let w = creates _ _ _ _ _ _ c.self.inside.next c.args.counts.pointers c.args.weaks c.args.counts.values c.law.ensures
     m.positive m.fitting layers.unmoved layers.buffers m.placed (omega (arith, c.size-size.ensures)) in
-    record {
-      acts = λ g s. inl (rw (
-        c.set_register.ensures,
-        register_there _ c.self.invariant c.args.mutator c.args.to.number,
-        m.at,
-        m.made,
-        m.buffers,
-      )
-          (new_acts _ c.args.mutator c.args.to _ _ _ c.args.counts.pointers c.args.weaks c.args.counts.values c.self.invariant w
-          (omega (arith, fits, same, c.size-size.ensures)) c.if-self.false g
-          (subst (λ (d : CoreState). ShowsGraph g d) (sym c.self.view_is) s)));
-      keeps = λ s f. rw (
-        c.set_register.ensures,
-        register_there _ c.self.invariant c.args.mutator c.args.to.number,
-        m.at,
-        m.made,
-        m.buffers,
-      )
-          (new_keeps _ c.args.mutator c.args.to _ _ _ c.args.counts.pointers c.args.weaks c.args.counts.values c.self.invariant w
-          (omega (arith, fits, same, c.size-size.ensures)) c.if-self.false s
-          (subst (λ (d : CoreState). KeepsFrom s d) (sym c.self.view_is) f));
-      after = rw (c.set_register.ensures, register_there _ c.self.invariant c.args.mutator c.args.to.number, m.at, m.made, m.buffers)
-          (made_in_place _ _ c.args.mutator c.args.to c.args.counts c.args.weaks c.size-size.result _ _ _ c.self.view_is
-          m.place c.size-size.ensures);
-      leaves = rw (c.set_register.ensures, register_there _ c.self.invariant c.args.mutator c.args.to.number, m.at, m.made, m.buffers)
-          (new_leaves _ c.args.mutator c.args.to _ _ _ c.args.counts.pointers c.args.weaks c.args.counts.values c.self.invariant w
-          (omega (arith, fits, same, c.size-size.ensures)) c.if-self.false _ c.self.view_is);
-      full = λ none name e. has_place _ _ c.args.mutator c.size-size.result _ _ c.self.view_is m.place c.size-size.ensures none;
-      within = search rules;
-      made = rw (c.set_register.ensures, register_there _ c.self.invariant c.args.mutator c.args.to.number, m.at, m.made, m.buffers)
-          (made_named _ c.args.mutator c.args.to _ _ _ _ c.args.counts.pointers c.args.weaks c.args.counts.values c.self.invariant
-          (subst (λ (d : CoreState). c.args.mutator < d.config.mutators) (sym c.self.view_is) c.requires.mutator)
-          (subst (λ (d : CoreState). c.args.to.number < registers_of d.config) (sym c.self.view_is) c.requires.to) w.is);
-    }
+    rw (c.set_register.ensures, register_there _ c.self.invariant c.args.mutator c.args.to.number, m.at, m.made, m.buffers) (record {
+      makes = record {
+        acts = λ g s. inl (new_acts _ c.args.mutator c.args.to _ _ _ c.args.counts.pointers c.args.weaks c.args.counts.values
+            c.self.invariant w (omega (arith, fits, same, c.size-size.ensures)) c.if-self.false g
+            (subst (λ (d : CoreState). ShowsGraph g d) (sym c.self.view_is) s));
+        keeps = λ s f. new_keeps _ c.args.mutator c.args.to _ _ _ c.args.counts.pointers c.args.weaks c.args.counts.values
+            c.self.invariant w (omega (arith, fits, same, c.size-size.ensures)) c.if-self.false s
+            (subst (λ (d : CoreState). KeepsFrom s d) (sym c.self.view_is) f);
+        after = made_in_place _ _ c.args.mutator c.args.to c.args.counts c.args.weaks c.size-size.result _ _ _ c.self.view_is m.place
+            c.size-size.ensures;
+        leaves = new_leaves _ c.args.mutator c.args.to _ _ _ c.args.counts.pointers c.args.weaks c.args.counts.values c.self.invariant w
+            (omega (arith, fits, same, c.size-size.ensures)) c.if-self.false _ c.self.view_is;
+        full = λ none name e. has_place _ _ c.args.mutator c.size-size.result _ _ c.self.view_is m.place c.size-size.ensures none;
+        within = search rules;
+        made = made_named _ c.args.mutator c.args.to _ _ _ _ c.args.counts.pointers c.args.weaks c.args.counts.values c.self.invariant
+            known inside w.is;
+      };
+      at = register_taken _ c.args.mutator c.args.to _ c.self.invariant known inside;
+    })
+  where
+    known : c.args.mutator < c.self.inside.config.mutators
+    known = subst (λ (d : CoreState). c.args.mutator < d.config.mutators) (sym c.self.view_is) c.requires.mutator
+
+    inside : c.args.to.number < registers_of c.self.inside.config
+    inside = subst (λ (d : CoreState). c.args.to.number < registers_of d.config) (sym c.self.view_is) c.requires.to
 
 pub set_register-requires-clause-mutator : goal.set_register-requires-clause-mutator
 set_register-requires-clause-mutator c =

@@ -1,40 +1,29 @@
-use Rattle.std.proofs.Common.{◌∙◌, ap, ℕ, List, length, arith, sym}
-use Rattle.regions.specs.Table.{Table, fields_at, set_value}
-use Rattle.step_core.proofs.Cores.Keeping.{table_of, values_of, write_after, write_kept, write_kept_from, write_leaves}
+use Rattle.std.proofs.Common.{◌<◌, ◌∙◌, ap, length, subst, sym}
+use Rattle.regions.specs.Table.{fields_at, set_value, values_at}
+use Rattle.step_core.specs.Stands.{CoreState}
+use Rattle.step_core.proofs.Cores.Keeping.{write_does, write_kept}
 use Rattle.step_core.proofs.heap.Core.write_known.Goals as goal
 
 pub set_value_behind-requires-clause-fields : goal.set_value_behind-requires-clause-fields
 set_value_behind-requires-clause-fields c =
-    c.requires.fields ∙ sym (ap (λ (t : Table). length (fields_at t c.args.at)) (table_of _ _ c.self.view_is))
+    c.requires.fields ∙ ap (λ (d : CoreState). length (fields_at d.table c.args.at)) (sym c.self.view_is)
 
 pub set_value_behind-requires-clause-field : goal.set_value_behind-requires-clause-field
 set_value_behind-requires-clause-field c =
-    let count = ap (λ (vs : List ℕ). length vs) (values_of _ _ c.args.at c.self.view_is) in omega (arith, count, c.requires.field)
+    subst (λ (d : CoreState). c.args.field < length (values_at d.table c.args.at)) (sym c.self.view_is) c.requires.field
 
 pub invariant_of-self : goal.invariant_of-self
-invariant_of-self c = let l = c.requires.leads in
-    let count = ap (λ (vs : List ℕ). length vs) (values_of _ _ c.args.at c.self.view_is) in
-    write_kept _ _ c.self.view_is c.self.invariant c.args.mutator c.args.object _ c.args.field c.args.value _ l
-    (omega (arith, count, c.requires.field)) c.set_value_behind.ensures
+invariant_of-self c = write_kept _ _ c.self.view_is c.self.invariant c.args.mutator c.args.object _ c.args.field c.args.value _
+    c.requires.names
+    (subst (λ (d : CoreState). c.args.field < length (values_at d.table c.args.at)) (sym c.self.view_is) c.requires.field)
+    c.set_value_behind.ensures
 
-pub returns-clause-acts : goal.returns-clause-acts
-returns-clause-acts c = let l = c.requires.leads in
-    let count = ap (λ (vs : List ℕ). length vs) (values_of _ _ c.args.at c.self.view_is) in
-    write_after _ _ c.self.view_is c.self.invariant c.args.mutator c.args.object _ c.args.field c.args.value _ l
-    (omega (arith, count, c.requires.field)) c.set_value_behind.ensures
-
-pub returns-clause-keeps : goal.returns-clause-keeps
-returns-clause-keeps c = let l = c.requires.leads in
-    let count = ap (λ (vs : List ℕ). length vs) (values_of _ _ c.args.at c.self.view_is) in
-    write_kept_from _ _ c.self.view_is c.self.invariant c.args.mutator c.args.object _ c.args.field c.args.value _ l
-    (omega (arith, count, c.requires.field)) c.set_value_behind.ensures
-
-pub returns-clause-leaves : goal.returns-clause-leaves
-returns-clause-leaves c = let l = c.requires.leads in
-    let count = ap (λ (vs : List ℕ). length vs) (values_of _ _ c.args.at c.self.view_is) in
-    write_leaves _ _ c.self.view_is c.self.invariant c.args.mutator c.args.object _ c.args.field c.args.value _ l
-    (omega (arith, count, c.requires.field)) c.set_value_behind.ensures
+pub returns-clause-does : goal.returns-clause-does
+returns-clause-does c = write_does _ _ c.self.view_is c.self.invariant c.args.mutator c.args.object _ c.args.field c.args.value _
+    c.requires.names
+    (subst (λ (d : CoreState). c.args.field < length (values_at d.table c.args.at)) (sym c.self.view_is) c.requires.field)
+    c.set_value_behind.ensures
 
 pub returns-clause-table : goal.returns-clause-table
 returns-clause-table c =
-    c.set_value_behind.ensures ∙ ap (λ (t : Table). set_value t c.args.at c.args.field c.args.value) (table_of _ _ c.self.view_is)
+    c.set_value_behind.ensures ∙ ap (λ (d : CoreState). set_value d.table c.args.at c.args.field c.args.value) c.self.view_is
