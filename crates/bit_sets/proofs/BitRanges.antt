@@ -60,15 +60,20 @@ and_bit : (b : Bool) (x y z : ℕ) → z ≡ min x (1 - y) → y ≡ (if b then 
 and_bit true x y z e f h = ap (λ n. eqb n 1) (let none : z ≡ 0 = omega (arith, e, f) in none)
 and_bit false x y z e f h = ap (λ n. eqb n 1) (let same : z ≡ x = omega (arith, e, f) in same)
 
-pub put_by_or : (index from to w mask : ℕ) → IsMask index from to mask → IsPut true index from to w (bit_or w mask)
+put_by_or : (index from to w mask : ℕ) → IsMask index from to mask → IsPut true index from to w (bit_or w mask)
 put_by_or index from to w mask is j h = or_bit (is_between from to (64 * index + j)) (bit_at w j) (bit_at mask j) (bit_at (bit_or w mask) j)
     (bit_at_or w mask j) (is j h) (bit_at-lt w j)
 
-pub put_by_and : (index from to w mask : ℕ) → mask < 2 ^ 64 → IsMask index from to mask
+put_by_and : (index from to w mask : ℕ) → mask < 2 ^ 64 → IsMask index from to mask
     → IsPut false index from to w (bit_and w (2 ^ 64 - 1 - mask))
 put_by_and index from to w mask fits is j h =
     and_bit (is_between from to (64 * index + j)) (bit_at w j) (bit_at mask j) (bit_at (bit_and w (2 ^ 64 - 1 - mask)) j)
     (bit_at_and w (2 ^ 64 - 1 - mask) j ∙ ap (λ n. min (bit_at w j) n) (bit_at_not w64 mask j fits h)) (is j h) (bit_at-lt w j)
+
+pub put_by : (value : Bool) (index from to w mask : ℕ) → mask < 2 ^ 64 → IsMask index from to mask
+    → IsPut value index from to w (if value then bit_or w mask else bit_and w (2 ^ 64 - 1 - mask))
+put_by true index from to w mask fits is = put_by_or index from to w mask is
+put_by false index from to w mask fits is = put_by_and index from to w mask fits is
 
 -- ---- the words so far
 abbrev pub IsPutUpTo : Bool → List ℕ → List ℕ → ℕ → ℕ → Type 0

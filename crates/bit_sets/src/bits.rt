@@ -17,7 +17,7 @@ ghost use Rattle.std.specs.Prelude.{◌≡◌, ◌+◌, ◌*◌, ◌/◌, ◌^�
 ghost use Rattle.std.specs.Prelude.{ℕ, false, true, IfOk, IfSome, length, MatchOption, not, replicate, slice_set};
 ghost use Rattle.bit_sets.specs.Bits.{has, has_alone, is_between, is_passing, HasNone, HasNoneBelow, IsLowest};
 
-use crate::groups::{clear_bits, join_bits, lowest_if_any, lowest_of, set_bits, whole_word};
+use crate::groups::{join_bits, lowest_if_any, lowest_of, put_bits, whole_word};
 use crate::pages::PagedWords;
 use std::alloc::{AllocError, Global};
 use std::marker::Model;
@@ -124,31 +124,41 @@ impl Bits {
         self.words.fill(first, past, whole_word(value));
     }
 
-    /// The numbers from `from` up to `to`, which is not one of them, are in the set: word by word, by the bits of each.
-    fn set_part(&mut self, from: u32, to: u32)
+    /// The numbers from `from` up to `to`, which is not one of them, are in the set, or they aren't: word by word, by the bits of each.
+    #[inline(always)]
+    fn put_part(&mut self, from: u32, to: u32, value: bool)
         requires { to ≤ length self.old }
         ensures len { length self.new ≡ length self.old }
-        ensures flags { (a : ℕ) → has self.new a ≡ (if is_between from to a then true else has self.old a) }
+        ensures flags { (a : ℕ) → has self.new a ≡ (if is_between from to a then value else has self.old a) }
     {
-        set_bits(&mut self.words, from, to);
+        put_bits(&mut self.words, from, to, value);
     }
 
-    /// The numbers from `from` up to `to`, which is not one of them, are in the set. Words whose numbers all are in the range are
-    /// written whole.
+    /// The same. Words whose numbers all are in the range are written whole.
+    #[inline(always)]
+    fn put_range(&mut self, from: u32, to: u32, value: bool)
+        requires { to ≤ length self.old }
+        ensures len { length self.new ≡ length self.old }
+        ensures flags { (a : ℕ) → has self.new a ≡ (if is_between from to a then value else has self.old a) }
+    {
+        let first = from.div_ceil(64);
+        let past = to / 64;
+        if first < past {
+            self.put_part(from, 64 * first, value);
+            self.put_groups(first, past, value);
+            self.put_part(64 * past, to, value);
+        } else {
+            self.put_part(from, to, value);
+        }
+    }
+
+    /// The numbers from `from` up to `to`, which is not one of them, are in the set.
     pub fn set_range(&mut self, from: u32, to: u32)
         requires { to ≤ length self.old }
         ensures len { length self.new ≡ length self.old }
         ensures flags { (a : ℕ) → has self.new a ≡ (if is_between from to a then true else has self.old a) }
     {
-        let first = from.div_ceil(64);
-        let past = to / 64;
-        if first < past {
-            self.set_part(from, 64 * first);
-            self.put_groups(first, past, true);
-            self.set_part(64 * past, to);
-        } else {
-            self.set_part(from, to);
-        }
+        self.put_range(from, to, true);
     }
 
     /// The members of another set of as many numbers, of those from `from` up to `to`, which is not one of them, come into this one. It
@@ -187,31 +197,13 @@ impl Bits {
         }
     }
 
-    /// The numbers from `from` up to `to`, which is not one of them, are not in the set: word by word, by the bits of each.
-    fn clear_part(&mut self, from: u32, to: u32)
-        requires { to ≤ length self.old }
-        ensures len { length self.new ≡ length self.old }
-        ensures flags { (a : ℕ) → has self.new a ≡ (if is_between from to a then false else has self.old a) }
-    {
-        clear_bits(&mut self.words, from, to);
-    }
-
-    /// The numbers from `from` up to `to`, which is not one of them, are not in the set. Words whose numbers all are in the range
-    /// are written whole.
+    /// The numbers from `from` up to `to`, which is not one of them, are not in the set.
     pub fn clear_range(&mut self, from: u32, to: u32)
         requires { to ≤ length self.old }
         ensures len { length self.new ≡ length self.old }
         ensures flags { (a : ℕ) → has self.new a ≡ (if is_between from to a then false else has self.old a) }
     {
-        let first = from.div_ceil(64);
-        let past = to / 64;
-        if first < past {
-            self.clear_part(from, 64 * first);
-            self.put_groups(first, past, false);
-            self.clear_part(64 * past, to);
-        } else {
-            self.clear_part(from, to);
-        }
+        self.put_range(from, to, false);
     }
 
     /// The lowest number of the set at or above `from`.

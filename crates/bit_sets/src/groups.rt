@@ -10,7 +10,7 @@
 //! looks for some, takes none.
 
 ghost use Rattle.std.specs.Prelude.{◌≡◌, ◌+◌, ◌*◌, ◌^◌, ◌<◌, ◌≤◌, ◌⊎◌, ◌||◌, ◌&&◌, if◌then◌else◌};
-ghost use Rattle.std.specs.Prelude.{ℕ, true, false, length, IfSome, MatchOption};
+ghost use Rattle.std.specs.Prelude.{ℕ, ◌-◌, bit_and, bit_or, length, slice_index, slice_set, IfSome, MatchOption};
 ghost use Rattle.std.specs.Int.{bit_at, div_ceil, trailing_zeros, w64};
 ghost use Rattle.bit_sets.specs.Bits.{is_between};
 ghost use Rattle.bit_sets.specs.BitWords.{bit_of};
@@ -36,25 +36,29 @@ pub(crate) fn whole_word(value: bool) -> u64
     if value { u64::MAX } else { 0 }
 }
 
-/// The numbers from `from` up to `to`, which is not one of them, are in the set: word by word, by the bits of each.
-pub(crate) fn set_bits(words: &mut PagedWords, from: u32, to: u32)
-    requires { div_ceil to 64 ≤ length words.old }
-    ensures len { length words.new ≡ length words.old }
-    ensures bits { (a : ℕ) → bit_of words.new a ≡ (if is_between from to a then true else bit_of words.old a) }
+/// The bits of a mask are 1 in a group's word, or 0.
+#[inline(always)]
+fn put_word(words: &mut PagedWords, index: u32, mask: u64, value: bool)
+    requires { index < length words.old }
+    ensures { words.new ≡ slice_set words.old index (if value then bit_or (slice_index words.old index) mask
+        else bit_and (slice_index words.old index) (2 ^ 64 - 1 - mask)) }
 {
-    for index in from / 64..to.div_ceil(64) {
-        words.join(index, mask_of(index, from, to));
+    if value {
+        words.join(index, mask);
+    } else {
+        words.keep(index, !mask);
     }
 }
 
-/// The numbers from `from` up to `to`, which is not one of them, are not in the set: word by word, by the bits of each.
-pub(crate) fn clear_bits(words: &mut PagedWords, from: u32, to: u32)
+/// The numbers from `from` up to `to`, which is not one of them, are in the set, or they aren't: word by word, by the bits of each.
+#[inline(always)]
+pub(crate) fn put_bits(words: &mut PagedWords, from: u32, to: u32, value: bool)
     requires { div_ceil to 64 ≤ length words.old }
     ensures len { length words.new ≡ length words.old }
-    ensures bits { (a : ℕ) → bit_of words.new a ≡ (if is_between from to a then false else bit_of words.old a) }
+    ensures bits { (a : ℕ) → bit_of words.new a ≡ (if is_between from to a then value else bit_of words.old a) }
 {
     for index in from / 64..to.div_ceil(64) {
-        words.keep(index, !mask_of(index, from, to));
+        put_word(words, index, mask_of(index, from, to), value);
     }
 }
 

@@ -1,9 +1,0 @@
-use Rattle.std.proofs.Common.{◌≡◌, ◌*◌, min, true, length}
-use Rattle.bit_sets.proofs.BitRanges.{IsPutUpTo}
-use Rattle.bit_sets.proofs.groups.set_bits.Given as goal
-
-abbrev pub invariant-loop-index : goal.invariant-loop-index
-invariant-loop-index l = record {
-  len : length l.words ≡ length l.initial.words;
-  bits : IsPutUpTo true l.initial.words l.words l.from (min l.to (64 * l.index));
-}
