@@ -11,7 +11,7 @@ use Rattle.std.proofs.lemmas.List.Folds.{list_any-append}
 use Rattle.std.proofs.lemmas.List.Sums.{sum_by-cons, sum_by_push}
 use Rattle.remembered_sets.specs.Sets.{CardFilter, CardSet, IsSet, set_covers, set_with, set_after, letting, lets_through}
 use Rattle.remembered_sets.specs.Sets.{empty_set, emptied, times_in}
-use Rattle.remembered_sets.proofs.Filters.{IsFilter-with, IsFilter-empty, IsFilter-emptied, lets_with, lets_still, filter_same}
+use Rattle.remembered_sets.proofs.Filters.{IsFilter-with, IsFilter-empty, IsFilter-emptied, lets_with, lets_still}
 use Rattle.remembered_sets.proofs.Filters.{marks_grow}
 
 or_left : (a b : Bool) → a ≡ true → (a || b) ≡ true

@@ -1,12 +1,12 @@
 -- What the sets of all regions cover, as cards are added and sets are emptied.
 use Rattle.std.proofs.Common.{◌≡◌, ◌≢◌, ◌⊎◌, ◌+◌, ◌*◌, ◌/◌, ◌%◌, ◌<◌, ◌≤◌, if◌then◌else◌, ◌∙◌}
-use Rattle.std.proofs.Common.{inl, inr, ℕ, Bool, true, false, eqb, refl, sym, subst, ap, ap₂, ⊎_elim, arith}
+use Rattle.std.proofs.Common.{inl, inr, ℕ, Bool, true, false, eqb, refl, sym, subst, ap, ⊎_elim, arith}
 use Rattle.std.proofs.Common.{List, [], ◌∷◌, length, set, All, get_or-set_same, get_or-set_other, length-set}
 use Rattle.std.specs.Prelude.{◌&&◌}
 use Rattle.std.proofs.Math.Nat.{lt_of_mul-lt-mul_right, lt_irrefl}
 use Rattle.std.proofs.lemmas.Bool.{cases_eq, cases_lt, eq-eqb, ne_eqb, and_from, and_parts}
 use Rattle.std.proofs.lemmas.List.Elements.{All-head, All-tail, All-set}
-use Rattle.std.proofs.lemmas.List.{get_or_past, set-get_or}
+use Rattle.std.proofs.lemmas.List.{get_or_past}
 use Rattle.std.proofs.lemmas.List.FromFn.{fill_by_all, length-map-range_with_len, get_or-map-range_with_len}
 use Rattle.bit_sets.specs.Bits.{has, is_between}
 use Rattle.bit_sets.proofs.BitRanges.{between_yes, between_no_below, between_no_above}

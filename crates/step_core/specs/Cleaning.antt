@@ -1,11 +1,12 @@
 -- What the parts of a cleanup do.
-use Rattle.std.specs.Prelude.{◌≡◌, ℕ, ◌+◌, ◌*◌, ◌/◌, ◌<◌, ◌≤◌, ◌↔◌, ◌⊎◌, false, None, length, slice_index}
+use Rattle.std.specs.Prelude.{◌≡◌, ℕ, ◌+◌, ◌*◌, ◌<◌, ◌≤◌, ◌↔◌, ◌⊎◌, None, length}
 use Rattle.regions.specs.Table.{kind_of}
 use Rattle.regions.specs.declared.row.Kind.TheVariants as kinds
-use Rattle.mark_bitmap.specs.Marks.{is_marked}
+use Rattle.evacuation.specs.Evacuates.{MarksAfter}
+use Rattle.evacuation.specs.Releasing.{AreCleared}
 use Rattle.marker.specs.declared.marker.Marker.{Marker}
-use Rattle.bit_sets.specs.Bits.{has}
-use Rattle.remembered_sets.specs.Sets.{Sets, set_of, emptied}
+use Rattle.bit_sets.specs.Bits.{is_between}
+use Rattle.remembered_sets.specs.Sets.{Sets}
 use Rattle.step_core.specs.Stands.{CoreState, kept_of}
 use Rattle.step_core.specs.Cycle.{IsDeadRegion, IsDead, IsAsNew, IsAsBefore, ChangesRegions}
 
@@ -21,24 +22,13 @@ IsDeadHead c k = IsDeadRegion c k ⊎ ((kind_of c.table k ≡ kinds.First) × (k
 -- regions stay
 pub record HasForgotten (words k m : ℕ) (was now : Marker) : Type 0 where
   pub same : now ≡ record was { tams = now.tams; bitmaps = now.bitmaps; live = now.live }
-  pub no_previous : (a : ℕ) → k ≤ a / words → a / words < k + m → is_marked now.bitmaps.previous a ≡ false
-  pub no_next : (a : ℕ) → k ≤ a / words → a / words < k + m → is_marked now.bitmaps.next a ≡ false
-  pub previous : (a : ℕ) → IsOther k m (a / words) → is_marked now.bitmaps.previous a ≡ is_marked was.bitmaps.previous a
-  pub next : (a : ℕ) → IsOther k m (a / words) → is_marked now.bitmaps.next a ≡ is_marked was.bitmaps.next a
-  pub low_previous : (j : ℕ) → k ≤ j → j < k + m → slice_index now.tams.previous j ≡ j * words
-  pub low_next : (j : ℕ) → k ≤ j → j < k + m → slice_index now.tams.next j ≡ j * words
-  pub previous_tops : (j : ℕ) → IsOther k m j → slice_index now.tams.previous j ≡ slice_index was.tams.previous j
-  pub next_tops : (j : ℕ) → IsOther k m j → slice_index now.tams.next j ≡ slice_index was.tams.next j
+  pub previous : MarksAfter words (is_between k (k + m)) was.tams.previous now.tams.previous was.bitmaps.previous now.bitmaps.previous
+  pub next : MarksAfter words (is_between k (k + m)) was.tams.next now.tams.next was.bitmaps.next now.bitmaps.next
 
 -- the sets of m regions from k on are emptied, and no card of theirs has entered a set; the other sets stay, and the other cards have as
 -- they had
-pub record HasCleared (k m : ℕ) (was now : Sets) : Type 0 where
-  pub cards : now.cards_per_region ≡ was.cards_per_region
-  pub count : length now.sets ≡ length was.sets
-  pub empty : (r : ℕ) → k ≤ r → r < k + m → set_of now r ≡ emptied (set_of was r)
-  pub others : (r : ℕ) → IsOther k m r → set_of now r ≡ set_of was r
-  pub own_cards : (card : ℕ) → k ≤ card / was.cards_per_region → card / was.cards_per_region < k + m → has now.entered card ≡ false
-  pub other_cards : (card : ℕ) → IsOther k m (card / was.cards_per_region) → has now.entered card ≡ has was.entered card
+abbrev pub HasCleared : ℕ → ℕ → Sets → Sets → Type 0
+HasCleared k m was now = AreCleared (is_between k (k + m)) was now
 
 -- m dead regions from k on are as in a new heap now, and the others are as they were, dead or not
 pub record HasReleased (k m : ℕ) (c c' : CoreState) : Type 0 where

@@ -144,7 +144,7 @@ module _ (p : Pause) (q : IsPause p) (t : Table) (d : Places) (turn : IsTurn p t
           to_space.forwarded,
           (
             λ noted. copied_after (layout p) (plan p) (space p t) (space p t') d d' from to x turn.copying to_space named kept un
-            halves noted,
+                halves noted,
             λ b y. frame (layout p) (plan p) (space p t) (space p t') d d' from to x turn.copying to_space named kept un halves b y,
           ),
         ),

@@ -4,7 +4,6 @@ use Rattle.std.proofs.Common.{ℕ, Bool, true, false, List, [], Option, Some, No
 use Rattle.std.specs.Prelude.{IfSome, IsSome}
 use Rattle.std.specs.List.{AllZip}
 use Rattle.std.proofs.lemmas.Bool.{cases_eq, cases_lt}
-use Rattle.std.proofs.lemmas.List.{length-append}
 use Rattle.heap_model.specs.Heap.{Stored, fields}
 use Rattle.heap_model.specs.Evacuation.{IsWord, place_after}
 use Rattle.regions.specs.Tiles.{Tile, Object, tile_size}

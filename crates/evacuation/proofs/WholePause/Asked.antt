@@ -6,12 +6,10 @@ use Rattle.std.specs.Prelude.{slice_get, count_by, ◌||◌, ◌==◌}
 use Rattle.std.specs.List.{list_any}
 use Rattle.std.proofs.lemmas.Bool.{cases_lt, cases_Bool}
 use Rattle.std.proofs.lemmas.Bool.Decides.{eqb_tells}
-use Rattle.std.proofs.lemmas.List.{length-append}
 use Rattle.std.proofs.lemmas.List.Sums.{count_by-le-length}
 use Rattle.std.proofs.lemmas.List.Recursion.{is_sum_by}
 use Rattle.std.proofs.lemmas.Nat.{mul-le}
 use Rattle.heap_model.specs.Heap.{Stored, fields}
-use Rattle.regions.specs.Tiles.{Object}
 use Rattle.regions.specs.Table.{Table, is_free, kind_of, object_at, stored_size}
 use Rattle.regions.specs.Shaped.{IsShaped}
 use Rattle.regions.specs.declared.row.Kind.TheVariants as kinds
@@ -28,7 +26,6 @@ use Rattle.regions.proofs.Words.Divides.{card_has_words, card_region, div_is, di
 use Rattle.regions.proofs.Tiles.Holders.{holder_start}
 use Rattle.refinement.proofs.Holders.{word_holder}
 use Rattle.object_copy.specs.Copies.{no_places}
-use Rattle.object_copy.proofs.Copied.{tile_of_object}
 use Rattle.evacuation.specs.Evacuates.{Layers, CanEvacuate, IsRow, is_chosen, stored_words}
 use Rattle.evacuation.specs.Space.{AllVisited, flag}
 use Rattle.evacuation.specs.Turns.{Pause, IsPause, IsTurn, PauseStands, AreVisited, kept_now, layout, left_words, plan}

@@ -1,11 +1,11 @@
 -- The heap after a pause.
 use Rattle.evacuation.proofs.WholePause.Beginning.{no_tile}
 use Rattle.std.proofs.Common.{◌≡◌, ◌≢◌, ◌+◌, ◌-◌, ◌*◌, ◌/◌, ◌%◌, ◌<◌, ◌≤◌, ◌∷◌, ◌∙◌}
-use Rattle.std.proofs.Common.{ℕ, suc, zero, Bool, true, false, List, [], Option, Some, None}
+use Rattle.std.proofs.Common.{ℕ, suc, Bool, true, false, List, [], Option, Some, None}
 use Rattle.std.proofs.Common.{length, get_or, refl, sym, ap, subst, inl, inr, arith}
 use Rattle.std.specs.Prelude.{nat_lt, slice_get, ◌↔◌, if◌then◌else◌}
 use Rattle.std.specs.List.Sorted.{IsStrictlyIncreasing}
-use Rattle.std.proofs.lemmas.Bool.{cases_lt, cases_Bool}
+use Rattle.std.proofs.lemmas.Bool.{cases_Bool}
 use Rattle.heap_model.specs.Heap.{Stored}
 use Rattle.heap_model.specs.Heap as stored
 use Rattle.heap_model.specs.Relocation.{Relocates}

@@ -1,7 +1,7 @@
 -- A dead region, or a dead run, is released.
 use Rattle.std.proofs.Common.{◌≡◌, ◌≢◌, ◌+◌, ◌-◌, ◌*◌, ◌/◌, ◌<◌, ◌≤◌, ◌⊎◌, ◌∙◌}
 use Rattle.std.proofs.Common.{ℕ, Bool, true, false, cond, List, Option, Some, None, length, refl, sym, ap, subst, arith, inl, inr}
-use Rattle.std.specs.Prelude.{◌↔◌, slice_get, slice_index, nat_lt}
+use Rattle.std.specs.Prelude.{◌↔◌, if◌then◌else◌, slice_get, slice_index, nat_lt}
 use Rattle.std.proofs.lemmas.Bool.{cases_eq}
 use Rattle.heap_model.specs.Graph.{Graph}
 use Rattle.heap_model.specs.Heap.{Stored, fields}
@@ -19,6 +19,8 @@ use Rattle.regions.proofs.Tiles.Spliced.{IsOutside}
 use Rattle.regions.proofs.LongRuns.Blocks.{Frees, kind_is, later_rest, first_not_rest, reached, alone}
 use Rattle.regions.proofs.LongRuns.Blocks.{release_frees, object_near, object_gone, top_near, tile_near}
 use Rattle.regions.proofs.LongRuns.Blocks.{block_cases, rest_void, first_void, first_no_filler, void_object}
+use Rattle.bit_sets.proofs.BitRanges.{between_yes, between_no_below, between_no_above}
+use Rattle.evacuation.proofs.WholePause.ChosenReleased.{mark_gone, mark_left, top_gone, top_left}
 use Rattle.mark_bitmap.specs.Marks.{is_marked}
 use Rattle.mark_bitmap.specs.Tops.{is_below, is_in_region}
 use Rattle.mark_bitmap.specs.Live.{live_bound_of}
@@ -28,7 +30,7 @@ use Rattle.marker.specs.Stands.{MarkerStands}
 use Rattle.marker.specs.declared.marker.Marker.{Marker}
 use Rattle.marker.proofs.Forgotten.{table_stands}
 use Rattle.cards.specs.Cards.{is_dirty}
-use Rattle.bit_sets.specs.Bits.{has}
+use Rattle.bit_sets.specs.Bits.{has, is_between}
 use Rattle.remembered_sets.specs.Sets.{Sets, may_lead, set_of, emptied}
 use Rattle.remembered_sets.proofs.Laws.{leads_alike}
 use Rattle.remembered_sets.proofs.Covered.{emptied_twice}
@@ -86,6 +88,14 @@ module _ (k : CoreState) (core : IsCore k) (shaped : IsShaped k.table) (n m : �
   abbrev size : ℕ
   size = k.table.words_per_region
 
+  -- the regions that are gone, and the others
+  inside : (j : ℕ) → n ≤ j → j < n + m → is_between n (n + m) j ≡ true
+  inside j low high = between_yes n (n + m) j low high
+
+  outside : (j : ℕ) → IsOutside n m j → is_between n (n + m) j ≡ false
+  outside j (inl less) = between_no_below n (n + m) j less
+  outside j (inr past) = between_no_above n (n + m) j past
+
   kind_now : (kind_of k.table n ≡ kinds.Ordinary) ⊎ (kind_of k.table n ≡ kinds.First)
   kind_now = elim dead [ inl d ↦ inl d.ordinary | inr d ↦ inr d.0 ]
 
@@ -126,8 +136,8 @@ module _ (k : CoreState) (core : IsCore k) (shaped : IsShaped k.table) (n m : �
         kept_by_parts after a
         ∙ ap (λ (b : Bool). keeps b (is_marked mk.bitmaps.previous a) (object_at (released k.table n) a))
         (below_near size (released k.table n).words_per_region k.marker.tams.previous mk.tams.previous a
-        frees.size (f.previous_tops (a / size) out))
-        ∙ ap (λ (b : Bool). keeps (is_below size k.marker.tams.previous a) b (object_at (released k.table n) a)) (f.previous a out)
+        frees.size (top_left f.previous (a / size) (outside (a / size) out)))
+        ∙ ap (λ (b : Bool). keeps (is_below size k.marker.tams.previous a) b (object_at (released k.table n) a)) (mark_left f.previous a (outside (a / size) out))
         ∙ ap (keeps (is_below size k.marker.tams.previous a) (is_marked k.marker.bitmaps.previous a))
         (object_near k.table (released k.table n) a frees.size (frees.others (a / size) out))
         ∙ sym (kept_by_parts k a)
@@ -155,6 +165,21 @@ module _ (k : CoreState) (core : IsCore k) (shaped : IsShaped k.table) (n m : �
   bottom_same : (j : ℕ) → j * (released k.table n).words_per_region ≡ j * size
   bottom_same j = ap (λ (w : ℕ). j * w) frees.size
 
+  low_previous : (j : ℕ) → n ≤ j → j < n + m → slice_index mk.tams.previous j ≡ j * size
+  low_previous j low high =
+      top_gone f.previous j (omega (arith, high, frees.known, core.layers.marker.previous.each_region)) (inside j low high)
+
+  low_next : (j : ℕ) → n ≤ j → j < n + m → slice_index mk.tams.next j ≡ j * size
+  low_next j low high = top_gone f.next j (omega (arith, high, frees.known, core.layers.marker.next.each_region)) (inside j low high)
+
+  near : (j a : ℕ) → IsOutside n m j → is_in_region size j a ≡ true → is_between n (n + m) (a / size) ≡ false
+  near j a out i = ap (is_between n (n + m)) (ranges.nth_region size j a i) ∙ outside j out
+
+  -- the cards of other regions have entered sets as before
+  others_entered : (card : ℕ) → IsOutside n m (card / k.sets.cards_per_region) → has ss.entered card ≡ has k.sets.entered card
+  others_entered card out = empty.entered card
+      ∙ ap (λ (b : Bool). if b then false else has k.sets.entered card) (outside (card / k.sets.cards_per_region) out)
+
   pub release_stands : MarkerStands (released k.table n) mk
   release_stands = table_stands k.table (released k.table n) mk st frees.count frees.size
       (λ j lt. elim (block_cases n m j) [
@@ -162,32 +187,32 @@ module _ (k : CoreState) (core : IsCore k) (shaped : IsShaped k.table) (n m : �
             let top = st.previous.top j lt in
             let same = top_near k.table (released k.table n) j frees.size (frees.others j out) in
             omega (arith, top, same)
-        | inr q ↦ let low = f.low_previous j q.0 q.1 in let b = bottom_same j in omega (arith, low, b)
+        | inr q ↦ let low = low_previous j q.0 q.1 in let b = bottom_same j in omega (arith, low, b)
       ])
       (λ j lt. elim (block_cases n m j) [
         | inl out ↦
             let top = st.next.top j lt in
             let same = top_near k.table (released k.table n) j frees.size (frees.others j out) in
             omega (arith, top, same)
-        | inr q ↦ let low = f.low_next j q.0 q.1 in let b = bottom_same j in omega (arith, low, b)
+        | inr q ↦ let low = low_next j q.0 q.1 in let b = bottom_same j in omega (arith, low, b)
       ])
       (λ a x marked o. elim (block_cases n m (a / size)) [
         | inl out ↦ (x, object_near k.table (released k.table n) a frees.size (frees.others (a / size) out) ∙ o)
-        | inr q ↦ absurd (let no = f.no_previous a q.0 q.1 in cc)
+        | inr q ↦ absurd (let no = mark_gone f.previous a (inside (a / size) q.0 q.1) in cc)
       ])
       (λ a x marked o. elim (block_cases n m (a / size)) [
         | inl out ↦ (x, object_near k.table (released k.table n) a frees.size (frees.others (a / size) out) ∙ o)
-        | inr q ↦ absurd (let no = f.no_next a q.0 q.1 in cc)
+        | inr q ↦ absurd (let no = mark_gone f.next a (inside (a / size) q.0 q.1) in cc)
       ])
       (λ a marked. elim (block_cases n m (a / size)) [
         | inl out ↦
             words_by k.table (released k.table n) a (object_near k.table (released k.table n) a frees.size (frees.others (a / size) out))
-        | inr q ↦ absurd (let no = f.no_previous a q.0 q.1 in cc)
+        | inr q ↦ absurd (let no = mark_gone f.previous a (inside (a / size) q.0 q.1) in cc)
       ])
       (λ a marked. elim (block_cases n m (a / size)) [
         | inl out ↦
             words_by k.table (released k.table n) a (object_near k.table (released k.table n) a frees.size (frees.others (a / size) out))
-        | inr q ↦ absurd (let no = f.no_next a q.0 q.1 in cc)
+        | inr q ↦ absurd (let no = mark_gone f.next a (inside (a / size) q.0 q.1) in cc)
       ])
       (λ on. absurd (let e = idle in cc))
 
@@ -285,7 +310,7 @@ module _ (k : CoreState) (core : IsCore k) (shaped : IsShaped k.table) (n m : �
   field_entered at index x v kept_is field_is =
       let whole : size ≡ k.sets.cards_per_region * card_words k.config = core.layers.region_size ∙ core.cards.whole_cards in
       let own = region_of_card size (card_words k.config) k.sets.cards_per_region (field_word at index) shaped.positive whole in
-      empty.other_cards (field_card (card_words k.config) at index)
+      others_entered (field_card (card_words k.config) at index)
       (subst (λ (q : ℕ). IsOutside n m q) (sym own) (field_stays at index x v kept_is field_is))
 
   remembers_after : RemembersFields after
@@ -302,7 +327,7 @@ module _ (k : CoreState) (core : IsCore k) (shaped : IsShaped k.table) (n m : �
               | inr covered ↦ elim (block_cases n m (target / size)) [
                 | inl out ↦
                     let card : ℕ = field_card (card_words k.config) at index in
-                    inr (leads_alike k.sets ss (target / size) card empty.cards (empty.others (target / size) out)
+                    inr (leads_alike k.sets ss (target / size) card empty.cards (empty.others (target / size) (outside (target / size) out))
                     (field_entered at index x.object (Some target) x.kept_is x.field_is) ∙ covered)
                 | inr q ↦ absurd (let none = none_there target q.0 q.1 in let kept = there.1 in cc)
               ]
@@ -351,9 +376,10 @@ module _ (k : CoreState) (core : IsCore k) (shaped : IsShaped k.table) (n m : �
       buffers = buffers_after;
       unmoved = frees.unmoved core.layers.unmoved;
       marker = release_stands;
-      above_previous = above_after (slice_index k.marker.tams.previous) (slice_index mk.tams.previous) f.low_previous
-          f.previous_tops core.layers.above_previous;
-      above_next = above_after (slice_index k.marker.tams.next) (slice_index mk.tams.next) f.low_next f.next_tops core.layers.above_next;
+      above_previous = above_after (slice_index k.marker.tams.previous) (slice_index mk.tams.previous) low_previous
+          (λ j out. top_left f.previous j (outside j out)) core.layers.above_previous;
+      above_next = above_after (slice_index k.marker.tams.next) (slice_index mk.tams.next) low_next
+          (λ j out. top_left f.next j (outside j out)) core.layers.above_next;
       room = λ i. rw (ap (λ (x : Marker). x.logs) f.same) (core.layers.room i);
       halves = sizes_left kinds.Ordinary IsHalf k.table (released k.table n) shaped.positive frees.size (left kinds.Ordinary (λ e. cc))
           core.layers.halves;
@@ -380,8 +406,8 @@ module _ (k : CoreState) (core : IsCore k) (shaped : IsShaped k.table) (n m : �
       ≡ live_bound_of k.table k.marker.tams.previous k.marker.bitmaps.previous j
   bound_other j out =
       same_bound k.table (released k.table n) k.marker.tams.previous mk.tams.previous k.marker.bitmaps.previous mk.bitmaps.previous j shaped
-      frees.size (frees.others j out) (f.previous_tops j out)
-      (λ a i. f.previous a (subst (λ (q : ℕ). IsOutside n m q) (sym (ranges.nth_region size j a i)) out)) core.layers.marker.previous
+      frees.size (frees.others j out) (top_left f.previous j (outside j out)) (λ a i. mark_left f.previous a (near j a out i))
+      core.layers.marker.previous
 
   region_other : (j : ℕ) → IsOutside n m j → IsDeadRegion after j ↔ IsDeadRegion k j
   region_other j out = (
@@ -438,29 +464,35 @@ module _ (k : CoreState) (core : IsCore k) (shaped : IsShaped k.table) (n m : �
   as_new : (j : ℕ) → n ≤ j → j < n + m → IsAsNew after j
   as_new j low high = record {
     free = frees.free j low high;
-    set = empty.empty j low high ∙ sym (emptied_twice (set_of k.sets j)) ∙ ap emptied (sym (empty.empty j low high));
+    set = emptied_now ∙ sym (emptied_twice (set_of k.sets j)) ∙ ap emptied (sym emptied_now);
     entered = λ card own.
         let at : card / k.sets.cards_per_region ≡ j = ap (λ (c : ℕ). card / c) (sym empty.cards) ∙ own in
-        empty.own_cards card (omega (arith, at, low)) (omega (arith, at, high));
-    previous_top = f.low_previous j low high ∙ sym (bottom_same j);
-    next_top = f.low_next j low high ∙ sym (bottom_same j);
-    previous_marks = λ a i. let at = region_is j a i in f.no_previous a (omega (arith, at, low)) (omega (arith, at, high));
-    next_marks = λ a i. let at = region_is j a i in f.no_next a (omega (arith, at, low)) (omega (arith, at, high));
+        empty.entered card ∙ ap (λ (b : Bool). if b then false else has k.sets.entered card)
+        (ap (is_between n (n + m)) at ∙ inside j low high);
+    previous_top = low_previous j low high ∙ sym (bottom_same j);
+    next_top = low_next j low high ∙ sym (bottom_same j);
+    previous_marks = λ a i. mark_gone f.previous a (region_gone a i);
+    next_marks = λ a i. mark_gone f.next a (region_gone a i);
   }
     where
-      region_is : (j a : ℕ) → is_in_region (released k.table n).words_per_region j a ≡ true → a / size ≡ j
-      region_is j a i = ranges.nth_region size j a (subst (λ (w : ℕ). is_in_region w j a ≡ true) frees.size i)
+      emptied_now : set_of ss j ≡ emptied (set_of k.sets j)
+      emptied_now = empty.cleared j (inside j low high)
+
+      region_gone : (a : ℕ) → is_in_region (released k.table n).words_per_region j a ≡ true → is_between n (n + m) (a / size) ≡ true
+      region_gone a i =
+          ap (is_between n (n + m)) (ranges.nth_region size j a (subst (λ (w : ℕ). is_in_region w j a ≡ true) frees.size i))
+          ∙ inside j low high
 
   as_before : (j : ℕ) → IsOutside n m j → IsAsBefore k after j
   as_before j out = record {
     region = frees.others j out;
-    set = empty.others j out;
+    set = empty.others j (outside j out);
     cards = empty.cards;
-    entered = λ card own. empty.other_cards card (subst (λ (q : ℕ). IsOutside n m q) (sym own) out);
-    previous_top = f.previous_tops j out;
-    next_top = f.next_tops j out;
-    previous_marks = λ a i. f.previous a (subst (λ (q : ℕ). IsOutside n m q) (sym (ranges.nth_region size j a i)) out);
-    next_marks = λ a i. f.next a (subst (λ (q : ℕ). IsOutside n m q) (sym (ranges.nth_region size j a i)) out);
+    entered = λ card own. others_entered card (subst (λ (q : ℕ). IsOutside n m q) (sym own) out);
+    previous_top = top_left f.previous j (outside j out);
+    next_top = top_left f.next j (outside j out);
+    previous_marks = λ a i. mark_left f.previous a (near j a out i);
+    next_marks = λ a i. mark_left f.next a (near j a out i);
   }
 
   has_released : HasReleased n m k after

@@ -32,6 +32,7 @@ use Rattle.marker.proofs.LiveCounts.{marked_words_same}
 use Rattle.marker.specs.declared.marker.Marker.{Marker}
 use Rattle.region_choice.specs.declared.LiveRow.{LiveRow}
 use Rattle.evacuation.specs.Rooms.{RoomSizes}
+use Rattle.evacuation.proofs.WholePause.ChosenReleased.{mark_gone, mark_left, top_gone, top_left}
 use Rattle.evacuation.specs.Evacuates.{CanEvacuate, HasEvacuated, IsRow, IsNewSet, IsSameBut, MarksAfter, is_chosen, set_in}
 use Rattle.heap_words.specs.Configs.{card_words, object_limit}
 use Rattle.step_core.proofs.Mutating.Noting.{cards_a_region}
@@ -130,27 +131,13 @@ module _ (k : CoreState) (core : IsCore k) (which : Choice) (budget : ℕ) (chos
     }
 
     -- ---- tops at mark start and marks
-    top_past : (tops : List ℕ) (j : ℕ) → length tops ≡ length k.table.regions → length k.table.regions ≤ j → slice_index tops j ≡ 0
-    top_past tops j count le = get_or_past tops j 0 (omega (arith, count, le))
-
-    tops_left : (tops tops' : List ℕ) (marks marks' : List Bool)
-        → MarksAfter k.table.words_per_region chosen tops tops' marks marks' → length tops ≡ length k.table.regions
-        → (j : ℕ) → is_chosen chosen j ≡ false → slice_index tops' j ≡ slice_index tops j
-    tops_left tops tops' marks marks' m count j out =
-        elim (cases_lt j (length k.table.regions)) [
-          | inl lt ↦ m.each_top j (omega (arith, count, lt))
-              ∙ ap (λ (b : Bool). if b then j * k.table.words_per_region else slice_index tops j) out
-          | inr past ↦ top_past tops' j (m.count ∙ count) past ∙ sym (top_past tops j count past)
-        ]
-
     tops_chosen : (tops tops' : List ℕ) (marks marks' : List Bool)
-        → MarksAfter k.table.words_per_region chosen tops tops' marks marks' → length tops ≡ length k.table.regions
+        → MarksAfter k.table.words_per_region (is_chosen chosen) tops tops' marks marks' → length tops ≡ length k.table.regions
         → (j : ℕ) → is_chosen chosen j ≡ true → slice_index tops' j ≡ j * k.table.words_per_region
     tops_chosen tops tops' marks marks' m count j inside =
         let known = ordinary_known k.table j
         (chosen_ordinary k.table k.marker.tams k.marker.bitmaps.previous k.marker.running budget chosen may j inside) in
-        m.each_top j (omega (arith, count, known))
-        ∙ ap (λ (b : Bool). if b then j * k.table.words_per_region else slice_index tops j) inside
+        top_gone m j (omega (arith, count, known)) inside
 
     next_same : k.marker.running ≡ true → (j : ℕ) → slice_index tams.next j ≡ slice_index k.marker.tams.next j
     next_same run j =
@@ -158,7 +145,7 @@ module _ (k : CoreState) (core : IsCore k) (which : Choice) (budget : ℕ) (chos
           | inl inside ↦
               tops_chosen k.marker.tams.next tams.next k.marker.bitmaps.next bm.next ev.next core.layers.marker.next.each_region j inside
               ∙ sym (chosen_new k.table k.marker.tams k.marker.bitmaps.previous k.marker.running budget chosen may j run inside)
-          | inr out ↦ tops_left k.marker.tams.next tams.next k.marker.bitmaps.next bm.next ev.next core.layers.marker.next.each_region j out
+          | inr out ↦ top_left ev.next j out
         ]
 
     old_same : k.marker.running ≡ true → (a : ℕ) → below_next t tams a ≡ below_next k.table k.marker.tams a
@@ -188,9 +175,8 @@ module _ (k : CoreState) (core : IsCore k) (which : Choice) (budget : ℕ) (chos
     marks_same : k.marker.running ≡ true → (a : ℕ) → is_marked bm.next a ≡ is_marked k.marker.bitmaps.next a
     marks_same run a =
         elim (cases_Bool (set_in k.table.words_per_region chosen a)) [
-          | inl inside ↦ ev.next.each_mark a ∙ ap (λ (b : Bool). if b then false else is_marked k.marker.bitmaps.next a) inside
-              ∙ sym (none_marked run a inside)
-          | inr out ↦ ev.next.each_mark a ∙ ap (λ (b : Bool). if b then false else is_marked k.marker.bitmaps.next a) out
+          | inl inside ↦ mark_gone ev.next a inside ∙ sym (none_marked run a inside)
+          | inr out ↦ mark_left ev.next a out
         ]
 
     same_marking : k.marker.running ≡ true → SameMarking (marking_of k) (marking_of after)
@@ -222,11 +208,7 @@ module _ (k : CoreState) (core : IsCore k) (which : Choice) (budget : ℕ) (chos
               tops_chosen k.marker.tams.next tams.next k.marker.bitmaps.next bm.next ev.next core.layers.marker.next.each_region j inside in
               omega (arith, p, q)
           | inr out ↦
-              let p = tops_left k.marker.tams.previous tams.previous k.marker.bitmaps.previous bm.previous ev.previous
-              core.layers.marker.previous.each_region j out in
-              let q =
-              tops_left k.marker.tams.next tams.next k.marker.bitmaps.next bm.next ev.next core.layers.marker.next.each_region j out in
-              omega (arith, p, q, core.layers.marker.newer run j)
+              omega (arith, top_left ev.previous j out, top_left ev.next j out, core.layers.marker.newer run j)
         ]
 
     -- an object outside of the set has as many words as before

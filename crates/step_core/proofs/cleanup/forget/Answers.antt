@@ -1,6 +1,14 @@
 use Rattle.std.proofs.Common.{◌≡◌, ◌<◌, ◌+◌, length, sym, ◌∙◌, arith}
-use Rattle.step_core.proofs.Cycles.Forgetting.{marker_is, one_forgotten, one_cleared}
+use Rattle.step_core.proofs.Cycles.Forgetting.{marker_is, none_forgotten, none_cleared, one_forgotten, one_cleared}
 use Rattle.step_core.proofs.cleanup.forget.Goals as goal
+
+pub loop-i-init : goal.loop-i-init
+loop-i-init c = record {
+  stands = c.requires.stands;
+  idle = c.requires.idle;
+  forgotten = none_forgotten _ c.args.first c.args.marker.now;
+  cleared = none_cleared c.args.first c.args.sets.now;
+}
 
 pub loop-i-preserved : goal.loop-i-preserved
 loop-i-preserved c =
@@ -13,7 +21,9 @@ loop-i-preserved c =
       idle = f.running;
       forgotten = one_forgotten _ c.args.first c.loop-i.i c.new-region.result c.args.marker.now c.loop-i.marker
           c.forget.new.self c.law.ensures.positive p.forgotten at (omega (arith, inside, p.stands.previous.each_region))
-          (omega (arith, inside, p.stands.next.each_region)) f.previous f.next f.tops
+          (omega (arith, inside, p.stands.next.each_region))
+          (f.stands.previous.each_word ∙ sym p.stands.previous.each_word) (f.stands.next.each_word ∙ sym p.stands.next.each_word)
+          f.previous f.next f.tops
           (marker_is c.loop-i.marker c.forget.new.self f.grey f.logs (f.running ∙ sym p.idle) f.scans);
       cleared = one_cleared c.args.first c.loop-i.i c.new-region.result c.args.sets.now c.loop-i.sets c.clear.new.self p.cleared at
           (omega (arith, inside, p.cleared.count, c.requires.each)) c.clear.ensures;
