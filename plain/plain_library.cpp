@@ -1,5 +1,5 @@
-// Every call of include/g1heap.h over the plain heap, those that do a step or tell a number by plain_calls.h, which is made of that header. It stands in for lib/libg1heap.a where the two are compared, and where the proved one
-// isn't built yet.
+// Every call of include/g1heap.h over the plain heap; those that do a step or tell a number are in plain_calls.h, which is made of that
+// header. It stands in for lib/libg1heap.a where the two are compared, and where the proved one isn't built yet.
 //
 //   g++ -O2 -std=c++17 -Iinclude -c plain/plain_library.cpp -o plain_library.o
 //   cc -Iinclude clients/hello.c plain_library.o -lstdc++

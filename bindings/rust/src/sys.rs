@@ -1,5 +1,5 @@
-//! A heap as a type, by the calls of `g1heap.h`, which `calls.rs` declares. Nearly all `unsafe` of the crate is here: each number that a call
-//! may be given is answered, so what is left to its caller are the pointers, and those are in `Raw`.
+//! A heap as a type, by the calls of `g1heap.h`, which `calls.rs` declares. Nearly all `unsafe` of the crate is here: each number that a
+//! call may be given is answered, so what is left to its caller are the pointers, and those are in `Raw`.
 pub use crate::calls::*;
 use std::cell::UnsafeCell;
 
