@@ -3,7 +3,7 @@
 //   g++ -O2 -std=c++17 -o plain_life plain/plain_life.cpp
 //   plain_life FILE [EVENT ..]      after these events alone, where some are named
 //
-// The lines are those that crates/heap_life/page/README.md describes, from `m` to `x`, with each region after each event, and with nothing
+// The lines are those that crates/page_parts/page/README.md describes, from `m` to `x`, with each region after each event, and with nothing
 // left out: all cards of the queue, all roots, all tiles, all fields. Beside that `d MUTATOR ADDRESS ..` is a deletion log, `t REGION
 // PREVIOUS NEXT` are the tops at mark start of a region in use, by address, and a field that leads to no object is `?` and its address. The
 // script has to be one: nothing is tested. It is what tools/check_page and tools/check_views compare with.

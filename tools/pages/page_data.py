@@ -1,4 +1,4 @@
-"""The texts of a page against the plain heap: what docs/DRAWING.md says under 'How much is told', and crates/heap_life/page/README.md.
+"""The texts of a page against the plain heap: what docs/DRAWING.md says under 'How much is told', and crates/page_parts/page/README.md.
 For tools/check_page."""
 import importlib.machinery
 import importlib.util

@@ -9,7 +9,7 @@
 //! them are the lines that `docs/DRAWING.md` describes, of that core. `shares_of` and `live_words` say what the words of a region are. What
 //! is around the record and the lines in the page is shown by tests.
 //!
-//! The page's files are in `page/`; `tools/embed_page` makes the sources `page_parts` of them.
+//! What else is in the page, its style and its scripts, is the crate `page_parts`.
 #![tactic(auto)]
 
 mod course;
@@ -21,7 +21,6 @@ mod numbers;
 mod pace;
 mod pacing;
 mod page;
-mod page_parts;
 mod redraw;
 mod region_text;
 mod shares;

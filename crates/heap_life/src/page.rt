@@ -8,12 +8,12 @@ ghost use Rattle.heap_life.specs.Pages.{IsPageOf, facts_text, pace_text, sizes_t
 use crate::file_name::{put_file, put_names};
 use crate::life::{Life, Moment};
 use crate::pace::Pace;
-use crate::page_parts::{
+use heap_steps::{Record, is_third};
+use heap_words::config::{Config, Format};
+use page_parts::{
     BEFORE, BEHIND, BETWEEN, END, SCRIPT_CURVES, SCRIPT_FIND, SCRIPT_FOLD, SCRIPT_LANES,
     SCRIPT_LIFE, SCRIPT_OBJECTS, SCRIPT_OVER, SCRIPT_PAGE, SCRIPT_PANELS, SCRIPT_REACH,
 };
-use heap_steps::{Record, is_third};
-use heap_words::config::{Config, Format};
 use script_text::{Text, WatchedWriter, write_record};
 use std::alloc::{AllocError, Global};
 

@@ -3,6 +3,6 @@
 //! Made by `tools/embed_page` of the files of `page/`: change those.
 
 /// The text.
-pub(crate) const BETWEEN: &str = "\
+pub const BETWEEN: &str = "\
 </script>\n\
 <script type=\"text/plain\" id=\"life\">\n";

@@ -3,7 +3,7 @@
 //! Made by `tools/embed_page` of the files of `page/`: change those.
 
 /// The text.
-pub(crate) const SCRIPT_LIFE: &str = "\
+pub const SCRIPT_LIFE: &str = "\
 \"use strict\";\n\
 // The texts of the page, read. A moment is found by its place in the list of moments, a region's row by the moment. Names and d\
 ata words\n\

@@ -3,7 +3,7 @@
 //! Made by `tools/embed_page` of the files of `page/`: change those.
 
 /// The text.
-pub(crate) const SCRIPT_OVER: &str = "\
+pub const SCRIPT_OVER: &str = "\
 \"use strict\";\n\
 // What is drawn over the lanes: runs, open buffers, dirty cards, what a step of the collector did, and where pointers and card\
 s lead.\n\

@@ -3,7 +3,7 @@
 //! Made by `tools/embed_page` of the files of `page/`: change those.
 
 /// The text.
-pub(crate) const SCRIPT_PANELS: &str = "\
+pub const SCRIPT_PANELS: &str = "\
 \"use strict\";\n\
 // The panels beside and below the lanes: the steps, what a step did, an open region, an object's life.\n\
 \n\

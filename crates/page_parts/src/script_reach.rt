@@ -3,7 +3,7 @@
 //! Made by `tools/embed_page` of the files of `page/`: change those.
 
 /// The text.
-pub(crate) const SCRIPT_REACH: &str = "\
+pub const SCRIPT_REACH: &str = "\
 \"use strict\";\n\
 // What roots reach at a moment, how objects count by shape, and the names that are given to shapes. All of it is worked out her\
 e, of\n\

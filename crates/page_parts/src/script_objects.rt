@@ -3,7 +3,7 @@
 //! Made by `tools/embed_page` of the files of `page/`: change those.
 
 /// The text.
-pub(crate) const SCRIPT_OBJECTS: &str = "\
+pub const SCRIPT_OBJECTS: &str = "\
 \"use strict\";\n\
 // The panels that are there at each moment: where objects are told no more, the roots, what is reached, objects by shape.\n\
 \n\

@@ -3,7 +3,7 @@
 //! Made by `tools/embed_page` of the files of `page/`: change those.
 
 /// The text.
-pub(crate) const SCRIPT_CURVES: &str = "\
+pub const SCRIPT_CURVES: &str = "\
 \"use strict\";\n\
 // The curves over the events: one panel below another, all with the same events from left to right.\n\
 \n\

@@ -3,7 +3,7 @@
 //! Made by `tools/embed_page` of the files of `page/`: change those.
 
 /// The text.
-pub(crate) const SCRIPT_PAGE: &str = "\
+pub const SCRIPT_PAGE: &str = "\
 \"use strict\";\n\
 // The page: what is shown, and the keys and buttons that change it.\n\
 \n\

@@ -3,7 +3,7 @@
 //! Made by `tools/embed_page` of the files of `page/`: change those.
 
 /// The text.
-pub(crate) const BEFORE: &str = "\
+pub const BEFORE: &str = "\
 <!doctype html>\n\
 <html lang=\"en\">\n\
 <head>\n\

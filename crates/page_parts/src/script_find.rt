@@ -3,7 +3,7 @@
 //! Made by `tools/embed_page` of the files of `page/`: change those.
 
 /// The text.
-pub(crate) const SCRIPT_FIND: &str = "\
+pub const SCRIPT_FIND: &str = "\
 \"use strict\";\n\
 // What leads to a moment or an object by words: the page's address, and the field.\n\
 \n\

@@ -3,7 +3,7 @@
 //! Made by `tools/embed_page` of the files of `page/`: change those.
 
 /// The text.
-pub(crate) const SCRIPT_LANES: &str = "\
+pub const SCRIPT_LANES: &str = "\
 \"use strict\";\n\
 // The regions as lanes in a grid. A lane is drawn anew only where its region has changed.\n\
 \n\

@@ -3,6 +3,6 @@
 //! Made by `tools/embed_page` of the files of `page/`: change those.
 
 /// The text.
-pub(crate) const BEHIND: &str = "\
+pub const BEHIND: &str = "\
 </script>\n\
 <script>\n";

@@ -3,7 +3,7 @@
 //! Made by `tools/embed_page` of the files of `page/`: change those.
 
 /// The text.
-pub(crate) const END: &str = "\
+pub const END: &str = "\
 </script>\n\
 </body>\n\
 </html>\n";

@@ -3,7 +3,7 @@
 //! Made by `tools/embed_page` of the files of `page/`: change those.
 
 /// The text.
-pub(crate) const SCRIPT_FOLD: &str = "\
+pub const SCRIPT_FOLD: &str = "\
 \"use strict\";\n\
 // Folds, in pages of the third format alone, since those of the first two stay as they were: where a heap has many regions, fre\
 e ones side\n\
