@@ -53,6 +53,18 @@ COLLECTOR = (
 )
 
 
+# The line of each verb, to be filled with its actor and numbers.
+LINES = {step.verb: " ".join(["%s", step.verb, *({"R": "r", "S": "r", "G": "g"}.get(kind, "") + "%s" for kind in step.words.split())])
+         for step in MUTATOR + COLLECTOR}
+
+
+def line(actor, verb, *numbers):
+    """A line of a script. The last number may be None, for nil."""
+    if numbers[-1:] == (None,):
+        return LINES[verb].removesuffix("r%s") % (actor, *numbers[:-1]) + "nil"
+    return LINES[verb] % (actor, *numbers)
+
+
 def steps_of(actor, is_third):
     """The steps of an actor in a format: of `gc`, of a mutator, or of a background actor by its letter."""
     if actor in ("m", "f"):

@@ -7,6 +7,12 @@ script has some more refused steps.
 """
 import argparse
 import random
+import sys
+from pathlib import Path
+
+sys.dont_write_bytecode = True
+sys.path.append(str(Path(__file__).resolve().parent.parent))
+from plain import verbs  # noqa: E402
 
 # How often each step comes, as weights. `begin`, `mark`, `remark` and `cleanup` are drawn where they make sense,
 # but for `wrong`, one of them out of place.
@@ -231,15 +237,15 @@ class Drawer:
         registers, globals = BURST_ROOTS[burst]
         return registers <= self.roots[0].count and globals <= self.globals.count
 
-    def say(self, line):
-        self.lines.append(line)
+    def say(self, actor, verb, *numbers):
+        self.lines.append(verbs.line(actor, verb, *numbers))
 
     def collect(self, step, number):
         """A step of the collector; one of weight 0 never comes."""
         if self.weights[step] > 0:
             if step == "pause" and self.compactions.random() < self.compacted:
                 step = "compact"
-            self.say(f"gc {step} {number}")
+            self.say("gc", step, number)
 
     def mutator_step(self, kind):
         mutator = self.any_mutator() if self.mutators > 1 else 0
@@ -249,11 +255,11 @@ class Drawer:
         getattr(self, kind)(mutator, registers)
 
     def make(self, mutator, register, pointers, data):
-        self.say(f"{mutator} new r{register} {pointers} {data}")
+        self.say(mutator, "new", register, pointers, data)
         self.roots[mutator][register] = Object(pointers, data)
 
     def fill(self, mutator, holder, place, source):
-        self.say(f"{mutator} put r{holder} {place} " + ("nil" if source is None else f"r{source}"))
+        self.say(mutator, "put", holder, place, source)
         registers = self.roots[mutator]
         registers[holder].pointers[place] = None if source is None else registers[source]
 
@@ -266,7 +272,7 @@ class Drawer:
             sizes = [self.words // 2] * self.pick((1, 2, 2, 3))
         for place, size in enumerate(sizes):
             self.make(mutator, place, size - 2, 0)
-            self.say(f"{mutator} save g{place} r{place}")
+            self.say(mutator, "save", place, place)
             self.globals[place] = self.roots[mutator][place]
         self.make(mutator, 7, self.number(0, 2), self.number(0, 2))
         for place, size in enumerate(sizes):
@@ -365,7 +371,7 @@ class Drawer:
         register = self.any_register(registers)
         if registers[register] is not None and self.chance() < 0.5:
             register = self.any_register(registers)
-        self.say(f"{mutator} new r{register} {pointers} {data}")
+        self.say(mutator, "new", register, pointers, data)
         if pointers + data + 2 <= self.regions * self.words:
             made = Object(pointers, data)
             registers[register] = made
@@ -375,14 +381,14 @@ class Drawer:
                 target = registers[holder]
                 if target is not None and target.pointers:
                     place = int(self.chance() * len(target.pointers))
-                    self.say(f"{mutator} put r{holder} {place} r{register}")
+                    self.say(mutator, "put", holder, place, register)
                     target.pointers[place] = made
 
     def put(self, mutator, registers):
         holder, source = self.holder(registers), self.register(registers)
         target = registers[holder]
         place = self.index(len(target.pointers) if target else 0)
-        self.say(f"{mutator} put r{holder} {place} r{source}")
+        self.say(mutator, "put", holder, place, source)
         if target and place < len(target.pointers):
             target.pointers[place] = registers[source]
 
@@ -390,7 +396,7 @@ class Drawer:
         holder = self.holder(registers)
         target = registers[holder]
         place = self.index(len(target.pointers) if target else 0)
-        self.say(f"{mutator} put r{holder} {place} nil")
+        self.say(mutator, "put", holder, place, None)
         if target and place < len(target.pointers):
             target.pointers[place] = None
 
@@ -400,20 +406,20 @@ class Drawer:
         place = self.index(len(target.pointers) if target else 0)
         if target and place < len(target.pointers) and target.pointers[place] is None:
             place = int(self.chance() * len(target.pointers))
-        self.say(f"{mutator} get r{register} r{holder} {place}")
+        self.say(mutator, "get", register, holder, place)
         if target and place < len(target.pointers):
             registers[register] = target.pointers[place]
 
     def move(self, mutator, registers, target=None, source=None):
         if target is None:
             target, source = self.any_register(registers), self.register(registers)
-        self.say(f"{mutator} move r{target} r{source}")
+        self.say(mutator, "move", target, source)
         registers[target] = registers[source]
 
     def drop(self, mutator, registers, register=None):
         if register is None:
             register = self.register(registers)
-        self.say(f"{mutator} drop r{register}")
+        self.say(mutator, "drop", register)
         registers[register] = None
 
     def load(self, mutator, registers):
@@ -421,13 +427,13 @@ class Drawer:
         if self.globals[place] is None:
             held = list(self.globals) if self.third else ()
             place = self.pick(held) if held else int(self.chance() * min(4, self.globals.count))
-        self.say(f"{mutator} load r{register} g{place}")
+        self.say(mutator, "load", register, place)
         registers[register] = self.globals[place]
 
     def save(self, mutator, registers):
         count = self.globals.count
         place, register = int(self.chance() * min(count, self.pick((4, 4, count)))), self.register(registers)
-        self.say(f"{mutator} save g{place} r{register}")
+        self.say(mutator, "save", place, register)
         self.globals[place] = registers[register]
 
     def call(self, mutator, registers):
@@ -448,7 +454,7 @@ class Drawer:
             first = self.any_register(registers)
         elif chance > 0.75 or first == 0:
             first = self.register(registers)
-        self.say(f"{mutator} scope r{first}")
+        self.say(mutator, "scope", first)
         registers.leave(first)
 
     def many_frames(self):
@@ -486,7 +492,8 @@ class Drawer:
         for kind in ("begin", "remark", "cleanup"):
             self.mark_step(kind)
         for _ in range(self.number(1, 5)):
-            self.say(f"gc compact {self.pick((0, self.words // 2, self.words, 2 * self.words, self.number(0, 4 * self.words), 4294967295))}")
+            budget = self.pick((0, self.words // 2, self.words, 2 * self.words, self.number(0, 4 * self.words), 4294967295))
+            self.say("gc", "compact", budget)
             self.refine_after_pause()
             for _ in range(self.number(0, 2)):
                 self.get(mutator, registers)
@@ -495,16 +502,16 @@ class Drawer:
     def read(self, mutator, registers):
         register = self.dataful(registers)
         place = self.index(registers[register].data if registers[register] else 0)
-        self.say(f"{mutator} read r{register} {place}")
+        self.say(mutator, "read", register, place)
 
     def write(self, mutator, registers):
         register = self.dataful(registers)
         place = self.index(registers[register].data if registers[register] else 0)
         value = self.pick((0, 1, 2, 257, 4098, 2 ** 32, 2 ** 64 - 1, self.number(0, 999)))
-        self.say(f"{mutator} write r{register} {place} {value}")
+        self.say(mutator, "write", register, place, value)
 
     def shape(self, mutator, registers):
-        self.say(f"{mutator} shape r{self.register(registers)}")
+        self.say(mutator, "shape", self.register(registers))
 
     def collector_step(self, kind):
         if kind == "refine":
@@ -527,7 +534,7 @@ class Drawer:
             return
         if self.weights[kind] == 0:
             return
-        self.say(f"gc {kind}")
+        self.say("gc", kind)
         if kind == "begin":
             self.marking = True
         elif kind == "remark":
@@ -597,7 +604,7 @@ class WeakDrawer(Drawer):
         return holder, self.index(len(registers[holder].weaks) if registers[holder] else 0)
 
     def make_weak(self, mutator, register, pointers, weaks, data):
-        self.say(f"{mutator} newweak r{register} {pointers} {weaks} {data}")
+        self.say(mutator, "newweak", register, pointers, weaks, data)
         if 2 + pointers + weaks + data <= self.regions * self.words:
             made = Object(pointers, data, weaks)
             self.roots[mutator][register] = made
@@ -611,7 +618,7 @@ class WeakDrawer(Drawer):
             self.putweak(mutator, registers)
 
     def put_slot(self, mutator, registers, holder, place, source):
-        self.say(f"{mutator} putweak r{holder} {place} " + ("nil" if source is None else f"r{source}"))
+        self.say(mutator, "putweak", holder, place, source)
         target = registers[holder]
         if target and place < len(target.weaks):
             target.weaks[place] = None if source is None else registers[source]
@@ -625,7 +632,7 @@ class WeakDrawer(Drawer):
         self.put_slot(mutator, registers, holder, place, None)
 
     def take_slot(self, mutator, registers, register, holder, place):
-        self.say(f"{mutator} getweak r{register} r{holder} {place}")
+        self.say(mutator, "getweak", register, holder, place)
         target = registers[holder]
         if target and place < len(target.weaks):
             registers[register] = target.weaks[place]
@@ -640,7 +647,7 @@ class WeakDrawer(Drawer):
         self.take_slot(mutator, registers, self.any_register(registers), holder, place)
 
     def weaks(self, mutator, registers):
-        self.say(f"{mutator} weaks r{self.register(registers)}")
+        self.say(mutator, "weaks", self.register(registers))
 
     def many_slots(self):
         """An object with many weak slots, which alone hold what they name; some of it is taken while marking runs."""
@@ -703,7 +710,8 @@ def add_options(parser):
     parser.add_argument("--words", type=int, help="words a region")
     parser.add_argument("--buffer", type=int, help="words a buffer")
     parser.add_argument("--mutators", type=int, help="mutators")
-    parser.add_argument("--card", type=int, help="words a card: 8 to 64, or 512 in the third format; 0 for the first format; alone: not the third format")
+    parser.add_argument("--card", type=int,
+                        help="words a card: 8 to 64, or 512 in the third format; 0 for the first format; alone: not the third format")
     parser.add_argument("--globals", type=int, help="globals, in the third format")
     parser.add_argument("--registers", type=int, help="registers of each mutator, in the third format; 0: never the third format")
     parser.add_argument("--first", type=int, help="the first object's name; drawn, some are above what a signed number holds")
