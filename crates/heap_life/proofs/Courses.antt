@@ -55,10 +55,6 @@ is_right : (a b : Bool) → a && b ≡ true → b ≡ true
 is_right true b e = e
 is_right false b e = absurd (cc)
 
-is_either : (a b : Bool) → a || b ≡ true → (a ≡ true) ⊎ (b ≡ true)
-is_either true b e = inl refl
-is_either false b e = inr e
-
 is_equal : (a b : ℕ) → (a == b) ≡ true → a ≡ b
 is_equal a b e = grind arith
 

@@ -1,11 +1,9 @@
-pub mod Parts
 pub mod Moments
 mod Rates
 pub mod Courses
 mod Drawn
 mod FileNames
 mod Redrawn
-pub mod Putting
 pub mod NamedRoots
 pub mod Tellings
 pub mod Shown

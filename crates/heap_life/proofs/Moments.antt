@@ -21,7 +21,7 @@ use Rattle.heap_steps.specs.declared.step.Event.{Event}
 use Rattle.graph_runs.specs.State.{State}
 use Rattle.step_core.specs.Stands.{CoreState, Stands, IsCore}
 use Rattle.step_core.specs.Passages.{Runs, RunsTo}
-use Rattle.heap_life.specs.Numbers.{IsNumbersOf}
+use Rattle.heap_dump.specs.Numbers.{IsNumbersOf}
 use Rattle.heap_life.specs.declared.life.Moment.{Moment}
 use Rattle.heap_life.specs.declared.pace.Pace.{Pace}
 use Rattle.heap_life.specs.Paces.{counts, counts_with, counted, counted_with, one_if, IsShown, IsDue, IsPaceFor, most_moments}

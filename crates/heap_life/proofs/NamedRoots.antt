@@ -10,10 +10,11 @@ use Rattle.root_table.specs.Roots.{AreNil, IsNextNamed}
 use Rattle.heap_model.specs.Heap.{Stored}
 use Rattle.script_text.specs.Texts.{Adds}
 use Rattle.step_core.specs.Stands.{CoreState}
-use Rattle.heap_life.specs.Telling.{named, root_at, root_text}
+use Rattle.heap_dump.specs.Lists.{named}
+use Rattle.heap_life.specs.Telling.{root_at, root_text}
 use Rattle.heap_life.specs.RegionTexts.{fields_text, letter_text, progress_text, stored_text}
-use Rattle.heap_life.specs.declared.shares.Part.{Part}
-use Rattle.heap_life.proofs.Putting.{adds_at}
+use Rattle.heap_dump.specs.declared.shares.Part.{Part}
+use Rattle.heap_dump.proofs.Putting.{adds_at}
 
 -- a place that holds nil is passed over
 passed_nil : (ws : List (Option ℕ)) (from : ℕ) → from < length ws → slice_index_or ws from None ≡ None

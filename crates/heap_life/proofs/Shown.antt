@@ -6,7 +6,7 @@ use Rattle.heap_steps.specs.declared.step.Event.{Event}
 use Rattle.graph_runs.specs.State.{State}
 use Rattle.step_core.specs.Stands.{CoreState, Stands}
 use Rattle.step_core.specs.Passages.{Runs}
-use Rattle.heap_life.specs.Numbers.{IsNumbersOf}
+use Rattle.heap_dump.specs.Numbers.{IsNumbersOf}
 use Rattle.heap_life.specs.Tolds.{Told, told_of, with_moment}
 use Rattle.heap_life.specs.Tellers.{HasTold, TellsMoment}
 use Rattle.heap_life.specs.Lives.{IsCoreAfter, IsToldOf, NotesIf, NotesTold, ToldBy, moment_in}

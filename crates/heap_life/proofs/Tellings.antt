@@ -1,20 +1,18 @@
 -- Regions and moments that are told.
 use Rattle.std.proofs.Common.{◌≡◌, ◌∙◌, ◌+◌, ◌<◌, ◌≤◌, ℕ, Bool, true, false, List, [], ◌∷◌, ◌++◌, Option, Some, None}
 use Rattle.std.proofs.Common.{length, set, refl, sym, ap, subst, arith, inl, inr}
-use Rattle.std.specs.Prelude.{All, slice_get, ◌&&◌, nat_le, if◌then◌else◌}
+use Rattle.std.specs.Prelude.{slice_get, ◌&&◌, nat_le, if◌then◌else◌}
 use Rattle.std.specs.Str.{bytes_eq}
-use Rattle.std.specs.Prelude.{◌⊎◌}
 use Rattle.std.proofs.Math.ListN.{length-set}
-use Rattle.std.proofs.lemmas.Option.{slice_get-get_or}
 use Rattle.std.proofs.lemmas.Bool.{cases_lt}
 use Rattle.std.proofs.lemmas.Slice.Eq.{bytes_eq-Decides}
 use Rattle.heap_model.proofs.Lists.{get-set_other, get-set_same}
 use Rattle.script_text.specs.Texts.{Adds, AddsText, emptied, are_same, text_length}
 use Rattle.step_core.specs.Stands.{CoreState}
-use Rattle.heap_life.specs.Telling.{text_below}
+use Rattle.heap_dump.specs.Lists.{text_below}
 use Rattle.heap_life.specs.Tolds.{Told, AreLast, TellsRegion, TellsRegions, end_text, news_of, told_of, with_moment}
 use Rattle.heap_life.specs.declared.life.Moment.{Moment}
-use Rattle.heap_life.proofs.Putting.{adds_as, adds_below, adds_nothing}
+use Rattle.heap_dump.proofs.Putting.{adds_as, adds_below, adds_nothing}
 
 -- ---- one region
 
@@ -35,10 +33,6 @@ lines_are (Some z) (Some y) lines x h e =
     let same : y ≡ h.0 ++ lines = h.2 in
     let is : y ≡ x = cc in
     sym is ∙ same ∙ ap (λ (l : List ℕ). l ++ lines) first
-
-some_or_none : (a : Option (List ℕ)) → (a ≡ None) ⊎ ((x : List ℕ) × (a ≡ Some x))
-some_or_none None = inl refl
-some_or_none (Some x) = inr (x, refl)
 
 -- what was told of it last is the same
 pub told_before : (b block was text : Option (List ℕ)) (lines : List ℕ) → Adds (emptied b) lines block → are_same block was ≡ true
@@ -188,7 +182,3 @@ pub told_last : (most : ℕ) (t : Told) (xs : List (Moment × CoreState)) (m : M
     → told_of most t (xs ++ (m, c) ∷ []) ≡ with_moment most (told_of most t xs) m c
 told_last most t [] m c = refl
 told_last most t (x ∷ xs) m c = told_last most (with_moment most t x.0 x.1) xs m c
-
--- no region is told yet
-pub none_last : (texts : List (Option (List ℕ))) → All (λ t. t ≡ Some []) texts → AreLast (λ k. []) texts
-none_last texts h = λ k lt. slice_get-get_or texts k None lt ∙ ap (λ (t : Option (List ℕ)). Some t) (h k None lt)

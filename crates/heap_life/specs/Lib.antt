@@ -1,5 +1,3 @@
-pub mod Shares
-pub mod Numbers
 pub mod Paces
 pub mod Telling
 pub mod RegionTexts

@@ -9,7 +9,7 @@ use Rattle.graph_runs.specs.State.{State, first_state}
 use Rattle.graph_runs.specs.Run.{IsRun}
 use Rattle.step_core.specs.Stands.{CoreState, Stands}
 use Rattle.step_core.specs.Passages.{Runs, RunsTo, step_in, actor_in}
-use Rattle.heap_life.specs.Numbers.{IsNumbersOf}
+use Rattle.heap_dump.specs.Numbers.{IsNumbersOf}
 use Rattle.heap_life.specs.Paces.{IsDue, IsPaceFor, most_moments}
 use Rattle.heap_life.specs.Tolds.{Told, nothing_told, tells_tiles, told_of}
 use Rattle.heap_life.specs.Tellers.{HasTold, TellsMoment}

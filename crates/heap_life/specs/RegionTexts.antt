@@ -1,51 +1,31 @@
 -- What is told of a region.
-use Rattle.std.specs.Prelude.{◌+◌, ◌-◌, ◌*◌, ◌==◌, ◌&&◌, ℕ, min, Bool, false, not, if◌then◌else◌, List, [], ◌∷◌, ◌++◌, Option, Some, None}
-use Rattle.std.specs.Prelude.{length, take, codes, flat_map, slice_index, slice_index_or, nat_lt, nat_le}
+use Rattle.std.specs.Prelude.{◌+◌, ◌-◌, ◌*◌, ◌==◌, ℕ, Bool, false, if◌then◌else◌, List, [], ◌++◌, Option, Some, None}
+use Rattle.std.specs.Prelude.{length, codes, flat_map, slice_index, slice_index_or, nat_lt, nat_le}
 use Rattle.std.specs.Fmt.{decimal}
 use Rattle.heap_words.specs.declared.addr.Addr.{Addr}
 use Rattle.heap_model.specs.Heap.{Stored}
 use Rattle.script_text.specs.Texts.{spaced_number}
 use Rattle.regions.specs.Table.{Table, kind_of, used_of, object_at, pointers_at, weaks_at, values_at}
-use Rattle.regions.specs.Walks.{placed, tiles_of}
 use Rattle.regions.specs.declared.row.Kind.{Kind}
 use Rattle.regions.specs.declared.row.Kind.TheVariants as kinds
 use Rattle.regions.specs.declared.row.Shape.{Shape}
 use Rattle.regions.specs.declared.row.Shape.TheVariants.{Object, Filler, Forwarded}
-use Rattle.mark_bitmap.specs.Marks.{is_marked}
-use Rattle.mark_bitmap.specs.Tops.{is_below}
 use Rattle.remembered_sets.specs.Sets.{CardSet, set_of}
 use Rattle.step_core.specs.Stands.{CoreState, name_in}
 use Rattle.step_core.specs.Measures.{live_in}
-use Rattle.heap_life.specs.Shares.{part_in, part_words}
-use Rattle.heap_life.specs.Telling.{text_below}
-use Rattle.heap_life.specs.declared.shares.Part.{Part}
-use Rattle.heap_life.specs.declared.shares.Part.TheVariants as parts
-
--- the marking that runs found the object at an address, and hasn't scanned it
-abbrev pub is_grey_at : CoreState → ℕ → Bool
-is_grey_at c a = is_marked c.marker.bitmaps.next a && not (is_marked c.marker.grey.scanned a)
-
-abbrev pub is_grey_tile : CoreState → ℕ → Shape → Bool
-is_grey_tile c a (Object p w d) = is_grey_at c a
-is_grey_tile c a _ = false
-
-abbrev pub grey_in : CoreState → List (Addr × Shape) → ℕ
-grey_in c [] = 0
-grey_in c (x ∷ xs) = (if is_grey_tile c x.0 x.1 then 1 else 0) + grey_in c xs
-
--- the tiles that start in region k
-abbrev pub region_tiles : CoreState → ℕ → List (Addr × Shape)
-region_tiles c k = placed (k * c.table.words_per_region) (tiles_of c.table k)
-
--- how many grey objects start in region k, as far as it fits 32 bits
-abbrev pub grey_words : CoreState → ℕ → ℕ
-grey_words c k = min (grey_in c (region_tiles c k)) 4294967295
+use Rattle.heap_dump.specs.Lists.{first, text_below}
+use Rattle.heap_dump.specs.Tiles.{progress_of}
+use Rattle.heap_dump.specs.Shares.{grey_objects, part_in, part_words, region_tiles}
+use Rattle.heap_dump.specs.declared.shares.Part.{Part}
+use Rattle.heap_dump.specs.declared.shares.Part.TheVariants as parts
+use Rattle.heap_dump.specs.declared.tiles.Progress.{Progress}
+use Rattle.heap_dump.specs.declared.tiles.Progress.TheVariants as progress
 
 -- the top at mark start above the region's bottom, and while marking runs the next top and how many objects are grey
 abbrev pub tops_text : CoreState → ℕ → List ℕ
 tops_text c k = spaced_number (slice_index c.marker.tams.previous k - k * c.table.words_per_region)
     ++ (if c.marker.running
-    then spaced_number (slice_index c.marker.tams.next k - k * c.table.words_per_region) ++ spaced_number (grey_words c k)
+    then spaced_number (slice_index c.marker.tams.next k - k * c.table.words_per_region) ++ spaced_number (grey_objects c k)
     else [])
 
 -- words that are handed out, marked, dead, new, of fillers, live
@@ -88,10 +68,10 @@ more_text n = if nat_lt 16 n then codes " +" ++ decimal (n - 16) else []
 
 -- the first 16 of a kind of fields, and how many more there are
 abbrev pub pointers_text : Table → List (Option ℕ) → List ℕ
-pointers_text t xs = flat_map (field_text t) (take (min (length xs) 16) xs) ++ more_text (length xs)
+pointers_text t xs = flat_map (field_text t) (first 16 xs) ++ more_text (length xs)
 
 abbrev pub values_text : List ℕ → List ℕ
-values_text xs = flat_map spaced_number (take (min (length xs) 16) xs) ++ more_text (length xs)
+values_text xs = flat_map spaced_number (first 16 xs) ++ more_text (length xs)
 
 abbrev pub fields_text : Table → ℕ → List ℕ
 fields_text t a = pointers_text t (pointers_at t a) ++ codes " ;" ++ pointers_text t (weaks_at t a) ++ codes " ;"
@@ -103,13 +83,15 @@ letter_text parts.Dead = codes "d"
 letter_text parts.New = codes "n"
 letter_text parts.Filler = codes "x"
 
--- what the marking that runs knows of an object: new, not found, scanned or grey
+abbrev pub progress_letter : Progress → List ℕ
+progress_letter progress.New = codes "n"
+progress_letter progress.Unmarked = codes "u"
+progress_letter progress.Grey = codes "g"
+progress_letter progress.Scanned = codes "s"
+
+-- what the marking that runs knows of an object; nothing where none runs
 abbrev pub progress_text : CoreState → ℕ → List ℕ
-progress_text c a =
-    if not c.marker.running then []
-    else (if not (is_below c.table.words_per_region c.marker.tams.next a) then codes "n"
-    else (if not (is_marked c.marker.bitmaps.next a) then codes "u"
-    else (if is_marked c.marker.grey.scanned a then codes "s" else codes "g")))
+progress_text c a = if c.marker.running then progress_letter (progress_of c a) else []
 
 -- an object's name, its state and its fields
 abbrev pub stored_text : CoreState → ℕ → Part → Option Stored → List ℕ

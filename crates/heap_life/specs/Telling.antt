@@ -1,21 +1,13 @@
 -- What is told of a heap at a moment, beside its regions.
-use Rattle.std.specs.Prelude.{◌==◌, ℕ, zero, suc, min, if◌then◌else◌, List, [], ◌∷◌, ◌++◌, Option, Some, None}
+use Rattle.std.specs.Prelude.{◌==◌, ℕ, if◌then◌else◌, List, [], ◌++◌, Option, Some, None}
 use Rattle.std.specs.Prelude.{length, take, codes, flat_map, slice_get, slice_index_or}
 use Rattle.script_text.specs.Texts.{spaced_number}
 use Rattle.alloc_buffers.specs.declared.buffers.Buffer.{Buffer}
 use Rattle.satb_log.specs.Logs as logs
 use Rattle.step_core.specs.Stands.{CoreState}
+use Rattle.heap_dump.specs.Lists.{first, named, text_below}
 use Rattle.heap_life.specs.Paces.{one_if}
 use Rattle.heap_life.specs.declared.life.Moment.{Moment}
-
--- what is told of the numbers below one, one after another
-abbrev pub text_below : (ℕ → List ℕ) → ℕ → List ℕ
-text_below f zero = []
-text_below f (suc n) = text_below f n ++ f n
-
--- the first of some numbers, at most so many
-abbrev pub first_numbers : ℕ → List ℕ → List ℕ
-first_numbers most xs = flat_map spaced_number (take (min (length xs) most) xs)
 
 abbrev pub current_text : Option ℕ → List ℕ
 current_text None = codes " -"
@@ -41,7 +33,7 @@ buffer_of c m = buffer_text m (slice_get c.buffers.open_buffers m)
 
 -- the queue of refinement, from its front, at most 512 cards; nothing where it is empty
 abbrev pub queue_text : List ℕ → List ℕ
-queue_text queue = if length queue == 0 then [] else codes "q" ++ first_numbers 512 queue ++ codes "\n"
+queue_text queue = if length queue == 0 then [] else codes "q" ++ flat_map spaced_number (first 512 queue) ++ codes "\n"
 
 -- a mutator's card log; nothing where it is empty
 abbrev pub log_text : ℕ → List ℕ → List ℕ
@@ -56,12 +48,6 @@ deletions_text m log = if length log == 0 then [] else codes "d" ++ spaced_numbe
 
 abbrev pub deletions_of : CoreState → ℕ → List ℕ
 deletions_of c m = deletions_text m (logs.log_of c.marker.logs m)
-
--- the places of roots that aren't nil, counted from a place on, and where they lead
-abbrev pub named : ℕ → List (Option ℕ) → List (ℕ × ℕ)
-named place [] = []
-named place (None ∷ ws) = named (suc place) ws
-named place (Some at ∷ ws) = (place, at) ∷ named (suc place) ws
 
 abbrev pub root_text : ℕ × ℕ → List ℕ
 root_text root = spaced_number root.0 ++ spaced_number root.1

@@ -5,7 +5,8 @@ use Rattle.std.specs.Str.{bytes_eq}
 use Rattle.heap_words.specs.declared.config.Config.{Config}
 use Rattle.script_text.specs.Texts.{Adds}
 use Rattle.step_core.specs.Stands.{CoreState}
-use Rattle.heap_life.specs.Telling.{heap_text, text_below}
+use Rattle.heap_dump.specs.Lists.{text_below}
+use Rattle.heap_life.specs.Telling.{heap_text}
 use Rattle.heap_life.specs.RegionTexts.{region_text}
 use Rattle.heap_life.specs.declared.life.Moment.{Moment}
 

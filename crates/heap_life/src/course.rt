@@ -9,9 +9,9 @@ ghost use Rattle.heap_life.specs.Courses.{IsDone, Passes};
 
 use crate::life::Moment;
 use crate::moment_text::Teller;
-use crate::numbers::numbers_of;
 use crate::pace::Pace;
 use crate::pacing::{count_on, event_at};
+use heap_dump::numbers_of;
 use heap_steps::{Event, Record, Reply};
 use std::alloc::{AllocError, Global};
 use step_core::Core;

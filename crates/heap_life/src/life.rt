@@ -18,9 +18,9 @@ ghost use Rattle.heap_life.specs.Tolds.{tells_tiles};
 
 use crate::course::live_on;
 use crate::moment_text::Teller;
-use crate::numbers::Numbers;
 use crate::pace::Pace;
 use crate::pacing::pace_of;
+use heap_dump::Numbers;
 use heap_steps::{Actor, Event, Plan, Record, Reply, RunFault, Step, run_fault};
 use heap_words::config::Config;
 use std::alloc::{AllocError, Global};

@@ -10,19 +10,20 @@
 //!   r ..                                                                                    regions, as `region_text` has them
 //! ```
 
-ghost use Rattle.std.specs.Prelude.{◌≡◌, ◌<◌, ◌≤◌, ◌&&◌, ℕ, [], None, Some, All, IfOk};
+ghost use Rattle.std.specs.Prelude.{◌≡◌, ◌<◌, ◌&&◌, ℕ, [], None, Some, All, IfOk};
 ghost use Rattle.std.specs.Prelude.{length, take, flat_map, slice_index_or, nat_le};
 ghost use Rattle.script_text.specs.Texts.{Adds, spaced_number};
 ghost use Rattle.satb_log.specs.Logs as deletion_logs;
 ghost use Rattle.heap_life.specs.Telling.{buffer_of, current_text, deletions_of, heap_text, log_of, queue_text, roots_text, state_text};
 ghost use Rattle.heap_life.specs.RegionTexts.{region_text};
 ghost use Rattle.heap_life.specs.Tolds.{TellsRegion, TellsRegions, end_text};
-ghost use Rattle.heap_life.specs.Telling.{named, root_at, root_text, text_below, totals_text};
+ghost use Rattle.heap_dump.specs.Lists.{named, text_below};
+ghost use Rattle.heap_life.specs.Telling.{root_at, root_text, totals_text};
 
 use crate::life::Moment;
 use crate::region_text::put_region;
 use alloc_buffers::AllocBuffers;
-use cards::CardTable;
+use heap_dump::{put_logged, put_queued};
 use heap_words::addr::RegionNo;
 use root_table::Roots;
 use satb_log::logs::DeletionLogs;
@@ -101,16 +102,6 @@ fn put_buffers(core: &Core, text: &mut Text)
     }
 }
 
-/// Adds cards of the queue from its front on, so many.
-fn put_queued(cards: &CardTable, text: &mut Text, count: u32)
-    requires { count ≤ length cards.now.queue }
-    ensures { Adds text.old (flat_map spaced_number (take count cards.now.queue)) text.new }
-{
-    for place in 0..count {
-        text.put_number(u64::from(cards.queued_card(place).number()));
-    }
-}
-
 /// Adds the queue of refinement.
 fn put_queue(core: &Core, text: &mut Text)
     ensures { Adds text.old (queue_text core.now.cards.queue) text.new }
@@ -123,16 +114,6 @@ fn put_queue(core: &Core, text: &mut Text)
     text.put("q");
     put_queued(cards, text, count.min(MOST_CARDS));
     text.put("\n");
-}
-
-/// Adds the cards of a mutator's log.
-fn put_logged(cards: &CardTable, text: &mut Text, mutator: u32)
-    requires { mutator < length cards.now.logs }
-    ensures { Adds text.old (flat_map spaced_number (slice_index_or cards.now.logs mutator [])) text.new }
-{
-    for place in 0..cards.logged(mutator) {
-        text.put_number(u64::from(cards.logged_card(mutator, place).number()));
-    }
 }
 
 /// Adds a mutator's card log.

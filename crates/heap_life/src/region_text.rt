@@ -10,19 +10,17 @@
 //! Numbers are words, but for GREY, which counts objects. Tops at mark start are words above the region's bottom; NEXT and GREY are there
 //! while marking runs.
 
-ghost use Rattle.std.specs.Prelude.{◌<◌, length, flat_map};
-ghost use Rattle.script_text.specs.Texts.{Adds, spaced_number};
+ghost use Rattle.std.specs.Prelude.{◌<◌, length};
+ghost use Rattle.script_text.specs.Texts.{Adds};
 ghost use Rattle.remembered_sets.specs.Sets.{set_of};
 ghost use Rattle.regions.specs.Table.{kind_of};
-ghost use Rattle.heap_life.specs.Telling.{text_below};
+ghost use Rattle.heap_dump.specs.Lists.{text_below};
 ghost use Rattle.heap_life.specs.RegionTexts.{kind_text, region_line, region_text, rest_text, set_text, shares_text, tops_text, whole_text};
 
-use crate::numbers::used_words;
-use crate::shares::{grey_count, live_words, shares_of};
 use crate::tile_text::put_tiles;
+use heap_dump::{grey_count, live_words, put_cards, shares_of, used_words};
 use heap_words::addr::RegionNo;
 use regions::Kind;
-use remembered_sets::RememberedSets;
 use script_text::Text;
 use step_core::Core;
 
@@ -88,16 +86,6 @@ fn put_line(core: &Core, text: &mut Text, region: RegionNo)
     text.put_number(u64::from(region.number()));
     put_kind(core, text, region);
     text.put("\n");
-}
-
-/// Adds the cards of a region's remembered set.
-fn put_cards(sets: &RememberedSets, text: &mut Text, region: RegionNo)
-    requires { region < length sets.now.sets }
-    ensures { Adds text.old (flat_map spaced_number (set_of sets.now region).inline) text.new }
-{
-    for place in 0..sets.card_count(region) {
-        text.put_number(u64::from(sets.card(region, place).number()));
-    }
 }
 
 /// Adds a region, if all its cards are in the remembered set of another.

@@ -13,9 +13,10 @@ ghost use Rattle.script_text.specs.Texts.{Adds};
 ghost use Rattle.regions.specs.Table.{object_at, pointers_at, weaks_at, values_at};
 ghost use Rattle.regions.specs.Walks.{IsPlacedTile, placed, tiles_of};
 ghost use Rattle.heap_life.specs.RegionTexts.{field_text, fields_text, filler_text, letter_text, more_text, object_text, pointers_text};
-ghost use Rattle.heap_life.specs.RegionTexts.{progress_text, region_tiles, tile_text, tiles_text, values_text};
+ghost use Rattle.heap_life.specs.RegionTexts.{progress_letter, progress_text, tile_text, tiles_text, values_text};
+ghost use Rattle.heap_dump.specs.Shares.{region_tiles};
 
-use crate::shares::{Part, part_of};
+use heap_dump::{Part, Progress, part_of, progress_of, put_values};
 use heap_words::addr::{Addr, Ptr, RegionNo};
 use regions::{RegionTable, Shape};
 use script_text::Text;
@@ -76,15 +77,12 @@ fn put_weaks(table: &RegionTable, text: &mut Text, object: Addr)
 }
 
 /// Adds an object's data.
-fn put_values(table: &RegionTable, text: &mut Text, object: Addr)
+fn put_data(table: &RegionTable, text: &mut Text, object: Addr)
     requires { IsSome (object_at table.now object) }
     ensures { Adds text.old (values_text (values_at table.now object)) text.new }
 {
-    let count = table.value_count(object);
-    for field in 0..count.min(SHOWN) {
-        text.put_number(table.get_value(object, field));
-    }
-    put_more(text, count);
+    put_values(table, text, object, SHOWN);
+    put_more(text, table.value_count(object));
 }
 
 /// Adds an object's fields.
@@ -96,7 +94,7 @@ fn put_fields(table: &RegionTable, text: &mut Text, object: Addr)
     text.put(" ;");
     put_weaks(table, text, object);
     text.put(" ;");
-    put_values(table, text, object);
+    put_data(table, text, object);
 }
 
 /// The letter of what an object counts as.
@@ -111,30 +109,25 @@ fn letter(part: Part) -> &'static str
     }
 }
 
-/// The letter of what the marking that runs knows of an object, none where none runs.
-fn progress(core: &Core, object: Addr) -> &'static str
-    requires { IsSome (object_at core.now.table object) }
-    ensures { result.now ≡ progress_text core.now object }
+/// The letter of what the marking that runs knows of an object.
+fn progress_letter(progress: Progress) -> &'static str
+    ensures { result.now ≡ progress_letter progress }
 {
-    if !core.marking() {
-        return "";
+    match progress {
+        Progress::New => "n",
+        Progress::Unmarked => "u",
+        Progress::Grey => "g",
+        Progress::Scanned => "s",
     }
-    core.remembers();
-    core.table().law();
-    let marker = core.marker();
-    if !marker
-        .tams
-        .is_below_next(core.table().words_per_region(), object)
-    {
-        return "n";
-    }
-    if !marker.bitmaps.next.get(object) {
-        return "u";
-    }
-    if marker.grey.is_scanned(object) {
-        "s"
-    } else {
-        "g"
+}
+
+/// Adds what the marking knows of an object, while it runs.
+fn put_progress(core: &Core, text: &mut Text, object: Addr)
+    requires { IsSome (object_at core.now.table object) }
+    ensures { Adds text.old (progress_text core.now object) text.new }
+{
+    if core.marking() {
+        text.put(progress_letter(progress_of(core, object)));
     }
 }
 
@@ -147,7 +140,7 @@ fn put_object(core: &Core, text: &mut Text, object: Addr, part: Part)
     text.put_digits(table.name(object));
     text.put(" ");
     text.put(letter(part));
-    text.put(progress(core, object));
+    put_progress(core, text, object);
     put_fields(table, text, object);
 }
 

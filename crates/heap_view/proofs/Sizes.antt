@@ -18,7 +18,6 @@ regrouped v p q r s t f = simp append_assoc
 
 pub sizes_are : (c : Config) → verb_of c.format ++ spaced_number c.regions ++ spaced_number c.words ++ spaced_number c.buffer
     ++ spaced_number c.mutators ++ spaced_number c.first_name ++ format_text c.format ++ 10 ∷ [] ≡ line (heap_words c)
-unfolding format_text
 sizes_are c = ap (λ (l : List ℕ). l ++ 10 ∷ [])
     (regrouped (verb_of c.format) (spaced_number c.regions) (spaced_number c.words) (spaced_number c.buffer) (spaced_number c.mutators)
     (spaced_number c.first_name) (format_text c.format)

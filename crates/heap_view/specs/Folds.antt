@@ -3,31 +3,30 @@ use Rattle.std.specs.Prelude.{ℕ, zero, suc, ◌+◌, ◌-◌, nat_lt, Bool, fa
 use Rattle.std.specs.Fmt.{decimal}
 use Rattle.regions.specs.Table.{Table, front_count, is_free, nth_region}
 use Rattle.step_core.specs.Stands.{CoreState}
-use Rattle.heap_view.specs.Lists.{ended}
 use Rattle.heap_view.specs.Areas.{region_line}
 
 -- whether region k is free
-unfoldable pub is_free_at : Table → ℕ → Bool
+abbrev pub is_free_at : Table → ℕ → Bool
 is_free_at t k = is_free (nth_region t k)
 
 -- whether the region below k is free
-unfoldable pub is_below_free : Table → ℕ → Bool
+abbrev pub is_below_free : Table → ℕ → Bool
 is_below_free t zero = false
 is_below_free t (suc j) = is_free_at t j
 
 -- how many free regions are side by side from region k on
-unfoldable pub free_run : Table → ℕ → ℕ
+abbrev pub free_run : Table → ℕ → ℕ
 free_run t k = front_count is_free (drop k t.regions)
 
 -- free regions side by side, n of them from k on: one line
-unfoldable pub run_line : CoreState → ℕ → ℕ → List ℕ
-run_line c k n = if nat_lt 1 n then ended (codes "regions " ++ decimal k ++ codes " to " ++ decimal (k + n - 1) ++ codes ": free")
+abbrev pub run_line : CoreState → ℕ → ℕ → List ℕ
+run_line c k n = if nat_lt 1 n then codes "regions " ++ decimal k ++ codes " to " ++ decimal (k + n - 1) ++ codes ": free\n"
     else region_line c k
 
 -- a free region: the lowest of those side by side has the line of them all, and the others have none
-unfoldable pub free_line : CoreState → ℕ → List ℕ
+abbrev pub free_line : CoreState → ℕ → List ℕ
 free_line c k = if is_below_free c.table k then [] else run_line c k (free_run c.table k)
 
 -- region k in a folded summary
-unfoldable pub folded_line : CoreState → ℕ → List ℕ
+abbrev pub folded_line : CoreState → ℕ → List ℕ
 folded_line c k = if is_free_at c.table k then free_line c k else region_line c k

@@ -1,6 +1,6 @@
 -- The text of a view, by what of the heap is viewed.
 use Rattle.std.specs.Prelude.{ℕ, ◌*◌, nat_lt, ◌&&◌, Bool, true, false, List, ◌++◌, Option, Some, None, length, codes, if◌then◌else◌}
-use Rattle.std.specs.List.{flat_map, range_with_len}
+use Rattle.std.specs.List.{flat_map}
 use Rattle.std.specs.Fmt.{decimal}
 use Rattle.heap_words.specs.declared.config.Format.{Format}
 use Rattle.heap_steps.specs.Actors.{is_third}
@@ -9,55 +9,61 @@ use Rattle.regions.specs.Table.{free_count}
 use Rattle.step_core.specs.Stands.{CoreState}
 use Rattle.step_core.specs.Measures.{used_words, live_words}
 use Rattle.heap_view.specs.declared.glance.Glance.{Glance}
-use Rattle.heap_view.specs.Lists.{ended}
+use Rattle.heap_dump.specs.Lists.{text_below}
 use Rattle.heap_view.specs.Areas.{region_line, region_lines}
 use Rattle.heap_view.specs.Folds.{folded_line}
 use Rattle.heap_view.specs.Actors.{queue_line, actor_lines}
 
 -- what the first line has after the first name, each after a space
-unfoldable pub format_text : Format → List ℕ
+abbrev pub format_text : Format → List ℕ
 format_text format = flat_map (λ word. codes " " ++ word) (format_words format)
 
--- the next name, and whether marking runs
-unfoldable pub state_lines : CoreState → List ℕ
-state_lines c = ended (codes "next name " ++ decimal c.next)
-    ++ ended (if c.marker.running then codes "marking runs, objects scanned: " ++ decimal c.marker.scans.since
-    else codes "marking doesn't run")
+-- whether marking runs
+abbrev pub marking_line : CoreState → List ℕ
+marking_line c = if c.marker.running then codes "marking runs, objects scanned: " ++ decimal c.marker.scans.since ++ codes "\n"
+    else codes "marking doesn't run\n"
+
+-- the next name, and that
+abbrev pub state_lines : CoreState → List ℕ
+state_lines c = codes "next name " ++ decimal c.next ++ codes "\n" ++ marking_line c
 
 -- a region's one line in a summary, else its lines
-unfoldable pub one_region : Bool → CoreState → ℕ → List ℕ
+abbrev pub one_region : Bool → CoreState → ℕ → List ℕ
 one_region true c k = region_line c k
 one_region false c k = region_lines c k
 
 -- the region of a number, if there is one
-unfoldable pub numbered_region : Bool → CoreState → ℕ → List ℕ
+abbrev pub numbered_region : Bool → CoreState → ℕ → List ℕ
 numbered_region summary c k = if nat_lt k (length c.table.regions) then one_region summary c k
-    else ended (codes "region " ++ decimal k ++ codes ": there is none")
+    else codes "region " ++ decimal k ++ codes ": there is none\n"
 
 -- whether free regions side by side are one line: in a summary, of the third format alone
 abbrev pub is_folded : Bool → CoreState → Bool
 is_folded summary c = summary && is_third c.config.format
 
 -- region k where all are viewed
-unfoldable pub listed_region : Bool → CoreState → ℕ → List ℕ
+abbrev pub listed_region : Bool → CoreState → ℕ → List ℕ
 listed_region summary c k = if is_folded summary c then folded_line c k else one_region summary c k
 
--- what all regions add up to: words handed out, live words, free regions, and cards in the queue
-unfoldable pub total_line : CoreState → List ℕ
-total_line c = ended (codes "in all: " ++ decimal (used_words c) ++ codes " of " ++ decimal (c.config.regions * c.config.words)
-    ++ codes " words handed out, " ++ decimal (live_words c) ++ codes " live, " ++ decimal (free_count c.table) ++ codes " of "
-    ++ decimal c.config.regions ++ codes " regions free, " ++ decimal (length c.cards.queue) ++ codes " cards queued")
+-- what all regions add up to: words handed out and live words; free regions, and cards in the queue
+abbrev pub total_words : CoreState → List ℕ
+total_words c = codes "in all: " ++ decimal (used_words c) ++ codes " of " ++ decimal (c.config.regions * c.config.words)
+    ++ codes " words handed out, " ++ decimal (live_words c) ++ codes " live, "
+
+abbrev pub total_regions : CoreState → List ℕ
+total_regions c = decimal (free_count c.table) ++ codes " of " ++ decimal c.config.regions ++ codes " regions free, "
+    ++ decimal (length c.cards.queue) ++ codes " cards queued\n"
 
 -- what is below the regions: in a summary what they add up to, else the queue, the roots and the mutators
-unfoldable pub below_regions : Bool → CoreState → List ℕ
-below_regions true c = total_line c
+abbrev pub below_regions : Bool → CoreState → List ℕ
+below_regions true c = total_words c ++ total_regions c
 below_regions false c = queue_line c.cards.queue ++ actor_lines c
 
 -- the region that is asked for, or each region and what is below them
-unfoldable pub viewed_regions : Option ℕ → Bool → CoreState → List ℕ
+abbrev pub viewed_regions : Option ℕ → Bool → CoreState → List ℕ
 viewed_regions (Some k) summary c = numbered_region summary c k
 viewed_regions None summary c =
-    flat_map (listed_region summary c) (range_with_len 0 (length c.table.regions)) ++ below_regions summary c
+    text_below (listed_region summary c) (length c.table.regions) ++ below_regions summary c
 
 -- the text of a view: the sizes as the script's first line has them, the state, and what of the regions is viewed
 unfoldable pub view_text : Glance → CoreState → List ℕ

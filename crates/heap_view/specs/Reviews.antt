@@ -1,15 +1,14 @@
 -- A record that is read, and the view of its heap that is written.
-use Rattle.std.specs.Prelude.{◌≡◌, ◌≢◌, ℕ, ⊤, List, map, Option, Result, Ok, Err}
+use Rattle.std.specs.Prelude.{◌≡◌, ℕ, ⊤, List, map, Option, Result, Ok}
 use Rattle.heap_steps.specs.Actors.{EventList}
 use Rattle.heap_steps.specs.declared.step.Event.{Event}
 use Rattle.heap_steps.specs.Faults.{IsRunFault}
-use Rattle.script_text.specs.Lines.{FailsBy}
 use Rattle.script_text.specs.Events.{record_of}
-use Rattle.script_text.specs.Watched.{Reader, Writer, FailsToGive, Takes, TakesPart, Stays}
-use Rattle.script_text.specs.declared.fault.WriteFault.TheVariants as writes
+use Rattle.script_text.specs.Watched.{Reader, Writer}
 use Rattle.step_core.specs.Stands.{CoreState}
 use Rattle.step_core.specs.Passages.{RunsFromNew, RunsTo, step_in}
-use Rattle.job_ends.specs.Runs.{GivesAll, Tells}
+use Rattle.job_ends.specs.Answers.{AnswersRecord}
+use Rattle.job_ends.specs.Runs.{Tells}
 use Rattle.job_ends.specs.declared.faults.JobFault.{JobFault}
 use Rattle.job_ends.specs.declared.faults.JobFault.TheVariants as faults
 use Rattle.jobs.specs.Replays.{reply_in, DiffersAt}
@@ -46,21 +45,10 @@ IsRedoFault events (faults.Run fault) = IsRunFault events.config fault
 IsRedoFault events (faults.Differs event) = DiffersAt RunsFromNew events event
 IsRedoFault events _ = ⊥
 
--- How a view of a record after so many events ended, as a script's. Nothing was written where the heap gives another reply to one of them
+-- how a view of a record after so many events ended
 abbrev pub Reviews : Glance → Reader → Reader → Writer → Writer → Result ⊤ JobFault → Type 0
-Reviews glance given left old new (Ok done) = (input : List ℕ) × GivesAll given left input
-    × ((text : List ℕ) × IsReviewOfRecord glance input text × Takes old new text)
-Reviews glance given left old new (Err (faults.Read fault)) = FailsToGive fault given left × Stays old new
-Reviews glance given left old new (Err (faults.Line fault)) = (input : List ℕ) × GivesAll given left input
-    × FailsBy fault.kind fault input (record_of input) × Stays old new
-Reviews glance given left old new (Err (faults.Run fault)) = (input : List ℕ) × GivesAll given left input
-    × ((history : EventList) × (record_of input ≡ Ok history) × IsRunFault history.config fault) × Stays old new
-Reviews glance given left old new (Err (faults.Judge fault)) = ⊥
-Reviews glance given left old new (Err (faults.Differs event)) = (input : List ℕ) × GivesAll given left input
-    × ((history : EventList) × (record_of input ≡ Ok history)
-    × DiffersAt RunsFromNew (beginning_of glance.at history) event) × Stays old new
-Reviews glance given left old new (Err (faults.Write fault)) = (input : List ℕ) × GivesAll given left input
-    × ((text : List ℕ) × IsReviewOfRecord glance input text × TakesPart old new text) × (fault ≢ writes.NoMemory)
+Reviews glance given left old new outcome =
+    AnswersRecord (IsReviewOfRecord glance) (λ history. DiffersAt RunsFromNew (beginning_of glance.at history)) given left old new outcome
 
 -- A record was viewed so, and it was told so.
 pub record PerformsReview (glance : Glance) (given left : Reader) (old new err err' : Writer) (status : ℕ) : Type 0 where

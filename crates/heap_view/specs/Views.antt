@@ -1,15 +1,13 @@
 -- A script that is read, and the view of its heap that is written.
-use Rattle.std.specs.Prelude.{◌≡◌, ◌≢◌, ℕ, ⊤, List, take, Option, Some, None, Result, Ok, Err}
+use Rattle.std.specs.Prelude.{◌≡◌, ℕ, ⊤, List, take, Option, Some, None, Result, Ok}
 use Rattle.heap_steps.specs.Actors.{StepList, EventList}
-use Rattle.script_text.specs.Lines.{script_of, FailsBy}
-use Rattle.script_text.specs.Watched.{Reader, Writer, FailsToGive, Takes, TakesPart, Stays}
-use Rattle.script_text.specs.declared.fault.WriteFault.TheVariants as writes
-use Rattle.heap_steps.specs.Faults.{IsRunFault}
+use Rattle.script_text.specs.Lines.{script_of}
+use Rattle.script_text.specs.Watched.{Reader, Writer}
 use Rattle.step_core.specs.Stands.{CoreState}
 use Rattle.step_core.specs.Passages.{IsRunInOrder, RunsTo}
-use Rattle.job_ends.specs.Runs.{GivesAll, Tells}
+use Rattle.job_ends.specs.Answers.{AnswersScript}
+use Rattle.job_ends.specs.Runs.{Tells}
 use Rattle.job_ends.specs.declared.faults.JobFault.{JobFault}
-use Rattle.job_ends.specs.declared.faults.JobFault.TheVariants as faults
 use Rattle.heap_view.specs.declared.glance.Glance.{Glance}
 use Rattle.heap_view.specs.Glances.{view_text}
 
@@ -36,20 +34,9 @@ pub record IsViewOfScript (glance : Glance) (input text : List ℕ) : Type 0 whe
   pub read : script_of input ≡ Ok plan
   pub viewed : IsViewOf glance plan text
 
--- How a view ended: the reader was `given` before and is `left` after, and the writer was `old` before and is `new` after. The view was
--- written at Ok, and no more; a beginning of it, and not all, where the writer refused; otherwise nothing.
+-- how a view ended
 abbrev pub Views : Glance → Reader → Reader → Writer → Writer → Result ⊤ JobFault → Type 0
-Views glance given left old new (Ok done) = (input : List ℕ) × GivesAll given left input
-    × ((text : List ℕ) × IsViewOfScript glance input text × Takes old new text)
-Views glance given left old new (Err (faults.Read fault)) = FailsToGive fault given left × Stays old new
-Views glance given left old new (Err (faults.Line fault)) = (input : List ℕ) × GivesAll given left input
-    × FailsBy fault.kind fault input (script_of input) × Stays old new
-Views glance given left old new (Err (faults.Run fault)) = (input : List ℕ) × GivesAll given left input
-    × ((plan : StepList) × (script_of input ≡ Ok plan) × IsRunFault plan.config fault) × Stays old new
-Views glance given left old new (Err (faults.Judge fault)) = ⊥
-Views glance given left old new (Err (faults.Differs event)) = ⊥
-Views glance given left old new (Err (faults.Write fault)) = (input : List ℕ) × GivesAll given left input
-    × ((text : List ℕ) × IsViewOfScript glance input text × TakesPart old new text) × (fault ≢ writes.NoMemory)
+Views glance given left old new outcome = AnswersScript (IsViewOfScript glance) given left old new outcome
 
 -- A script was viewed so, and it was told so.
 pub record PerformsView (glance : Glance) (given left : Reader) (old new err err' : Writer) (status : ℕ) : Type 0 where

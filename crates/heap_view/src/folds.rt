@@ -17,9 +17,7 @@ fn is_free(table: &RegionTable, region: RegionNo) -> bool
 {
     match table.kind(region) {
         Kind::Free => true,
-        Kind::Ordinary => false,
-        Kind::First => false,
-        Kind::Rest => false,
+        _ => false,
     }
 }
 
@@ -63,8 +61,7 @@ fn put_run(core: &Core, text: &mut Text, region: RegionNo, count: u32)
     text.put_digits(first);
     text.put(" to ");
     text.put_digits(first + count as u64 - 1);
-    text.put(": free");
-    text.put("\n");
+    text.put(": free\n");
 }
 
 /// Puts the line of a free region and of those side by side with it, if it is the lowest of them.

@@ -1,10 +1,10 @@
 //! What of a heap is viewed, and the text of that.
 
 ghost use Rattle.std.specs.Prelude.{◌≡◌, ◌<◌, ◌&&◌, length, IfOk};
-ghost use Rattle.std.specs.List.{flat_map, range_with_len};
 ghost use Rattle.script_text.specs.Texts.{Adds};
-ghost use Rattle.heap_view.specs.Glances.{state_lines, one_region, numbered_region, is_folded, listed_region};
-ghost use Rattle.heap_view.specs.Glances.{total_line, below_regions, viewed_regions, view_text};
+ghost use Rattle.heap_dump.specs.Lists.{text_below};
+ghost use Rattle.heap_view.specs.Glances.{one_region, numbered_region, is_folded, listed_region};
+ghost use Rattle.heap_view.specs.Glances.{total_words, total_regions, below_regions, viewed_regions, view_text};
 
 use crate::card_lines::put_queue;
 use crate::folds::put_folded;
@@ -52,8 +52,7 @@ fn put_numbered(core: &Core, text: &mut Text, number: u32, summary: bool)
     }
     text.put("region ");
     text.put_digits(number as u64);
-    text.put(": there is none");
-    text.put("\n");
+    text.put(": there is none\n");
 }
 
 /// Whether free regions side by side are one line: in a summary of a heap of the third format.
@@ -77,17 +76,16 @@ fn put_listed(core: &Core, text: &mut Text, region: RegionNo, summary: bool)
 
 /// Puts each region.
 fn put_each(core: &Core, text: &mut Text, summary: bool)
-    ensures { Adds text.old (flat_map (listed_region summary core.now) (range_with_len 0 (length core.now.table.regions))) text.new }
+    ensures { Adds text.old (text_below (listed_region summary core.now) (length core.now.table.regions)) text.new }
 {
     for number in 0..core.table().region_count() {
-        let region = RegionNo::new(number);
-        put_listed(core, text, region, summary);
+        put_listed(core, text, RegionNo::new(number), summary);
     }
 }
 
-/// Puts what the regions add up to.
-fn put_totals(core: &Core, text: &mut Text)
-    ensures { Adds text.old (total_line core.now) text.new }
+/// Puts how many words are handed out and live in all regions.
+fn put_total_words(core: &Core, text: &mut Text)
+    ensures { Adds text.old (total_words core.now) text.new }
 {
     let config = core.config();
     text.put("in all: ");
@@ -97,13 +95,18 @@ fn put_totals(core: &Core, text: &mut Text)
     text.put(" words handed out, ");
     text.put_digits(core.live_words());
     text.put(" live, ");
-    text.put_digits(core.free_regions() as u64);
+}
+
+/// Puts how many regions are free, and how many cards wait.
+fn put_total_regions(core: &Core, text: &mut Text)
+    ensures { Adds text.old (total_regions core.now) text.new }
+{
+    text.put_digits(u64::from(core.free_regions()));
     text.put(" of ");
-    text.put_digits(config.regions as u64);
+    text.put_digits(u64::from(core.config().regions));
     text.put(" regions free, ");
-    text.put_digits(core.queued() as u64);
-    text.put(" cards queued");
-    text.put("\n");
+    text.put_digits(u64::from(core.queued()));
+    text.put(" cards queued\n");
 }
 
 /// Puts what is below the regions.
@@ -111,7 +114,8 @@ fn put_below(core: &Core, text: &mut Text, summary: bool)
     ensures { Adds text.old (below_regions summary core.now) text.new }
 {
     if summary {
-        put_totals(core, text);
+        put_total_words(core, text);
+        put_total_regions(core, text);
         return;
     }
     put_queue(core.cards(), text);

@@ -2,7 +2,7 @@
 
 ghost use Rattle.script_text.specs.Spelling.{heap_words, line};
 ghost use Rattle.script_text.specs.Texts.{Adds};
-ghost use Rattle.heap_view.specs.Glances.{format_text, state_lines};
+ghost use Rattle.heap_view.specs.Glances.{format_text, marking_line, state_lines};
 ghost use Rattle.script_text.specs.Spelling.{verb_of};
 
 use heap_words::config::Format;
@@ -54,6 +54,19 @@ pub(crate) fn put_sizes(core: &Core, text: &mut Text)
     text.put("\n");
 }
 
+/// Puts whether marking runs.
+fn put_marking(core: &Core, text: &mut Text)
+    ensures { Adds text.old (marking_line core.now) text.new }
+{
+    if !core.marking() {
+        text.put("marking doesn't run\n");
+        return;
+    }
+    text.put("marking runs, objects scanned: ");
+    text.put_digits(u64::from(core.scans()));
+    text.put("\n");
+}
+
 /// Puts the next name, and whether marking runs.
 pub(crate) fn put_state(core: &Core, text: &mut Text)
     ensures { Adds text.old (state_lines core.now) text.new }
@@ -61,12 +74,5 @@ pub(crate) fn put_state(core: &Core, text: &mut Text)
     text.put("next name ");
     text.put_digits(core.next_name());
     text.put("\n");
-    if core.marking() {
-        text.put("marking runs, objects scanned: ");
-        text.put_digits(core.scans() as u64);
-        text.put("\n");
-        return;
-    }
-    text.put("marking doesn't run");
-    text.put("\n");
+    put_marking(core, text);
 }

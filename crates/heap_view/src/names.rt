@@ -1,8 +1,7 @@
 //! What a field leads to, by the object's name.
 
-ghost use Rattle.std.specs.Prelude.{◌++◌, codes};
 ghost use Rattle.script_text.specs.Texts.{Adds};
-ghost use Rattle.heap_view.specs.Tiles.{named_text, pointer_text};
+ghost use Rattle.heap_view.specs.Tiles.{named_text, pointer_text, spaced_pointer};
 
 use heap_words::addr::{Addr, Ptr};
 use regions::RegionTable;
@@ -37,7 +36,7 @@ pub(crate) fn put_pointer(table: &RegionTable, text: &mut Text, pointer: Ptr)
 
 /// Puts a space, and such a pointer.
 pub(crate) fn put_spaced_pointer(table: &RegionTable, text: &mut Text, pointer: Ptr)
-    ensures { Adds text.old (codes " " ++ pointer_text table.now pointer) text.new }
+    ensures { Adds text.old (spaced_pointer table.now pointer) text.new }
 {
     text.put(" ");
     put_pointer(table, text, pointer);

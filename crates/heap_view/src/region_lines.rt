@@ -1,14 +1,15 @@
 //! The regions, each with its tiles, or as one line.
 
-ghost use Rattle.std.specs.Prelude.{◌≡◌, ◌<◌, length};
-ghost use Rattle.regions.specs.Table.{kind_of, used_of};
+ghost use Rattle.std.specs.Prelude.{◌<◌, length};
+ghost use Rattle.regions.specs.Table.{kind_of};
 ghost use Rattle.remembered_sets.specs.Sets.{set_of};
 ghost use Rattle.script_text.specs.Texts.{Adds};
 ghost use Rattle.heap_view.specs.Areas.{kind_text, current_text, words_text, head_text, live_text, next_top_text, tops_text, body_lines};
-ghost use Rattle.heap_view.specs.Areas.{region_body, region_lines, use_text, line_body, region_line, set_line};
+ghost use Rattle.heap_view.specs.Areas.{region_lines, use_lines, use_text, line_body, region_line, set_line};
 
 use crate::card_lines::put_set;
 use crate::tile_lines::put_tiles;
+use heap_dump::{live_words, used_words};
 use heap_words::addr::RegionNo;
 use regions::{Kind, RegionTable};
 use script_text::Text;
@@ -40,41 +41,25 @@ fn put_tops(core: &Core, text: &mut Text, region: RegionNo)
 }
 
 /// Puts the live bound of an ordinary region.
-fn put_live(core: &Core, text: &mut Text, region: RegionNo, kind: Kind)
-    requires known { region < length core.now.table.regions }
-    requires kind { kind ≡ kind_of core.now.table region }
-    ensures { Adds text.old (live_text core.now region kind) text.new }
+fn put_live(core: &Core, text: &mut Text, region: RegionNo)
+    requires { region < length core.now.table.regions }
+    ensures { Adds text.old (live_text core.now region (kind_of core.now.table region)) text.new }
 {
-    core.remembers();
-    match kind {
-        Kind::Ordinary => {
-            text.put(", live bound ");
-            text.put_digits(core.marker().live_bound(core.table(), region) as u64);
-        }
-        Kind::Free => {}
-        Kind::First => {}
-        Kind::Rest => {}
+    if let Kind::Ordinary = core.table().kind(region) {
+        text.put(", live bound ");
+        text.put_digits(u64::from(live_words(core, region)));
     }
 }
 
-/// How many words of a region are handed out.
-fn used_in(table: &RegionTable, region: RegionNo) -> u32
-    requires { region < length table.now.regions }
-    ensures { result ≡ used_of table.now region }
-{
-    table.law();
-    table.top(region).word() - region.number() * table.words_per_region()
-}
-
 /// Puts how many words of a region are handed out.
-fn put_words(table: &RegionTable, text: &mut Text, region: RegionNo)
-    requires { region < length table.now.regions }
-    ensures { Adds text.old (words_text table.now region) text.new }
+fn put_words(core: &Core, text: &mut Text, region: RegionNo)
+    requires { region < length core.now.table.regions }
+    ensures { Adds text.old (words_text core.now.table region) text.new }
 {
     text.put(", ");
-    text.put_digits(used_in(table, region) as u64);
+    text.put_digits(used_words(core, region) as u64);
     text.put(" of ");
-    text.put_digits(table.words_per_region() as u64);
+    text.put_digits(core.table().words_per_region() as u64);
     text.put(" words handed out");
 }
 
@@ -89,11 +74,11 @@ fn put_current(core: &Core, text: &mut Text, region: RegionNo)
 }
 
 /// Puts which kind a region is of.
-fn put_kind(table: &RegionTable, text: &mut Text, region: RegionNo, kind: Kind)
+fn put_kind(table: &RegionTable, text: &mut Text, region: RegionNo)
     requires { region < length table.now.regions }
-    ensures { Adds text.old (kind_text table.now region kind) text.new }
+    ensures { Adds text.old (kind_text table.now region (kind_of table.now region)) text.new }
 {
-    match kind {
+    match table.kind(region) {
         Kind::Free => text.put("free"),
         Kind::Ordinary => text.put("ordinary"),
         Kind::First => {
@@ -112,7 +97,16 @@ fn put_head(table: &RegionTable, text: &mut Text, region: RegionNo)
     text.put("region ");
     text.put_digits(region.number() as u64);
     text.put(": ");
-    put_kind(table, text, region, table.kind(region));
+    put_kind(table, text, region);
+}
+
+/// Puts what is said of the words of a region in use.
+fn put_use(core: &Core, text: &mut Text, region: RegionNo)
+    requires { region < length core.now.table.regions }
+    ensures { Adds text.old (use_text core.now region) text.new }
+{
+    put_current(core, text, region);
+    put_words(core, text, region);
 }
 
 /// Puts a region's remembered set, if it isn't empty.
@@ -124,59 +118,42 @@ fn put_remembered(core: &Core, text: &mut Text, region: RegionNo)
     put_set(core.sets(), text, region, core.table().region_count());
 }
 
-/// Puts a region that is in use, after its kind.
-fn put_body(core: &Core, text: &mut Text, region: RegionNo, kind: Kind)
-    requires known { region < length core.now.table.regions }
-    requires kind { kind ≡ kind_of core.now.table region }
-    ensures { Adds text.old (body_lines core.now region kind) text.new }
+/// Puts what is said of the words of a region in use, and the lines below it.
+fn put_lines(core: &Core, text: &mut Text, region: RegionNo)
+    requires { region < length core.now.table.regions }
+    ensures { Adds text.old (use_lines core.now region) text.new }
 {
-    put_current(core, text, region);
-    put_words(core.table(), text, region);
+    put_use(core, text, region);
     text.put("\n");
     put_tops(core, text, region);
-    put_live(core, text, region, kind);
+    put_live(core, text, region);
     text.put("\n");
     put_remembered(core, text, region);
     put_tiles(core, text, region);
 }
 
-/// Puts what the one line of a region in use says of its words.
-fn put_use(core: &Core, text: &mut Text, region: RegionNo, kind: Kind)
-    requires known { region < length core.now.table.regions }
-    requires kind { kind ≡ kind_of core.now.table region }
-    ensures { Adds text.old (use_text core.now region kind) text.new }
+/// Puts what follows a region's kind: of a free one nothing but the line's end.
+fn put_body(core: &Core, text: &mut Text, region: RegionNo)
+    requires { region < length core.now.table.regions }
+    ensures { Adds text.old (body_lines core.now region (kind_of core.now.table region)) text.new }
 {
-    put_current(core, text, region);
-    put_words(core.table(), text, region);
-    put_live(core, text, region, kind);
+    if let Kind::Free = core.table().kind(region) {
+        text.put("\n");
+        return;
+    }
+    put_lines(core, text, region);
 }
 
 /// Puts what follows a region's kind in its one line: of a free one nothing.
-fn put_line_body(core: &Core, text: &mut Text, region: RegionNo, kind: Kind)
-    requires known { region < length core.now.table.regions }
-    requires kind { kind ≡ kind_of core.now.table region }
-    ensures { Adds text.old (line_body core.now region kind) text.new }
+fn put_line_body(core: &Core, text: &mut Text, region: RegionNo)
+    requires { region < length core.now.table.regions }
+    ensures { Adds text.old (line_body core.now region (kind_of core.now.table region)) text.new }
 {
-    match kind {
-        Kind::Free => {}
-        Kind::Ordinary => put_use(core, text, region, kind),
-        Kind::First => put_use(core, text, region, kind),
-        Kind::Rest => put_use(core, text, region, kind),
+    if let Kind::Free = core.table().kind(region) {
+        return;
     }
-}
-
-/// Puts what follows a region's kind: of a free one nothing.
-fn put_region_body(core: &Core, text: &mut Text, region: RegionNo, kind: Kind)
-    requires known { region < length core.now.table.regions }
-    requires kind { kind ≡ kind_of core.now.table region }
-    ensures { Adds text.old (region_body core.now region kind) text.new }
-{
-    match kind {
-        Kind::Free => text.put("\n"),
-        Kind::Ordinary => put_body(core, text, region, kind),
-        Kind::First => put_body(core, text, region, kind),
-        Kind::Rest => put_body(core, text, region, kind),
-    }
+    put_use(core, text, region);
+    put_live(core, text, region);
 }
 
 /// Puts a region as one line.
@@ -185,7 +162,7 @@ pub(crate) fn put_region_line(core: &Core, text: &mut Text, region: RegionNo)
     ensures { Adds text.old (region_line core.now region) text.new }
 {
     put_head(core.table(), text, region);
-    put_line_body(core, text, region, core.table().kind(region));
+    put_line_body(core, text, region);
     text.put("\n");
 }
 
@@ -195,5 +172,5 @@ pub(crate) fn put_region(core: &Core, text: &mut Text, region: RegionNo)
     ensures { Adds text.old (region_lines core.now region) text.new }
 {
     put_head(core.table(), text, region);
-    put_region_body(core, text, region, core.table().kind(region));
+    put_body(core, text, region);
 }

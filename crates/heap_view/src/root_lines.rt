@@ -1,47 +1,38 @@
 //! Roots, and what each mutator has: its registers, its buffer and its logs.
 
-ghost use Rattle.std.specs.Prelude.{◌≡◌, ◌<◌, ◌≤◌, ◌-◌, ◌||◌, length, codes, slice_get};
-ghost use Rattle.std.specs.List.{flat_map, range_with_len};
+ghost use Rattle.std.specs.Prelude.{◌≡◌, ◌<◌, ◌≤◌, ◌||◌, length, codes, is_some, slice_get};
 ghost use Rattle.satb_log.specs.Logs.{log_of};
 ghost use Rattle.script_text.specs.Texts.{Adds};
 ghost use Rattle.heap_view.specs.Lists.{titled_line};
-ghost use Rattle.heap_view.specs.Tiles.{pointer_text};
-ghost use Rattle.heap_view.specs.Actors.{comma_text, none_text, next_text, has_some, root_text, roots_line};
-ghost use Rattle.heap_view.specs.Actors.{globals_line, registers_line, buffer_line, logged_text, mutator_lines, actor_lines};
+ghost use Rattle.heap_dump.specs.Lists.{text_below};
+ghost use Rattle.heap_view.specs.Actors.{none_text, place_text, root_text, roots_text};
+ghost use Rattle.heap_view.specs.Actors.{globals_line, registers_line, buffer_line, held_lines, logged_text, mutator_lines, actor_lines};
 
 use crate::card_lines::put_card_log;
 use crate::names::{put_pointer, put_spaced_pointer};
 use alloc_buffers::AllocBuffers;
-use heap_words::addr::Ptr;
+use heap_words::addr::{Addr, Ptr};
 use regions::RegionTable;
 use root_table::Roots;
 use satb_log::logs::DeletionLogs;
 use script_text::Text;
 use step_core::Core;
 
-/// Puts a comma where roots come before.
-fn put_comma(text: &mut Text, some: bool)
-    ensures { Adds text.old (comma_text some) text.new }
+/// Puts a root by its letter, its number and its object, and where that is.
+fn put_root(table: &RegionTable, text: &mut Text, letter: &'static str, number: u64, at: Addr)
+    ensures { Adds text.old (root_text table.now letter.now (number, at)) text.new }
 {
-    if !some {
-        return;
-    }
-    text.put(",");
+    text.put(" ");
+    text.put(letter);
+    text.put_digits(number);
+    text.put(" ");
+    put_pointer(table, text, Some(at));
+    text.put(" at ");
+    text.put_digits(at.word() as u64);
 }
 
-/// Puts that all roots are nil, where none come before.
-fn put_none(text: &mut Text, some: bool)
-    ensures { Adds text.old (none_text some) text.new }
-{
-    if some {
-        return;
-    }
-    text.put(" all nil");
-}
-
-/// Puts a root by its letter, its number and its object, and where that is, after a comma where others come before it. Answers
-/// whether some are there now.
-fn put_root(
+/// Puts the root of a place, if it isn't nil, after a comma where others come before it. Answers whether some are there now.
+fn put_place(
     table: &RegionTable,
     text: &mut Text,
     letter: &'static str,
@@ -49,22 +40,25 @@ fn put_root(
     root: Ptr,
     some: bool,
 ) -> bool
-    ensures put { Adds text.old (next_text some (root_text table.now letter.now number root)) text.new }
-    ensures some { result ≡ (some || has_some (root_text table.now letter.now number root)) }
+    ensures put { Adds text.old (place_text table.now letter.now some number root) text.new }
+    ensures some { result ≡ (some || is_some root) }
 {
-    match root {
-        None => some,
-        Some(at) => {
-            put_comma(text, some);
-            text.put(" ");
-            text.put(letter);
-            text.put_digits(number);
-            text.put(" ");
-            put_pointer(table, text, root);
-            text.put(" at ");
-            text.put_digits(at.word() as u64);
-            true
-        }
+    let Some(at) = root else {
+        return some;
+    };
+    if some {
+        text.put(",");
+    }
+    put_root(table, text, letter, number, at);
+    true
+}
+
+/// Puts that all roots are nil, where none come before.
+fn put_none(text: &mut Text, some: bool)
+    ensures { Adds text.old (none_text some) text.new }
+{
+    if !some {
+        text.put(" all nil");
     }
 }
 
@@ -79,21 +73,14 @@ fn put_roots(
 )
     requires order { first ≤ end }
     requires within { end ≤ length roots.now.words }
-    ensures { Adds text.old (roots_line table.now roots.now.words letter.now first (end - first)) text.new }
+    ensures { Adds text.old (roots_text table.now roots.now.words letter.now first end) text.new }
 {
     let mut some = false;
     for place in first..end {
-        some = put_root(
-            table,
-            text,
-            letter,
-            (place - first) as u64,
-            roots.get(place),
-            some,
-        );
+        let number = (place - first) as u64;
+        some = put_place(table, text, letter, number, roots.get(place), some);
     }
     put_none(text, some);
-    text.put("\n");
 }
 
 /// Puts what is left of a mutator's buffer, if one is open.
@@ -108,8 +95,7 @@ fn put_buffer(buffers: &AllocBuffers, text: &mut Text, mutator: u32)
             text.put_digits(buffer.next as u64);
             text.put(", ");
             text.put_digits(buffer.rest as u64);
-            text.put(" words left");
-            text.put("\n");
+            text.put(" words left\n");
         }
     }
 }
@@ -140,6 +126,7 @@ fn put_registers(core: &Core, text: &mut Text, mutator: u32)
     let first = places.register(mutator, 0);
     let end = places.register(mutator, places.registers());
     put_roots(core.table(), core.roots(), text, "r", first, end);
+    text.put("\n");
 }
 
 /// Puts the globals.
@@ -149,6 +136,18 @@ fn put_globals(core: &Core, text: &mut Text)
     core.remembers();
     let end = core.roots().places().globals() as usize;
     put_roots(core.table(), core.roots(), text, "g", 0, end);
+    text.put("\n");
+}
+
+/// Puts a mutator's buffer and its logs.
+fn put_held(core: &Core, text: &mut Text, mutator: u32)
+    requires { mutator < core.now.config.mutators }
+    ensures { Adds text.old (held_lines core.now mutator) text.new }
+{
+    core.remembers();
+    put_buffer(core.buffers(), text, mutator);
+    put_card_log(core.cards(), text, mutator);
+    put_deletion_log(core.table(), &core.marker().logs, text, mutator);
 }
 
 /// Puts a mutator.
@@ -156,19 +155,16 @@ fn put_mutator(core: &Core, text: &mut Text, mutator: u32)
     requires { mutator < core.now.config.mutators }
     ensures { Adds text.old (mutator_lines core.now mutator) text.new }
 {
-    core.remembers();
     text.put("mutator ");
     text.put_digits(mutator as u64);
     text.put(":");
     put_registers(core, text, mutator);
-    put_buffer(core.buffers(), text, mutator);
-    put_card_log(core.cards(), text, mutator);
-    put_deletion_log(core.table(), &core.marker().logs, text, mutator);
+    put_held(core, text, mutator);
 }
 
 /// Puts each mutator.
 fn put_mutators(core: &Core, text: &mut Text)
-    ensures { Adds text.old (flat_map (mutator_lines core.now) (range_with_len 0 core.now.config.mutators)) text.new }
+    ensures { Adds text.old (text_below (mutator_lines core.now) core.now.config.mutators) text.new }
 {
     for mutator in 0..core.config().mutators {
         put_mutator(core, text, mutator);

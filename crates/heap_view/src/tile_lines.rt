@@ -1,16 +1,16 @@
 //! The tiles of a region, a line each.
 
 ghost use Rattle.std.specs.Prelude.{◌≡◌, ◌↔◌, ◌<◌, IsSome, IsTrue, length, codes};
-ghost use Rattle.std.specs.Fmt.{decimal};
 ghost use Rattle.regions.specs.Table.{object_at, pointers_at, weaks_at, values_at};
 ghost use Rattle.regions.specs.Walks.{IsPlacedTile};
 ghost use Rattle.step_core.specs.Stands.{kept_of};
-ghost use Rattle.script_text.specs.Texts.{Adds};
+ghost use Rattle.script_text.specs.Texts.{Adds, spaced_number};
 ghost use Rattle.heap_view.specs.Lists.{more_text, titled};
-ghost use Rattle.heap_view.specs.Tiles.{pointer_text, progress_text, keeping_text, marking_text, fields_text, object_text, shape_text};
+ghost use Rattle.heap_view.specs.Tiles.{spaced_pointer, progress_text, keeping_text, marking_text, fields_text, object_text, shape_text};
 ghost use Rattle.heap_view.specs.Tiles.{tile_line, tile_lines};
 
 use crate::names::put_spaced_pointer;
+use heap_dump::{Progress, progress_of, put_values};
 use heap_words::addr::{Addr, RegionNo};
 use refinement::is_kept;
 use regions::{RegionTable, Shape};
@@ -35,7 +35,7 @@ fn put_more(text: &mut Text, count: u32)
 /// Puts the first pointers of an object, by the names that they lead to.
 fn put_pointers(table: &RegionTable, text: &mut Text, object: Addr)
     requires { IsSome (object_at table.now object) }
-    ensures { Adds text.old (titled (codes ", pointers") (pointer_text table.now) (pointers_at table.now object)) text.new }
+    ensures { Adds text.old (titled (codes ", pointers") (spaced_pointer table.now) (pointers_at table.now object)) text.new }
 {
     let count = table.pointer_count(object);
     if count == 0 {
@@ -51,7 +51,7 @@ fn put_pointers(table: &RegionTable, text: &mut Text, object: Addr)
 /// Puts the first weak slots of an object, by the names that they hold.
 fn put_weaks(table: &RegionTable, text: &mut Text, object: Addr)
     requires { IsSome (object_at table.now object) }
-    ensures { Adds text.old (titled (codes ", weak slots") (pointer_text table.now) (weaks_at table.now object)) text.new }
+    ensures { Adds text.old (titled (codes ", weak slots") (spaced_pointer table.now) (weaks_at table.now object)) text.new }
 {
     let count = table.weak_count(object);
     if count == 0 {
@@ -67,16 +67,14 @@ fn put_weaks(table: &RegionTable, text: &mut Text, object: Addr)
 /// Puts the first data words of an object.
 fn put_data(table: &RegionTable, text: &mut Text, object: Addr)
     requires { IsSome (object_at table.now object) }
-    ensures { Adds text.old (titled (codes ", data") decimal (values_at table.now object)) text.new }
+    ensures { Adds text.old (titled (codes ", data") spaced_number (values_at table.now object)) text.new }
 {
     let count = table.value_count(object);
     if count == 0 {
         return;
     }
     text.put(", data");
-    for field in 0..count.min(SHOWN) {
-        text.put_number(table.get_value(object, field));
-    }
+    put_values(table, text, object, SHOWN);
     put_more(text, count);
 }
 
@@ -90,25 +88,15 @@ fn put_fields(table: &RegionTable, text: &mut Text, object: Addr)
     put_data(table, text, object);
 }
 
-/// What the marking that runs knows of an object.
-fn progress(core: &Core, object: Addr) -> &'static str
-    requires { IsSome (object_at core.now.table object) }
-    ensures { result.now ≡ progress_text core.now object }
+/// What the marking that runs knows of an object, as a word.
+fn progress_text(progress: Progress) -> &'static str
+    ensures { result.now ≡ progress_text progress }
 {
-    core.remembers();
-    let table = core.table();
-    table.law();
-    let marker = core.marker();
-    if !marker.tams.is_below_next(table.words_per_region(), object) {
-        return "new";
-    }
-    if !marker.bitmaps.next.get(object) {
-        return "unmarked";
-    }
-    if marker.grey.is_scanned(object) {
-        "scanned"
-    } else {
-        "grey"
+    match progress {
+        Progress::New => "new",
+        Progress::Unmarked => "unmarked",
+        Progress::Grey => "grey",
+        Progress::Scanned => "scanned",
     }
 }
 
@@ -121,7 +109,7 @@ fn put_progress(core: &Core, text: &mut Text, object: Addr)
         return;
     }
     text.put(", ");
-    text.put(progress(core, object));
+    text.put(progress_text(progress_of(core, object)));
 }
 
 /// Puts whether an object is kept.

@@ -2,7 +2,7 @@ use Rattle.std.proofs.Common.{ℕ, List, Option, None, Some, arith, refl, subst}
 use Rattle.script_text.specs.Texts.{Adds}
 use Rattle.heap_life.specs.Telling.{current_text}
 use Rattle.heap_life.proofs.NamedRoots.{no_current}
-use Rattle.heap_life.proofs.Putting.{adds_at}
+use Rattle.heap_dump.proofs.Putting.{adds_at}
 use Rattle.heap_life.proofs.moment_text.put_current.Goals as goal
 
 pub loop-number-init : goal.loop-number-init

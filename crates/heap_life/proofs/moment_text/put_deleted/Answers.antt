@@ -1,7 +1,7 @@
 use Rattle.std.proofs.Common.{◌∙◌, sym}
 use Rattle.satb_log.specs.Logs.{log_of}
 use Rattle.script_text.specs.Texts.{spaced_number}
-use Rattle.heap_life.proofs.Putting.{adds_at, adds_more}
+use Rattle.heap_dump.proofs.Putting.{adds_at, adds_more}
 use Rattle.heap_life.proofs.moment_text.put_deleted.Goals as goal
 
 pub loop-place-preserved : goal.loop-place-preserved

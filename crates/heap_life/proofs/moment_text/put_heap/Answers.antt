@@ -1,4 +1,4 @@
-use Rattle.heap_life.proofs.Putting.{then_adds}
+use Rattle.heap_dump.proofs.Putting.{then_adds}
 use Rattle.heap_life.proofs.moment_text.put_heap.Goals as goal
 
 pub returns : goal.returns

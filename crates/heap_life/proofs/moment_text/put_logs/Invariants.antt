@@ -1,5 +1,6 @@
 use Rattle.script_text.specs.Texts.{Adds}
-use Rattle.heap_life.specs.Telling.{text_below, log_of}
+use Rattle.heap_dump.specs.Lists.{text_below}
+use Rattle.heap_life.specs.Telling.{log_of}
 use Rattle.heap_life.proofs.moment_text.put_logs.Given as goal
 
 abbrev pub invariant-loop-mutator : goal.invariant-loop-mutator

@@ -2,7 +2,7 @@ use Rattle.std.proofs.Common.{◌-◌, ℕ, Option, length, refl, subst, arith}
 use Rattle.std.specs.Prelude.{MatchOption}
 use Rattle.root_table.specs.Roots.{AreNil, IsNextNamed}
 use Rattle.heap_life.proofs.NamedRoots.{told_next, told_none, told_enough}
-use Rattle.heap_life.proofs.Putting.{leads_first, leads_on, leads_all}
+use Rattle.heap_dump.proofs.Putting.{leads_first, leads_on, leads_all}
 use Rattle.heap_life.proofs.moment_text.put_named.Goals as goal
 
 pub loop-place-init : goal.loop-place-init

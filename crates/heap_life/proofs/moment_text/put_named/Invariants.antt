@@ -1,7 +1,8 @@
 use Rattle.std.proofs.Common.{◌≤◌, ◌-◌, length, take, drop}
 use Rattle.std.specs.List.{flat_map}
-use Rattle.heap_life.specs.Telling.{named, root_text}
-use Rattle.heap_life.proofs.Putting.{Leads}
+use Rattle.heap_dump.specs.Lists.{named}
+use Rattle.heap_life.specs.Telling.{root_text}
+use Rattle.heap_dump.proofs.Putting.{Leads}
 use Rattle.heap_life.proofs.moment_text.put_named.Given as goal
 
 abbrev pub invariant-loop-place : goal.invariant-loop-place

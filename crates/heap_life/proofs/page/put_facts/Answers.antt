@@ -1,7 +1,7 @@
 use Rattle.std.proofs.Common.{ℕ, List, ap, length, sym}
 use Rattle.heap_steps.specs.declared.step.Event.{Event}
 use Rattle.heap_life.specs.Pages.{pace_text, sizes_text}
-use Rattle.heap_life.proofs.Putting.{adds_at, then_adds}
+use Rattle.heap_dump.proofs.Putting.{adds_at, then_adds}
 use Rattle.heap_life.proofs.page.put_facts.Goals as goal
 
 pub returns : goal.returns

@@ -1,5 +1,5 @@
 use Rattle.std.proofs.Common.{Vec, Global, ℕ}
-use Rattle.heap_life.proofs.Putting.{ends_with}
+use Rattle.heap_dump.proofs.Putting.{ends_with}
 use Rattle.heap_life.proofs.page.text_between.Goals as goal
 
 pub returns : goal.returns

@@ -1,6 +1,6 @@
 use Rattle.script_text.specs.Texts.{Adds}
 use Rattle.remembered_sets.specs.Sets.{set_of}
-use Rattle.heap_life.specs.Telling.{text_below}
+use Rattle.heap_dump.specs.Lists.{text_below}
 use Rattle.heap_life.specs.RegionTexts.{whole_text}
 use Rattle.heap_life.proofs.region_text.put_sources.Given as goal
 

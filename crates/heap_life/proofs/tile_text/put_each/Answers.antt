@@ -7,7 +7,7 @@ use Rattle.regions.specs.Shaped.{IsShaped}
 use Rattle.regions.specs.Walks.{ArePlaced, placed, tiles_of}
 use Rattle.regions.proofs.Walks.WalkTiles.{walk_placed}
 use Rattle.heap_life.specs.RegionTexts.{tile_text}
-use Rattle.heap_life.proofs.Putting.{leads_first, leads_on, leads_all}
+use Rattle.heap_dump.proofs.Putting.{leads_first, leads_on, leads_all}
 use Rattle.heap_life.proofs.tile_text.put_each.Goals as goal
 
 pub loop-at-init : goal.loop-at-init

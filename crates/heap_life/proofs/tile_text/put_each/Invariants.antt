@@ -1,7 +1,8 @@
 use Rattle.std.specs.List.{flat_map}
 use Rattle.regions.specs.Walks.{ArePlaced}
-use Rattle.heap_life.specs.RegionTexts.{region_tiles, tile_text}
-use Rattle.heap_life.proofs.Putting.{Leads}
+use Rattle.heap_dump.specs.Shares.{region_tiles}
+use Rattle.heap_life.specs.RegionTexts.{tile_text}
+use Rattle.heap_dump.proofs.Putting.{Leads}
 use Rattle.heap_life.proofs.tile_text.put_each.Given as goal
 
 abbrev pub invariant-loop-at : goal.invariant-loop-at

@@ -4,7 +4,7 @@ use Rattle.heap_model.specs.Heap.{Stored}
 use Rattle.regions.specs.Table.{Table, object_at}
 use Rattle.heap_life.specs.RegionTexts.{fields_text}
 use Rattle.heap_life.proofs.NamedRoots.{object_told}
-use Rattle.heap_life.proofs.Putting.{adds_as, adds_at, then_adds}
+use Rattle.heap_dump.proofs.Putting.{adds_as, adds_at, then_adds}
 use Rattle.heap_life.proofs.tile_text.put_object.Goals as goal
 
 pub returns : goal.returns
@@ -15,5 +15,5 @@ returns c =
     (then_adds _ _ _ _ _ (then_adds _ _ _ _ _ (then_adds _ _ _ _ _ (then_adds _ _ _ _ _ (c.put_digits.ensures)
     (c.put.ensures))
     (adds_as _ _ _ _ c.letter.ensures c.put-2.ensures))
-    (adds_as _ _ _ _ c.progress.ensures c.put-3.ensures))
+    c.put_progress.ensures)
     (adds_at (λ (t : Table). fields_text t c.args.object) _ _ _ _ (sym c.table-table.ensures) c.put_fields.ensures))

@@ -1,6 +1,6 @@
 use Rattle.regions.specs.Table.{pointers_at}
 use Rattle.heap_life.specs.RegionTexts.{field_text}
-use Rattle.heap_life.proofs.Putting.{adds_more}
+use Rattle.heap_dump.proofs.Putting.{adds_more}
 use Rattle.heap_life.proofs.tile_text.put_pointers.Goals as goal
 
 pub loop-field-preserved : goal.loop-field-preserved

@@ -1,6 +1,6 @@
 use Rattle.regions.specs.Table.{weaks_at}
 use Rattle.heap_life.specs.RegionTexts.{field_text}
-use Rattle.heap_life.proofs.Putting.{adds_more}
+use Rattle.heap_dump.proofs.Putting.{adds_more}
 use Rattle.heap_life.proofs.tile_text.put_weaks.Goals as goal
 
 pub loop-slot-preserved : goal.loop-slot-preserved

@@ -1,5 +1,4 @@
-use Rattle.heap_view.proofs.Putting.{then_adds}
-use Rattle.heap_view.proofs.Putting.{told_text}
+use Rattle.heap_dump.proofs.Putting.{then_adds, told_text}
 use Rattle.heap_view.specs.Glances.{view_text}
 use Rattle.heap_view.proofs.glance.view_text.Goals as goal
 

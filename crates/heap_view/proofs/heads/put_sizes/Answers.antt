@@ -1,4 +1,4 @@
-use Rattle.heap_view.proofs.Putting.{then_adds, adds_as}
+use Rattle.heap_dump.proofs.Putting.{then_adds, adds_as}
 use Rattle.std.proofs.Common.{ap, ◌∙◌}
 use Rattle.heap_words.specs.declared.config.Config.{Config}
 use Rattle.script_text.specs.Spelling.{heap_words, line}

@@ -1,14 +1,12 @@
-use Rattle.std.proofs.Common.{◌≡◌, subst}
+use Rattle.std.proofs.Common.{◌≡◌, subst, sym}
 use Rattle.std.specs.Prelude.{IfSome}
-use Rattle.heap_view.proofs.Putting.{then_adds, adds_at}
-use Rattle.std.proofs.Common.{sym}
 use Rattle.regions.specs.Table.{Table, object_at}
 use Rattle.step_core.proofs.Objects.{has_name}
-use Rattle.heap_view.specs.Tiles.{named_text, pointer_text, fields_text, object_text}
+use Rattle.heap_dump.proofs.Putting.{then_adds, adds_at}
+use Rattle.heap_view.specs.Tiles.{named_text, fields_text}
 use Rattle.heap_view.proofs.tile_lines.put_object.Goals as goal
 
 pub returns : goal.returns
-unfolding object_text named_text pointer_text
 returns c =
     let named = has_name (object_at c.args.core.now.table c.args.object) c.name.result c.requires.object
     (subst (λ (t : Table). IfSome (object_at t c.args.object) (λ s. c.name.result ≡ s.name)) c.table-table.ensures c.name.ensures) in

@@ -1,31 +1,23 @@
-use Rattle.std.proofs.Common.{◌≡◌, ◌∙◌, ℕ, Option, ◌++◌, sym, arith}
-use Rattle.std.specs.Prelude.{codes, min, length}
+use Rattle.std.proofs.Common.{◌≡◌, ◌∙◌, ℕ, sym, length, take, arith}
+use Rattle.std.specs.Prelude.{min}
+use Rattle.std.specs.List.{flat_map}
 use Rattle.regions.specs.Table.{weaks_at}
-use Rattle.heap_view.specs.Tiles.{pointer_text}
-use Rattle.heap_view.specs.Lists.{more_text, shown}
-use Rattle.heap_view.proofs.Putting.{adds_nothing, then_adds, adds_at, adds_more, adds_first}
-use Rattle.heap_view.proofs.Titles.{titled_none, titled_some}
+use Rattle.heap_dump.proofs.Putting.{adds_at, adds_more}
+use Rattle.heap_view.specs.Lists.{more_text}
+use Rattle.heap_view.specs.Tiles.{spaced_pointer}
+use Rattle.heap_view.proofs.Titles.{titled_some}
 use Rattle.heap_view.proofs.tile_lines.put_weaks.Goals as goal
-
-pub returns-then-count-eq0 : goal.returns-then-count-eq0
-returns-then-count-eq0 c =
-    titled_none _ (pointer_text c.args.table.now) (weaks_at c.args.table.now c.args.object) _ (sym c.weak_count-count.ensures ∙
-    c.if-count-eq0.true)
-
-pub loop-slot-init : goal.loop-slot-init
-loop-slot-init c = adds_nothing _
 
 pub loop-slot-preserved : goal.loop-slot-preserved
 loop-slot-preserved c =
-    adds_more (λ (x : Option ℕ). codes " " ++ pointer_text c.args.table.now x) (weaks_at c.args.table.now c.args.object) _ _ _ _ _
-    c.get_weak.ensures c.loop-slot.invariant c.put_spaced_pointer.ensures
+    adds_more (spaced_pointer c.args.table.now) (weaks_at c.args.table.now c.args.object) _ _ _ _ _ c.get_weak.ensures
+    c.loop-slot.invariant c.put_spaced_pointer.ensures
 
 pub returns : goal.returns
 returns c =
-    let past : c.loop-slot.slot ≡ min shown (length (weaks_at c.args.table.now c.args.object)) =
-    omega (arith, c.min-slot-end.ensures, c.weak_count-count.ensures) in
-    titled_some _ (pointer_text c.args.table.now) (weaks_at c.args.table.now c.args.object) _ _ (λ n. c.if-count-eq0.false
-    (c.weak_count-count.ensures ∙ n))
-    (then_adds _ _ _ _ _ (then_adds _ _ _ _ _ c.put.ensures (adds_first (λ (x : Option ℕ). codes " " ++ pointer_text c.args.table.now x)
-    (weaks_at c.args.table.now c.args.object) c.loop-slot.slot shown _ _ past c.loop-slot.invariant))
-    (adds_at more_text _ _ _ _ (sym c.weak_count-count.ensures) c.put_more.ensures))
+    let weaks = weaks_at c.args.table.now c.args.object in
+    let count = c.weak_count-count.ensures in
+    let all : min (length weaks) 8 ≡ c.loop-slot.slot = omega (arith, c.min-slot-end.ensures, count) in
+    titled_some _ (spaced_pointer c.args.table.now) weaks _ _ _ _ (λ n. c.if-count-eq0.false (count ∙ n)) c.put.ensures
+    (adds_at (λ (n : ℕ). flat_map (spaced_pointer c.args.table.now) (take n weaks)) _ _ _ _ all c.loop-slot.invariant)
+    (adds_at more_text _ _ _ _ (sym count) c.put_more.ensures)

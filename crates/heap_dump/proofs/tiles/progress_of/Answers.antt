@@ -1,0 +1,9 @@
+use Rattle.std.proofs.Common.{◌∙◌, ap, length}
+use Rattle.marker.specs.declared.marker.Marker.{Marker}
+use Rattle.heap_dump.proofs.Parts.{marked_word}
+use Rattle.heap_dump.proofs.tiles.progress_of.Goals as goal
+
+pub get-requires : goal.get-requires
+get-requires c =
+    marked_word c.args.core.now _ _ _ (ap (λ (m : Marker). length m.bitmaps.next) c.marker-marker.ensures
+    ∙ c.remembers.ensures.core.layers.marker.next.each_word) c.table.ensures c.law.ensures c.requires

@@ -1,0 +1,4 @@
+pub mod Lists
+pub mod Tiles
+pub mod Shares
+pub mod Numbers

@@ -1,9 +1,0 @@
-use Rattle.std.proofs.Common.{take}
-use Rattle.script_text.specs.Texts.{Adds}
-use Rattle.heap_view.specs.Lists.{each_spaced}
-use Rattle.std.specs.Fmt.{decimal}
-use Rattle.cards.specs.Cards.{log_of}
-use Rattle.heap_view.proofs.card_lines.put_card_log.Given as goal
-
-abbrev pub invariant-loop-place : goal.invariant-loop-place
-invariant-loop-place l = Adds l.initial.text (each_spaced decimal (take l.place (log_of l.cards l.mutator))) l.text
