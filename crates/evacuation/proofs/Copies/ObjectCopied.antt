@@ -73,6 +73,17 @@ pub same_tally : (set : ℕ → Bool) (h : Heap) (f f' : ℕ → Option ℕ) (w 
 same_tally set h f f' w w' p q t =
     subst (λ (u : ℕ). IsTally set h f' u) q (subst (λ (u : ℕ → Option ℕ). IsTally set h u w) (λ i a. p a i) t)
 
+-- a destination is the one that the copy went to, or was one before
+pub taken_by : (l : Layout) (s s' : Space) (d d' : Places) (k size : ℕ) → GoesOn l s s' d d' k ⊎ TakesNext l s s' d d' k size
+    → (j : ℕ) → IsTaken d' j → (j ≡ k) ⊎ IsTaken d j
+taken_by l s s' d d' k size how j w = elim how [
+  | inl g ↦ inr (record { at = w.at; is = ap (λ (v : List ℕ). slice_get v w.at) (sym g.regions) ∙ w.is })
+  | inr g ↦ elim (push_place d.regions k j w.at (ap (λ (v : List ℕ). slice_get v w.at) (sym g.regions) ∙ w.is)) [
+    | inl q ↦ inl q.1
+    | inr q ↦ inr (record { at = w.at; is = q })
+  ]
+]
+
 module _ (l : Layout) (p : Plan) (s s' : Space) (d d' : Places) (from to : ℕ) (x : Stored)
     (c : IsCopying l p s d) (u : CopiesTo l s s' d d' from to x) (n : IsNamed l p from) (at : s.object from ≡ Some x)
     (un : s.forward from ≡ None) (small : 2 * words_of x ≤ l.words) where
@@ -98,13 +109,7 @@ module _ (l : Layout) (p : Plan) (s s' : Space) (d d' : Places) (from to : ℕ) 
   back b y e o = sym (u.others b (λ q. let h = ap s'.object q in let g = u.gone in cc) o) ∙ e
 
   taken_cases : (j : ℕ) → IsTaken d' j → (j ≡ k) ⊎ IsTaken d j
-  taken_cases j w = elim u.how [
-    | inl g ↦ inr (record { at = w.at; is = ap (λ (v : List ℕ). slice_get v w.at) (sym g.regions) ∙ w.is })
-    | inr g ↦ elim (push_place d.regions k j w.at (ap (λ (v : List ℕ). slice_get v w.at) (sym g.regions) ∙ w.is)) [
-      | inl q ↦ inl q.1
-      | inr q ↦ inr (record { at = w.at; is = q })
-    ]
-  ]
+  taken_cases j w = taken_by l s s' d d' k (words_of x) u.how j w
 
   pub taken_grows : (i j : ℕ) → slice_get d.regions i ≡ Some j → slice_get d'.regions i ≡ Some j
   taken_grows i j e = elim u.how [

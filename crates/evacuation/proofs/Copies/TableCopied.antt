@@ -19,7 +19,7 @@ use Rattle.regions.proofs.Tiles.Placing as placing
 use Rattle.evacuation.specs.Space.{CopiesTo, GoesOn, TakesNext, IsTaken, filled, flag, words_of}
 use Rattle.evacuation.specs.Turns.{Pause, IsPause, IsTurn, TableStays, all_words, in_set, kept_now, layout, space}
 use Rattle.evacuation.proofs.Copies.LeftWords.{left_less}
-use Rattle.evacuation.proofs.Lists.{push_place}
+use Rattle.evacuation.proofs.Copies.ObjectCopied.{taken_by}
 use Rattle.evacuation.proofs.Turns.KeptObjects.{kept_as, kept_none, kept_object, kept_fresh, object_of, cases_free}
 
 pub filled_is : (p : Pause) (t : Table) (w : Option ℕ) → filled (space p t) w ≡ fill_of t w
@@ -108,13 +108,11 @@ module _ (p : Pause) (q : IsPause p) (t t' : Table) (d d' : Places) (turn : IsTu
   kept_other : (a : ℕ) → (a ≡ from → ⊥) → (a ≡ to → ⊥) → kept_now p t' a ≡ kept_now p t a
   kept_other a n m = kept_as p t t' a w.size (other a n m)
 
-  goes : (t ≡ t → ⊥) ⊎ ((c.table ≡ t) × (c.places ≡ d))
-      → GoesOn (layout p) (space p t) (space p t') d d' k ⊎ TakesNext (layout p) (space p t) (space p t') d d' k (words_of x)
-  goes (inl n) = absurd (n refl)
-  goes (inr g) =
+  goes : (c.table ≡ t) × (c.places ≡ d) → GoesOn (layout p) (space p t) (space p t') d d' k
+  goes g =
       let l : d.last ≡ Some k = ap (λ (y : Places). y.last) (sym g.1) ∙ c.opens.last in
       let o = (turn.taken k (turn.copying.last k l)).1 in
-      inl (record {
+      record {
         last = l;
         regions = ap (λ (y : Places). y.regions) c.places_are ∙ ap (λ (y : Places). y.regions) g.1;
         room = ap (λ (y : Places). y.room) c.places_are ∙ ap (λ (y : Places). y.room) g.1;
@@ -124,7 +122,7 @@ module _ (p : Pause) (q : IsPause p) (t t' : Table) (d d' : Places) (turn : IsTu
               (ordinary_kind t' k w.ordinary ∙ sym (ordinary_kind t k o))
           | inr e ↦ free_by_kind t' j ∙ ap kind_is_free (w.kinds_same j e) ∙ sym (free_by_kind t j)
         ];
-      })
+      }
 
   takes : Takes t c.table d c.places k → ((f : ℕ) → fill_of t d.last ≡ Some f → t.words_per_region < f + tile_size (Object x))
       → TakesNext (layout p) (space p t) (space p t') d d' k (words_of x)
@@ -168,7 +166,7 @@ module _ (p : Pause) (q : IsPause p) (t t' : Table) (d d' : Places) (turn : IsTu
         omega arith)
         inside at (kept_none p t' from (object_of t' from (Some (Forwarded to (tile_size (Object x)))) w.forwarded))
         (λ b n i. kept_other b n (λ e. let f = ap (in_set p) e in let g = to_out in absurd cc));
-    how = elim c.opens.how [ inl g ↦ goes (inr g) | inr g ↦ inr (takes g.0 g.1) ];
+    how = elim c.opens.how [ inl g ↦ inl (goes g) | inr g ↦ inr (takes g.0 g.1) ];
   }
 
   outside_same : (a : ℕ) (y : Stored) → in_set p a ≡ false → object_at t a ≡ Some y → object_at t' a ≡ Some y
@@ -240,13 +238,7 @@ module _ (p : Pause) (q : IsPause p) (t t' : Table) (d d' : Places) (turn : IsTu
 
   taken_cases : (j : ℕ) → IsTaken d' j → (j ≡ k) ⊎ IsTaken d j
   unfolding copies_to
-  taken_cases j is = elim copies_to.how [
-    | inl g ↦ inr (record { at = is.at; is = ap (λ (v : List ℕ). slice_get v is.at) (sym g.regions) ∙ is.is })
-    | inr g ↦ elim (push_place d.regions k j is.at (ap (λ (v : List ℕ). slice_get v is.at) (sym g.regions) ∙ is.is)) [
-      | inl e ↦ inl e.1
-      | inr e ↦ inr (record { at = is.at; is = e })
-    ]
-  ]
+  taken_cases j w = taken_by (layout p) (space p t) (space p t') d d' k (words_of x) copies_to.how j w
 
   pub copy_taken : (j : ℕ) → IsTaken d' j
       → (kind_of p.start j ≡ kinds.Free) × (kind_of t' j ≡ kinds.Ordinary) × (j < length p.start.regions)

@@ -77,7 +77,9 @@ module _ (l : Layout) (p : Plan) (s s' : Space) (d : Places) (c : IsCopying l p 
   module _ (t t' : List Bool) (notes : NotesWord l t t' (field_word at i) b) where
     word_settled : (w : Option ℕ) → w ≡ Some b → IsSettled l t' (field_word at i) w
     word_settled None e = cc
-    word_settled (Some x) e = let k : b ≡ x = cc in subst (λ (m : ℕ). IsSettled l t' (field_word at i) (Some m)) k (new_outside, notes.is_noted)
+    word_settled (Some x) e =
+        let k : b ≡ x = cc in
+        subst (λ (m : ℕ). IsSettled l t' (field_word at i) (Some m)) k (new_outside, notes.is_noted)
 
     place_cases : (j : ℕ) (w : Option ℕ) → slice_get (slice_set (fields y) i (Some b)) j ≡ Some w
         → ((i ≡ j) × (w ≡ Some b)) ⊎ (slice_get (fields y) j ≡ Some w)

@@ -70,8 +70,8 @@ module _ (p : Pause) (t : Table) (c : Context) (stands : PauseStands p t c) (g :
       )
 
   -- the copy at an address was settled: those below the next one are
-  module _ (t' : Table) (c' : Context) (on : PauseGoesOn p t t' c c') (at : ℕ) (r : at / p.start.words_per_region ≡ k) (o : IsObject (space p t) at)
-      (done : AreSettledBelow p c.noted t k at) (settled : IsObjectSettled (layout p) c'.noted (space p t') at) where
+  module _ (t' : Table) (c' : Context) (on : PauseGoesOn p t t' c c') (at : ℕ) (r : at / p.start.words_per_region ≡ k)
+      (o : IsObject (space p t) at) (done : AreSettledBelow p c.noted t k at) (settled : IsObjectSettled (layout p) c'.noted (space p t') at) where
     below_at : (b : ℕ) (y : Stored) → b / p.start.words_per_region ≡ k → b < at → kept_now p t' b ≡ Some y
         → IsObjectSettled (layout p) c'.noted (space p t') b
     below_at b y rb h e = elim (on.after.new_above b y (copy_outside b rb) e) [
@@ -119,7 +119,8 @@ module _ (p : Pause) (t t' : Table) (c c' : Context) (stands : PauseStands p t c
   still m j h e settled b y r here =
       let w : IsTaken c.destinations j = record { at = m; is = e } in
       let closed =
-      on.after.closed j w (λ l. let z = stands.turn.copying.last_at j m l e in let v = get_within c.destinations.regions n k at in absurd (omega arith)) in
+      on.after.closed j w (λ l.
+      let z = stands.turn.copying.last_at j m l e in let v = get_within c.destinations.regions n k at in absurd (omega arith)) in
       let was = closed.0 b y r here in
       λ i. settled_after on b i (ap (flag p.chosen) r ∙ stands.turn.copying.taken j w) was (settled b was.0 r was.1 i)
 

@@ -98,7 +98,8 @@ module _ (p : Pause) (visited : List Bool) (t t' : Table) (c c' : Context) (root
         let named = is ∙ ap Some was in
         let within = get_below (fields x) i (Some a) named in
         let big = object_within p.start b x q.shaped (kept_object p p.start b x (start_kept p b ∙ here)) in
-        let card = card_within p visited (field_word b i) p.card_words q refl are.each_card (omega (arith, length-append x.pointers x.weaks)) in
+        let card =
+        card_within p visited (field_word b i) p.card_words q refl are.each_card (omega (arith, length-append x.pointers x.weaks)) in
         outside b i (record { object = x; at = here; outside = out; within = within; card = are.all b i a x here out named inside }) card
         y (Some a) at e
     | inr k ↦ k

@@ -5,7 +5,8 @@ use Rattle.std.proofs.Common.{take, refl, sym, ap, subst, inl, inr, arith, eqb}
 use Rattle.std.specs.Prelude.{slice_get, ◌||◌, ◌==◌, if◌then◌else◌}
 use Rattle.std.specs.List.{list_any}
 use Rattle.std.specs.Cmp.{nat_eq_equiv}
-use Rattle.std.proofs.lemmas.Bool.{cases_eq, cases_lt, cases_Bool}
+use Rattle.std.proofs.Math.Bool.{or-false}
+use Rattle.std.proofs.lemmas.Bool.{cases_eq, cases_lt, cases_Bool, or_cases, or_parts}
 use Rattle.std.proofs.lemmas.List.Folds.{list_any-append}
 use Rattle.std.proofs.lemmas.List.{get_or-set_same, get_or-set_other, get_or_past, length-set, take_more}
 use Rattle.regions.specs.Table.{Free, Table, kind_of, region_kind, nth_region, released}
@@ -26,26 +27,14 @@ use Rattle.std.proofs.lemmas.Bool.Decides.{eqb_tells}
 use Rattle.evacuation.specs.Evacuates.{is_chosen, AreDistinct, MarksAfter}
 use Rattle.evacuation.specs.Releasing.{AreCleared, AreReleased, NoneForwardedInto}
 
-or_false : (b : Bool) → (b || false) ≡ b
-or_false true = refl
-or_false false = refl
-
 any_push : (f : LiveRow → Bool) (rows : List LiveRow) (row : LiveRow) → list_any f (rows ++ row ∷ []) ≡ (list_any f rows || f row)
-any_push f rows row = list_any-append f rows (row ∷ []) ∙ ap (λ (b : Bool). list_any f rows || b) (or_false (f row))
+any_push f rows row = list_any-append f rows (row ∷ []) ∙ ap (λ (b : Bool). list_any f rows || b) (or-false (f row))
 
 pub chosen_more : (rows : List LiveRow) (n : ℕ) (row : LiveRow) (k : ℕ) → n < length rows → get_or rows n row ≡ row
     → is_chosen (take (n + 1) rows) k ≡ (is_chosen (take n rows) k || (row.region == k))
 chosen_more rows n row k h e =
     ap (λ (rs : List LiveRow). is_chosen rs k) (take_more rows n row h ∙ ap (λ (r : LiveRow). take n rows ++ r ∷ []) e)
     ∙ any_push (λ r. r.region == k) (take n rows) row
-
-either : (a b : Bool) → (a || b) ≡ true → (a ≡ true) ⊎ (b ≡ true)
-either true b e = inl refl
-either false b e = inr e
-
-neither : (a b : Bool) → (a || b) ≡ false → (a ≡ false) × (b ≡ false)
-neither true b e = absurd cc
-neither false b e = (refl, e)
 
 region_is : (words r a : ℕ) → 0 < words → is_in_region words r a ≡ eqb r (a / words)
 region_is words r a z = elim (cases_Bool (is_in_region words r a)) [
@@ -55,10 +44,10 @@ region_is words r a z = elim (cases_Bool (is_in_region words r a)) [
 
 module _ (xs ys : ℕ → Bool) (r : ℕ) (more : (k : ℕ) → ys k ≡ (xs k || (r == k))) where
   new_cases : (k : ℕ) → ys k ≡ true → (xs k ≡ true) ⊎ (r ≡ k)
-  new_cases k e = elim (either (xs k) (r == k) (sym (more k) ∙ e)) [ inl q ↦ inl q | inr q ↦ inr (eqb-true r k q) ]
+  new_cases k e = elim (or_cases (xs k) (r == k) (sym (more k) ∙ e)) [ inl q ↦ inl q | inr q ↦ inr (eqb-true r k q) ]
 
   old_both : (k : ℕ) → ys k ≡ false → (xs k ≡ false) × (k ≢ r)
-  old_both k e = let n = neither (xs k) (r == k) (sym (more k) ∙ e) in (n.0, λ q. eqb-false r k n.1 (sym q))
+  old_both k e = let n = or_parts (xs k) (r == k) (sym (more k) ∙ e) in (n.0, λ q. eqb-false r k n.1 (sym q))
 
   pub step_released : (t0 t1 t2 : Table) → 0 < t1.words_per_region → r < length t1.regions → kind_of t1 r ≡ kinds.Ordinary
       → t2 ≡ released t1 r → AreReleased xs t0 t1 → AreReleased ys t0 t2

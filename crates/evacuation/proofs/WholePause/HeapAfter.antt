@@ -253,8 +253,10 @@ module _ (h : Layers) (rows : List LiveRow) (cw : ℕ) (can : CanEvacuate h rows
   spares = record {
     taken = length c1.destinations.regions;
     count = (let f = turn.copying.frees in let m = more in omega arith);
-    none = λ z. unused words (length c1.destinations.regions) (filled (space p t1) c1.destinations.last) c1.destinations.words turn.copying.spared z;
-    full = λ two. half words (length c1.destinations.regions) (filled (space p t1) c1.destinations.last) c1.destinations.words turn.copying.spared two;
+    none = unused words (length c1.destinations.regions) (filled (space p t1) c1.destinations.last) c1.destinations.words
+        turn.copying.spared;
+    full = half words (length c1.destinations.regions) (filled (space p t1) c1.destinations.last) c1.destinations.words
+        turn.copying.spared;
   }
     where
       unused : (w n : ℕ) (fill : Option ℕ) (copied : ℕ) → AreSpared w n fill copied → copied ≡ 0 → n ≡ 0
@@ -297,8 +299,10 @@ module _ (h : Layers) (rows : List LiveRow) (cw : ℕ) (can : CanEvacuate h rows
 
     copied : (a : ℕ) → IsReached (set_by h rows) (heap_of h) a ↔ ((set_by h rows a ≡ true) × (b : ℕ) × (forward a ≡ Some b))
     copied = subst (λ (s : ℕ → Bool). (a : ℕ) → IsReached s (heap_of h) a ↔ ((s a ≡ true) × (b : ℕ) × (forward a ≡ Some b))) (sym sets_same)
-        (λ a.
-        (λ r. let (b, e) = done.reached a r in (reached_inside (in_set p) (heap_of h) a r, b, e), λ q. turn.copying.heap.reached a q.1 q.0 q.2))
+        (λ a. (
+          λ r. let (b, e) = done.reached a r in (reached_inside (in_set p) (heap_of h) a r, b, e),
+          λ q. turn.copying.heap.reached a q.1 q.0 q.2,
+        ))
 
     kept_there : (b : ℕ) (y : Stored) → kept_in t2 tams' previous' b ≡ Some y → (in_set p b ≡ false) × (kept_now p t1 b ≡ Some y)
     kept_there b y e = elim (cases_Bool (in_set p b)) [

@@ -95,7 +95,8 @@ returns-in_default g c =
           (λ b i w e.
           let o = (onward g.pause stands.premises c.args.place.card c.args.table.now c.args.context.now.destinations stands.turn
           c.law.ensures c.args.first holder visited b i w e).1 in
-          let s = region_by b c.args.first g.pause.start.words_per_region c.args.table.now.words_per_region (sym stands.turn.table.size) o in
+          let s = region_by b c.args.first g.pause.start.words_per_region c.args.table.now.words_per_region
+          (sym stands.turn.table.size) o in
           region_by b c.tiles.at c.update_tile.new.table.words_per_region g.pause.start.words_per_region
           on.stands.turn.table.size (s ∙ sym v.region));
     }
