@@ -1,5 +1,5 @@
 -- What is told of a region.
-use Rattle.std.specs.Prelude.{◌+◌, ◌-◌, ◌*◌, ◌==◌, ℕ, Bool, false, if◌then◌else◌, List, [], ◌++◌, Option, Some, None}
+use Rattle.std.specs.Prelude.{◌-◌, ◌*◌, ◌==◌, ℕ, Bool, false, if◌then◌else◌, List, [], ◌++◌, Option, Some, None}
 use Rattle.std.specs.Prelude.{length, codes, flat_map, slice_index, slice_index_or, nat_lt, nat_le}
 use Rattle.std.specs.Fmt.{decimal}
 use Rattle.heap_words.specs.declared.addr.Addr.{Addr}
