@@ -54,7 +54,8 @@ in_buffer t b m size x = record {
 -- at the start of a new one, which is pushed at a region's top
 abbrev pub in_new_buffer : Buffers → ℕ → ℕ → Option Room → Option Placement
 in_new_buffer b m size None = None
-in_new_buffer b m size (Some r) = Some (in_buffer (push_tile r.table r.region (Filler b.words)) (record b { current = Some r.region }) m size
+in_new_buffer b m size (Some r) = Some (in_buffer (push_tile r.table r.region (Filler b.words))
+    (record b { current = Some r.region }) m size
     (record { next = top_of r.table r.region; rest = b.words }))
 
 abbrev pub alone : Buffers → ℕ → Option Room → Option Placement

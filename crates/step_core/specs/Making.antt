@@ -53,7 +53,8 @@ pub record MakesObject (m : ℕ) (to : Register) (counts : Counts) (weaks : ℕ)
   pub made : HasMade m (actions.NewWeak to counts weaks) reply c'
 
 -- and where an object was made, the register holds its address
-pub record MakesNew (m : ℕ) (to : Register) (counts : Counts) (weaks : ℕ) (made : Result NewObject Refusal) (c c' : CoreState) : Type 0 where
+pub record MakesNew (m : ℕ) (to : Register) (counts : Counts) (weaks : ℕ) (made : Result NewObject Refusal)
+    (c c' : CoreState) : Type 0 where
   pub makes : MakesObject m to counts weaks (new_reply made) c c'
   pub at : IfOk made (λ x. register_of c' m to ≡ Some x.at)
 

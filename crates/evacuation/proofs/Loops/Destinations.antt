@@ -71,7 +71,8 @@ module _ (p : Pause) (t : Table) (c : Context) (stands : PauseStands p t c) (g :
 
   -- the copy at an address was settled: those below the next one are
   module _ (t' : Table) (c' : Context) (on : PauseGoesOn p t t' c c') (at : ℕ) (r : at / p.start.words_per_region ≡ k)
-      (o : IsObject (space p t) at) (done : AreSettledBelow p c.noted t k at) (settled : IsObjectSettled (layout p) c'.noted (space p t') at) where
+      (o : IsObject (space p t) at) (done : AreSettledBelow p c.noted t k at)
+      (settled : IsObjectSettled (layout p) c'.noted (space p t') at) where
     below_at : (b : ℕ) (y : Stored) → b / p.start.words_per_region ≡ k → b < at → kept_now p t' b ≡ Some y
         → IsObjectSettled (layout p) c'.noted (space p t') b
     below_at b y rb h e = elim (on.after.new_above b y (copy_outside b rb) e) [

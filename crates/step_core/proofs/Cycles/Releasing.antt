@@ -137,7 +137,8 @@ module _ (k : CoreState) (core : IsCore k) (shaped : IsShaped k.table) (n m : �
         ∙ ap (λ (b : Bool). keeps b (is_marked mk.bitmaps.previous a) (object_at (released k.table n) a))
         (below_near size (released k.table n).words_per_region k.marker.tams.previous mk.tams.previous a
         frees.size (top_left f.previous (a / size) (outside (a / size) out)))
-        ∙ ap (λ (b : Bool). keeps (is_below size k.marker.tams.previous a) b (object_at (released k.table n) a)) (mark_left f.previous a (outside (a / size) out))
+        ∙ ap (λ (b : Bool). keeps (is_below size k.marker.tams.previous a) b (object_at (released k.table n) a)) (mark_left f.previous a
+            (outside (a / size) out))
         ∙ ap (keeps (is_below size k.marker.tams.previous a) (is_marked k.marker.bitmaps.previous a))
         (object_near k.table (released k.table n) a frees.size (frees.others (a / size) out))
         ∙ sym (kept_by_parts k a)

@@ -68,7 +68,8 @@ put_object-requires c =
     let at = top_at _ _ _ _ _ _ n c.top-to.ensures in
     let small = c.self.invariant.table.small in
     record {
-      within = omega (arith, at, t.room, n.size_is, c.requires.room, c.object_size-size.ensures, c.word-2.ensures, c.self.invariant.each_card);
+      within = omega (arith, at, t.room, n.size_is, c.requires.room, c.object_size-size.ensures, c.word-2.ensures,
+          c.self.invariant.each_card);
       small = omega (arith, at, t.room, n.size_is, c.requires.room, c.object_size-size.ensures, c.word-2.ensures, small);
     }
 

@@ -47,7 +47,8 @@ put_filler-requires c =
     let small = c.self.invariant.table.small in
     record {
       positive = omega (arith, c.get-more.ensures.positive);
-      within = omega (arith, at, t.room, n.size_is, c.requires.room, c.get-more.ensures.value, c.word-2.ensures, c.self.invariant.each_card);
+      within = omega (arith, at, t.room, n.size_is, c.requires.room, c.get-more.ensures.value, c.word-2.ensures,
+          c.self.invariant.each_card);
       small = omega (arith, at, t.room, n.size_is, c.requires.room, c.get-more.ensures.value, c.word-2.ensures, small);
     }
 
