@@ -1,17 +1,17 @@
 -- Regions are forgotten one after another.
-use Rattle.std.proofs.Common.{◌≡◌, ◌+◌, ◌*◌, ◌/◌, ◌<◌, ◌≤◌, ◌∙◌}
-use Rattle.std.proofs.Common.{ℕ, Bool, true, false, List, length, refl, sym, ap, subst, set, arith, inl, inr}
+use Rattle.std.proofs.Common.{◌≡◌, ◌+◌, ◌*◌, ◌/◌, ◌<◌, ◌∙◌}
+use Rattle.std.proofs.Common.{ℕ, Bool, false, List, length, refl, sym, ap, arith, inl, inr}
 use Rattle.std.specs.Prelude.{◌||◌, ◌==◌, if◌then◌else◌}
-use Rattle.std.proofs.lemmas.Bool.{cases_eq, cases_lt, eq-eqb}
+use Rattle.std.proofs.lemmas.Bool.{cases_lt}
 use Rattle.std.proofs.lemmas.Bool.Decides.{eqb_tells}
+use Rattle.std.proofs.Math.Bool.{or-true, or-false}
 use Rattle.bit_sets.specs.Bits.{is_between}
-use Rattle.bit_sets.proofs.BitRanges.{between_yes, between_no_below, between_no_above}
+use Rattle.bit_sets.proofs.BitRanges.{between_yes, between_no_below, between_no_above, between_same}
 use Rattle.mark_bitmap.specs.Marks.{is_marked}
 use Rattle.mark_bitmap.specs.Tops.{Tops, is_in_region, with_bottom}
 use Rattle.marker.specs.declared.marker.Marker.{Marker}
 use Rattle.remembered_sets.specs.Sets.{Sets, cleared}
 use Rattle.evacuation.specs.Evacuates.{MarksAfter}
-use Rattle.evacuation.specs.Releasing.{AreCleared}
 use Rattle.evacuation.proofs.WholePause.ChosenReleased.{step_cleared, step_marks}
 use Rattle.step_core.specs.Cleaning.{HasForgotten, HasCleared}
 
@@ -30,32 +30,11 @@ none_between k j = elim (cases_lt j k) [
 -- one region more
 one_between : (k i q : ℕ) → q ≡ k + i → (j : ℕ) → is_between k (k + (i + 1)) j ≡ (is_between k (k + i) j || (q == j))
 one_between k i q at j = elim (eqb_tells q j) [
-  | inl e ↦ between_yes k (k + (i + 1)) j (let h = e.1 in omega arith) (let h = e.1 in omega arith)
-      ∙ sym (or_true (is_between k (k + i) j) (q == j) e.0)
-  | inr e ↦ same j e.1 ∙ sym (or_none (is_between k (k + i) j) (q == j) e.0)
+  | inl e ↦ between_yes k (k + (i + 1)) j (omega (arith, at, e.1)) (omega (arith, at, e.1))
+      ∙ sym (ap (λ (b : Bool). is_between k (k + i) j || b) e.0 ∙ or-true (is_between k (k + i) j))
+  | inr e ↦ between_same k (k + (i + 1)) (k + i) j (λ h. omega (arith, at, e.1, h)) (λ h. omega (arith, h))
+      ∙ sym (ap (λ (b : Bool). is_between k (k + i) j || b) e.0 ∙ or-false (is_between k (k + i) j))
 ]
-  where
-    or_true : (a b : Bool) → b ≡ true → (a || b) ≡ true
-    or_true true b e = refl
-    or_true false b e = e
-
-    or_none : (a b : Bool) → b ≡ false → (a || b) ≡ a
-    or_none true b e = refl
-    or_none false b e = e
-
-    same : (j : ℕ) → (q ≡ j → ⊥) → is_between k (k + (i + 1)) j ≡ is_between k (k + i) j
-    same j apart = elim (cases_lt j k) [
-      | inl less ↦ between_no_below k (k + (i + 1)) j less ∙ sym (between_no_below k (k + i) j less)
-      | inr from ↦ elim (cases_lt j (k + i)) [
-        | inl low ↦ between_yes k (k + (i + 1)) j from (omega arith) ∙ sym (between_yes k (k + i) j from low)
-        | inr high ↦
-            let past : k + (i + 1) ≤ j = (let n : (j ≡ q → ⊥) = λ e. apart (sym e) in beyond j n high) in
-            between_no_above k (k + (i + 1)) j past ∙ sym (between_no_above k (k + i) j high)
-      ]
-    ]
-      where
-        beyond : (j : ℕ) → (j ≡ q → ⊥) → k + i ≤ j → k + (i + 1) ≤ j
-        beyond j n high = elim (cases_eq j q) [ inl e ↦ absurd (n e) | inr e ↦ omega (arith, e, at, high) ]
 
 none_marks : (words k : ℕ) (tops : List ℕ) (marks : List Bool) → MarksAfter words (is_between k (k + 0)) tops tops marks marks
 none_marks words k tops marks = record {

@@ -37,11 +37,9 @@ use Rattle.remembered_sets.proofs.Covered.{emptied_twice}
 use Rattle.refinement.specs.Remembering.{Remembers, field_card, field_word}
 use Rattle.refinement.proofs.Fields.{region_of_card}
 use Rattle.refinement.proofs.Holders.{kept_object, word_holder}
-use Rattle.regions.specs.Walks.{IsHolder}
 use Rattle.regions.proofs.Tiles.Holders.{holder_start}
 use Rattle.regions.proofs.Tiles.Laws.{object_tile}
 use Rattle.evacuation.proofs.Lists.{get_below}
-use Rattle.std.proofs.lemmas.List.{length-append}
 use Rattle.step_core.proofs.Mutating.Small.{IsHalf, IsOver, sizes_left, words_by}
 use Rattle.step_core.specs.Stands.{CoreState, kept_of, heap_of, RemembersFields, CardsFit, ShowsGraph, KeepsFrom, IsCore}
 use Rattle.step_core.specs.Cycle.{IsDeadRegion, IsDeadRun, IsDead, IsAsNew, IsAsBefore}
@@ -137,8 +135,8 @@ module _ (k : CoreState) (core : IsCore k) (shaped : IsShaped k.table) (n m : �
         ∙ ap (λ (b : Bool). keeps b (is_marked mk.bitmaps.previous a) (object_at (released k.table n) a))
         (below_near size (released k.table n).words_per_region k.marker.tams.previous mk.tams.previous a
         frees.size (top_left f.previous (a / size) (outside (a / size) out)))
-        ∙ ap (λ (b : Bool). keeps (is_below size k.marker.tams.previous a) b (object_at (released k.table n) a)) (mark_left f.previous a
-            (outside (a / size) out))
+        ∙ ap (λ (b : Bool). keeps (is_below size k.marker.tams.previous a) b (object_at (released k.table n) a))
+        (mark_left f.previous a (outside (a / size) out))
         ∙ ap (keeps (is_below size k.marker.tams.previous a) (is_marked k.marker.bitmaps.previous a))
         (object_near k.table (released k.table n) a frees.size (frees.others (a / size) out))
         ∙ sym (kept_by_parts k a)
