@@ -1,7 +1,6 @@
 -- The numbers of a group that pass a filter, by one word of each.
-use Rattle.std.proofs.Common.{◌≡◌, ◌≢◌, ◌⊎◌, ◌+◌, ◌*◌, ◌/◌, ◌%◌, ◌<◌, ◌≤◌, ◌∙◌}
-use Rattle.std.proofs.Common.{min, max, ℕ, Bool, true, false, List, length, set, eqb, bit_or, bit_and}
-use Rattle.std.proofs.Common.{slice_index, inl, inr, refl, sym, ap, ap₂, arith, ⊎_elim}
+use Rattle.std.proofs.Common.{◌≡◌, ◌≢◌, ◌⊎◌, ◌+◌, ◌*◌, ◌/◌, ◌%◌, ◌<◌, ◌≤◌, ◌∙◌, min, max, ℕ, Bool, true, false, List, length, set, eqb}
+use Rattle.std.proofs.Common.{bit_or, bit_and, slice_index, inl, inr, refl, sym, ap, ap₂, arith, ⊎_elim}
 use Rattle.std.proofs.lemmas.Bool.{cases_lt, cases_eq}
 use Rattle.std.specs.Prelude.{◌&&◌, ◌||◌}
 use Rattle.std.specs.Int.{bit_at}
@@ -12,7 +11,7 @@ use Rattle.bit_sets.proofs.BitWords.{bit_of-set_here, bit_of-set_there, length-f
 use Rattle.bit_sets.proofs.BitRanges.{between_yes, between_no_below, between_no_above}
 use Rattle.bit_sets.proofs.LowestBits.{one_or_zero}
 
-or_none : (b : Bool) → b ≡ (b || false)
+pub or_none : (b : Bool) → b ≡ (b || false)
 or_none true = refl
 or_none false = refl
 
@@ -36,10 +35,10 @@ or_bit x y z e h k = elim (one_or_zero x h) [
       ap (λ (v : ℕ). eqb v 1) same ∙ sym (ap (λ (v : ℕ). eqb v 1 || eqb y 1) one)
 ]
 
-and_word : (v w j : ℕ) → eqb (bit_at (bit_and v w) j) 1 ≡ (eqb (bit_at v j) 1 && eqb (bit_at w j) 1)
+pub and_word : (v w j : ℕ) → eqb (bit_at (bit_and v w) j) 1 ≡ (eqb (bit_at v j) 1 && eqb (bit_at w j) 1)
 and_word v w j = and_bit (bit_at v j) (bit_at w j) (bit_at (bit_and v w) j) (bit_at_and v w j) (bit_at-lt v j) (bit_at-lt w j)
 
-or_word : (v w j : ℕ) → eqb (bit_at (bit_or v w) j) 1 ≡ (eqb (bit_at v j) 1 || eqb (bit_at w j) 1)
+pub or_word : (v w j : ℕ) → eqb (bit_at (bit_or v w) j) 1 ≡ (eqb (bit_at v j) 1 || eqb (bit_at w j) 1)
 or_word v w j = or_bit (bit_at v j) (bit_at w j) (bit_at (bit_or v w) j) (bit_at_or v w j) (bit_at-lt v j) (bit_at-lt w j)
 
 -- the word after it: its own bits, and those that are in the three other words

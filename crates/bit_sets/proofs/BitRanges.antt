@@ -1,7 +1,6 @@
 -- A range of numbers that is put into a set, or taken out of it, word by word.
-use Rattle.std.proofs.Common.{◌≡◌, ◌≢◌, ◌+◌, ◌-◌, ◌*◌, ◌/◌, ◌%◌, ◌^◌, ◌<◌, ◌≤◌, ◌∙◌}
-use Rattle.std.proofs.Common.{min, max, ℕ, Bool, true, false, List, length, set, eqb, bit_or, bit_and, w64, leb}
-use Rattle.std.proofs.Common.{slice_index, inl, inr, refl, sym, ap, arith, ⊎_elim}
+use Rattle.std.proofs.Common.{◌≡◌, ◌≢◌, ◌+◌, ◌-◌, ◌*◌, ◌/◌, ◌%◌, ◌^◌, ◌<◌, ◌≤◌, ◌∙◌, min, max, ℕ, Bool, true, false, List, length, set, eqb}
+use Rattle.std.proofs.Common.{bit_or, bit_and, w64, leb, slice_index, inl, inr, refl, sym, ap, arith, ⊎_elim}
 use Rattle.std.proofs.lemmas.Bool.{cases_lt, cases_eq, lt-ltb, le-ltb, lt-leb, le-leb}
 use Rattle.std.specs.Prelude.{if◌then◌else◌, ◌&&◌}
 use Rattle.std.specs.Int.{bit_at, div_ceil}
@@ -75,48 +74,55 @@ pub put_by : (value : Bool) (index from to w mask : ℕ) → mask < 2 ^ 64 → I
 put_by true index from to w mask fits is = put_by_or index from to w mask is
 put_by false index from to w mask fits is = put_by_and index from to w mask fits is
 
--- ---- the words so far
-abbrev pub IsPutUpTo : Bool → List ℕ → List ℕ → ℕ → ℕ → Type 0
-IsPutUpTo value initial ws from upto = (a : ℕ) → bit_of ws a ≡ (if is_between from upto a then value else bit_of initial a)
+-- ---- the words so far: each bit is what f makes of its number, in the range or not
+abbrev pub IsDoneUpTo : (Bool → ℕ → Bool) → List ℕ → ℕ → ℕ → Type 0
+IsDoneUpTo f ws from upto = (a : ℕ) → bit_of ws a ≡ f (is_between from upto a) a
 
-pub put_none : (value : Bool) (initial : List ℕ) (from upto : ℕ) → upto ≤ from → IsPutUpTo value initial initial from upto
-put_none value initial from upto h a =
+pub done_none : (f : Bool → ℕ → Bool) (ws : List ℕ) (from upto : ℕ) → upto ≤ from → ((a : ℕ) → bit_of ws a ≡ f false a)
+    → IsDoneUpTo f ws from upto
+done_none f ws from upto h was a =
     let no : is_between from upto a ≡ false =
     ⊎_elim (λ b. between_no_below from upto a b) (λ b. between_no_above from upto a (omega arith)) (cases_lt a from) in
-    sym (ap (λ (b : Bool). if b then value else bit_of initial a) no)
+    was a ∙ sym (ap (λ (b : Bool). f b a) no)
 
-module _ (value : Bool) (initial ws : List ℕ) (from to i before after : ℕ) (read : before ≡ slice_index ws i) (inside : i < length ws)
-    (put : IsPut value i from to before after) (done : IsPutUpTo value initial ws from (min to (64 * i))) where
-  elsewhere : (a : ℕ) → a / 64 ≢ i
-      → bit_of (set ws i after) a ≡ (if is_between from (min to (64 * (i + 1))) a then value else bit_of initial a)
-  elsewhere a ne =
-      bit_of-set_there ws i after a ne ∙ done a
-      ∙ ap (λ (b : Bool). if b then value else bit_of initial a)
-      (between_same from (min to (64 * i)) (min to (64 * (i + 1))) a (λ b. omega arith)
-      (λ b. ⊎_elim (λ c. omega arith) (λ c. absurd (ne (omega arith))) (cases_lt a (64 * i))))
-
-  here : (a : ℕ) → a / 64 ≡ i → bit_of (set ws i after) a ≡ (if is_between from (min to (64 * (i + 1))) a then value else bit_of initial a)
-  here a e =
-      let place : 64 * i + a % 64 ≡ a = omega arith in
-      let was : eqb (bit_at before (a % 64)) 1 ≡ bit_of initial a =
-      ap (λ x. eqb (bit_at x (a % 64)) 1) read ∙ sym (ap (λ k. eqb (bit_at (slice_index ws k) (a % 64)) 1) e)
-      ∙ done a ∙ ap (λ (b : Bool). if b then value else bit_of initial a) (between_no_above from (min to (64 * i)) a (omega arith)) in
-      bit_of-set_here ws i after a inside e ∙ put (a % 64) (omega arith)
-      ∙ ap (λ (k : ℕ). if is_between from to k then value else eqb (bit_at before (a % 64)) 1) place
-      ∙ ap (λ (b : Bool). if is_between from to a then value else b) was
-      ∙ ap (λ (b : Bool). if b then value else bit_of initial a)
-      (between_same from to (min to (64 * (i + 1))) a (λ b. omega arith) (λ b. omega arith))
-
-  pub put_more : IsPutUpTo value initial (set ws i after) from (min to (64 * (i + 1)))
-  put_more a = ⊎_elim (λ e. here a e) (λ ne. elsewhere a ne) (cases_eq (a / 64) i)
+-- one word more
+pub done_more : (f : Bool → ℕ → Bool) (ws : List ℕ) (from to i after : ℕ) → i < length ws
+    → ((a : ℕ) → a / 64 ≡ i → bit_of ws a ≡ f false a → eqb (bit_at after (a % 64)) 1 ≡ f (is_between from to a) a)
+    → IsDoneUpTo f ws from (min to (64 * i)) → IsDoneUpTo f (set ws i after) from (min to (64 * (i + 1)))
+done_more f ws from to i after inside step done a =
+    let elsewhere : a / 64 ≢ i → bit_of (set ws i after) a ≡ f (is_between from (min to (64 * (i + 1))) a) a = λ ne.
+    bit_of-set_there ws i after a ne ∙ done a
+    ∙ ap (λ (b : Bool). f b a) (between_same from (min to (64 * i)) (min to (64 * (i + 1))) a (λ b. omega arith)
+    (λ b. ⊎_elim (λ c. omega arith) (λ c. absurd (ne (omega arith))) (cases_lt a (64 * i)))) in
+    let here : a / 64 ≡ i → bit_of (set ws i after) a ≡ f (is_between from (min to (64 * (i + 1))) a) a = λ e.
+    bit_of-set_here ws i after a inside e
+    ∙ step a e (done a ∙ ap (λ (b : Bool). f b a) (between_no_above from (min to (64 * i)) a (omega arith)))
+    ∙ ap (λ (b : Bool). f b a) (between_same from to (min to (64 * (i + 1))) a (λ b. omega arith) (λ b. omega arith)) in
+    ⊎_elim here elsewhere (cases_eq (a / 64) i)
 
 -- where each word of the range is done
-pub put_done : (value : Bool) (initial ws : List ℕ) (from to i end : ℕ) → end ≡ div_ceil to 64 → end ≤ i
-    → IsPutUpTo value initial ws from (min to (64 * i)) → (a : ℕ) → bit_of ws a ≡ (if is_between from to a then value else bit_of initial a)
-put_done value initial ws from to i end e h done a =
-    done a
-    ∙ ap (λ (b : Bool). if b then value else bit_of initial a)
-    (between_same from (min to (64 * i)) to a (λ b. omega arith) (λ b. omega (arith, div_ceil_reaches to)))
+pub done_all : (f : Bool → ℕ → Bool) (ws : List ℕ) (from to i end : ℕ) → end ≡ div_ceil to 64 → end ≤ i
+    → IsDoneUpTo f ws from (min to (64 * i)) → (a : ℕ) → bit_of ws a ≡ f (is_between from to a) a
+done_all f ws from to i end e h done a = done a
+    ∙ ap (λ (b : Bool). f b a) (between_same from (min to (64 * i)) to a (λ b. omega arith) (λ b. omega (arith, div_ceil_reaches to)))
+
+-- a word's bit before, by the words so far
+pub bit_before : (ws : List ℕ) (i before a : ℕ) → before ≡ slice_index ws i → a / 64 ≡ i → eqb (bit_at before (a % 64)) 1 ≡ bit_of ws a
+bit_before ws i before a read e = ap (λ (x : ℕ). eqb (bit_at x (a % 64)) 1) read
+    ∙ sym (ap (λ (k : ℕ). eqb (bit_at (slice_index ws k) (a % 64)) 1) e)
+
+abbrev pub put_in : Bool → List ℕ → Bool → ℕ → Bool
+put_in value initial inside a = if inside then value else bit_of initial a
+
+pub put_more : (value : Bool) (initial ws : List ℕ) (from to i before after : ℕ) → before ≡ slice_index ws i → i < length ws
+    → IsPut value i from to before after → IsDoneUpTo (put_in value initial) ws from (min to (64 * i))
+    → IsDoneUpTo (put_in value initial) (set ws i after) from (min to (64 * (i + 1)))
+put_more value initial ws from to i before after read inside put done =
+    done_more (put_in value initial) ws from to i after inside (λ a e was.
+    let place : 64 * i + a % 64 ≡ a = omega arith in
+    put (a % 64) (omega arith)
+    ∙ ap (λ (k : ℕ). if is_between from to k then value else eqb (bit_at before (a % 64)) 1) place
+    ∙ ap (λ (b : Bool). if is_between from to a then value else b) (bit_before ws i before a read e ∙ was)) done
 
 -- the flags of what is put, by its bits
 pub flags_put : (value : Bool) (flags : List Bool) (initial ws : List ℕ) (n from to : ℕ) → flags_of initial n ≡ flags → to ≤ n
@@ -137,7 +143,7 @@ flags_put value flags initial ws n from to view short done a =
 abbrev pub IsWhole : Bool → ℕ → Type 0
 IsWhole value word = (j : ℕ) → j < 64 → bit_at word j ≡ (if value then 1 else 0)
 
-value_of : (value : Bool) (n : ℕ) → n ≡ (if value then 1 else 0) → eqb n 1 ≡ value
+pub value_of : (value : Bool) (n : ℕ) → n ≡ (if value then 1 else 0) → eqb n 1 ≡ value
 value_of true n e = ap (λ k. eqb k 1) e
 value_of false n e = ap (λ k. eqb k 1) e
 

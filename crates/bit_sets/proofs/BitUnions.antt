@@ -1,116 +1,64 @@
 -- The members of a range of another set that come into a set, word by word.
-use Rattle.std.proofs.Common.{◌≡◌, ◌≢◌, ◌+◌, ◌*◌, ◌/◌, ◌%◌, ◌<◌, ◌≤◌, ◌∙◌}
-use Rattle.std.proofs.Common.{min, max, ℕ, Bool, true, false, List, length, set, eqb, bit_or, bit_and}
+use Rattle.std.proofs.Common.{◌≡◌, ◌+◌, ◌*◌, ◌%◌, ◌<◌, ◌≤◌, ◌∙◌, min, ℕ, Bool, true, false, List, length, set, eqb, bit_or, bit_and}
 use Rattle.std.proofs.Common.{slice_index, inl, inr, refl, sym, subst, ap, ap₂, arith, ⊎_elim}
-use Rattle.std.proofs.lemmas.Bool.{cases_lt, cases_eq}
-use Rattle.std.specs.Prelude.{if◌then◌else◌, ◌&&◌, ◌||◌}
-use Rattle.std.specs.Int.{bit_at, div_ceil}
+use Rattle.std.proofs.lemmas.Bool.{cases_lt}
+use Rattle.std.specs.Prelude.{◌&&◌, ◌||◌}
+use Rattle.std.specs.Int.{bit_at}
 use Rattle.std.specs.Int.Bits.{or_zero_r}
 use Rattle.std.proofs.lemmas.List.{set-get_or}
-use Rattle.std.proofs.lemmas.Nat.Bits.{bit_at-lt, bit_at_and, bit_at_or}
 use Rattle.bit_sets.specs.Bits.{is_between, has}
 use Rattle.bit_sets.specs.BitWords.{bit_of, flags_of}
 use Rattle.bit_sets.specs.Bounded.{AreWithin}
-use Rattle.bit_sets.proofs.BitWords.{and-false, bit_of-set_here, bit_of-set_there, length-flags_of, has-flags_of, has_past}
-use Rattle.bit_sets.proofs.BitWords.{div_ceil_reaches}
-use Rattle.bit_sets.proofs.BitRanges.{IsMask, between_no_below, between_no_above, between_same}
-use Rattle.bit_sets.proofs.LowestBits.{one_or_zero}
+use Rattle.bit_sets.proofs.BitWords.{and-false, length-flags_of, has-flags_of, has_past}
+use Rattle.bit_sets.proofs.BitRanges.{IsMask, IsDoneUpTo, done_more, bit_before, value_of, between_no_below, between_no_above}
+use Rattle.bit_sets.proofs.BitFilters.{or_none, and_word, or_word}
 use Rattle.bit_sets.proofs.Bounds.{AreWide, still}
 
-or_none : (b : Bool) → b ≡ (b || false)
-or_none true = refl
-or_none false = refl
+and_swap : (a b : Bool) → (a && b) ≡ (b && a)
+and_swap true true = refl
+and_swap true false = refl
+and_swap false true = refl
+and_swap false false = refl
 
 -- the bits of a word, and with them those of another word whose numbers are in a range
 abbrev pub IsJoin : ℕ → ℕ → ℕ → ℕ → ℕ → ℕ → Type 0
 IsJoin index from to before other after =
     (j : ℕ) → j < 64 → eqb (bit_at after j) 1 ≡ (eqb (bit_at before j) 1 || (is_between from to (64 * index + j) && eqb (bit_at other j) 1))
 
-join_bit : (b : Bool) (x y m z : ℕ) → z ≡ max x (min y m) → m ≡ (if b then 1 else 0) → x < 2 → y < 2
-    → eqb z 1 ≡ (eqb x 1 || (b && eqb y 1))
-join_bit true x y m z e f h k = elim (one_or_zero x h) [
-  | inl none ↦
-      let same : z ≡ y = omega (arith, e, f) in
-      ap (λ (v : ℕ). eqb v 1) same ∙ sym (ap (λ (v : ℕ). eqb v 1 || (true && eqb y 1)) none)
-  | inr one ↦
-      let same : z ≡ 1 = omega (arith, e, f) in
-      ap (λ (v : ℕ). eqb v 1) same ∙ sym (ap (λ (v : ℕ). eqb v 1 || (true && eqb y 1)) one)
-]
-join_bit false x y m z e f h k = elim (one_or_zero x h) [
-  | inl none ↦
-      let same : z ≡ 0 = omega (arith, e, f) in
-      ap (λ (v : ℕ). eqb v 1) same ∙ sym (ap (λ (v : ℕ). eqb v 1 || (false && eqb y 1)) none)
-  | inr one ↦
-      let same : z ≡ 1 = omega (arith, e, f) in
-      ap (λ (v : ℕ). eqb v 1) same ∙ sym (ap (λ (v : ℕ). eqb v 1 || (false && eqb y 1)) one)
-]
-
 pub put_by_join : (index from to w other mask : ℕ) → IsMask index from to mask
     → IsJoin index from to w other (bit_or w (bit_and other mask))
-put_by_join index from to w other mask is j h = join_bit (is_between from to (64 * index + j)) (bit_at w j) (bit_at other j)
-    (bit_at mask j) (bit_at (bit_or w (bit_and other mask)) j)
-    (bit_at_or w (bit_and other mask) j ∙ ap (λ (n : ℕ). max (bit_at w j) n) (bit_at_and other mask j)) (is j h) (bit_at-lt w j)
-    (bit_at-lt other j)
+put_by_join index from to w other mask is j h =
+    or_word w (bit_and other mask) j
+    ∙ ap (λ (b : Bool). eqb (bit_at w j) 1 || b) (and_word other mask j ∙ and_swap (eqb (bit_at other j) 1) (eqb (bit_at mask j) 1)
+    ∙ ap (λ (b : Bool). b && eqb (bit_at other j) 1) (value_of (is_between from to (64 * index + j)) (bit_at mask j) (is j h)))
 
 -- ---- the words so far
-abbrev pub IsJoinedUpTo : List ℕ → List ℕ → List ℕ → ℕ → ℕ → Type 0
-IsJoinedUpTo members initial ws from upto = (a : ℕ) → bit_of ws a ≡ (bit_of initial a || (is_between from upto a && bit_of members a))
+abbrev pub joined_in : List ℕ → List ℕ → Bool → ℕ → Bool
+joined_in members initial inside a = bit_of initial a || (inside && bit_of members a)
 
-pub joined_none : (members initial : List ℕ) (from upto : ℕ) → upto ≤ from → IsJoinedUpTo members initial initial from upto
-joined_none members initial from upto h a =
-    let no : is_between from upto a ≡ false =
-    ⊎_elim (λ b. between_no_below from upto a b) (λ b. between_no_above from upto a (omega arith)) (cases_lt a from) in
-    or_none (bit_of initial a) ∙ sym (ap (λ (b : Bool). bit_of initial a || (b && bit_of members a)) no)
-
-module _ (members initial ws : List ℕ) (from to i before other after : ℕ) (read : before ≡ slice_index ws i)
-    (named : other ≡ slice_index members i) (inside : i < length ws) (join : IsJoin i from to before other after)
-    (done : IsJoinedUpTo members initial ws from (min to (64 * i))) where
-  elsewhere : (a : ℕ) → a / 64 ≢ i
-      → bit_of (set ws i after) a ≡ (bit_of initial a || (is_between from (min to (64 * (i + 1))) a && bit_of members a))
-  elsewhere a ne =
-      bit_of-set_there ws i after a ne ∙ done a
-      ∙ ap (λ (b : Bool). bit_of initial a || (b && bit_of members a))
-      (between_same from (min to (64 * i)) (min to (64 * (i + 1))) a (λ b. omega arith)
-      (λ b. ⊎_elim (λ c. omega arith) (λ c. absurd (ne (omega arith))) (cases_lt a (64 * i))))
-
-  here : (a : ℕ) → a / 64 ≡ i
-      → bit_of (set ws i after) a ≡ (bit_of initial a || (is_between from (min to (64 * (i + 1))) a && bit_of members a))
-  here a e =
-      let place : 64 * i + a % 64 ≡ a = omega arith in
-      let was : eqb (bit_at before (a % 64)) 1 ≡ bit_of initial a =
-      ap (λ (x : ℕ). eqb (bit_at x (a % 64)) 1) read ∙ sym (ap (λ (k : ℕ). eqb (bit_at (slice_index ws k) (a % 64)) 1) e)
-      ∙ done a ∙ ap (λ (b : Bool). bit_of initial a || (b && bit_of members a))
-      (between_no_above from (min to (64 * i)) a (omega arith)) ∙ sym (or_none (bit_of initial a)) in
-      let theirs : eqb (bit_at other (a % 64)) 1 ≡ bit_of members a =
-      ap (λ (x : ℕ). eqb (bit_at x (a % 64)) 1) named ∙ sym (ap (λ (k : ℕ). eqb (bit_at (slice_index members k) (a % 64)) 1) e) in
-      bit_of-set_here ws i after a inside e ∙ join (a % 64) (omega arith)
-      ∙ ap (λ (k : ℕ). eqb (bit_at before (a % 64)) 1 || (is_between from to k && eqb (bit_at other (a % 64)) 1)) place
-      ∙ ap₂ (λ (x y : Bool). x || (is_between from to a && y)) was theirs
-      ∙ ap (λ (b : Bool). bit_of initial a || (b && bit_of members a))
-      (between_same from to (min to (64 * (i + 1))) a (λ b. omega arith) (λ b. omega arith))
-
-  pub joined_more : IsJoinedUpTo members initial (set ws i after) from (min to (64 * (i + 1)))
-  joined_more a = ⊎_elim (λ e. here a e) (λ ne. elsewhere a ne) (cases_eq (a / 64) i)
+pub joined_more : (members initial ws : List ℕ) (from to i before other after : ℕ) → before ≡ slice_index ws i
+    → other ≡ slice_index members i → i < length ws → IsJoin i from to before other after
+    → IsDoneUpTo (joined_in members initial) ws from (min to (64 * i))
+    → IsDoneUpTo (joined_in members initial) (set ws i after) from (min to (64 * (i + 1)))
+joined_more members initial ws from to i before other after read named inside join done =
+    done_more (joined_in members initial) ws from to i after inside (λ a e was.
+    let place : 64 * i + a % 64 ≡ a = omega arith in
+    join (a % 64) (omega arith)
+    ∙ ap (λ (k : ℕ). eqb (bit_at before (a % 64)) 1 || (is_between from to k && eqb (bit_at other (a % 64)) 1)) place
+    ∙ ap₂ (λ (x y : Bool). x || (is_between from to a && y))
+    (bit_before ws i before a read e ∙ was ∙ sym (or_none (bit_of initial a))) (bit_before members i other a named e)) done
 
 -- where nothing of a word comes
 pub joined_same : (members initial ws : List ℕ) (from to i before other mask : ℕ) → before ≡ slice_index ws i
     → other ≡ slice_index members i → i < length ws → IsMask i from to mask → bit_and other mask ≡ 0
-    → IsJoinedUpTo members initial ws from (min to (64 * i))
-    → IsJoinedUpTo members initial ws from (min to (64 * (i + 1)))
+    → IsDoneUpTo (joined_in members initial) ws from (min to (64 * i))
+    → IsDoneUpTo (joined_in members initial) ws from (min to (64 * (i + 1)))
 joined_same members initial ws from to i before other mask read named inside is none done =
     let same : set ws i (bit_or before (bit_and other mask)) ≡ ws =
     ap (λ (m : ℕ). set ws i (bit_or before m)) none ∙ ap (set ws i) (or_zero_r before ∙ read) ∙ set-get_or ws i 0 in
-    subst (λ (l : List ℕ). IsJoinedUpTo members initial l from (min to (64 * (i + 1)))) same
+    subst (λ (l : List ℕ). IsDoneUpTo (joined_in members initial) l from (min to (64 * (i + 1)))) same
     (joined_more members initial ws from to i before other (bit_or before (bit_and other mask)) read named inside
     (put_by_join i from to before other mask is) done)
-
--- where each word of the range is done
-pub joined_done : (members initial ws : List ℕ) (from to i end : ℕ) → end ≡ div_ceil to 64 → end ≤ i
-    → IsJoinedUpTo members initial ws from (min to (64 * i))
-    → (a : ℕ) → bit_of ws a ≡ (bit_of initial a || (is_between from to a && bit_of members a))
-joined_done members initial ws from to i end e h done a =
-    done a ∙ ap (λ (b : Bool). bit_of initial a || (b && bit_of members a))
-    (between_same from (min to (64 * i)) to a (λ b. omega arith) (λ b. omega (arith, div_ceil_reaches to)))
 
 -- the flags of what came, by its bits
 pub flags_joined : (flags others : List Bool) (members initial ws : List ℕ) (n m from to : ℕ) → flags_of initial n ≡ flags

@@ -1,7 +1,6 @@
 -- The lowest number of a set, word by word.
-use Rattle.std.proofs.Common.{◌≡◌, ◌+◌, ◌-◌, ◌*◌, ◌/◌, ◌%◌, ◌^◌, ◌<◌, ◌≤◌, ◌⊎◌, ◌∙◌}
-use Rattle.std.proofs.Common.{ℕ, Bool, true, false, List, length, slice_index, eqb, min, bit_and}
-use Rattle.std.proofs.Common.{w64, not, inl, inr, refl, sym, ap, subst, ⊎_elim, arith}
+use Rattle.std.proofs.Common.{◌≡◌, ◌+◌, ◌-◌, ◌*◌, ◌/◌, ◌%◌, ◌^◌, ◌<◌, ◌≤◌, ◌⊎◌, ◌∙◌, ℕ, Bool, true, false, List, length, slice_index, eqb}
+use Rattle.std.proofs.Common.{min, bit_and, w64, not, inl, inr, refl, sym, ap, subst, ⊎_elim, arith}
 use Rattle.std.specs.Prelude.{◌&&◌, Option, Some, None, MatchOption, IfSome}
 use Rattle.std.specs.Int.{bit_at, trailing_zeros}
 use Rattle.std.proofs.lemmas.Bool.{cases_lt, eqb-true, eqb-false, ne_eqb}
@@ -229,8 +228,8 @@ pub group_found : (is_in has : ℕ → Bool) (n i m : ℕ) (found : Option ℕ) 
     → MatchOption found ((m ≡ 0) ⊎ ((0 < m) × (n ≤ 64 * i + trailing_zeros w64 m))) (λ x. (0 < m) × (x ≡ 64 * i + trailing_zeros w64 m))
     → IfSome found (λ x. x < n) → MatchOption found (HasNoneBelow is_in (64 * i) (64 * i + 64)) (IsLowest is_in (64 * i))
 group_found is_in has n i m None g w (inl none) low =
-    none_left is_in has n (64 * i) (64 * i + 64) (64 * (i + 1)) g (none_in_word has (64 * i) i m w (none_yet has (64 * i)) none)
-        (omega arith)
+    none_left is_in has n (64 * i) (64 * i + 64) (64 * (i + 1)) g
+    (none_in_word has (64 * i) i m w (none_yet has (64 * i)) none) (omega arith)
 group_found is_in has n i m None g w (inr past) low =
     found_past is_in has n (64 * i) (64 * i + 64) i m g w (none_yet has (64 * i)) past.0 (omega (arith, past.1))
 group_found is_in has n i m (Some x) g w is low = subst (λ (y : ℕ). IsLowest is_in (64 * i) y) (sym is.1)

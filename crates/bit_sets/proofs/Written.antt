@@ -1,7 +1,6 @@
 -- Zeros that are written after the last word, and a number that comes into a set that has it.
-use Rattle.std.proofs.Common.{◌≡◌, ◌<◌, ◌≤◌, ◌∙◌}
-use Rattle.std.proofs.Common.{ℕ, Bool, false, true, not, refl, List, length, get_or, set}
-use Rattle.std.proofs.Common.{sym, subst, arith, get_or-set_other, get_or-set_same, length-set, ⊎_elim}
+use Rattle.std.proofs.Common.{◌≡◌, ◌<◌, ◌≤◌, ◌∙◌, ℕ, Bool, false, true, not, refl, List, length, get_or, set, sym, subst, arith}
+use Rattle.std.proofs.Common.{get_or-set_other, get_or-set_same, length-set, ⊎_elim}
 use Rattle.std.proofs.lemmas.Bool.{cases_lt, cases_eq}
 use Rattle.std.proofs.lemmas.List.{get_or_past}
 use Rattle.bit_sets.specs.Bits.{has}

@@ -13,9 +13,8 @@
 //! of them is first written. A word of a page that isn't taken is read as 0. There is room in the pool for the words of all pages, so no
 //! page asks for memory. To take all pages back touches their places alone, 4 bytes for 512 words.
 
-ghost use Rattle.std.specs.Prelude.{◌≡◌, ◌+◌, ◌-◌, ◌*◌, ◌/◌, ◌%◌, ◌^◌, ◌<◌, ◌≤◌, ◌==◌, if◌then◌else◌};
-ghost use Rattle.std.specs.Prelude.{ℕ, bit_and, bit_or, false, true, IfOk, length, not, replicate, slice_index, slice_set};
-ghost use Rattle.std.specs.Prelude.{vec_capacity, vec_len};
+ghost use Rattle.std.specs.Prelude.{◌≡◌, ◌+◌, ◌-◌, ◌*◌, ◌/◌, ◌%◌, ◌^◌, ◌<◌, ◌≤◌, ◌==◌, if◌then◌else◌, ℕ, bit_and, bit_or, false, true};
+ghost use Rattle.std.specs.Prelude.{IfOk, length, not, replicate, slice_index, slice_set, vec_capacity, vec_len};
 ghost use Rattle.std.specs.Int.{bit_at};
 ghost use Rattle.bit_sets.specs.Bits.{is_between};
 ghost use Rattle.bit_sets.specs.BitWords.{AreSame};

@@ -9,8 +9,7 @@
 //! So no access looks for the page of a word, as it does in a set that may be large (`bits`). Who asks for the lowest number of
 //! a group looks at one word, and to clear a set touches each.
 
-ghost use Rattle.std.specs.Prelude.{◌≡◌, ◌+◌, ◌*◌, ◌^◌, ◌<◌};
-ghost use Rattle.std.specs.Prelude.{false, true, IfOk, IfSome, length, MatchOption, replicate, slice_set};
+ghost use Rattle.std.specs.Prelude.{◌≡◌, ◌+◌, ◌*◌, ◌^◌, ◌<◌, false, true, IfOk, IfSome, length, MatchOption, replicate, slice_set};
 ghost use Rattle.bit_sets.specs.Bits.{has, HasNone, HasNoneBelow, IsLowest};
 
 use crate::groups::{lowest_if_any, lowest_of};

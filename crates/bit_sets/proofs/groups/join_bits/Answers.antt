@@ -1,11 +1,14 @@
 use Rattle.std.proofs.Common.{◌<◌, ◌*◌, ◌/◌, ◌∙◌, ℕ, min, length, length-set, slice_index, refl, ap, arith}
-use Rattle.bit_sets.proofs.BitUnions.{put_by_join, joined_none, joined_more, joined_same, joined_done}
+use Rattle.bit_sets.proofs.BitRanges.{done_none, done_all}
+use Rattle.bit_sets.proofs.BitFilters.{or_none}
+use Rattle.bit_sets.proofs.BitUnions.{put_by_join, joined_in, joined_more, joined_same}
 use Rattle.bit_sets.proofs.groups.join_bits.Goals as goal
 
 pub loop-index-init : goal.loop-index-init
 loop-index-init c = record {
   len = refl;
-  bits = joined_none c.args.members.now c.args.words.now c.args.from (min c.args.to (64 * (c.args.from / 64))) (omega arith);
+  bits = done_none (joined_in c.args.members.now c.args.words.now) c.args.words.now c.args.from
+      (min c.args.to (64 * (c.args.from / 64))) (omega arith) (λ a. or_none _);
 }
 
 pub loop-index-preserved : goal.loop-index-preserved
@@ -36,5 +39,5 @@ loop-index-preserved-then-more-eq0 c =
 
 pub returns-clause-bits : goal.returns-clause-bits
 returns-clause-bits c =
-    joined_done c.args.members.now c.args.words.now c.loop-index.words c.args.from c.args.to c.loop-index.index
+    done_all (joined_in c.args.members.now c.args.words.now) c.loop-index.words c.args.from c.args.to c.loop-index.index
     c.div_ceil-index-end.result c.div_ceil-index-end.ensures c.loop-index-test.false c.loop-index.invariant.bits

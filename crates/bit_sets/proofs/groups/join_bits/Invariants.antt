@@ -1,9 +1,10 @@
 use Rattle.std.proofs.Common.{◌≡◌, ◌*◌, min, length}
-use Rattle.bit_sets.proofs.BitUnions.{IsJoinedUpTo}
+use Rattle.bit_sets.proofs.BitRanges.{IsDoneUpTo}
+use Rattle.bit_sets.proofs.BitUnions.{joined_in}
 use Rattle.bit_sets.proofs.groups.join_bits.Given as goal
 
 abbrev pub invariant-loop-index : goal.invariant-loop-index
 invariant-loop-index l = record {
   len : length l.words ≡ length l.initial.words;
-  bits : IsJoinedUpTo l.members l.initial.words l.words l.from (min l.to (64 * l.index));
+  bits : IsDoneUpTo (joined_in l.members l.initial.words) l.words l.from (min l.to (64 * l.index));
 }

@@ -1,11 +1,12 @@
 use Rattle.std.proofs.Common.{◌<◌, ◌*◌, ◌/◌, ◌∙◌, ℕ, min, length, length-set, slice_index, refl, ap, arith}
-use Rattle.bit_sets.proofs.BitRanges.{put_by, put_none, put_more, put_done}
+use Rattle.bit_sets.proofs.BitRanges.{put_by, put_in, done_none, put_more, done_all}
 use Rattle.bit_sets.proofs.groups.put_bits.Goals as goal
 
 pub loop-index-init : goal.loop-index-init
 loop-index-init c = record {
   len = refl;
-  bits = put_none c.args.value c.args.words.now c.args.from (min c.args.to (64 * (c.args.from / 64))) (omega arith);
+  bits = done_none (put_in c.args.value c.args.words.now) c.args.words.now c.args.from (min c.args.to (64 * (c.args.from / 64)))
+      (omega arith) (λ a. refl);
 }
 
 pub loop-index-preserved : goal.loop-index-preserved
@@ -24,5 +25,5 @@ loop-index-preserved c =
 
 pub returns-clause-bits : goal.returns-clause-bits
 returns-clause-bits c =
-    put_done c.args.value c.args.words.now c.loop-index.words c.args.from c.args.to c.loop-index.index c.div_ceil-index-end.result
+    done_all (put_in c.args.value c.args.words.now) c.loop-index.words c.args.from c.args.to c.loop-index.index c.div_ceil-index-end.result
     c.div_ceil-index-end.ensures c.loop-index-test.false c.loop-index.invariant.bits

@@ -5,8 +5,9 @@ use Rattle.bit_sets.proofs.LowestBits.{same_len}
 use Rattle.bit_sets.proofs.bits.Bits.set_members.Goals as goal
 
 pub join_bits-requires : goal.join_bits-requires
-join_bits-requires c = omega (arith, c.requires.within, c.self.invariant, len_is _ _ _ c.self.view_is, c.requires.even,
-    c.members.invariant, len_is _ _ _ c.members.view_is)
+join_bits-requires c =
+    let even = len_is _ _ _ c.members.view_is in
+    omega (arith, c.requires.within, c.self.invariant, len_is _ _ _ c.self.view_is, c.requires.even, c.members.invariant, even)
 
 pub returns-clause-len : goal.returns-clause-len
 returns-clause-len c = rw (← c.self.view_is) (length-flags_of _ _ ∙ sym (length-flags_of _ _))

@@ -1,6 +1,5 @@
 use Rattle.std.proofs.Common.{◌∙◌, arith, ap, sym, length}
-use Rattle.bit_sets.proofs.PageWords.{length-words_of}
-use Rattle.bit_sets.proofs.PageWords.{words_filled}
+use Rattle.bit_sets.proofs.PageWords.{length-words_of, words_filled}
 use Rattle.bit_sets.proofs.pages.PagedWords.fill.Goals as goal
 
 pub fill_pages-requires-clause-known : goal.fill_pages-requires-clause-known

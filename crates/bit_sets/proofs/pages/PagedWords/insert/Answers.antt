@@ -41,8 +41,8 @@ returns-clause-came c =
     c.reach-place.ensures.place in
     let word = get_or_read pool.items _ _ w.inside c.index-word.ensures 0 ∙ w.read in
     sym (ap not (ap (λ (x : ℕ). eqb (bit_at x c.args.bit) 1) (sym word)
-    ∙ ne_eqb (bit_at c.index-word.result.now c.args.bit) 1 (λ q. c.if-word-bit-eq1.false (bit_read c.index-word.result.now c.args.bit
-        ∙ q))))
+    ∙ ne_eqb (bit_at c.index-word.result.now c.args.bit) 1
+    (λ q. c.if-word-bit-eq1.false (bit_read c.index-word.result.now c.args.bit ∙ q))))
 
 pub returns-clause-set : goal.returns-clause-set
 returns-clause-set c = λ _.

@@ -1,6 +1,5 @@
 use Rattle.std.proofs.Common.{arith, ap, length}
-use Rattle.bit_sets.proofs.PageWords.{words_none}
-use Rattle.bit_sets.proofs.PageWords.{pages_none}
+use Rattle.bit_sets.proofs.PageWords.{words_none, pages_none}
 use Rattle.bit_sets.proofs.pages.PagedWords.new.Goals as goal
 
 pub invariant_of-result : goal.invariant_of-result
