@@ -1,11 +1,8 @@
 -- Words written in the place of others.
-use Rattle.std.proofs.Common.{◌≡◌, ◌+◌, ◌-◌, ◌<◌, ◌≤◌, ◌∷◌, ◌++◌, ◌∙◌}
-use Rattle.std.proofs.Common.{ℕ, zero, suc, List, [], length, take, drop, get_or, set, refl, sym, ap, ap₂}
-use Rattle.std.proofs.Common.{arith, add-zero, zero-add, replicate, drop-cons}
-use Rattle.std.proofs.lemmas.List.{length-append, length-take, length-drop, append_assoc, set_at, replicate_more}
-use Rattle.std.proofs.lemmas.List.{take-append-drop, drop-drop}
-use Rattle.std.proofs.lemmas.List.{length-replicate}
-use Rattle.std.proofs.lemmas.List.{take_at, take-append-le, drop-append-le}
+use Rattle.std.proofs.Common.{◌≡◌, ◌+◌, ◌-◌, ◌<◌, ◌≤◌, ◌∷◌, ◌++◌, ◌∙◌, ℕ, zero, suc, List, [], length, take, drop, get_or, set, refl, sym}
+use Rattle.std.proofs.Common.{ap, ap₂, arith, add-zero, zero-add, replicate, drop-cons}
+use Rattle.std.proofs.lemmas.List.{length-append, length-take, length-drop, append_assoc, set_at, replicate_more, take-append-drop}
+use Rattle.std.proofs.lemmas.List.{drop-drop, length-replicate, take_at, take-append-le, drop-append-le}
 use Rattle.heap_words.specs.Contents.{put}
 use Rattle.heap_words.specs.Memory.{Memory, memory}
 

@@ -3,9 +3,8 @@
 ghost use Rattle.std.specs.Prelude.{◌≡◌, ◌↔◌, ◌≤◌, ◌*◌, ◌/◌, IsOk, IsErr, IfErr, IsTrue};
 ghost use Rattle.std.specs.Int.{is_power_of_two};
 ghost use Rattle.heap_words.specs.Configs.{max_region_words, max_words, max_mutators, region_limit, heap_limit, count_limit, mutator_limit};
-ghost use Rattle.heap_words.specs.Configs.{card_length, card_limit, card_words, object_limit, globals_in, registers_in};
-ghost use Rattle.heap_words.specs.Configs.{globals_of, registers_of, Suits};
-ghost use Rattle.heap_words.specs.Configs.{HasRegions, HasWords, HasBuffer, HasMutators, HasCard, IsFirstFault};
+ghost use Rattle.heap_words.specs.Configs.{card_length, card_limit, card_words, object_limit, globals_in, registers_in, globals_of};
+ghost use Rattle.heap_words.specs.Configs.{registers_of, Suits, HasRegions, HasWords, HasBuffer, HasMutators, HasCard, IsFirstFault};
 
 use thiserror::Error;
 

@@ -1,7 +1,6 @@
 -- How the words of the heap are read as regions.
-use Rattle.std.specs.Prelude.{◌≡◌, ◌+◌, ◌-◌, ◌*◌, ◌^◌, ◌<◌, ◌≤◌, ◌∷◌}
-use Rattle.std.specs.Prelude.{ℕ, zero, suc, min, Bool, true, false, Option, Some, None, List, [], length}
-use Rattle.std.specs.Prelude.{take, drop, slice_index, slice_set, slice_index_or, count_by}
+use Rattle.std.specs.Prelude.{◌≡◌, ◌+◌, ◌-◌, ◌*◌, ◌^◌, ◌<◌, ◌≤◌, ◌∷◌, ℕ, zero, suc, min, Bool, true, false, Option, Some, None, List, []}
+use Rattle.std.specs.Prelude.{length, take, drop, slice_index, slice_set, slice_index_or, count_by}
 use Rattle.heap_words.specs.Sizes.{size_of}
 use Rattle.heap_words.specs.Configs.{max_words, max_region_words}
 use Rattle.heap_words.specs.declared.header.Header.{Header}

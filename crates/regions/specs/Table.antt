@@ -1,7 +1,6 @@
 -- A table of regions, as callers see it: regions of tiles, and no words.
-use Rattle.std.specs.Prelude.{◌≡◌, ◌+◌, ◌-◌, ◌*◌, ◌/◌, ◌%◌, ◌≤◌, ◌∷◌, ◌++◌, if◌then◌else◌}
-use Rattle.std.specs.Prelude.{ℕ, zero, suc, Option, Some, None, List, [], slice_index_or, slice_set, replicate, min, position}
-use Rattle.std.specs.Prelude.{count_by, Bool, true, false, take, drop, nat_le}
+use Rattle.std.specs.Prelude.{◌≡◌, ◌+◌, ◌-◌, ◌*◌, ◌/◌, ◌%◌, ◌≤◌, ◌∷◌, ◌++◌, if◌then◌else◌, ℕ, zero, suc, Option, Some, None, List, []}
+use Rattle.std.specs.Prelude.{slice_index_or, slice_set, replicate, min, position, count_by, Bool, true, false, take, drop, nat_le}
 use Rattle.heap_model.specs.Heap.{Stored, fields, with_field}
 use Rattle.regions.specs.Tiles.{Tile, Object, Filler, Forwarded, tile_size, tile_at, replace, total_size}
 use Rattle.regions.specs.declared.row.Kind.{Kind}

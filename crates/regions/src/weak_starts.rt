@@ -12,8 +12,7 @@
 //! such object left. A search passes over all other regions, 64 at once, and in these over 64 words at once. It takes one
 //! bit a word and one a region, all reserved when the table is made.
 
-ghost use Rattle.std.specs.Prelude.{◌≡◌, ◌+◌, ◌*◌, ◌^◌, ◌<◌, ◌≤◌, if◌then◌else◌};
-ghost use Rattle.std.specs.Prelude.{ℕ, IfOk, MatchOption, false, length, replicate};
+ghost use Rattle.std.specs.Prelude.{◌≡◌, ◌+◌, ◌*◌, ◌^◌, ◌<◌, ◌≤◌, if◌then◌else◌, ℕ, IfOk, MatchOption, false, length, replicate};
 ghost use Rattle.bit_sets.specs.Bits.{has, is_between, HasNone, IsLowest};
 ghost use Rattle.regions.specs.WeakStarts.{noted, forgotten, IsNextWithWeaks};
 

@@ -1,7 +1,6 @@
 -- Places that become nil.
-use Rattle.std.proofs.Common.{◌≡◌, ◌≢◌, ◌⊎◌, ◌+◌, ◌-◌, ◌<◌, ◌≤◌, ◌∙◌}
-use Rattle.std.proofs.Common.{ℕ, zero, suc, List, Option, None, length, get_or, set, refl, sym, ap, subst, arith, inl, inr, get_or-set_same}
-use Rattle.std.proofs.Common.{get_or-set_other, length-set}
+use Rattle.std.proofs.Common.{◌≡◌, ◌≢◌, ◌⊎◌, ◌+◌, ◌-◌, ◌<◌, ◌≤◌, ◌∙◌, ℕ, zero, suc, List, Option, None, length, get_or, set, refl, sym, ap}
+use Rattle.std.proofs.Common.{subst, arith, inl, inr, get_or-set_same, get_or-set_other, length-set}
 use Rattle.std.proofs.lemmas.Bool.{cases_lt, cases_eq}
 use Rattle.std.proofs.lemmas.List.{set-get_or, get_or_past}
 use Rattle.heap_model.specs.Graph.{Places, register_place, with_nils}

@@ -1,8 +1,7 @@
 -- A run's regions become free.
 use Rattle.heap_words.specs.Configs.{max_words}
-use Rattle.std.proofs.Common.{◌≡◌, ◌≢◌, ◌+◌, ◌-◌, ◌*◌, ◌/◌, ◌%◌, ◌<◌, ◌≤◌, ◌∷◌, ◌++◌, ◌∙◌}
-use Rattle.std.proofs.Common.{ℕ, zero, suc, Bool, true, false, Some, None, List, [], length, take, drop, get_or, set, refl, sym}
-use Rattle.std.proofs.Common.{ap, subst, arith, inl, inr, replicate, drop-cons}
+use Rattle.std.proofs.Common.{◌≡◌, ◌≢◌, ◌+◌, ◌-◌, ◌*◌, ◌/◌, ◌%◌, ◌<◌, ◌≤◌, ◌∷◌, ◌++◌, ◌∙◌, ℕ, zero, suc, Bool, true, false, Some, None}
+use Rattle.std.proofs.Common.{List, [], length, take, drop, get_or, set, refl, sym, ap, subst, arith, inl, inr, replicate, drop-cons}
 use Rattle.std.proofs.lemmas.List.{length-append, length-take, length-drop, append_assoc}
 use Rattle.std.proofs.lemmas.List.{drop-drop, get_or-drop, length-replicate, take_all}
 use Rattle.std.proofs.lemmas.List.Edits.{paste_more}

@@ -1,7 +1,6 @@
 -- Which tiles a table has once a run is made or regions are released. No word is in it.
-use Rattle.std.proofs.Common.{◌≡◌, ◌≢◌, ◌+◌, ◌-◌, ◌*◌, ◌/◌, ◌%◌, ◌<◌, ◌≤◌, ◌∷◌, ◌++◌, ◌∙◌}
-use Rattle.std.proofs.Common.{ℕ, zero, suc, true, Some, None, List, [], length, take, drop, get_or}
-use Rattle.std.proofs.Common.{refl, sym, ap, subst, arith, inl, inr, replicate}
+use Rattle.std.proofs.Common.{◌≡◌, ◌≢◌, ◌+◌, ◌-◌, ◌*◌, ◌/◌, ◌%◌, ◌<◌, ◌≤◌, ◌∷◌, ◌++◌, ◌∙◌, ℕ, zero, suc, true, Some, None, List, [], length}
+use Rattle.std.proofs.Common.{take, drop, get_or, refl, sym, ap, subst, arith, inl, inr, replicate}
 use Rattle.std.proofs.lemmas.List.{length-append, length-take, length-drop, length-replicate, get_or-drop}
 use Rattle.std.proofs.lemmas.Bool.{cases_lt, cases_eq}
 use Rattle.heap_model.specs.Heap.{Stored}

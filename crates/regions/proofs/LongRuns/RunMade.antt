@@ -1,7 +1,6 @@
 -- A humongous object is made in a run of free regions, or goes with its run.
-use Rattle.std.proofs.Common.{◌≡◌, ◌≢◌, ◌+◌, ◌-◌, ◌*◌, ◌/◌, ◌^◌, ◌<◌, ◌≤◌, ◌∷◌, ◌++◌, ◌∙◌}
-use Rattle.std.proofs.Common.{ℕ, zero, suc, min, true, Option, Some, None, List, [], length, take, drop, get_or, set, refl, sym}
-use Rattle.std.proofs.Common.{ap, subst, arith, inl, inr, zero-add, replicate}
+use Rattle.std.proofs.Common.{◌≡◌, ◌≢◌, ◌+◌, ◌-◌, ◌*◌, ◌/◌, ◌^◌, ◌<◌, ◌≤◌, ◌∷◌, ◌++◌, ◌∙◌, ℕ, zero, suc, min, true, Option, Some, None}
+use Rattle.std.proofs.Common.{List, [], length, take, drop, get_or, set, refl, sym, ap, subst, arith, inl, inr, zero-add, replicate}
 use Rattle.std.proofs.lemmas.List.{length-append, length-take, length-drop, append_assoc, drop-drop, get_or-drop, length-replicate}
 use Rattle.std.proofs.lemmas.List.{take_all, drop_all, append-nil, take-append-drop}
 use Rattle.std.proofs.lemmas.Bool.{cases_lt}

@@ -1,7 +1,6 @@
 -- How many rows are free: the same as regions are, and what each change of rows does to it.
-use Rattle.std.proofs.Common.{◌≡◌, ◌+◌, ◌<◌, ◌≤◌, ◌∷◌, ◌++◌, ◌∙◌}
-use Rattle.std.proofs.Common.{ℕ, zero, suc, Bool, true, false, List, [], length, take, drop, get_or, set, replicate, refl, sym, ap}
-use Rattle.std.proofs.Common.{arith, cond}
+use Rattle.std.proofs.Common.{◌≡◌, ◌+◌, ◌<◌, ◌≤◌, ◌∷◌, ◌++◌, ◌∙◌, ℕ, zero, suc, Bool, true, false, List, [], length, take, drop, get_or}
+use Rattle.std.proofs.Common.{set, replicate, refl, sym, ap, arith, cond}
 use Rattle.std.specs.List.{sum_by, count_by}
 use Rattle.std.proofs.lemmas.List.{length-append, length-take, length-drop, length-replicate, drop-drop, take_all}
 use Rattle.std.proofs.lemmas.List.Sums.{count_by-le-length, sum_by-append, sum_by-cons, sum_by-set, sum_by-take-drop}

@@ -1,7 +1,6 @@
 -- The search for a run of free regions.
-use Rattle.std.proofs.Common.{◌≡◌, ◌≢◌, ◌+◌, ◌-◌, ◌<◌, ◌≤◌, ◌∷◌, ◌∙◌}
-use Rattle.std.proofs.Common.{ℕ, zero, suc, Bool, true, false, Option, Some, None, List, [], length, drop, get_or, refl, sym}
-use Rattle.std.proofs.Common.{ap, subst, arith, cond, leb, add-zero, zero-add}
+use Rattle.std.proofs.Common.{◌≡◌, ◌≢◌, ◌+◌, ◌-◌, ◌<◌, ◌≤◌, ◌∷◌, ◌∙◌, ℕ, zero, suc, Bool, true, false, Option, Some, None, List, [], length}
+use Rattle.std.proofs.Common.{drop, get_or, refl, sym, ap, subst, arith, cond, leb, add-zero, zero-add}
 use Rattle.std.proofs.lemmas.Bool.{le-leb, lt-leb}
 use Rattle.std.proofs.lemmas.List.{get_or-drop, drop-drop, length-drop}
 use Rattle.regions.specs.Table.{Table, is_free, front_count, behind_one, first_run}

@@ -1,7 +1,6 @@
 -- The number below which no row is free: the search for free rows begins there.
-use Rattle.std.proofs.Common.{◌≡◌, ◌+◌, ◌<◌, ◌≤◌, ◌++◌, ◌∷◌, ◌∙◌}
-use Rattle.std.proofs.Common.{ℕ, zero, suc, true, false, Some, None, List, [], length, take, drop, get_or, set, refl, sym, ap, subst}
-use Rattle.std.proofs.Common.{arith, position, not, inl, inr, ⊎_elim, add-zero}
+use Rattle.std.proofs.Common.{◌≡◌, ◌+◌, ◌<◌, ◌≤◌, ◌++◌, ◌∷◌, ◌∙◌, ℕ, zero, suc, true, false, Some, None, List, [], length, take, drop}
+use Rattle.std.proofs.Common.{get_or, set, refl, sym, ap, subst, arith, position, not, inl, inr, ⊎_elim, add-zero}
 use Rattle.std.proofs.lemmas.Bool.{cases_lt, cases_eq, lt-ltb, le-ltb}
 use Rattle.std.proofs.lemmas.List.{get_or-set_same, get_or-set_other, get_or-take, get_or-drop}
 use Rattle.std.proofs.lemmas.List.{get_or_append_left, length-take, length-append}

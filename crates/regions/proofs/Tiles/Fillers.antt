@@ -16,9 +16,8 @@ use Rattle.regions.specs.Table.{Table, tile_in, kind_of, used_of, top_of, push_t
 use Rattle.regions.specs.Tiles.{Tile, Object, Filler, tiles}
 use Rattle.regions.specs.declared.row.Kind.TheVariants as kinds
 use Rattle.regions.specs.declared.row.Row.{Row}
-use Rattle.std.proofs.Common.{◌≡◌, ◌+◌, ◌*◌, ◌/◌, ◌^◌, ◌<◌, ◌≤◌, ◌∷◌, ◌++◌, ◌∙◌}
-use Rattle.std.proofs.Common.{ℕ, zero, suc, Some, List, [], length, take, drop, get_or, set}
-use Rattle.std.proofs.Common.{refl, sym, ap, subst, arith, inl, inr, add-zero}
+use Rattle.std.proofs.Common.{◌≡◌, ◌+◌, ◌*◌, ◌/◌, ◌^◌, ◌<◌, ◌≤◌, ◌∷◌, ◌++◌, ◌∙◌, ℕ, zero, suc, Some, List, [], length, take, drop, get_or}
+use Rattle.std.proofs.Common.{set, refl, sym, ap, subst, arith, inl, inr, add-zero}
 use Rattle.std.proofs.lemmas.List.{length-append, length-take, length-drop, append_assoc}
 
 -- a filler's header is its words

@@ -1,7 +1,6 @@
 -- An object becomes forwarded.
-use Rattle.std.proofs.Common.{◌≡◌, ◌≢◌, ◌+◌, ◌-◌, ◌<◌, ◌≤◌, ◌∷◌, ◌∙◌}
-use Rattle.std.proofs.Common.{ℕ, suc, Option, Some, None, List, [], length, take, drop, set}
-use Rattle.std.proofs.Common.{refl, sym, ap, subst, arith, inl, inr, add-zero}
+use Rattle.std.proofs.Common.{◌≡◌, ◌≢◌, ◌+◌, ◌-◌, ◌<◌, ◌≤◌, ◌∷◌, ◌∙◌, ℕ, suc, Option, Some, None, List, [], length, take, drop, set, refl}
+use Rattle.std.proofs.Common.{sym, ap, subst, arith, inl, inr, add-zero}
 use Rattle.std.proofs.lemmas.List.{length-take, length-drop}
 use Rattle.heap_words.specs.declared.header.Header.TheVariants as headers
 use Rattle.std.specs.Prelude.{IsSome}

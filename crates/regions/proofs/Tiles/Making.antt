@@ -1,8 +1,7 @@
 -- Regions as a whole: made, taken, released, asked for.
 use Rattle.heap_words.specs.Configs.{max_words, max_region_words}
-use Rattle.std.proofs.Common.{◌≡◌, ◌+◌, ◌-◌, ◌*◌, ◌<◌, ◌≤◌, ◌∷◌, ◌∙◌}
-use Rattle.std.proofs.Common.{ℕ, zero, suc, Some, None, List, [], length, take, drop, get_or, set, refl}
-use Rattle.std.proofs.Common.{sym, ap, subst, arith, true, replicate, position}
+use Rattle.std.proofs.Common.{◌≡◌, ◌+◌, ◌-◌, ◌*◌, ◌<◌, ◌≤◌, ◌∷◌, ◌∙◌, ℕ, zero, suc, Some, None, List, [], length, take, drop, get_or, set}
+use Rattle.std.proofs.Common.{refl, sym, ap, subst, arith, true, replicate, position}
 use Rattle.regions.specs.Table.{Region, Free, Ordinary, First, Rest, Table, with_region, is_free, first_free}
 use Rattle.regions.specs.Table.{taken, region_used, nth_region, used_of, region_kind, kind_of, free_table}
 use Rattle.regions.specs.Table.{HasNoForwarded, EachForwarded, EachForwardedIn, HasTargets}

@@ -20,9 +20,8 @@ use Rattle.regions.specs.Tiles.{Tile, Object, Filler, tile_size, total_size, til
 use Rattle.heap_words.specs.Contents.{put}
 use Rattle.regions.specs.declared.row.Kind.{Kind}
 use Rattle.regions.specs.declared.row.Row.{Row}
-use Rattle.std.proofs.Common.{◌≡◌, ◌≢◌, ◌+◌, ◌-◌, ◌*◌, ◌/◌, ◌%◌, ◌^◌, ◌<◌, ◌≤◌, ◌∷◌, ◌++◌, ◌∙◌}
-use Rattle.std.proofs.Common.{ℕ, zero, suc, Some, None, List, [], length, take, drop, get_or}
-use Rattle.std.proofs.Common.{refl, sym, ap, subst, arith, inl, inr, replicate}
+use Rattle.std.proofs.Common.{◌≡◌, ◌≢◌, ◌+◌, ◌-◌, ◌*◌, ◌/◌, ◌%◌, ◌^◌, ◌<◌, ◌≤◌, ◌∷◌, ◌++◌, ◌∙◌, ℕ, zero, suc, Some, None, List, [], length}
+use Rattle.std.proofs.Common.{take, drop, get_or, refl, sym, ap, subst, arith, inl, inr, replicate}
 use Rattle.std.proofs.lemmas.List.{length-append, length-take, length-drop, append_assoc, length-replicate, set-get_or}
 use Rattle.std.proofs.lemmas.Nat.{row_fits}
 use Rattle.heap_words.proofs.Codec.{header_of-word}

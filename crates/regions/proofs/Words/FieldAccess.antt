@@ -15,8 +15,8 @@ use Rattle.regions.specs.declared.row.Row.{Row}
 use Rattle.regions.proofs.Words.Places.{IsInObject}
 use Rattle.regions.proofs.Words.ObjectWords.{there, IsThere}
 use Rattle.regions.proofs.Tiles.Targets.{IsWrittenTable}
-use Rattle.regions.proofs.Words.Access.{HasPart, has_part, pointer_read, weak_read}
-use Rattle.regions.proofs.Words.Access.{pointer_written, weak_written, set_pointer-is, set_weak-is}
+use Rattle.regions.proofs.Words.Access.{HasPart, has_part, pointer_read, weak_read, pointer_written, weak_written}
+use Rattle.regions.proofs.Words.Access.{set_pointer-is, set_weak-is}
 
 module _ {A : Type 0} where
   get-front : (xs ys : List A) (i : ℕ) → i < length xs → slice_get (xs ++ ys) i ≡ slice_get xs i

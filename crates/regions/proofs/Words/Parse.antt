@@ -1,8 +1,7 @@
 -- How the tiles of words change with the words.
 -- the tile that began before the words ends in them
-use Rattle.std.proofs.Common.{◌≡◌, ◌+◌, ◌-◌, ◌<◌, ◌≤◌, ◌∷◌, ◌++◌}
-use Rattle.std.proofs.Common.{ℕ, zero, suc, Option, Some, None, List, [], length, take, drop}
-use Rattle.std.proofs.Common.{get_or, refl, sym, ap, arith, cond, leb, inl, inr}
+use Rattle.std.proofs.Common.{◌≡◌, ◌+◌, ◌-◌, ◌<◌, ◌≤◌, ◌∷◌, ◌++◌, ℕ, zero, suc, Option, Some, None, List, [], length, take, drop, get_or}
+use Rattle.std.proofs.Common.{refl, sym, ap, arith, cond, leb, inl, inr}
 use Rattle.std.proofs.lemmas.List.{length-take, length-drop, length-map, take-append-le}
 use Rattle.std.proofs.lemmas.List.{drop-append-le, take-append-drop, get_or_append_left}
 use Rattle.std.proofs.lemmas.Bool.Decides.{leb_tells}

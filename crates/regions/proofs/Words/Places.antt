@@ -1,7 +1,6 @@
 -- Where a tile of the table lies in the words, at any sizes of moved objects.
-use Rattle.std.proofs.Common.{◌≡◌, ◌+◌, ◌-◌, ◌*◌, ◌/◌, ◌%◌, ◌<◌, ◌≤◌, ◌⊎◌, ◌∷◌, ◌++◌, ◌∙◌}
-use Rattle.std.proofs.Common.{ℕ, zero, suc, Option, Some, None, List, [], length, take, drop, get_or}
-use Rattle.std.proofs.Common.{refl, sym, ap, subst, arith, inl, inr, add-zero}
+use Rattle.std.proofs.Common.{◌≡◌, ◌+◌, ◌-◌, ◌*◌, ◌/◌, ◌%◌, ◌<◌, ◌≤◌, ◌⊎◌, ◌∷◌, ◌++◌, ◌∙◌, ℕ, zero, suc, Option, Some, None, List, []}
+use Rattle.std.proofs.Common.{length, take, drop, get_or, refl, sym, ap, subst, arith, inl, inr, add-zero}
 use Rattle.std.proofs.lemmas.List.{length-append, length-take, length-drop, length-map}
 use Rattle.std.proofs.lemmas.List.{drop-append-le, drop-drop, take-append-drop, get_or-drop}
 use Rattle.std.proofs.lemmas.Bool.{cases_lt}

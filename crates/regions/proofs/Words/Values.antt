@@ -1,6 +1,5 @@
 -- Reads and writes of an object's data.
-use Rattle.std.proofs.Common.{◌≡◌, ◌+◌, ◌<◌, ◌≤◌, ◌∷◌, ◌∙◌}
-use Rattle.std.proofs.Common.{ℕ, suc, Some, List, [], length, take, drop, get_or, set, refl, sym, ap, arith}
+use Rattle.std.proofs.Common.{◌≡◌, ◌+◌, ◌<◌, ◌≤◌, ◌∷◌, ◌∙◌, ℕ, suc, Some, List, [], length, take, drop, get_or, set, refl, sym, ap, arith}
 use Rattle.std.proofs.lemmas.List.{length-set, drop-drop, drop-set-add, take-set-le, get_or-drop, get_or-take}
 use Rattle.std.specs.List.{slice_get}
 use Rattle.std.proofs.lemmas.Option.{slice_get-get_or}

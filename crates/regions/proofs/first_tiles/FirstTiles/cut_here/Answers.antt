@@ -17,9 +17,10 @@ write_front-requires-clause-within c = end_written (c.args.at + c.args.filler) c
 pub returns-clause-entries : goal.returns-clause-entries
 returns-clause-entries c k =
     rw (← c.self.view_is, c.self.invariant.0.is)
-    (entries_put (λ (d : ℕ). if is_between (c.args.at + c.args.size) (c.args.at + c.args.filler) (k * 2 ^ c.self.inside.shift)
+    (entries_put
+    (λ (d : ℕ). if is_between (c.args.at + c.args.size) (c.args.at + c.args.filler) (k * 2 ^ c.self.inside.shift)
     && (k * 2 ^ c.self.inside.shift == last_card (2 ^ c.self.inside.shift) (c.args.at + c.args.filler)) then c.args.at + c.args.size
-    else (if is_between c.args.at (c.args.at + c.args.size) (k * 2 ^ c.self.inside.shift) then c.args.at else d)) _
-        c.reach.new.entries.items _ c.write_front.new.entries _ c.reach.new.entries.len c.self.inside.cards k
+    else (if is_between c.args.at (c.args.at + c.args.size) (k * 2 ^ c.self.inside.shift) then c.args.at else d))
+    _ c.reach.new.entries.items _ c.write_front.new.entries _ c.reach.new.entries.len c.self.inside.cards k
     (omega (arith, c.write_front.ensures.len, c.deref_mut.ensures.len)) c.deref_mut.ensures.value c.reach.ensures.all
     (c.write_front.ensures.entries k))

@@ -17,8 +17,9 @@ write_start-requires-clause-within c = end_written (c.args.end) c.self.inside.sh
 pub returns-clause-entries : goal.returns-clause-entries
 returns-clause-entries c k =
     rw (← c.self.view_is, c.self.invariant.0.is)
-    (entries_put (λ (d : ℕ). if is_between c.args.at c.args.end (k * 2 ^ c.self.inside.shift)
-    && (k * 2 ^ c.self.inside.shift == last_card (2 ^ c.self.inside.shift) c.args.end) then c.args.at else d) _ c.reach.new.entries.items _
-        c.write_start.new.entries _ c.reach.new.entries.len c.self.inside.cards k
+    (entries_put
+    (λ (d : ℕ). if is_between c.args.at c.args.end (k * 2 ^ c.self.inside.shift)
+    && (k * 2 ^ c.self.inside.shift == last_card (2 ^ c.self.inside.shift) c.args.end) then c.args.at else d)
+    _ c.reach.new.entries.items _ c.write_start.new.entries _ c.reach.new.entries.len c.self.inside.cards k
     (omega (arith, c.write_start.ensures.len, c.deref_mut.ensures.len)) c.deref_mut.ensures.value c.reach.ensures.all
     (c.write_start.ensures.entries k))

@@ -18,8 +18,9 @@ write_filler-requires-clause-within c = end_written (c.args.at + c.args.size) c.
 pub returns-clause-entries : goal.returns-clause-entries
 returns-clause-entries c k =
     rw (← c.self.view_is, c.self.invariant.0.is)
-    (entries_put (λ (d : ℕ). if is_between c.args.at (c.args.at + c.args.size) (k * 2 ^ c.self.inside.shift)
-    then entry_of (2 ^ c.self.inside.shift) c.args.at (Filler c.args.size) (k * 2 ^ c.self.inside.shift) else d) _
-        c.reach.new.entries.items _ c.write_filler.new.entries _ c.reach.new.entries.len c.self.inside.cards k
+    (entries_put
+    (λ (d : ℕ). if is_between c.args.at (c.args.at + c.args.size) (k * 2 ^ c.self.inside.shift)
+    then entry_of (2 ^ c.self.inside.shift) c.args.at (Filler c.args.size) (k * 2 ^ c.self.inside.shift) else d)
+    _ c.reach.new.entries.items _ c.write_filler.new.entries _ c.reach.new.entries.len c.self.inside.cards k
     (omega (arith, c.write_filler.ensures.len, c.deref_mut.ensures.len)) c.deref_mut.ensures.value c.reach.ensures.all
     (c.write_filler.ensures.entries k))

@@ -1,15 +1,13 @@
-use Rattle.std.proofs.Common.{arith, ◌≡◌, ℕ, sym, ap, ◌∙◌}
+use Rattle.std.proofs.Common.{arith, ◌≡◌, ℕ, sym, ap, ◌∙◌, refl, List, Option, length}
 use Rattle.regions.specs.declared.row.Row.{Row}
 use Rattle.regions.proofs.Tiles.Making.{known, known_top, top_at, row_read}
 use Rattle.regions.proofs.Words.ObjectWords.{object_there}
 use Rattle.regions.proofs.Words.Copies.{copy_pushed}
-use Rattle.std.proofs.Common.{refl}
 use Rattle.regions.proofs.Rows.UsedBelow.{used_set}
 use Rattle.regions.proofs.Rows.Counting.{count_kept, row_used}
 use Rattle.regions.proofs.Cards.Entries.{push_sound}
 use Rattle.regions.proofs.Words.FieldAccess.{weaks_are}
 use Rattle.regions.specs.WeakStarts.{noted}
-use Rattle.std.proofs.Common.{List, Option, length}
 use Rattle.regions.specs.Tiles.{Object, tile_size}
 use Rattle.regions.specs.Table.{object_words}
 use Rattle.regions.proofs.Tiles.Within.{object_within}
@@ -67,9 +65,9 @@ put_object-requires c =
     let (n, t) = known_top _ _ _ _ _ c.self.invariant.table c.self.view_is c.requires.known c.requires.ordinary in
     let at = top_at _ _ _ _ _ _ n c.top-to.ensures in
     let small = c.self.invariant.table.small in
+    let cards = c.self.invariant.each_card in
     record {
-      within = omega (arith, at, t.room, n.size_is, c.requires.room, c.object_size-size.ensures, c.word-2.ensures,
-          c.self.invariant.each_card);
+      within = omega (arith, at, t.room, n.size_is, c.requires.room, c.object_size-size.ensures, c.word-2.ensures, cards);
       small = omega (arith, at, t.room, n.size_is, c.requires.room, c.object_size-size.ensures, c.word-2.ensures, small);
     }
 

@@ -1,6 +1,5 @@
-use Rattle.std.proofs.Common.{◌≡◌, ◌*◌, ◌∙◌, arith, subst, ℕ}
+use Rattle.std.proofs.Common.{◌≡◌, ◌*◌, ◌∙◌, arith, subst, ℕ, Some, sym, refl}
 use Rattle.regions.specs.Walks.{IsLowest}
-use Rattle.std.proofs.Common.{Some, sym, refl}
 use Rattle.regions.proofs.Tiles.Lowest.{none_lowest, some_lowest}
 use Rattle.regions.proofs.table.RegionTable.lowest_tile.Goals as goal
 

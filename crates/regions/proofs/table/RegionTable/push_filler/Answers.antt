@@ -1,8 +1,7 @@
-use Rattle.std.proofs.Common.{arith, ◌<◌, ap, ◌∙◌}
+use Rattle.std.proofs.Common.{arith, ◌<◌, ap, ◌∙◌, refl}
 use Rattle.regions.specs.declared.row.Row.{Row}
 use Rattle.regions.proofs.Tiles.Making.{known, known_top, top_at, row_read}
 use Rattle.regions.proofs.Tiles.Fillers.{filler_added}
-use Rattle.std.proofs.Common.{refl}
 use Rattle.regions.proofs.Rows.UsedBelow.{used_set}
 use Rattle.regions.proofs.Rows.Counting.{count_kept, row_used}
 use Rattle.regions.proofs.Cards.Entries.{push_sound, filler_written}
@@ -45,10 +44,10 @@ put_filler-requires c =
     let (n, t) = known_top _ _ _ _ _ c.self.invariant.table c.self.view_is c.requires.known c.requires.ordinary in
     let at = top_at _ _ _ _ _ _ n c.top-at.ensures in
     let small = c.self.invariant.table.small in
+    let cards = c.self.invariant.each_card in
     record {
       positive = omega (arith, c.get-more.ensures.positive);
-      within = omega (arith, at, t.room, n.size_is, c.requires.room, c.get-more.ensures.value, c.word-2.ensures,
-          c.self.invariant.each_card);
+      within = omega (arith, at, t.room, n.size_is, c.requires.room, c.get-more.ensures.value, c.word-2.ensures, cards);
       small = omega (arith, at, t.room, n.size_is, c.requires.room, c.get-more.ensures.value, c.word-2.ensures, small);
     }
 

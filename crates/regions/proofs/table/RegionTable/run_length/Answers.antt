@@ -25,7 +25,7 @@ overflow_add-result c =
 
 pub returns : goal.returns
 returns c =
-    let count = rests_counted c.self.inside.rows.items _ c.args.region _ c.number.ensures (rw c.deref.ensures.value at
-        c.rests_from.ensures) in
+    let count = rests_counted c.self.inside.rows.items _ c.args.region _ c.number.ensures
+    (rw c.deref.ensures.value at c.rests_from.ensures) in
     let one : 1 + c.rests_from.result ≡ suc c.rests_from.result = omega arith in
     one ∙ ap suc count ∙ sym (run_length-is _ _ _ _ c.args.region c.self.view_is)
