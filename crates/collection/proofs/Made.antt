@@ -1,5 +1,5 @@
 -- How many free regions it takes to make an object.
-use Rattle.std.proofs.Common.{◌≡◌, ◌+◌, ◌-◌, ◌*◌, ◌/◌, ◌%◌, ◌≤◌, ◌∷◌, ◌++◌, min}
+use Rattle.std.proofs.Common.{◌≡◌, ◌+◌, ◌-◌, ◌*◌, ◌/◌, ◌%◌, ◌≤◌, ◌∷◌, ◌++◌, ◌∙◌, min}
 use Rattle.std.proofs.Common.{ℕ, suc, zero, Bool, true, false, cond, List, [], Option, Some, None, get_or, set, sum_by, take, drop}
 use Rattle.std.proofs.Common.{length, refl, sym, ap, subst, arith}
 use Rattle.std.specs.Prelude.{nat_le, if◌then◌else◌, slice_index_or}
