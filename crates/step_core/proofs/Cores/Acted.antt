@@ -15,7 +15,7 @@ use Rattle.heap_steps.specs.declared.step.Reply.{Reply}
 use Rattle.heap_steps.specs.declared.step.Reply.TheVariants as replies
 use Rattle.heap_steps.specs.declared.step.Refusal.TheVariants as refusals
 use Rattle.graph_runs.proofs.MachineLaws.{act-not_full}
-use Rattle.step_core.specs.Stands.{CoreState, ShowsGraph, KeepsFrom, KeepsFor, Stands}
+use Rattle.step_core.specs.Stands.{CoreState, ShowsGraph, KeepsFor, Stands}
 use Rattle.step_core.specs.Answers.{Acts, HasNoPlace, IsFull, RepliesFull}
 use Rattle.step_core.specs.Cycle.{LeavesRegions}
 use Rattle.step_core.specs.Making.{MakesObject}

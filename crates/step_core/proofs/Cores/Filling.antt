@@ -2,8 +2,6 @@
 use Rattle.std.proofs.Common.{◌≡◌, ◌<◌, ℕ, Option, Some, None, length, ◌∙◌, inl, inr, refl, sym, ap, arith}
 use Rattle.std.specs.Prelude.{IfNone}
 use Rattle.heap_words.specs.Configs.{registers_of}
-use Rattle.heap_model.specs.Graph.{Graph}
-use Rattle.heap_model.specs.Heap.{IsRoot}
 use Rattle.graph_runs.specs.State.{register_place, places_of}
 use Rattle.heap_steps.specs.declared.step.Op.{Op}
 use Rattle.heap_steps.specs.declared.step.Action.{Action}
@@ -11,15 +9,12 @@ use Rattle.heap_steps.specs.declared.step.Action.TheVariants as actions
 use Rattle.heap_steps.specs.declared.step.Counts.{Counts}
 use Rattle.heap_steps.specs.declared.step.Register.{Register}
 use Rattle.heap_steps.specs.declared.step.Reply.{Reply}
-use Rattle.heap_steps.specs.declared.step.Reply.TheVariants as replies
 use Rattle.heap_steps.specs.declared.step.Refusal.TheVariants as refusals
-use Rattle.step_core.specs.Stands.{CoreState, IsCore, KeepsFrom, Leads, ShowsGraph, heap_of}
-use Rattle.step_core.specs.Answers.{Acts}
-use Rattle.step_core.specs.Cycle.{LeavesRegions}
+use Rattle.step_core.specs.Stands.{CoreState, IsCore, Leads}
 use Rattle.step_core.specs.Mutators.{ActsOn, core_after, register_of}
 use Rattle.step_core.specs.Making.{MakesObject}
 use Rattle.step_core.specs.Parts.{NamesAt}
-use Rattle.step_core.specs.Words.{AreRefused, Takes, making, putting, writing}
+use Rattle.step_core.specs.Words.{AreRefused, Takes, making}
 use Rattle.step_core.proofs.Cores.Acted.{acted_new}
 use Rattle.step_core.proofs.Cores.Snapshots.{acts_cases}
 use Rattle.step_core.proofs.Cores.Keeping.{register_inside}

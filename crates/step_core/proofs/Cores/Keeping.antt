@@ -161,9 +161,6 @@ pub object_led : (k c : CoreState) (place a : ℕ) → k ≡ c → IsCore k → 
 object_led k c place a e core l =
     subst (λ (d : CoreState). IsSome (object_at d.table a)) (sym e) (led_object c place a (core_of k c e core) l)
 
-pub table_of : (k c : CoreState) → k ≡ c → k.table ≡ c.table
-table_of k c e = ap (λ (d : CoreState). d.table) e
-
 module _ (k c : CoreState) (e : k ≡ c) (core : IsCore k) (m : ℕ) (object : Register) (a i v : ℕ) (t : Table)
     (names : NamesAt c m object a) (within : i < length (values_at k.table a)) (is : t ≡ set_value k.table a i v) where
   l : Leads c (register_place (places_of c.config) m object.number) (Some a)

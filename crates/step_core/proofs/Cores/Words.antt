@@ -1,7 +1,7 @@
 -- Several data words at once: each as by a step of its own.
 use Rattle.std.proofs.Common.{◌≡◌, ◌+◌, ◌-◌, ◌<◌, ◌≤◌, ◌∷◌, ◌∙◌, ℕ, false, suc, Option, Some, List, [], length, take, drop}
 use Rattle.std.proofs.Common.{refl, sym, ap, subst, arith}
-use Rattle.std.specs.Prelude.{slice_get, slice_index, unwrap_or}
+use Rattle.std.specs.Prelude.{slice_get, slice_index}
 use Rattle.std.proofs.lemmas.List.{get_or-drop, get_or-take}
 use Rattle.std.proofs.lemmas.Option.{slice_get-get_or}
 use Rattle.regions.specs.Table.{Table, values_at, set_value, set_values}
@@ -19,8 +19,8 @@ use Rattle.heap_steps.specs.declared.step.Step.TheVariants as steps
 use Rattle.step_core.specs.Stands.{CoreState, IsCore, Leads, ShowsGraph}
 use Rattle.step_core.specs.Answers.{Acts, IsFull}
 use Rattle.step_core.specs.Parts.{NamesAt}
-use Rattle.step_core.specs.Mutators.{ActsOn, register_of, object_of}
-use Rattle.step_core.specs.Words.{Takes, reading, writing, AreRead, AreWritten, IsUnread, IsUnwritten}
+use Rattle.step_core.specs.Mutators.{register_of}
+use Rattle.step_core.specs.Words.{Takes, AreRead, AreWritten, IsUnread, IsUnwritten}
 use Rattle.step_core.proofs.Cores.Acted.{acted_plain, still}
 use Rattle.step_core.proofs.Cores.Snapshots.{touches}
 use Rattle.step_core.proofs.Cores.Sizes.{some_words}

@@ -1,13 +1,13 @@
 -- A pointer whose value is near or far, and stores into an object whose address is known.
 use Rattle.std.proofs.Common.{◌≡◌, ◌≢◌, ◌+◌, ◌<◌, ◌/◌, ◌∙◌, ℕ, Bool, true, false, Option, Some, None, length}
-use Rattle.std.proofs.Common.{refl, sym, ap, subst, arith, inl, inr}
+use Rattle.std.proofs.Common.{refl, sym, ap, subst, arith, inl}
 use Rattle.std.specs.Prelude.{◌==◌, if◌then◌else◌, unwrap_or}
 use Rattle.std.proofs.lemmas.Grind.{common_steps}
 use Rattle.std.proofs.lemmas.Bool.Decides.{nat_tests}
 use Rattle.heap_words.specs.Configs.{globals_of, registers_of, card_words}
 use Rattle.heap_model.specs.Graph.{Places}
 use Rattle.graph_runs.specs.State.{places_of, register_place}
-use Rattle.cards.specs.Cards.{Cards, dirtied, is_dirty}
+use Rattle.cards.specs.Cards.{Cards, dirtied}
 use Rattle.regions.specs.Table.{pointers_at, values_at, set_pointer, set_value}
 use Rattle.refinement.specs.Remembering.{field_word}
 use Rattle.marker.specs.Steps.{Overwrites}
@@ -16,7 +16,7 @@ use Rattle.heap_steps.specs.declared.step.Reply.TheVariants as replies
 use Rattle.heap_steps.specs.declared.step.Register.{Register}
 use Rattle.step_core.specs.Stands.{CoreState, IsCore}
 use Rattle.step_core.specs.Cycle.{LeavesRegions}
-use Rattle.step_core.specs.Mutators.{noted, object_of, pointer_of, register_of, with_pointer}
+use Rattle.step_core.specs.Mutators.{noted, object_of, pointer_of, with_pointer}
 use Rattle.step_core.specs.Near.{LeadsFar, LeadsNear}
 use Rattle.step_core.specs.Parts.{DoesAction, Fills, HoldsValue, NamesAt}
 use Rattle.step_core.specs.Storing.{HasNoted, StoresPointer, StoresWith}
@@ -68,10 +68,6 @@ near_cards c m word (Some a) h =
     (same_number (word / c.table.words_per_region))
 
 -- ---- or becomes dirty
-pub dirty_noted : (c : CoreState) (word : ℕ) (w : Option ℕ) → is_dirty c.cards (word / card_words c.config) ≡ true → HasNoted c word w
-dirty_noted c word None h = tt
-dirty_noted c word (Some a) h = inr h
-
 pub far_cards : (c : CoreState) (m word : ℕ) (w : Option ℕ) → LeadsFar c.table.words_per_region word w
     → noted c m word w ≡ dirtied c.cards m (word / card_words c.config)
 far_cards c m word None h = absurd h

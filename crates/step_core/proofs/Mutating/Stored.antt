@@ -13,7 +13,7 @@ use Rattle.step_core.specs.Cycle.{LeavesRegions}
 use Rattle.step_core.specs.Mutators.{pointer_of}
 use Rattle.step_core.specs.Storing.{CanStore, HasNoted, StoresWith}
 use Rattle.refinement.specs.Remembering.{field_word}
-use Rattle.step_core.proofs.Mutating.Logging.{HaveRoom, Saves, TakesLog, idle_overwrites, log_taken, overwrites_full, overwrites_room}
+use Rattle.step_core.proofs.Mutating.Logging.{Saves, TakesLog, idle_overwrites, log_taken, overwrites_full, overwrites_room}
 use Rattle.step_core.proofs.Mutating.Logging.{roles_trans, same_roles, saved_room, taken_room}
 use Rattle.step_core.proofs.Mutating.Reading.{get_or-get}
 use Rattle.step_core.proofs.Mutating.Storing as storing

@@ -16,8 +16,7 @@ returns-clause-made c = (
   in_buffer c.args.table.now c.args.buffers.now c.args.mutator c.args.size c.in_ok-open.open,
   inside_made c.args.table.now _ c.args.buffers.now _ c.args.mutator c.args.size c.args.name c.args.counts.pointers c.args.weaks
       c.args.counts.values _ _ c.in_ok-open.open c.law.ensures.positive c.law.ensures.fitting c.requires.can.ready
-          c.in_ok-open.ensures.opened
-      c.in_ok-open.ensures.room c.requires.half c.requires.can.size
+      c.in_ok-open.ensures.opened c.in_ok-open.ensures.room c.requires.half c.requires.can.size
       c.new-at.ensures c.new.ensures (rw (c.header_counts.ensures.pointers, c.header_counts.ensures.weaks, c.header_counts.ensures.values)
       at
       c.make_object.ensures) c.in_ok-open.ensures.cut,

@@ -1,4 +1,4 @@
-use Rattle.std.proofs.Common.{◌∙◌, ap, arith, length, rules, sym}
+use Rattle.std.proofs.Common.{◌∙◌, ap, arith, length, sym}
 use Rattle.std.specs.Prelude.{slice_get}
 use Rattle.regions.specs.Table.{pointers_at}
 use Rattle.step_core.specs.Stands.{CoreState}

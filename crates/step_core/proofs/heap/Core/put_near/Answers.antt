@@ -1,5 +1,4 @@
-use Rattle.std.proofs.Common.{◌∙◌, Option, ℕ, ap}
-use Rattle.regions.specs.Table.{set_pointer}
+use Rattle.std.proofs.Common.{ap}
 use Rattle.step_core.specs.Stands.{CoreState}
 use Rattle.step_core.proofs.Cores.Keeping.{root_held}
 use Rattle.step_core.proofs.Cores.Filling.{names_at}

@@ -1,7 +1,7 @@
 use Rattle.std.proofs.Common.{◌∙◌, ap, arith, length}
 use Rattle.regions.specs.Table.{pointers_at}
 use Rattle.step_core.specs.Stands.{CoreState}
-use Rattle.step_core.proofs.Cores.Keeping.{object_led, root_held}
+use Rattle.step_core.proofs.Cores.Keeping.{object_led}
 use Rattle.step_core.proofs.Mutating.Acting.{put_past, refused_does}
 use Rattle.step_core.proofs.Mutating.Near.{put_does}
 use Rattle.step_core.proofs.heap.Core.put_word.Goals as goal

@@ -1,5 +1,5 @@
 use Rattle.step_core.proofs.Mutating.Fields.{pointer_within}
-use Rattle.step_core.proofs.Mutating.Near.{near_noted, near_stores}
+use Rattle.step_core.proofs.Mutating.Near.{near_stores}
 use Rattle.step_core.proofs.heap.Core.store.Goals as goal
 
 pub is_near-requires-clause-field : goal.is_near-requires-clause-field
