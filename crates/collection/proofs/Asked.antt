@@ -1,6 +1,6 @@
 -- An object that is asked for: the collector's steps, and then the mutator's own, or none.
 use Rattle.std.proofs.Common.{◌≡◌, ◌⊎◌, ◌≤◌, ◌∙◌}
-use Rattle.std.proofs.Common.{ℕ, inl, inr, sym, subst, refl}
+use Rattle.std.proofs.Common.{ℕ, inl, inr, sym, subst, refl, arith}
 use Rattle.heap_words.specs.Configs.{object_limit}
 use Rattle.heap_words.specs.declared.config.Config.{Config}
 use Rattle.heap_steps.specs.declared.step.Event.{Event}
@@ -18,7 +18,7 @@ use Rattle.collection.specs.Steps.{Collects, HasRoom, LeavesTwo, Makes, TakesOwn
 use Rattle.collection.specs.Rooms.{IsCreatable, IsFilled, IsLast, IsSpared}
 use Rattle.collection.proofs.Created.{by_creates, creates_by, full_creates}
 use Rattle.collection.proofs.Spared.{spared_made, spared_two}
-use Rattle.collection.proofs.Took.{reached}
+use Rattle.collection.proofs.Took.{more, none, reached}
 
 module _ {W : Type 0} (sees : W → Event → W → Type 0) (most : ℕ) (op : Op) (c d : CoreState) (x y : W)
     (before : Collects sees most c x d y) where
@@ -76,3 +76,9 @@ module _ {W : Type 0} (sees : W → Event → W → Type 0) (most : ℕ) (op : O
       no_room = none;
     });
   }
+
+-- its own step, with none of the collector before
+pub own_at_once : {W : Type 0} (sees : W → Event → W → Type 0) (most : ℕ) (op : Op) (c c' : CoreState) (x x' : W) (reply : Reply)
+    → TakesOwn sees op reply c x c' x' → Makes sees most op reply c x c' x'
+own_at_once sees most op c c' x x' reply own =
+    own_makes sees most op c c x x (more sees 0 most c c x x (omega arith) (none sees c x)) reply c' x' own

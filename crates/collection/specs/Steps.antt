@@ -15,7 +15,8 @@ use Rattle.heap_steps.specs.declared.step.Reply.TheVariants as replies
 use Rattle.heap_steps.specs.declared.step.Refusal.TheVariants as refusals
 use Rattle.heap_steps.specs.declared.step.Step.TheVariants as steps
 use Rattle.graph_runs.specs.State.{State}
-use Rattle.graph_runs.specs.Run.{Creates}
+use Rattle.graph_runs.specs.Run.{Creates, IsNew}
+use Rattle.heap_steps.specs.Actors.{IsOp}
 use Rattle.step_core.specs.Stands.{CoreState, Stands}
 use Rattle.step_core.specs.Mutators.{core_after}
 use Rattle.step_core.specs.Passages.{Passes, Runs}
@@ -26,6 +27,12 @@ abbrev pub asked_words : Action → ℕ
 asked_words (actions.New to counts) = size_of counts.pointers 0 counts.values
 asked_words (actions.NewWeak to counts weaks) = size_of counts.pointers weaks counts.values
 asked_words _ = 0
+
+-- an object of so many words is asked for in a heap of these sizes
+pub record IsAsked (config : Config) (o : Op) (words : ℕ) : Type 0 where
+  pub op : IsOp config o
+  pub new : IsNew o.action
+  pub size : words ≡ asked_words o.action
 
 -- how many regions of so many words an object takes: one, of which others may have a part, or a run
 abbrev pub regions_for : ℕ → ℕ → ℕ

@@ -8,7 +8,7 @@ ghost use Rattle.regions.specs.Table.{free_count};
 ghost use Rattle.graph_runs.specs.State.{State};
 ghost use Rattle.graph_runs.specs.Run.{IsNew};
 ghost use Rattle.collection.specs.Space.{IsPacked, IsQuiet, LieBelowFree, ordinary_end};
-ghost use Rattle.collection.specs.Steps.{Collects, HasRoom, asked_words};
+ghost use Rattle.collection.specs.Steps.{Collects, HasRoom, IsAsked};
 ghost use Rattle.collection.specs.Rooms.{HasRun, IsSpared};
 
 use crate::numbers::Policy;
@@ -52,9 +52,7 @@ pub(crate) fn compact_for<W: Watch>(
     watch: &mut W,
 ) -> bool
     requires third { IsThird core.old.config.format }
-    requires op { IsOp core.old.config op.now }
-    requires new { IsNew op.now.action }
-    requires size { size ≡ asked_words op.now.action }
+    requires asked { IsAsked core.old.config op.now size }
     requires large { core.old.config.words < 2 * size }
     requires within { size ≤ core.old.config.regions * core.old.config.words }
     ensures collects { Collects W.sees (core.old.config.regions + 1) core.old watch.old core.new watch.new }

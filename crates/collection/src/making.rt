@@ -11,7 +11,7 @@ ghost use Rattle.heap_steps.specs.Actors.{IsOp, IsThird};
 ghost use Rattle.heap_steps.specs.declared.step.Reply.TheVariants as replies;
 ghost use Rattle.heap_steps.specs.declared.step.Refusal.TheVariants as refusals;
 ghost use Rattle.collection.specs.Asked.{MakesByPolicy, MakesRoom, due_steps};
-ghost use Rattle.collection.specs.Steps.{Collects, CollectsSome, HasRoom, IsDue, LeavesTwo, Makes, asked_words};
+ghost use Rattle.collection.specs.Steps.{Collects, CollectsSome, HasRoom, IsAsked, IsDue, LeavesTwo, asked_words};
 ghost use Rattle.collection.specs.Space.{IsPacked, IsQuiet, LieBelowFree};
 ghost use Rattle.collection.specs.Rooms.{HasRun, IsCreatable, IsFilled, IsLast, IsSpared};
 
@@ -45,9 +45,7 @@ fn compact_all<W: Watch>(
     watch: &mut W,
 ) -> bool
     requires third { IsThird core.old.config.format }
-    requires op { IsOp core.old.config op.now }
-    requires new { IsNew op.now.action }
-    requires size { size ≡ asked_words op.now.action }
+    requires asked { IsAsked core.old.config op.now size }
     requires large { core.old.config.words < 2 * size }
     requires within { size ≤ core.old.config.regions * core.old.config.words }
     ensures collects { Collects W.sees (core.old.config.regions + 1) core.old watch.old core.new watch.new }
@@ -76,9 +74,7 @@ fn collect_all<W: Watch>(
     size: u32,
     watch: &mut W,
 ) -> bool
-    requires op { IsOp core.old.config op.now }
-    requires new { IsNew op.now.action }
-    requires size { size ≡ asked_words op.now.action }
+    requires asked { IsAsked core.old.config op.now size }
     requires within { size ≤ core.old.config.regions * core.old.config.words }
     ensures collects { Collects W.sees (5 + 2 * core.old.config.regions) core.old watch.old core.new watch.new }
     ensures room { result ≡ true → IsSpared core.new op.now ⊎ IsLast core.old op.now core.new }
@@ -109,9 +105,7 @@ fn make_room<W: Watch>(
     due: bool,
     watch: &mut W,
 ) -> bool
-    requires op { IsOp core.old.config op.now }
-    requires new { IsNew op.now.action }
-    requires size { size ≡ asked_words op.now.action }
+    requires asked { IsAsked core.old.config op.now size }
     requires within { size ≤ core.old.config.regions * core.old.config.words }
     ensures collects { Collects W.sees (4 * core.old.config.regions + 12) core.old watch.old core.new watch.new }
     ensures paced { MakesRoom W.sees due policy.old.begin_at op.now core.old watch.old core.new watch.new }
@@ -141,9 +135,7 @@ fn make_creatable<W: Watch>(
     due: bool,
     watch: &mut W,
 ) -> Reply
-    requires op { IsOp core.old.config op }
-    requires new { IsNew op.action }
-    requires size { size ≡ asked_words op.action }
+    requires asked { IsAsked core.old.config op size }
     requires creatable { IsCreatable core.old op.action }
     ensures { MakesByPolicy W.sees due policy.old.left policy.new.left policy.old.begin_at op result core.old watch.old core.new watch.new }
 {
@@ -166,9 +158,7 @@ fn make_looking<W: Watch>(
     due: bool,
     watch: &mut W,
 ) -> Reply
-    requires op { IsOp core.old.config op }
-    requires new { IsNew op.action }
-    requires size { size ≡ asked_words op.action }
+    requires { IsAsked core.old.config op size }
     ensures { MakesByPolicy W.sees due policy.old.left policy.new.left policy.old.begin_at op result core.old watch.old core.new watch.new }
 {
     core.remembers();
@@ -189,9 +179,7 @@ fn make_apart<W: Watch>(
     due: bool,
     watch: &mut W,
 ) -> Reply
-    requires op { IsOp core.old.config op }
-    requires new { IsNew op.action }
-    requires size { size ≡ asked_words op.action }
+    requires { IsAsked core.old.config op size }
     ensures { MakesByPolicy W.sees due policy.old.left policy.new.left policy.old.begin_at op result core.old watch.old core.new watch.new }
 {
     make_looking(core, policy, op, size, due, watch)

@@ -1,11 +1,11 @@
 use Rattle.std.proofs.Common.{◌≡◌, ◌≢◌, ◌+◌, ◌*◌, ◌<◌, ◌≤◌, ◌∙◌, Option, Some, None, ℕ, inl, inr, refl, sym, ap, subst, arith}
 use Rattle.heap_model.specs.Heap.{Stored}
 use Rattle.heap_words.specs.declared.config.Config.{Config}
-use Rattle.heap_steps.specs.Actors.{IsOp, IsThird}
+use Rattle.heap_steps.specs.Actors.{IsThird}
 use Rattle.regions.specs.Table.{free_count}
 use Rattle.step_core.specs.Stands.{kept_of}
 use Rattle.collection.specs.Space.{IsPackedAt, ordinary_count, run_count}
-use Rattle.collection.specs.Steps.{LeavesTwo, asked_words}
+use Rattle.collection.specs.Steps.{IsAsked, LeavesTwo, asked_words}
 use Rattle.collection.specs.Rooms.{HasRun}
 use Rattle.collection.proofs.Counts.{count_all}
 use Rattle.collection.proofs.Leaving.{clash, leaves_four, leaves_not, leaves_still}
@@ -17,8 +17,9 @@ some_kept : (o : Option Stored) → o ≢ None → (x : Stored) × (o ≡ Some x
 some_kept None n = absurd (n refl)
 some_kept (Some x) n = (x, refl)
 
-pub is_spared-requires-clause-op : goal.is_spared-requires-clause-op
-is_spared-requires-clause-op g c = subst (λ (x : Config). IsOp x c.args.op.now) (sym c.collect.ensures.collects.config) c.requires.op
+pub is_spared-requires-clause-asked : goal.is_spared-requires-clause-asked
+is_spared-requires-clause-asked g c =
+    subst (λ (x : Config). IsAsked x c.args.op.now c.args.size) (sym c.collect.ensures.collects.config) c.requires.asked
 
 pub is_spared-requires-clause-within : goal.is_spared-requires-clause-within
 is_spared-requires-clause-within g c =
@@ -53,8 +54,9 @@ returns-clause-filled g c e s stands = record {
   collected = c.collect.ensures.quiet s stands;
   small = λ leaves small two. packed leaves small two;
   large = λ leaves large run. c.is_spared.ensures.large c.if-is_spared.false
-      (let f = ap (λ (x : Config). x.words) c.collect.ensures.collects.config in let h = c.requires.size in omega (arith, f, h, large))
-      (subst (λ (n : ℕ). HasRun c.collect.new.core n) (sym c.requires.size) run);
+      (let f = ap (λ (x : Config). x.words) c.collect.ensures.collects.config in let h = c.requires.asked.size in
+      omega (arith, f, h, large))
+      (subst (λ (n : ℕ). HasRun c.collect.new.core n) (sym c.requires.asked.size) run);
   dense = λ leaves large two. c.collect.ensures.packed s stands two;
   side_by_side = λ third leaves large two. absurd (clash c.may_compact.result (c.may_compact.ensures.1 (can third large))
       c.if-may_compact.false);
@@ -65,14 +67,14 @@ returns-clause-filled g c e s stands = record {
     can third large =
         let same = c.config-2.ensures.config ∙ c.collect.ensures.collects.config in
         let words = ap (λ (x : Config). x.words) same in
-        let h = c.requires.size in
+        let h = c.requires.asked.size in
         (omega (arith, words, h, large), subst (λ (x : Config). IsThird x.format) (sym same) third)
 
     packed : LeavesTwo c.args.core.now.config c.args.op.now.action → 2 * asked_words c.args.op.now.action ≤ c.args.core.now.config.words
         → 2 ≤ free_count c.args.core.now.table → IsPackedAt s.graph c.collect.new.core
     packed leaves small two =
         let f = ap (λ (x : Config). x.words) c.collect.ensures.collects.config in
-        let h = c.requires.size in
+        let h = c.requires.asked.size in
         let few = c.is_spared.ensures.small c.if-is_spared.false (omega (arith, f, h, small)) in
         let d = c.collect.ensures.collects.two two in
         let i = count_all c.collect.new.core.table in
@@ -99,8 +101,9 @@ pub compact_all-requires-clause-third : goal.compact_all-requires-clause-third
 compact_all-requires-clause-third g c =
     subst (λ (x : Config). IsThird x.format) c.config-2.ensures.config (c.may_compact.ensures.0 c.if-may_compact.true).1
 
-pub compact_all-requires-clause-op : goal.compact_all-requires-clause-op
-compact_all-requires-clause-op g c = subst (λ (x : Config). IsOp x c.args.op.now) (sym c.collect.ensures.collects.config) c.requires.op
+pub compact_all-requires-clause-asked : goal.compact_all-requires-clause-asked
+compact_all-requires-clause-asked g c =
+    subst (λ (x : Config). IsAsked x c.args.op.now c.args.size) (sym c.collect.ensures.collects.config) c.requires.asked
 
 pub compact_all-requires-clause-large : goal.compact_all-requires-clause-large
 compact_all-requires-clause-large g c =
@@ -139,12 +142,12 @@ returns-then-may_compact-clause-filled g c e s stands =
     let same = c.config-2.ensures.config ∙ c.collect.ensures.collects.config in
     let words = ap (λ (x : Config). x.words) same in
     let over = (c.may_compact.ensures.0 c.if-may_compact.true).0 in
-    let h = c.requires.size in
+    let h = c.requires.asked.size in
     record {
       collected = record { after = w.after; quiet = c.compact_all.ensures.quiet w.after w.quiet; reached = w.reached };
       small = λ leaves small. absurd (omega (arith, small, words, over, h));
       large = λ leaves large run. c.compact_all.ensures.none e
-          (subst (λ (n : ℕ). HasRun c.compact_all.new.core n) (sym c.requires.size) run);
+          (subst (λ (n : ℕ). HasRun c.compact_all.new.core n) (sym c.requires.asked.size) run);
       dense = λ leaves large two. c.compact_all.ensures.packed s.graph (c.collect.ensures.packed s stands two);
       side_by_side = λ third leaves large two. c.compact_all.ensures.below e w.after w.quiet (c.collect.ensures.collects.two two);
     }

@@ -1,38 +1,29 @@
-use Rattle.std.proofs.Common.{◌≡◌, ◌-◌, ◌∙◌, false, true, sym, ap, arith, ℕ}
+use Rattle.std.proofs.Common.{◌≡◌, ◌-◌, ◌∙◌, false, true, sym, ap, ℕ}
 use Rattle.std.specs.Prelude.{if◌then◌else◌, nat_le}
 use Rattle.collection.specs.Steps.{asked_words}
-use Rattle.collection.proofs.Asked.{own_makes, spared_full}
+use Rattle.collection.proofs.Asked.{own_at_once, spared_full}
 use Rattle.collection.proofs.Leaving.{clash}
 use Rattle.collection.proofs.Paced.{asked_as, due_is, due_left, due_not, room_there}
 use Rattle.collection.proofs.Spared.{spared_two}
-use Rattle.collection.proofs.Took.{more, none}
+use Rattle.collection.proofs.Took.{none}
 use Rattle.collection.proofs.making.make.Goals as goal
 
 pub returns-then-has_spare : goal.returns-then-has_spare
 returns-then-has_spare g c = record {
-  makes = own_makes g.W.Watch.sees _ c.args.op c.args.core.now c.args.core.now c.args.watch.now c.args.watch.now
-      (more g.W.Watch.sees 0 _ c.args.core.now c.args.core.now c.args.watch.now c.args.watch.now (omega arith)
-      (none g.W.Watch.sees c.args.core.now c.args.watch.now))
-      c.take_own.result c.take_own.new.core c.take_own.new.watch c.take_own.ensures.own;
+  makes = own_at_once g.W.Watch.sees _ c.args.op _ _ _ _ _ c.take_own.ensures.own;
   paced = λ h. record {
     core = c.args.core.now;
     watch = c.args.watch.now;
     room = room_there g.W.Watch.sees (nat_le c.args.policy.now.left (asked_words c.args.op.action)) c.args.policy.now.begin_at
         c.args.op c.args.core.now c.args.watch.now is_left;
-    own = own_makes g.W.Watch.sees 0 c.args.op c.args.core.now c.args.core.now c.args.watch.now c.args.watch.now
-        (none g.W.Watch.sees c.args.core.now c.args.watch.now)
-        c.take_own.result c.take_own.new.core c.take_own.new.watch c.take_own.ensures.own;
+    own = own_at_once g.W.Watch.sees 0 c.args.op _ _ _ _ _ c.take_own.ensures.own;
   };
-  uncreated = λ n. own_makes g.W.Watch.sees 0 c.args.op c.args.core.now c.args.core.now c.args.watch.now c.args.watch.now
-      (none g.W.Watch.sees c.args.core.now c.args.watch.now)
-      c.take_own.result c.take_own.new.core c.take_own.new.watch c.take_own.ensures.own;
+  uncreated = λ n. own_at_once g.W.Watch.sees 0 c.args.op _ _ _ _ _ c.take_own.ensures.own;
   spent = λ e. c.spends-due.ensures.spent c.if-not-due.true
       ∙ ap (λ (n : ℕ). c.args.policy.now.left - n) c.words_of-size.ensures;
   renewed = λ e h. absurd (clash (nat_le c.args.policy.now.left (asked_words c.args.op.action)) e is_left);
-  full = λ e s stands. spared_full g.W.Watch.sees 0 c.args.op c.args.core.now c.args.core.now c.args.watch.now c.args.watch.now
-      (none g.W.Watch.sees c.args.core.now c.args.watch.now)
-      c.take_own.result c.take_own.new.core c.take_own.new.watch c.take_own.ensures.own (c.has_spare.ensures c.if-has_spare.true)
-      e s stands;
+  full = spared_full g.W.Watch.sees 0 c.args.op _ _ _ _ (none g.W.Watch.sees c.args.core.now c.args.watch.now) _ _ _
+      c.take_own.ensures.own (c.has_spare.ensures c.if-has_spare.true);
   two = λ leaves two. spared_two c.take_own.result c.args.core.now c.take_own.new.core c.args.op
       (c.has_spare.ensures c.if-has_spare.true) c.take_own.ensures.does two;
   made = c.take_own.ensures.made;

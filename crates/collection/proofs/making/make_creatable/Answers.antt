@@ -8,7 +8,7 @@ use Rattle.collection.proofs.Took.{none}
 use Rattle.collection.proofs.making.make_creatable.Goals as goal
 
 pub take_own-requires : goal.take_own-requires
-take_own-requires g c = subst (λ (x : Config). IsOp x c.args.op) (sym c.make_room-has_room.ensures.collects.config) c.requires.op
+take_own-requires g c = subst (λ (x : Config). IsOp x c.args.op) (sym c.make_room-has_room.ensures.collects.config) c.requires.asked.op
 
 pub returns-then-not-has_room : goal.returns-then-not-has_room
 returns-then-not-has_room g c =
@@ -18,13 +18,13 @@ returns-then-not-has_room g c =
     let leaves = r.leaves c.if-not-has_room.true in
     let full = r.full c.if-not-has_room.true in
     record {
-      makes = held_makes g.W.Watch.sees _ c.args.op c.args.core.now d c.args.watch.now y r.collects c.requires.new c.requires.creatable
-          leaves full;
+      makes = held_makes g.W.Watch.sees _ c.args.op c.args.core.now d c.args.watch.now y r.collects c.requires.asked.new
+          c.requires.creatable leaves full;
       paced = λ h. record {
         core = d;
         watch = y;
         room = r.paced;
-        own = held_makes g.W.Watch.sees 0 c.args.op d d y y (none g.W.Watch.sees d y) c.requires.new
+        own = held_makes g.W.Watch.sees 0 c.args.op d d y y (none g.W.Watch.sees d y) c.requires.asked.new
             (creatable_after c.args.op.action c.args.core.now d r.collects.config r.collects.next c.requires.creatable)
             (subst (λ (k : Config). LeavesTwo k c.args.op.action) (sym r.collects.config) leaves) full;
       };

@@ -1,13 +1,26 @@
-use Rattle.std.proofs.Common.{◌+◌, ◌*◌, ◌≤◌, ◌∙◌, inl, refl, sym, ap, subst, arith}
+use Rattle.std.proofs.Common.{◌+◌, ◌*◌, ◌≤◌, ◌∙◌, Bool, inl, refl, sym, ap, subst, arith}
 use Rattle.heap_words.specs.declared.config.Config.{Config}
-use Rattle.heap_steps.specs.Actors.{IsOp}
+use Rattle.heap_steps.specs.declared.step.Event.{Event}
+use Rattle.step_core.specs.Stands.{CoreState}
+use Rattle.collection.specs.Asked.{due_steps}
+use Rattle.collection.specs.Steps.{Collects, IsAsked}
 use Rattle.collection.proofs.Leaving.{filled_after, last_after, leaves_after}
 use Rattle.collection.proofs.Paced.{look_most}
 use Rattle.collection.proofs.Took.{chain, more, none}
 use Rattle.collection.proofs.making.make_room.Goals as goal
 
-pub is_spared-requires-clause-op : goal.is_spared-requires-clause-op
-is_spared-requires-clause-op g c = subst (λ (x : Config). IsOp x c.args.op.now) (sym c.look.ensures.collects.config) c.requires.op
+-- after what was due, and the end of the cycle
+looked_on : {W : Type 0} (sees : W → Event → W → Type 0) (due : Bool) (c d e : CoreState) (x y z : W)
+    → Collects sees (due_steps c.config due) c x d y → Collects sees (2 + d.config.regions) d y e z
+    → Collects sees (7 + 2 * c.config.regions) c x e z
+looked_on sees due c d e x y z h k =
+    let regions = ap (λ (q : Config). q.regions) h.config in
+    chain sees (c.config.regions + 5) (2 + d.config.regions) (7 + 2 * c.config.regions) c d e x y z (omega (arith, regions))
+    (look_most sees due c d x y h) k
+
+pub is_spared-requires-clause-asked : goal.is_spared-requires-clause-asked
+is_spared-requires-clause-asked g c =
+    subst (λ (x : Config). IsAsked x c.args.op.now c.args.size) (sym c.look.ensures.collects.config) c.requires.asked
 
 pub is_spared-requires-clause-within : goal.is_spared-requires-clause-within
 is_spared-requires-clause-within g c = subst (λ (x : Config). c.args.size ≤ x.regions * x.words)
@@ -21,9 +34,9 @@ returns-then-is_spared-clause-collects g c =
 pub returns-then-is_spared-clause-room : goal.returns-then-is_spared-clause-room
 returns-then-is_spared-clause-room g c e = inl (c.is_spared.ensures.spared c.if-is_spared.true)
 
-pub is_spared-requires-2-clause-op : goal.is_spared-requires-2-clause-op
-is_spared-requires-2-clause-op g c =
-    subst (λ (x : Config). IsOp x c.args.op.now) (sym (c.finish_cycle.ensures.config ∙ c.look.ensures.collects.config)) c.requires.op
+pub is_spared-requires-2-clause-asked : goal.is_spared-requires-2-clause-asked
+is_spared-requires-2-clause-asked g c = subst (λ (x : Config). IsAsked x c.args.op.now c.args.size)
+    (sym (c.finish_cycle.ensures.config ∙ c.look.ensures.collects.config)) c.requires.asked
 
 pub is_spared-requires-2-clause-within : goal.is_spared-requires-2-clause-within
 is_spared-requires-2-clause-within g c =
@@ -32,19 +45,16 @@ is_spared-requires-2-clause-within g c =
 
 pub returns-then-is_spared-2-clause-collects : goal.returns-then-is_spared-2-clause-collects
 returns-then-is_spared-2-clause-collects g c =
-    let e = ap (λ (x : Config). x.regions) c.look.ensures.collects.config in
-    chain g.W.Watch.sees (c.args.core.now.config.regions + 5)
-    (2 + c.look.new.core.config.regions) _ c.args.core.now c.look.new.core c.finish_cycle.new.core
-    c.args.watch.now c.look.new.watch c.finish_cycle.new.watch (omega (arith, e))
-    (look_most g.W.Watch.sees c.args.due c.args.core.now c.look.new.core c.args.watch.now c.look.new.watch c.look.ensures.collects)
-    c.finish_cycle.ensures
+    more g.W.Watch.sees (7 + 2 * c.args.core.now.config.regions) _ c.args.core.now c.finish_cycle.new.core c.args.watch.now
+    c.finish_cycle.new.watch (omega arith)
+    (looked_on g.W.Watch.sees c.args.due _ _ _ _ _ _ c.look.ensures.collects c.finish_cycle.ensures)
 
 pub returns-then-is_spared-2-clause-room : goal.returns-then-is_spared-2-clause-room
 returns-then-is_spared-2-clause-room g c e = inl (c.is_spared-2.ensures.spared c.if-is_spared-2.true)
 
-pub collect_all-requires-clause-op : goal.collect_all-requires-clause-op
-collect_all-requires-clause-op g c =
-    subst (λ (x : Config). IsOp x c.args.op.now) (sym (c.finish_cycle.ensures.config ∙ c.look.ensures.collects.config)) c.requires.op
+pub collect_all-requires-clause-asked : goal.collect_all-requires-clause-asked
+collect_all-requires-clause-asked g c = subst (λ (x : Config). IsAsked x c.args.op.now c.args.size)
+    (sym (c.finish_cycle.ensures.config ∙ c.look.ensures.collects.config)) c.requires.asked
 
 pub collect_all-requires-clause-within : goal.collect_all-requires-clause-within
 collect_all-requires-clause-within g c =
@@ -53,52 +63,26 @@ collect_all-requires-clause-within g c =
 
 pub returns-clause-collects : goal.returns-clause-collects
 returns-clause-collects g c =
-    let e = ap (λ (x : Config). x.regions) c.look.ensures.collects.config in
     let f = ap (λ (x : Config). x.regions) c.finish_cycle.ensures.config in
+    let e = ap (λ (x : Config). x.regions) c.look.ensures.collects.config in
     chain g.W.Watch.sees (7 + 2 * c.args.core.now.config.regions) (5 + 2 * c.finish_cycle.new.core.config.regions) _
     c.args.core.now c.finish_cycle.new.core c.collect_all.new.core c.args.watch.now c.finish_cycle.new.watch c.collect_all.new.watch
-    (omega (arith, e, f))
-    (chain g.W.Watch.sees (c.args.core.now.config.regions + 5) (2 + c.look.new.core.config.regions) (7 + 2 * c.args.core.now.config.regions)
-    c.args.core.now c.look.new.core c.finish_cycle.new.core
-    c.args.watch.now c.look.new.watch c.finish_cycle.new.watch (omega (arith, e))
-    (look_most g.W.Watch.sees c.args.due c.args.core.now c.look.new.core c.args.watch.now c.look.new.watch c.look.ensures.collects)
-    c.finish_cycle.ensures)
+    (omega (arith, e, f)) (looked_on g.W.Watch.sees c.args.due _ _ _ _ _ _ c.look.ensures.collects c.finish_cycle.ensures)
     c.collect_all.ensures.collects
 
 pub returns-clause-room : goal.returns-clause-room
-returns-clause-room g c e =
-    let f = ap (λ (x : Config). x.regions) c.look.ensures.collects.config in
-    last_after g.W.Watch.sees (7 + 2 * c.args.core.now.config.regions) c.args.core.now c.finish_cycle.new.core
-    c.args.watch.now c.finish_cycle.new.watch
-    (chain g.W.Watch.sees (c.args.core.now.config.regions + 5) (2 + c.look.new.core.config.regions) (7 + 2 * c.args.core.now.config.regions)
-    c.args.core.now c.look.new.core c.finish_cycle.new.core
-    c.args.watch.now c.look.new.watch c.finish_cycle.new.watch (omega (arith, f))
-    (look_most g.W.Watch.sees c.args.due c.args.core.now c.look.new.core c.args.watch.now c.look.new.watch c.look.ensures.collects)
-    c.finish_cycle.ensures)
+returns-clause-room g c e = last_after g.W.Watch.sees _ _ _ _ _
+    (looked_on g.W.Watch.sees c.args.due _ _ _ _ _ _ c.look.ensures.collects c.finish_cycle.ensures)
     c.args.op.now c.collect_all.new.core (c.collect_all.ensures.room e)
 
 pub returns-clause-leaves : goal.returns-clause-leaves
-returns-clause-leaves g c e =
-    let f = ap (λ (x : Config). x.regions) c.look.ensures.collects.config in
-    leaves_after g.W.Watch.sees (7 + 2 * c.args.core.now.config.regions) c.args.core.now c.finish_cycle.new.core
-    c.args.watch.now c.finish_cycle.new.watch
-    (chain g.W.Watch.sees (c.args.core.now.config.regions + 5) (2 + c.look.new.core.config.regions) (7 + 2 * c.args.core.now.config.regions)
-    c.args.core.now c.look.new.core c.finish_cycle.new.core
-    c.args.watch.now c.look.new.watch c.finish_cycle.new.watch (omega (arith, f))
-    (look_most g.W.Watch.sees c.args.due c.args.core.now c.look.new.core c.args.watch.now c.look.new.watch c.look.ensures.collects)
-    c.finish_cycle.ensures)
+returns-clause-leaves g c e = leaves_after g.W.Watch.sees _ _ _ _ _
+    (looked_on g.W.Watch.sees c.args.due _ _ _ _ _ _ c.look.ensures.collects c.finish_cycle.ensures)
     c.args.op.now.action (c.collect_all.ensures.leaves e)
 
 pub returns-clause-filled : goal.returns-clause-filled
-returns-clause-filled g c e s stands =
-    let f = ap (λ (x : Config). x.regions) c.look.ensures.collects.config in
-    filled_after g.W.Watch.sees (7 + 2 * c.args.core.now.config.regions) c.args.core.now c.finish_cycle.new.core
-    c.args.watch.now c.finish_cycle.new.watch
-    (chain g.W.Watch.sees (c.args.core.now.config.regions + 5) (2 + c.look.new.core.config.regions) (7 + 2 * c.args.core.now.config.regions)
-    c.args.core.now c.look.new.core c.finish_cycle.new.core
-    c.args.watch.now c.look.new.watch c.finish_cycle.new.watch (omega (arith, f))
-    (look_most g.W.Watch.sees c.args.due c.args.core.now c.look.new.core c.args.watch.now c.look.new.watch c.look.ensures.collects)
-    c.finish_cycle.ensures)
+returns-clause-filled g c e s stands = filled_after g.W.Watch.sees _ _ _ _ _
+    (looked_on g.W.Watch.sees c.args.due _ _ _ _ _ _ c.look.ensures.collects c.finish_cycle.ensures)
     c.args.op.now.action c.collect_all.new.core s stands (c.collect_all.ensures.filled e)
 
 -- ---- what was due, and more only where there was no room
