@@ -1,7 +1,6 @@
 -- The held object, the stack and the fingers: what they tell of grey objects as one more is grey, as one is scanned, and with fewer marks.
-use Rattle.std.proofs.Common.{◌≡◌, ◌≢◌, ◌<◌, ◌≤◌, ◌+◌, ◌/◌, ◌∙◌, ◌⊎◌, ◌∷◌, inl, inr}
-use Rattle.std.proofs.Common.{ℕ, Bool, true, false, List, [], length, set, sym, ap, arith, refl, Option, Some, None, min, max}
-use Rattle.std.proofs.Common.{get_or-set_same, get_or-set_other, get_or, subst}
+use Rattle.std.proofs.Common.{◌≡◌, ◌≢◌, ◌<◌, ◌≤◌, ◌+◌, ◌/◌, ◌∙◌, ◌⊎◌, ◌∷◌, inl, inr, ℕ, Bool, true, false, List, [], length, set, sym, ap}
+use Rattle.std.proofs.Common.{arith, refl, Option, Some, None, min, max, get_or-set_same, get_or-set_other, get_or, subst}
 use Rattle.std.proofs.Math.ListN.{get_or-append}
 use Rattle.std.proofs.Math.Seq.{get_or-append_seam}
 use Rattle.std.proofs.lemmas.List.{length-append}

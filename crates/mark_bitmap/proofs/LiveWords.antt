@@ -1,7 +1,6 @@
 -- The words of marked and of kept objects.
-use Rattle.std.proofs.Common.{◌≡◌, ◌+◌, ◌-◌, ◌*◌, ◌/◌, ◌%◌, ◌<◌, ◌≤◌, ◌∙◌}
-use Rattle.std.proofs.Common.{inl, inr, ℕ, zero, suc, Bool, true, false, List}
-use Rattle.std.proofs.Common.{None, length, get_or, refl, sym, ap, arith}
+use Rattle.std.proofs.Common.{◌≡◌, ◌+◌, ◌-◌, ◌*◌, ◌/◌, ◌%◌, ◌<◌, ◌≤◌, ◌∙◌, inl, inr, ℕ, zero, suc, Bool, true, false, List, None, length}
+use Rattle.std.proofs.Common.{get_or, refl, sym, ap, arith}
 use Rattle.std.specs.Prelude.{if◌then◌else◌}
 use Rattle.std.proofs.lemmas.Bool.{cases_lt, cases_Bool, le-leb, lt-ltb, le-ltb, and_parts, ltb-true, leb-true}
 use Rattle.std.proofs.lemmas.List.{get_or_past}

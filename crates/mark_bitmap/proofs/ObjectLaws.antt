@@ -1,7 +1,6 @@
 -- What keeps marks at objects, and tops at mark start in their regions.
-use Rattle.std.proofs.Common.{◌≡◌, ◌≢◌, ◌*◌, ◌<◌, ◌≤◌, ◌∙◌}
-use Rattle.std.proofs.Common.{inl, inr, ℕ, suc, Bool, true, false, List, Some, length, get_or, set, replicate, ltb, sym, ap, arith}
-use Rattle.std.proofs.Common.{⊎_elim, get_or-set_same, get_or-set_other, length-set}
+use Rattle.std.proofs.Common.{◌≡◌, ◌≢◌, ◌*◌, ◌<◌, ◌≤◌, ◌∙◌, inl, inr, ℕ, suc, Bool, true, false, List, Some, length, get_or, set, replicate}
+use Rattle.std.proofs.Common.{ltb, sym, ap, arith, ⊎_elim, get_or-set_same, get_or-set_other, length-set}
 use Rattle.std.specs.Prelude.{not}
 use Rattle.std.proofs.lemmas.Bool.{and_parts, cases_lt, cases_eq, cases_Bool, ltb-true, lt-ltb}
 use Rattle.std.proofs.lemmas.List.{get_or-replicate, length-replicate, get_or_past}

@@ -1,7 +1,6 @@
 -- Sets with a summary above them.
-use Rattle.std.proofs.Common.{◌≡◌, ◌≢◌, ◌+◌, ◌*◌, ◌/◌, ◌<◌, ◌∙◌}
-use Rattle.std.proofs.Common.{ℕ, Bool, true, false, List, length, set, replicate, refl, sym, ap, arith, ⊎_elim, Option, Some}
-use Rattle.std.proofs.Common.{None, get_or-set_same, get_or-set_other, length-set}
+use Rattle.std.proofs.Common.{◌≡◌, ◌≢◌, ◌+◌, ◌*◌, ◌/◌, ◌<◌, ◌∙◌, ℕ, Bool, true, false, List, length, set, replicate, refl, sym, ap, arith}
+use Rattle.std.proofs.Common.{⊎_elim, Option, Some, None, get_or-set_same, get_or-set_other, length-set}
 use Rattle.std.specs.Prelude.{MatchOption, IfSome, IsSome}
 use Rattle.std.proofs.lemmas.Bool.{cases_eq, cases_lt}
 use Rattle.std.proofs.lemmas.List.{get_or-replicate, length-replicate}

@@ -6,8 +6,7 @@
 //!              | unmarked: dead   |                                 |
 //! ```
 
-ghost use Rattle.std.specs.Prelude.{◌≡◌, ◌≢◌, ◌⊎◌, ◌<◌, if◌then◌else◌};
-ghost use Rattle.std.specs.Prelude.{ℕ, Bool, true, false, List, Option, Some, None, length, slice_set};
+ghost use Rattle.std.specs.Prelude.{◌≡◌, ◌≢◌, ◌⊎◌, ◌<◌, if◌then◌else◌, ℕ, Bool, true, false, List, Option, Some, None, length, slice_set};
 ghost use Rattle.heap_model.specs.Graph.{Graph};
 ghost use Rattle.heap_model.specs.Heap.{Stored};
 ghost use Rattle.heap_model.specs.Marking.{KeepsSnapshot};
@@ -39,6 +38,7 @@ pub fn set_law()
 {}
 
 /// Where some addresses lose their objects, and tops and marks of the others stay, what is kept of the others stays.
+#[tactic(auto, using(crate::proofs::KeptLaws::gone_kept))]
 pub fn gone_law()
     ensures { (t t' : Table) (tops tops' : Tops) (previous previous' : List Bool) (gone : ℕ → Bool)
         → ((a : ℕ) → object_at t' a ≡ (if gone a then None else object_at t a))
@@ -49,6 +49,7 @@ pub fn gone_law()
 
 /// A region that is taken or released, its marks cleared and its tops reset: nothing of it is kept, and of the other
 /// regions what was.
+#[tactic(auto, using(crate::proofs::KeptLaws::region_kept))]
 pub fn region_law()
     ensures { (t t' : Table) (tops : Tops) (previous previous' : List Bool) (k bottom : ℕ)
         → 0 < t.words_per_region → t'.words_per_region ≡ t.words_per_region
@@ -59,6 +60,7 @@ pub fn region_law()
 {}
 
 /// Marking is over, and the roles are exchanged: what is kept is what marking keeps.
+#[tactic(auto, using(crate::proofs::KeptLaws::swap_kept))]
 pub fn swap_law()
     ensures { (s : Graph) (t t' : Table) (tops : Tops) (previous next : List Bool) (scans : Scans) (logged : List ℕ)
         (roots : List (Option ℕ))

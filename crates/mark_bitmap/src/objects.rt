@@ -61,6 +61,7 @@ pub fn table_law()
 {}
 
 /// A region of which nothing is handed out, as a free one, has its top at mark start at its bottom, and no marks.
+#[tactic(auto, using(crate::proofs::ObjectLaws::free_unmarked))]
 pub fn free_law()
     ensures top { (t : Table) (tops : List ℕ) (marks : List Bool) (k : ℕ)
         → MarksObjects t tops marks → k < length t.regions → used_of t k ≡ 0 → slice_index tops k ≡ k * t.words_per_region }
@@ -70,12 +71,14 @@ pub fn free_law()
 {}
 
 /// What lies below a top at mark start can be marked: the bitmap has a bit for it.
+#[tactic(auto, using(crate::proofs::ObjectLaws::within))]
 pub fn within_law()
     ensures { (t : Table) (tops : List ℕ) (marks : List Bool) (a : ℕ)
         → 0 < t.words_per_region → MarksObjects t tops marks → is_below t.words_per_region tops a ≡ true → a < length marks }
 {}
 
 /// While marking runs no next top lies below the previous one: from `begin` on, and as regions are taken and released.
+#[tactic(auto, using(crate::proofs::KeptLaws::newer_below))]
 pub fn newer_law()
     ensures begin { (t : Table) (tops : Tops) (previous : List Bool)
         → MarksObjects t tops.previous previous → ((k : ℕ) → k < length t.regions → slice_index tops.next k ≡ top_of t k) → AreNewer tops }

@@ -15,8 +15,7 @@
 //! with more the lowest block is searched for. All words are written when a set is made: for the fingers of a heap that is one for 4,096
 //! of its own, 4 MiB for 16 GiB.
 
-ghost use Rattle.std.specs.Prelude.{◌≡◌, ◌≢◌, ◌*◌, ◌/◌, ◌^◌, ◌<◌};
-ghost use Rattle.std.specs.Prelude.{ℕ, false, true, IfOk, IfSome, length, MatchOption, replicate, slice_set};
+ghost use Rattle.std.specs.Prelude.{◌≡◌, ◌≢◌, ◌*◌, ◌/◌, ◌^◌, ◌<◌, ℕ, false, true, IfOk, IfSome, length, MatchOption, replicate, slice_set};
 ghost use Rattle.std.specs.Int.{div_ceil};
 ghost use Rattle.bit_sets.specs.Bits.{has, HasNone, IsLowest};
 ghost use Rattle.mark_bitmap.specs.Summary.{AreLevels, HasMember, HasNoMember, IsMember, IsSummary};
