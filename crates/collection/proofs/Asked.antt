@@ -15,7 +15,7 @@ use Rattle.step_core.specs.Stands.{CoreState, Stands}
 use Rattle.step_core.specs.Mutators.{ActsOn}
 use Rattle.collection.specs.Space.{IsCollected}
 use Rattle.collection.specs.Steps.{Collects, HasRoom, LeavesTwo, Makes, TakesOwn, asked_words}
-use Rattle.collection.specs.Rooms.{IsCreatable, IsFilled, IsLast, IsSpared}
+use Rattle.collection.specs.Rooms.{IsCreatable, IsFilled, IsLastResort, IsSpared}
 use Rattle.collection.proofs.Created.{by_creates, creates_by, full_creates}
 use Rattle.collection.proofs.Spared.{spared_made, spared_two}
 use Rattle.collection.proofs.Took.{more, none, reached}
@@ -32,7 +32,7 @@ module _ {W : Type 0} (sees : W → Event → W → Type 0) (most : ℕ) (op : O
         let (mid, there, reach) = reached sees most c d x y state before stands in
         absurd (spared_made mid.graph d op s ((own.passes mid there).full.0 e))
 
-    pub room_full : ActsOn op.mutator op.action reply d c' → IsSpared d op ⊎ IsLast c op d → reply ≡ replies.Refused refusals.Full
+    pub room_full : ActsOn op.mutator op.action reply d c' → IsSpared d op ⊎ IsLastResort c op d → reply ≡ replies.Refused refusals.Full
         → (s : State) → Stands s c → IsFilled s.graph c op.action c'
     room_full does (inl s) e state stands = spared_full s e state stands
     room_full does (inr l) e state stands =
@@ -45,7 +45,7 @@ module _ {W : Type 0} (sees : W → Event → W → Type 0) (most : ℕ) (op : O
           side_by_side = λ third leaves. absurd (l.few leaves);
         }
 
-    pub room_two : ActsOn op.mutator op.action reply d c' → IsSpared d op ⊎ IsLast c op d → LeavesTwo c.config op.action
+    pub room_two : ActsOn op.mutator op.action reply d c' → IsSpared d op ⊎ IsLastResort c op d → LeavesTwo c.config op.action
         → 2 ≤ free_count c.table → 2 ≤ free_count c'.table
     room_two does (inl s) leaves two = spared_two reply d c' op s does (before.two two)
     room_two does (inr l) leaves two = absurd (l.few leaves)

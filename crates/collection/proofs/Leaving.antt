@@ -12,7 +12,7 @@ use Rattle.step_core.specs.Stands.{CoreState, Stands}
 use Rattle.heap_steps.specs.declared.step.Event.{Event}
 use Rattle.alloc_buffers.specs.Placement.{run_count}
 use Rattle.collection.specs.Steps.{Collects, LeavesTwo, asked_words, regions_for}
-use Rattle.collection.specs.Rooms.{IsFilled, IsLast, IsSpared}
+use Rattle.collection.specs.Rooms.{IsFilled, IsLastResort, IsSpared}
 use Rattle.collection.proofs.Reached.{packed_at_before, packed_before, then_cleared}
 use Rattle.collection.proofs.Took.{collected_after, reached}
 
@@ -37,7 +37,7 @@ leaves_four k a small leaves =
 
 -- what a last part of the work came to, after other steps
 module _ {W : Type 0} (sees : W → Event → W → Type 0) (m : ℕ) (c d : CoreState) (x y : W) (before : Collects sees m c x d y) where
-  pub last_after : (op : Op) (c' : CoreState) → IsSpared c' op ⊎ IsLast d op c' → IsSpared c' op ⊎ IsLast c op c'
+  pub last_after : (op : Op) (c' : CoreState) → IsSpared c' op ⊎ IsLastResort d op c' → IsSpared c' op ⊎ IsLastResort c op c'
   last_after op c' (inl s) = inl s
   last_after op c' (inr l) = inr (record {
     few = leaves_not d.config c.config op.action before.config l.few;

@@ -46,7 +46,7 @@ pub record IsSpared (c : CoreState) (op : Op) : Type 0 where
   pub two : 2 ≤ free_count c.table → 2 ≤ free_count (core_after c op.mutator op.action).table
 
 -- the heap has too few regions to leave two beside the object, and a whole collection was just done
-pub record IsLast (c : CoreState) (op : Op) (c' : CoreState) : Type 0 where
+pub record IsLastResort (c : CoreState) (op : Op) (c' : CoreState) : Type 0 where
   pub few : LeavesTwo c.config op.action → ⊥
   pub collected : (s : State) → Stands s c → IsCollected s.graph c'
 

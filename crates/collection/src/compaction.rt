@@ -63,7 +63,7 @@ pub(crate) fn compact_for<W: Watch>(
     ensures none { result ≡ false → HasRun core.new size → ⊥ }
     ensures below { result ≡ false → (s : State) → IsQuiet s core.old → 2 ≤ free_count core.old.table → LieBelowFree core.new.table }
 {
-    core.remembers();
+    core.law_remembers();
     'compactions: loop {
         if !compact_once(core, policy, watch) {
             return is_spared(core, op, size);

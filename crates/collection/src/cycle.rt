@@ -83,11 +83,11 @@ fn evacuate<W: Watch>(core: &mut Core, policy: &mut Policy, watch: &mut W)
 {
     let mut left = policy.pause_words;
     'pauses: loop {
-        core.remembers();
+        core.law_remembers();
         if !evacuate_some(core, policy, &mut left, watch) {
             return;
         }
-        core.remembers();
+        core.law_remembers();
     }
 }
 

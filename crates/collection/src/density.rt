@@ -21,7 +21,7 @@ fn bound_in(core: &Core, region: RegionNo) -> u32
     requires { region < length core.now.table.regions }
     ensures { result ≡ bound_by_kind (kind_of core.now.table region) core.now region }
 {
-    core.remembers();
+    core.law_remembers();
     match core.table().kind(region) {
         Kind::Ordinary => core.marker().live_bound(core.table(), region),
         Kind::Free | Kind::First | Kind::Rest => 0,
@@ -65,7 +65,7 @@ fn sum_bounds(core: &Core) -> u64
 pub(crate) fn is_packed(core: &Core, policy: &Policy) -> bool
     ensures { result ≡ true → IsDense core.now }
 {
-    core.shaped();
+    core.law_shaped();
     let regions = count_ordinary(core);
     let words = u64::from(regions) * u64::from(core.table().words_per_region());
     let bounds = sum_bounds(core);

@@ -13,7 +13,7 @@ ghost use Rattle.heap_steps.specs.declared.step.Refusal.TheVariants as refusals;
 ghost use Rattle.collection.specs.Asked.{MakesByPolicy, MakesRoom, due_steps};
 ghost use Rattle.collection.specs.Steps.{Collects, CollectsSome, HasRoom, IsAsked, IsDue, LeavesTwo, asked_words};
 ghost use Rattle.collection.specs.Space.{IsPacked, IsQuiet, LieBelowFree};
-ghost use Rattle.collection.specs.Rooms.{HasRun, IsCreatable, IsFilled, IsLast, IsSpared};
+ghost use Rattle.collection.specs.Rooms.{HasRun, IsCreatable, IsFilled, IsLastResort, IsSpared};
 
 use crate::compaction::compact_for;
 use crate::cycle::{collect_due, finish_cycle};
@@ -60,8 +60,8 @@ fn compact_all<W: Watch>(
     if compact_for(core, policy, op, size, watch) {
         return true;
     }
-    core.remembers();
-    core.shaped();
+    core.law_remembers();
+    core.law_shaped();
     is_last_resort(&core.config(), &op.action, size)
 }
 
@@ -77,15 +77,15 @@ fn collect_all<W: Watch>(
     requires asked { IsAsked core.old.config op.now size }
     requires within { size ≤ core.old.config.regions * core.old.config.words }
     ensures collects { Collects W.sees (5 + 2 * core.old.config.regions) core.old watch.old core.new watch.new }
-    ensures room { result ≡ true → IsSpared core.new op.now ⊎ IsLast core.old op.now core.new }
+    ensures room { result ≡ true → IsSpared core.new op.now ⊎ IsLastResort core.old op.now core.new }
     ensures leaves { result ≡ false → LeavesTwo core.old.config op.now.action }
     ensures full { result ≡ false → HasRoom core.new op.now → ⊥ }
     ensures filled { result ≡ false → (s : State) → Stands s core.old → IsFilled s.graph core.old op.now.action core.new }
 {
     collect(core, policy, watch);
     policy.plan_cycle(&core.config(), core.free_regions());
-    core.remembers();
-    core.shaped();
+    core.law_remembers();
+    core.law_shaped();
     if is_spared(core, op, size) {
         return true;
     }
@@ -109,7 +109,7 @@ fn make_room<W: Watch>(
     requires within { size ≤ core.old.config.regions * core.old.config.words }
     ensures collects { Collects W.sees (4 * core.old.config.regions + 12) core.old watch.old core.new watch.new }
     ensures paced { MakesRoom W.sees due policy.old.begin_at op.now core.old watch.old core.new watch.new }
-    ensures room { result ≡ true → IsSpared core.new op.now ⊎ IsLast core.old op.now core.new }
+    ensures room { result ≡ true → IsSpared core.new op.now ⊎ IsLastResort core.old op.now core.new }
     ensures leaves { result ≡ false → LeavesTwo core.old.config op.now.action }
     ensures full { result ≡ false → HasRoom core.new op.now → ⊥ }
     ensures filled { result ≡ false → (s : State) → Stands s core.old → IsFilled s.graph core.old op.now.action core.new }
@@ -161,8 +161,8 @@ fn make_looking<W: Watch>(
     requires { IsAsked core.old.config op size }
     ensures { MakesByPolicy W.sees due policy.old.left policy.new.left policy.old.begin_at op result core.old watch.old core.new watch.new }
 {
-    core.remembers();
-    core.shaped();
+    core.law_remembers();
+    core.law_shaped();
     if !is_creatable(core, &op.action, size) {
         return take_own(core, op, watch);
     }

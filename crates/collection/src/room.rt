@@ -40,7 +40,7 @@ pub(crate) fn is_creatable(core: &Core, action: &Action, size: u64) -> bool
 fn has_rest(core: &Core, words: u32) -> bool
     ensures { result ≡ has_rest core.now.table core.now.buffers.current words }
 {
-    core.remembers();
+    core.law_remembers();
     match core.buffers().current() {
         Some(region) => core.table().has_room(RegionNo::new(region), words),
         None => false,
@@ -55,7 +55,7 @@ fn fits_open(core: &Core, mutator: u32, size: u32) -> bool
     ensures fits { IsTrue result ↔ FitsOpen core.now mutator size }
     ensures takes { result ≡ false → TakesRegion core.now mutator size }
 {
-    core.remembers();
+    core.law_remembers();
     if let Some(open) = core.buffers().open_buffer(mutator) {
         if size <= open.rest {
             return true;
@@ -84,8 +84,8 @@ fn has_run(core: &Core, size: u32) -> bool
     requires within { size ≤ core.now.config.regions * core.now.config.words }
     ensures { IsTrue result ↔ HasRun core.now size }
 {
-    core.remembers();
-    core.shaped();
+    core.law_remembers();
+    core.law_shaped();
     let config = core.config();
     let count = count_regions(&config, size);
     if core.free_regions() < count + 2 {
@@ -103,7 +103,7 @@ pub(crate) fn is_spared(core: &Core, op: &Op, size: u32) -> bool
     ensures small { result ≡ false → 2 * size ≤ core.now.config.words → free_count core.now.table ≤ 2 }
     ensures large { result ≡ false → core.now.config.words < 2 * size → HasRun core.now size → ⊥ }
 {
-    core.remembers();
+    core.law_remembers();
     if 2 * u64::from(size) <= u64::from(core.config().words) {
         if core.free_regions() > 2 {
             return true;
@@ -121,7 +121,7 @@ pub(crate) fn has_spare(core: &Core, op: &Op, size: u64) -> bool
     requires size { size ≡ asked_words op.now.action }
     ensures { result ≡ true → IsSpared core.now op.now }
 {
-    core.remembers();
+    core.law_remembers();
     if u64::from(core.config().words) / 2 < size {
         return false;
     }

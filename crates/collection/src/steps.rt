@@ -56,13 +56,13 @@ pub(crate) fn take<W: Watch>(
     ensures after { IsCore core.new }
     ensures shaped { IsShaped core.new.table }
 {
-    core.remembers();
-    core.shaped();
+    core.law_remembers();
+    core.law_shaped();
     let taken = Step::Collector(step);
     let reply = core.step(taken);
-    core.remembers();
-    core.shaped();
-    core.whole();
+    core.law_remembers();
+    core.law_shaped();
+    core.law_whole();
     let event = Event {
         actor: Actor::Collector,
         step: taken,
@@ -86,8 +86,8 @@ pub(crate) fn take_own<W: Watch>(core: &mut Core, op: Op, watch: &mut W) -> Repl
 {
     let taken = Step::Mutator(op);
     let reply = core.step(taken);
-    core.remembers();
-    core.whole();
+    core.law_remembers();
+    core.law_whole();
     let own = Event {
         actor: Actor::Mutator(op.mutator),
         step: taken,

@@ -57,11 +57,11 @@ pub(crate) fn pause_all<W: Watch>(core: &mut Core, policy: &mut Policy, watch: &
     ensures packed { (s : State) → IsQuiet s core.old → 2 ≤ free_count core.old.table → IsPacked s.graph core.new }
 {
     'pauses: loop {
-        core.remembers();
+        core.law_remembers();
         if core.free_regions() >= core.config().regions {
             return;
         }
-        core.shaped();
+        core.law_shaped();
         if is_packed(core, policy) {
             return;
         }

@@ -16,20 +16,21 @@ pub within : (k n : ℕ) → (k < n → ⊥) → n ≤ k
 within k n not_over = omega (arith, not_over)
 
 -- where a run fails by its counts exactly if they are over, and they suit exactly if they aren't
-pub comes_counted : {Over Suit : Type 0} (Runs Makes : StepList → EventList → Type 0) (IsFault : Config → RunFault → Type 0)
+pub comes_counted : {Over Suit : Type 0} (Runs MakesRecord : StepList → EventList → Type 0) (IsFault : Config → RunFault → Type 0)
     (plan : StepList) (outcome : Result EventList RunFault) →
     IfOk outcome (Runs plan) → (outcome ≡ Err runs.BadWorkers) ↔ Over → (Over → Suit → ⊥) → ((Over → ⊥) → Suit) →
-    IfErr outcome (λ f. f ≢ runs.BadWorkers → IsFault plan.config f) → ((r : EventList) → Suit → Runs plan r → Makes plan r)
-    → Comes Makes (IsCountedFault Suit IsFault) plan outcome
-comes_counted Runs Makes IsFault plan (Ok r) run bad clash suits fault makes = makes r (suits (λ over. let same = bad.1 over in cc)) run
-comes_counted Runs Makes IsFault plan (Err runs.BadWorkers) run bad clash suits fault makes = clash (bad.0 refl)
-comes_counted Runs Makes IsFault plan (Err runs.NoMemory) run bad clash suits fault makes =
+    IfErr outcome (λ f. f ≢ runs.BadWorkers → IsFault plan.config f) → ((r : EventList) → Suit → Runs plan r → MakesRecord plan r)
+    → Comes MakesRecord (IsCountedFault Suit IsFault) plan outcome
+comes_counted Runs MakesRecord IsFault plan (Ok r) run bad clash suits fault makes = makes r (suits
+    (λ over. let same = bad.1 over in cc)) run
+comes_counted Runs MakesRecord IsFault plan (Err runs.BadWorkers) run bad clash suits fault makes = clash (bad.0 refl)
+comes_counted Runs MakesRecord IsFault plan (Err runs.NoMemory) run bad clash suits fault makes =
     (suits (λ over. let same = bad.1 over in cc), fault (λ same. cc))
-comes_counted Runs Makes IsFault plan (Err runs.NoWorker) run bad clash suits fault makes =
+comes_counted Runs MakesRecord IsFault plan (Err runs.NoWorker) run bad clash suits fault makes =
     (suits (λ over. let same = bad.1 over in cc), fault (λ same. cc))
-comes_counted Runs Makes IsFault plan (Err runs.Unfinished) run bad clash suits fault makes =
+comes_counted Runs MakesRecord IsFault plan (Err runs.Unfinished) run bad clash suits fault makes =
     (suits (λ over. let same = bad.1 over in cc), fault (λ same. cc))
-comes_counted Runs Makes IsFault plan (Err (runs.Heap f)) run bad clash suits fault makes =
+comes_counted Runs MakesRecord IsFault plan (Err (runs.Heap f)) run bad clash suits fault makes =
     (suits (λ over. let same = bad.1 over in cc), fault (λ same. cc))
 
 abbrev pub IsOver : ℕ → ℕ → Type 0

@@ -1,9 +1,9 @@
 -- What is told of a file that can't be opened, by task.
 use Rattle.std.proofs.Common.{◌≡◌, Err, ℕ, Bool, List, true, false, inr, refl}
-use Rattle.script_text.specs.Watched.{Reader, Writer, FailsToGive, Stays}
+use Rattle.script_text.specs.Watched.{Reader, Writer, FailsToGive, WritesNothing}
 use Rattle.script_text.specs.declared.fault.ReadFault.TheVariants as reads
 use Rattle.jobs.specs.Reasons.{IsReadReason, TellsMore}
-use Rattle.job_ends.specs.Runs.{Tells}
+use Rattle.job_ends.specs.Runs.{TellsEnd}
 use Rattle.jobs.specs.Verdicts.{TellsVerdict}
 use Rattle.job_ends.specs.declared.faults.JobFault.TheVariants as faults
 use Rattle.command_line.specs.declared.Task.{Task}
@@ -13,20 +13,20 @@ use Rattle.g1heap.specs.Jobs.{DoesCheck, DoesDraw, DoesExplained, DoesJob, DoesV
 
 -- a record that isn't read as it is written
 pub unread_check : (name : List ℕ) (given left : Reader) (old new err err' : Writer) (status : ℕ)
-    → FailsToGive reads.CannotRead given left → Stays old new
+    → FailsToGive reads.CannotRead given left → WritesNothing old new
     → TellsVerdict err err' (Err (faults.Read reads.CannotRead)) status → DoesCheck name false false given left old new err err' status
 unread_check name given left old new err err' status unread kept tells =
     record { outcome = Err (faults.Read reads.CannotRead); judges = (unread, kept); tells = tells }
 
 pub unread_explained : (name : List ℕ) (given left : Reader) (old new err err' : Writer) (status : ℕ)
-    → FailsToGive reads.CannotRead given left → Stays old new → status ≡ 1
+    → FailsToGive reads.CannotRead given left → WritesNothing old new → status ≡ 1
     → TellsMore (faults.Read reads.CannotRead) (IsReadReason name) err err' → DoesCheck name true false given left old new err err' status
 unread_explained name given left old new err err' status unread kept one tells =
     record { outcome = Err (faults.Read reads.CannotRead); explains = (unread, kept); tells = (one, tells) }
 
 -- one that is
 pub unread_followed : (name : List ℕ) (explained : Bool) (given left : Reader) (old new err err' : Writer) (status : ℕ)
-    → FailsToGive reads.CannotRead given left → Stays old new
+    → FailsToGive reads.CannotRead given left → WritesNothing old new
     → TellsVerdict err err' (Err (faults.Read reads.CannotRead)) status → DoesCheck name explained true given left old new err err' status
 unread_followed name false given left old new err err' status unread kept tells =
     record { outcome = Err (faults.Read reads.CannotRead); follows = (unread, kept); tells = tells }
@@ -34,16 +34,16 @@ unread_followed name true given left old new err err' status unread kept tells =
     record { outcome = Err (faults.Read reads.CannotRead); follows = (unread, kept); tells = tells }
 
 unread_view : (recorded : Bool) (glance : Glance) (given left : Reader) (old new err err' : Writer) (status : ℕ)
-    → FailsToGive reads.CannotRead given left → Stays old new
-    → Tells err err' (Err (faults.Read reads.CannotRead)) status → DoesView recorded glance given left old new err err' status
+    → FailsToGive reads.CannotRead given left → WritesNothing old new
+    → TellsEnd err err' (Err (faults.Read reads.CannotRead)) status → DoesView recorded glance given left old new err err' status
 unread_view false glance given left old new err err' status unread kept tells =
     record { outcome = Err (faults.Read reads.CannotRead); views = (unread, kept); tells = tells }
 unread_view true glance given left old new err err' status unread kept tells =
     record { outcome = Err (faults.Read reads.CannotRead); views = (unread, kept); tells = tells }
 
 unread_draw : (name names : List ℕ) (recorded : Bool) (every : ℕ) (given left : Reader) (old new err err' : Writer) (status : ℕ)
-    → FailsToGive reads.CannotRead given left → Stays old new
-    → Tells err err' (Err (faults.Read reads.CannotRead)) status → DoesDraw name names recorded every given left old new err err' status
+    → FailsToGive reads.CannotRead given left → WritesNothing old new
+    → TellsEnd err err' (Err (faults.Read reads.CannotRead)) status → DoesDraw name names recorded every given left old new err err' status
 unread_draw name names false every given left old new err err' status unread kept tells =
     record { outcome = Err (faults.Read reads.CannotRead); draws = (unread, kept); tells = tells }
 unread_draw name names true every given left old new err err' status unread kept tells =
@@ -51,8 +51,8 @@ unread_draw name names true every given left old new err err' status unread kept
 
 -- the file of another task
 pub unread_task : (name names : List ℕ) (task : Task) (given left : Reader) (old new err err' : Writer) (status : ℕ)
-    → ((followed : Bool) → task ≡ Check followed → ⊥) → FailsToGive reads.CannotRead given left → Stays old new
-    → Tells err err' (Err (faults.Read reads.CannotRead)) status → DoesJob names (name, task, false) given left old new err err' status
+    → ((followed : Bool) → task ≡ Check followed → ⊥) → FailsToGive reads.CannotRead given left → WritesNothing old new
+    → TellsEnd err err' (Err (faults.Read reads.CannotRead)) status → DoesJob names (name, task, false) given left old new err err' status
 unread_task name names (Script order) given left old new err err' status other unread kept tells =
     record { outcome = Err (faults.Read reads.CannotRead); ends = (unread, kept); tells = tells }
 unread_task name names (Check followed) given left old new err err' status other unread kept tells = absurd (other followed refl)
@@ -71,7 +71,7 @@ as_job name names (View recorded at region summary) given left old new err err' 
 as_job name names (Draw every recorded) given left old new err err' status other does = does
 
 pub unread_more : (name names : List ℕ) (task : Task) (given left : Reader) (old new err err' : Writer) (status : ℕ)
-    → ((followed : Bool) → task ≡ Check followed → ⊥) → FailsToGive reads.CannotRead given left → Stays old new → status ≡ 1
+    → ((followed : Bool) → task ≡ Check followed → ⊥) → FailsToGive reads.CannotRead given left → WritesNothing old new → status ≡ 1
     → TellsMore (faults.Read reads.CannotRead) (IsReadReason name) err err'
     → DoesJob names (name, task, true) given left old new err err' status
 unread_more name names task given left old new err err' status other unread kept one tells =

@@ -1,10 +1,10 @@
 -- What the program does with a job.
 use Rattle.std.specs.Prelude.{◌≡◌, ◌⊎◌, ℕ, ⊤, Bool, List, [], Option, None, Some, Result, true, false, codes, if◌then◌else◌}
-use Rattle.script_text.specs.Watched.{Reader, Writer, FailsToGive, Stays}
+use Rattle.script_text.specs.Watched.{Reader, Writer, FailsToGive, WritesNothing}
 use Rattle.script_text.specs.declared.fault.ReadFault.{ReadFault}
 use Rattle.script_text.specs.declared.places.TextKind.{TextKind}
 use Rattle.script_text.specs.declared.places.TextKind.TheVariants as texts
-use Rattle.g1heap.specs.Runs.{EndsIn, Makes, MayFail}
+use Rattle.g1heap.specs.Runs.{EndsIn, MakesRecord, MayFail}
 use Rattle.jobs.specs.Reasons.{IsReadReason, TellsExplained, TellsMore}
 use Rattle.job_ends.specs.Runs.{GivesAll, Performs}
 use Rattle.jobs.specs.declared.causes.Counts.{Counts}
@@ -95,17 +95,17 @@ DoesOver name names task given left old new err err' status =
     (text : List ℕ) × GivesAll given left text × TellsOver name names task text old new err err' status
 
 -- A file of this name could not be read, and that was told and explained; nothing was written.
-pub record IsUnread (name : List ℕ) (given left : Reader) (old new err err' : Writer) (status : ℕ) : Type 0 where
+pub record IsUnreadFile (name : List ℕ) (given left : Reader) (old new err err' : Writer) (status : ℕ) : Type 0 where
   pub fault : ReadFault
   pub fails : FailsToGive fault given left
-  pub stays : Stays old new
+  pub stays : WritesNothing old new
   pub one : status ≡ 1
   pub tells : TellsMore (Read fault) (IsReadReason name) err err'
 
 -- a task was done whose faults are to be explained
 abbrev pub DoesExplained : List ℕ → List ℕ → Task → Reader → Reader → Writer → Writer → Writer → Writer → ℕ → Type 0
 DoesExplained name names task given left old new err err' status =
-    DoesOver name names task given left old new err err' status ⊎ IsUnread name given left old new err err' status
+    DoesOver name names task given left old new err err' status ⊎ IsUnreadFile name given left old new err err' status
 
 -- A script was run, a record judged, a heap viewed, or its life drawn, and its end was told, and explained where that was asked for: what
 -- was read of the file of this name, what was written, what standard error took, and the status. A page has these names for shapes.
@@ -113,7 +113,7 @@ abbrev pub DoesJob : List ℕ → Asked → Reader → Reader → Writer → Wri
 DoesJob names (name, Check followed, explained) given left old new err err' status =
     DoesCheck name explained followed given left old new err err' status
 DoesJob names (name, Script order, false) given left old new err err' status =
-    Performs (Makes order) (MayFail order) given left old new err err' status
+    Performs (MakesRecord order) (MayFail order) given left old new err err' status
 DoesJob names (name, View recorded at region summary, false) given left old new err err' status =
     DoesView recorded (glance_of at region summary) given left old new err err' status
 DoesJob names (name, Draw every recorded, false) given left old new err err' status =
@@ -130,7 +130,7 @@ pub record AreUnread (path : List ℕ) (given left input input' : Reader) (old n
   pub fault : ReadFault
   pub fails : FailsToGive fault given left
   pub unread : input' ≡ input
-  pub stays : Stays old new
+  pub stays : WritesNothing old new
   pub one : status ≡ 1
   pub tells : TellsMore (Read fault) (IsReadReason path) err err'
 
@@ -149,4 +149,4 @@ DoesNamed (Some path) asked input input' old new err err' status =
 -- the same; or memory was refused for the words, and that was told
 abbrev pub DoesTask : Option (List ℕ) → Asked → Reader → Reader → Writer → Writer → Writer → Writer → ℕ → Type 0
 DoesTask path asked input input' old new err err' status =
-    DoesNamed path asked input input' old new err err' status ⊎ ((status ≡ 1) × Stays old new × TellsLine (Run NoMemory) err err')
+    DoesNamed path asked input input' old new err err' status ⊎ ((status ≡ 1) × WritesNothing old new × TellsLine (Run NoMemory) err err')

@@ -37,10 +37,10 @@ pub record IsThreadedRun (workers refiners markers : ℕ) (plan : StepList) (r :
   pub run : IsRunOf plan markers refiners r
 
 -- the record is a run of the plan, its steps done in such an order
-abbrev pub Makes : Order → StepList → EventList → Type 0
-Makes File = IsRunInOrder
-Makes (Drawn seed refiners markers) = IsDrawnRun seed refiners markers
-Makes (Concurrent workers refiners markers) = IsThreadedRun workers refiners markers
+abbrev pub MakesRecord : Order → StepList → EventList → Type 0
+MakesRecord File = IsRunInOrder
+MakesRecord (Drawn seed refiners markers) = IsDrawnRun seed refiners markers
+MakesRecord (Concurrent workers refiners markers) = IsThreadedRun workers refiners markers
 
 -- the faults of a run with counts: that of counts if and only if one is out of range, else others
 abbrev pub IsCountedFault : Type 0 → (Config → RunFault → Type 0) → Config → RunFault → Type 0
@@ -55,4 +55,4 @@ MayFail (Concurrent workers refiners markers) = IsCountedFault (CanStart workers
 
 -- How a script's run in such an order ended, by the reader and the writer before and after.
 abbrev pub EndsIn : Order → Reader → Reader → Writer → Writer → Result ⊤ JobFault → Type 0
-EndsIn order = Ends (Makes order) (MayFail order)
+EndsIn order = Ends (MakesRecord order) (MayFail order)

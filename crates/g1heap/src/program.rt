@@ -2,7 +2,7 @@
 
 ghost use Rattle.std.specs.Prelude.{◌≡◌, ◌≢◌, ◌≤◌, ◌⊎◌, ℕ, Bool, List, Some, map, string_bytes};
 ghost use Rattle.clap.specs.Values.{kind_of};
-ghost use Rattle.script_text.specs.Watched.{Reader, Writer, FailsToGive, Stays};
+ghost use Rattle.script_text.specs.Watched.{Reader, Writer, FailsToGive, WritesNothing};
 ghost use Rattle.job_ends.specs.FaultLines.{TellsLine};
 ghost use Rattle.command_line.specs.Asked.{Asked, Asks, asked_by, names_by, names_of};
 ghost use Rattle.command_line.specs.declared.Task.TheVariants.{Check};
@@ -32,7 +32,7 @@ fn unopened_check<E: Write>(
     reason: Reason,
     err: &mut WatchedWriter<E>,
 ) -> u8
-    ensures { (given left : Reader) (old new : Writer) → FailsToGive ReadFault.CannotRead given left → Stays old new
+    ensures { (given left : Reader) (old new : Writer) → FailsToGive ReadFault.CannotRead given left → WritesNothing old new
         → DoesCheck name.now explained followed given left old new err.old err.new result }
 {
     if followed {
@@ -53,7 +53,8 @@ fn unopened_task<E: Write>(
     err: &mut WatchedWriter<E>,
 ) -> u8
     requires { (followed : Bool) → task ≢ Check followed }
-    ensures { (names : List ℕ) (given left : Reader) (old new : Writer) → FailsToGive ReadFault.CannotRead given left → Stays old new
+    ensures { (names : List ℕ) (given left : Reader) (old new : Writer) → FailsToGive ReadFault.CannotRead given left
+        → WritesNothing old new
         → DoesJob names (name.now, task, explained) given left old new err.old err.new result }
 {
     if explained {
@@ -64,7 +65,8 @@ fn unopened_task<E: Write>(
 
 /// Tells that a job's file can't be opened, and why where that is to be explained, and answers the program's status.
 fn conclude_unopened<E: Write>(job: &Job, reason: Reason, err: &mut WatchedWriter<E>) -> u8
-    ensures { (names : List ℕ) (given left : Reader) (old new : Writer) → FailsToGive ReadFault.CannotRead given left → Stays old new
+    ensures { (names : List ℕ) (given left : Reader) (old new : Writer) → FailsToGive ReadFault.CannotRead given left
+        → WritesNothing old new
         → DoesJob names (asked_by job.now) given left old new err.old err.new result }
 {
     let name = job.file();
@@ -196,11 +198,11 @@ pub fn refuse<W: Write, E: Write>(
     err: &mut WatchedWriter<E>,
 ) -> u8
     ensures memory { kind_of error.now ≡ ErrorKind.OutOfMemory
-        → (result ≡ 1) × Stays out.old out.new × TellsLine (JobFault.Run RunFault.NoMemory) err.old err.new }
+        → (result ≡ 1) × WritesNothing out.old out.new × TellsLine (JobFault.Run RunFault.NoMemory) err.old err.new }
     ensures mistake { kind_of error.now ≢ ErrorKind.OutOfMemory → kind_of error.now ≢ ErrorKind.DisplayHelp
-        → kind_of error.now ≢ ErrorKind.DisplayVersion → (result ≡ 2) × Stays out.old out.new }
+        → kind_of error.now ≢ ErrorKind.DisplayVersion → (result ≡ 2) × WritesNothing out.old out.new }
     ensures help { (kind_of error.now ≡ ErrorKind.DisplayHelp) ⊎ (kind_of error.now ≡ ErrorKind.DisplayVersion)
-        → (result ≡ 0) × Stays err.old err.new }
+        → (result ≡ 0) × WritesNothing err.old err.new }
 {
     if error.kind() == ErrorKind::OutOfMemory {
         return conclude(Err(JobFault::Run(RunFault::NoMemory)), err);

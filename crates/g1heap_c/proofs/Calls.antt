@@ -26,18 +26,18 @@ use Rattle.step_core.specs.Words.{AreWritten, reading, writing}
 use Rattle.step_core.specs.Words as words
 use Rattle.step_core.proofs.Cores.Following.{passage_is_run}
 use Rattle.collection.specs.Steps.{HoldsBack, IsCollectors, TakesOwn}
-use Rattle.heap_calls.specs.Filled.{AreFields, FillsIt, RunsTo, Fills, making, pointing, wording}
+use Rattle.heap_calls.specs.Filled.{AreFields, FillsIt, StepsTo, Fills, making, pointing, wording}
 use Rattle.heap_calls.specs.Numbers.{no_step, refused, register, told}
-use Rattle.heap_calls.specs.Steps.{HasRegister, Makes, Stays, Steps}
+use Rattle.heap_calls.specs.Steps.{HasRegister, MakesHeap, StaysSame, Steps}
 use Rattle.heap_calls.specs.Words.{ReadsAll, ReadsNone, WritesAll, WritesNone}
 use Rattle.heap_calls.specs.declared.answer.Answer.{Answer}
 use Rattle.g1heap_c.specs.Calls.{AreCalls, Call, Called, IsCall, telling}
 use Rattle.g1heap_c.specs.Calls.{NewCall, StepCall, NewFilledCall, MakeCall, MakeFilledCall, CollectCall, CollectAllCall, ReadWordsCall}
 use Rattle.g1heap_c.specs.Calls.{WriteWordsCall, AskCall, NoStepCall, FreeCall}
 use Rattle.g1heap_c.specs.MadeFilled.{AsksToFill}
-use Rattle.g1heap_c.specs.Policies.{Asks, CollectsIn, asked}
-use Rattle.g1heap_c.specs.Runs.{AreEventsOf, AreRun, CallRuns, HasCollection, HasEvents, HasFilling, HasMaking, HasMakingAndFilling}
-use Rattle.g1heap_c.specs.Runs.{HasNone, HasNotRead, HasRead, HasRefused, HasStep, HasWritten, IfElse, KeepsIfRefused, event_of, filling}
+use Rattle.g1heap_c.specs.Policies.{AnswersMake, CollectsIn, asked}
+use Rattle.g1heap_c.specs.Runs.{AreEventsOf, AreRun, CallRuns, HasCollected, HasEvents, HasFilling, HasMaking, HasMakingAndFilling}
+use Rattle.g1heap_c.specs.Runs.{HasNoEvent, HasNotRead, HasRead, HasRefused, HasStep, HasWritten, IfElse, KeepsIfRefused, event_of, filling}
 use Rattle.g1heap_c.specs.Runs.{first_steps, last_read, last_write, reads_of, writes_of}
 use Rattle.g1heap_c.proofs.Named.{are_fields, is_op, is_register, is_step}
 
@@ -107,8 +107,8 @@ refused_done step why s c c' answer st same h tells = record {
 }
 
 -- ---- no step, and one
-none_done : (code : Answer) (s : State) (c c' : CoreState) (answer : Answer) → Stands s c → Stays (Some c) code answer (Some c')
-    → Found s c' (λ es. HasNone c es code answer c')
+none_done : (code : Answer) (s : State) (c c' : CoreState) (answer : Answer) → Stands s c → StaysSame (Some c) code answer (Some c')
+    → Found s c' (λ es. HasNoEvent c es code answer c')
 none_done code s c c' answer st h =
     let same : c' ≡ c = held_is c' c h.same in
     record { events = []; from = same_from s c c' st same; has = record { events = refl; tells = h.answer_is; same = same } }
@@ -135,7 +135,7 @@ collected_from most s c d st h =
     record { last = r.last; run = passage_is_run s c h.events r.last d r.passage; stands = r.stands }
 
 collect_done : (most : ℕ) (s : State) (c d c' : CoreState) (answer : Answer) → Stands s c → c' ≡ d → CollectsIn most c d
-    → answer ≡ told 0 0 0 → Found s c' (λ es. HasCollection es answer)
+    → answer ≡ told 0 0 0 → Found s c' (λ es. HasCollected es answer)
 collect_done most s c d c' answer st same h tells = record {
   events = h.events;
   from = subst (λ (e : CoreState). From s h.events e) (sym same) (collected_from most s c d st h);
@@ -163,7 +163,7 @@ record Asked (s : State) (op : Op) (reply : Reply) (d : CoreState) : Type 0 wher
   own : From first.last (event_of (steps.Mutator op) reply ∷ []) d
 
 asks_from : (op : Op) (s : State) (c : CoreState) (answer : Answer) (after : Option CoreState) → Stands s c
-    → (h : Asks c op answer after) → Asked s op h.reply h.core
+    → (h : AnswersMake c op answer after) → Asked s op h.reply h.core
 asks_from op s c answer after st h =
     let before = h.makes.collects in
     let first = collected_from (4 * c.config.regions + 12) s c h.makes.core st before in
@@ -175,7 +175,7 @@ asks_from op s c answer after st h =
       own = own_from op h.reply first.last h.makes.core h.core _ _ _ _ first.stands h.makes.own;
     }
 
-make_done : (op : Op) (s : State) (c c' : CoreState) (answer : Answer) → Stands s c → Asks c op answer (Some c')
+make_done : (op : Op) (s : State) (c c' : CoreState) (answer : Answer) → Stands s c → AnswersMake c op answer (Some c')
     → Found s c' (λ es. HasMaking es op answer)
 make_done op s c c' answer st h =
     let same : c' ≡ h.core = held_is c' h.core h.held in
@@ -200,7 +200,7 @@ record Led (s : State) (step : ℕ → Step) (n : ℕ) (d : CoreState) : Type 0 
   from : From s events d
   are : AreEventsOf (first_steps step n) events
 
-leads : (step : ℕ → Step) (n : ℕ) (s : State) (c d : CoreState) → Stands s c → RunsTo c step n d → Led s step n d
+leads : (step : ℕ → Step) (n : ℕ) (s : State) (c d : CoreState) → Stands s c → StepsTo c step n d → Led s step n d
 leads step zero s c d st h = record { events = []; from = same_from s c d st h; are = record { steps = refl; actors = refl } }
 leads step (suc n) s c d st h =
     let before = leads step n s c h.0 st h.2.0 in
@@ -338,7 +338,7 @@ read_done m object from before after s c c' answer st same (inr n) =
     record { events = f.events; from = f.from; has = inr (record { refused = f.has; buffer = n.same }) }
 
 unread_done : (before after : List ℕ) (s : State) (c c' : CoreState) (answer : Answer) → Stands s c → c' ≡ c
-    → (answer ≡ no_step) × (after ≡ before) → Found s c' (λ es. HasNone c es no_step answer c' × (after ≡ before))
+    → (answer ≡ no_step) × (after ≡ before) → Found s c' (λ es. HasNoEvent c es no_step answer c' × (after ≡ before))
 unread_done before after s c c' answer st same h =
     record { events = []; from = same_from s c c' st same; has = (record { events = refl; tells = h.0; same = same }, h.1) }
 
@@ -359,7 +359,7 @@ write_done m object from ws s c c' answer st (inr n) =
 
 -- ---- calls
 live_done : (config : Config) (s : State) (c c' : CoreState) (answer : Answer) → Stands s c
-    → IsCall (Some c) (NewCall config) answer (Some c') → Found s c' (λ es. HasNone c es (told 34 0 0) answer c')
+    → IsCall (Some c) (NewCall config) answer (Some c') → Found s c' (λ es. HasNoEvent c es (told 34 0 0) answer c')
 live_done config s c c' answer st h =
     let is : answer ≡ told 34 0 0 = h.0 ∙ ap (λ (n : ℕ). told n 0 0) h.1.0 in
     none_done (told 34 0 0) s c c' answer st (record { answer_is = is; same = h.1.1 })
@@ -368,18 +368,18 @@ call_done : (call : Call) (s : State) (c c' : CoreState) (answer : Answer) → S
     → Done s c call answer c'
 call_done (NewCall config) s c c' answer st h = live_done config s c c' answer st h
 call_done (StepCall step) s c c' answer st h =
-    choose s c' (IsStep c.config step) (λ es. HasStep c es step answer c') (λ es. HasNone c es no_step answer c') (is_step c.config step)
+    choose s c' (IsStep c.config step) (λ es. HasStep c es step answer c') (λ es. HasNoEvent c es no_step answer c') (is_step c.config step)
     (λ is. step_done step s c c' answer st (h.takes is)) (λ isnt. none_done no_step s c c' answer st (h.not isnt))
 call_done (NewFilledCall m to from words) s c c' answer st h =
     choose s c' (AreFields c.config m to from words) (λ es. HasFilling c es m to from words answer c')
-    (λ es. HasNone c es no_step answer c') (are_fields c.config m to from words)
+    (λ es. HasNoEvent c es no_step answer c') (are_fields c.config m to from words)
     (λ is. filled_done m to from words s c c' answer st (h.takes is)) (λ isnt. none_done no_step s c c' answer st (h.not isnt))
 call_done (MakeCall op) s c c' answer st h =
-    choose s c' (IsOp c.config op) (λ es. HasMaking es op answer) (λ es. HasNone c es no_step answer c') (is_op c.config op)
+    choose s c' (IsOp c.config op) (λ es. HasMaking es op answer) (λ es. HasNoEvent c es no_step answer c') (is_op c.config op)
     (λ is. make_done op s c c' answer st (h.asks is)) (λ isnt. none_done no_step s c c' answer st (h.not isnt))
 call_done (MakeFilledCall m to from words) s c c' answer st h =
     choose s c' (AreFields c.config m to from words) (λ es. HasMakingAndFilling es m to from words answer)
-    (λ es. HasNone c es no_step answer c') (are_fields c.config m to from words)
+    (λ es. HasNoEvent c es no_step answer c') (are_fields c.config m to from words)
     (λ is. make_filled_done m to from words s c c' answer st (h.asks is)) (λ isnt. none_done no_step s c c' answer st (h.not isnt))
 call_done CollectCall s c c' answer st h =
     collect_done (c.config.regions + 5) s c h.core c' answer st (held_is c' h.core h.held) h.collects h.tells
@@ -388,13 +388,13 @@ call_done (ReadWordsCall m object from before after) s c c' answer st h =
     let same : c' ≡ c = held_is c' c h.1 in
     choose s c' (HasRegister c m object)
     (λ es. HasRead c es m object from before after answer c' ⊎ HasNotRead c es m object from before after answer c')
-    (λ es. HasNone c es no_step answer c' × (after ≡ before)) (is_register c m object)
+    (λ es. HasNoEvent c es no_step answer c' × (after ≡ before)) (is_register c m object)
     (λ is. read_done m object from before after s c c' answer st same (h.0.takes is))
     (λ isnt. unread_done before after s c c' answer st same (h.0.not isnt))
 call_done (WriteWordsCall m object from ws) s c c' answer st h =
     choose s c' (HasRegister c m object)
     (λ es. HasWritten es m object from ws answer ⊎ HasRefused c es (last_write m (register object) from ws) answer c')
-    (λ es. HasNone c es no_step answer c') (is_register c m object)
+    (λ es. HasNoEvent c es no_step answer c') (is_register c m object)
     (λ is. write_done m object from ws s c c' answer st (h.takes is)) (λ isnt. none_done no_step s c c' answer st (h.not isnt))
 call_done (AskCall question) s c c' answer st h =
     let same : c' ≡ c = held_is c' c h.1 in
@@ -417,7 +417,7 @@ calls_from (x ∷ xs) s c st h =
     }
 
 -- a heap that was made stands for the state with no objects
-made_stands : (config : Config) (code : ℕ) (c : CoreState) → Makes None config code (Some c) → Stands (first_state config) c
+made_stands : (config : Config) (code : ℕ) (c : CoreState) → MakesHeap None config code (Some c) → Stands (first_state config) c
 made_stands config code c (inl made) =
     subst (λ (x : CoreState). Stands (first_state config) x) (sym (held_is c (fresh_core config) made.held)) made.stands
 made_stands config code c (inr failed) = let e : Some c ≡ None = failed.none in cc

@@ -22,7 +22,7 @@ use Rattle.g1heap_c.specs.Calls.{Call, IsAnswerTo, Question, telling}
 use Rattle.g1heap_c.specs.Calls.{NewCall, StepCall, NewFilledCall, MakeCall, MakeFilledCall, CollectCall, CollectAllCall, ReadWordsCall}
 use Rattle.g1heap_c.specs.Calls.{WriteWordsCall, AskCall, NoStepCall, FreeCall}
 use Rattle.g1heap_c.specs.Calls.{FreeRegions, FreeRun, UsedWords, LiveWords, Marking, Grey, Queued, Globals, Registers, Name}
-use Rattle.g1heap_c.specs.Runs.{HasEvents, HasFilling, HasMaking, HasMakingAndFilling, HasNone, HasNotRead, HasRead, HasRefused, HasStep}
+use Rattle.g1heap_c.specs.Runs.{HasEvents, HasFilling, HasMaking, HasMakingAndFilling, HasNoEvent, HasNotRead, HasRead, HasRefused, HasStep}
 use Rattle.g1heap_c.specs.Runs.{HasWritten, IfElse, event_of, last_read, last_write, reads_of, writes_of}
 use Rattle.g1heap_c.proofs.Named.{is_register}
 
@@ -56,7 +56,7 @@ same_side F A B C D G (inr p) (inl q) f g = absurd (p.0 q.0)
 same_side F A B C D G (inr p) (inr q) f g = g p.1 q.1
 
 module _ (c : CoreState) (es : List Event) (y z : Answer) (d : CoreState) where
-  none_one : (code : Answer) → HasNone c es code y d → HasNone c es code z d → y ≡ z
+  none_one : (code : Answer) → HasNoEvent c es code y d → HasNoEvent c es code z d → y ≡ z
   none_one code h k = h.tells ∙ sym k.tells
 
   step_one : (step : Step) → HasStep c es step y d → HasStep c es step z d → y ≡ z
@@ -146,7 +146,7 @@ module _ (c : CoreState) (es : List Event) (y z : Answer) (d : CoreState) where
   ]
   ask_one _ h k = h ∙ sym k
 
-  none_else : HasNone c es (told 32 0 0) y d → HasNone c es (told 32 0 0) z d → y ≡ z
+  none_else : HasNoEvent c es (told 32 0 0) y d → HasNoEvent c es (told 32 0 0) z d → y ≡ z
   none_else h k = none_one (told 32 0 0) h k
 
   pub one_answer : (call : Call) → HasEvents c es call y d → HasEvents c es call z d → y ≡ z

@@ -12,7 +12,7 @@ use Rattle.step_core.specs.Measures.{used_words, live_words, HasGrey}
 use Rattle.step_core.specs.Stands.{CoreState}
 use Rattle.heap_calls.specs.Filled.{MakesFilled}
 use Rattle.heap_calls.specs.Numbers.{told}
-use Rattle.heap_calls.specs.Steps.{IsMarking, IsName, IsNumber, IsRun, IsSign, Makes, Takes, TakesNone, Tells, plain, scanned}
+use Rattle.heap_calls.specs.Steps.{IsMarking, IsName, IsNumber, IsFreeRun, IsSign, MakesHeap, TakesStep, TakesNone, Tells, plain, scanned}
 use Rattle.heap_calls.specs.Words.{ReadsWords, WritesWords}
 use Rattle.heap_calls.specs.declared.answer.Answer.{Answer}
 use Rattle.g1heap_c.specs.MadeFilled.{AsksFilled}
@@ -58,7 +58,7 @@ telling _ = plain
 -- the answer tells of a core what the question asks
 abbrev pub IsAnswerTo : Question → CoreState → Answer → Type 0
 IsAnswerTo FreeRegions = IsNumber (λ c. free_count c.table)
-IsAnswerTo FreeRun = IsRun
+IsAnswerTo FreeRun = IsFreeRun
 IsAnswerTo UsedWords = IsNumber used_words
 IsAnswerTo LiveWords = IsNumber live_words
 IsAnswerTo Marking = IsSign IsMarking
@@ -71,8 +71,8 @@ IsAnswerTo (Name m r) = IsName m r
 -- What is proved of a call, by its answer and by the heap before and after it, which may be none: each function that takes a heap has this
 -- of its call as its contract. What `g1_new` answers is the code; `g1_free` answers nothing, which counts as done
 abbrev pub IsCall : Option CoreState → Call → Answer → Option CoreState → Type 0
-IsCall heap (NewCall config) answer after = (answer ≡ told answer.code 0 0) × Makes heap config answer.code after
-IsCall heap (StepCall step) answer after = Takes (telling step) heap step answer after
+IsCall heap (NewCall config) answer after = (answer ≡ told answer.code 0 0) × MakesHeap heap config answer.code after
+IsCall heap (StepCall step) answer after = TakesStep (telling step) heap step answer after
 IsCall heap (NewFilledCall m to from words) answer after = MakesFilled heap m to from words answer after
 IsCall heap (MakeCall op) answer after = AsksFor heap op answer after
 IsCall heap (MakeFilledCall m to from words) answer after = AsksFilled heap m to from words answer after

@@ -32,6 +32,6 @@ abbrev pub entry_of : Event → Entry
 entry_of e = record { step = step_code e.step; number = step_number e.step; answer = numbers e.reply }
 
 -- an event is noted: its entry is the next one, if there is room for it, no other changes, and one step more is counted
-pub record IsNoted (x : Notes) (e : Event) (y : Notes) : Type 0 where
+pub record IsEntered (x : Notes) (e : Event) (y : Notes) : Type 0 where
   pub entries : y.entries.now ≡ slice_set x.entries.now x.count (entry_of e)
   pub count : y.count ≡ min (x.count + 1) (2 ^ 32 - 1)

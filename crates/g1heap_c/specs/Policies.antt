@@ -13,7 +13,7 @@ use Rattle.collection.specs.Space.{IsCollected, IsPacked}
 use Rattle.collection.specs.Steps.{Collects, CollectsSome, IsDue, LeavesTwo, Makes}
 use Rattle.collection.specs.Rooms.{IsFilled}
 use Rattle.heap_calls.specs.Numbers.{counts, no_heap, no_step, numbers, register, told}
-use Rattle.heap_calls.specs.Steps.{Stays}
+use Rattle.heap_calls.specs.Steps.{StaysSame}
 use Rattle.heap_calls.specs.declared.answer.Answer.{Answer}
 
 -- the step that makes an object, a plain one where it has no weak slots
@@ -38,7 +38,7 @@ abbrev pub MakesIn : ℕ → Op → Reply → CoreState → CoreState → Type 0
 MakesIn most op reply c c' = Makes {W = Unit {0}} (λ x e y. Unit {0}) most op reply c nobody c' nobody
 
 -- an object is asked for, and the answer tells the reply: all that the policy promises. Then the heap is the core after it
-pub record Asks (c : CoreState) (op : Op) (answer : Answer) (after : Option CoreState) : Type 0 where
+pub record AnswersMake (c : CoreState) (op : Op) (answer : Answer) (after : Option CoreState) : Type 0 where
   pub reply : Reply
   pub core : CoreState
   pub tells : answer ≡ numbers reply
@@ -49,11 +49,11 @@ pub record Asks (c : CoreState) (op : Op) (answer : Answer) (after : Option Core
 
 -- if the heap's sizes have the step; else it is as it was
 pub record AsksOrNot (c : CoreState) (op : Op) (answer : Answer) (after : Option CoreState) : Type 0 where
-  pub asks : IsOp c.config op → Asks c op answer after
-  pub not : (IsOp c.config op → ⊥) → Stays (Some c) no_step answer after
+  pub asks : IsOp c.config op → AnswersMake c op answer after
+  pub not : (IsOp c.config op → ⊥) → StaysSame (Some c) no_step answer after
 
 abbrev pub AsksFor : Option CoreState → Op → Answer → Option CoreState → Type 0
-AsksFor None op answer after = Stays None no_heap answer after
+AsksFor None op answer after = StaysSame None no_heap answer after
 AsksFor (Some c) op answer after = AsksOrNot c op answer after
 
 -- the steps that are due
@@ -64,7 +64,7 @@ pub record CollectsDueIn (c : CoreState) (answer : Answer) (after : Option CoreS
   pub collects : CollectsIn (c.config.regions + 5) c core
 
 abbrev pub CollectsDue : Option CoreState → Answer → Option CoreState → Type 0
-CollectsDue None answer after = Stays None no_heap answer after
+CollectsDue None answer after = StaysSame None no_heap answer after
 CollectsDue (Some c) answer after = CollectsDueIn c answer after
 
 -- if a step is due, by the number of free regions at which a cycle begins, at least one is taken
@@ -83,5 +83,5 @@ pub record CollectsAllIn (c : CoreState) (answer : Answer) (after : Option CoreS
   pub packed : (s : State) → Stands s c → 2 ≤ free_count c.table → IsPacked s.graph core
 
 abbrev pub CollectsAll : Option CoreState → Answer → Option CoreState → Type 0
-CollectsAll None answer after = Stays None no_heap answer after
+CollectsAll None answer after = StaysSame None no_heap answer after
 CollectsAll (Some c) answer after = CollectsAllIn c answer after

@@ -66,7 +66,7 @@ abbrev pub KeepsIfRefused : Reply → CoreState → CoreState → Type 0
 KeepsIfRefused reply c c' = (why : Refusal) → reply ≡ replies.Refused why → c' ≡ c
 
 -- no event: the answer is this one, and the heap is as it was
-pub record HasNone (c : CoreState) (es : List Event) (code : Answer) (answer : Answer) (c' : CoreState) : Type 0 where
+pub record HasNoEvent (c : CoreState) (es : List Event) (code : Answer) (answer : Answer) (c' : CoreState) : Type 0 where
   pub events : es ≡ []
   pub tells : answer ≡ code
   pub same : c' ≡ c
@@ -106,7 +106,7 @@ pub record HasMakingAndFilling (es : List Event) (m to : ℕ) (from words : List
   pub tells : answer ≡ numbers reply
 
 -- steps of the collector alone
-pub record HasCollection (es : List Event) (answer : Answer) : Type 0 where
+pub record HasCollected (es : List Event) (answer : Answer) : Type 0 where
   pub collectors : All IsCollectors es
   pub tells : answer ≡ told 0 0 0
 
@@ -150,25 +150,25 @@ IfElse P A B = (P × A) ⊎ ((P → ⊥) × B)
 -- Which events a call on a heap has, and what its answer tells of them: none if its numbers name no step of the heap. Where there is a heap
 -- none is made, and after one is freed there is none
 abbrev pub HasEvents : CoreState → List Event → Call → Answer → CoreState → Type 0
-HasEvents c es (NewCall config) answer c' = HasNone c es (told 34 0 0) answer c'
-HasEvents c es (StepCall step) answer c' = IfElse (IsStep c.config step) (HasStep c es step answer c') (HasNone c es no_step answer c')
+HasEvents c es (NewCall config) answer c' = HasNoEvent c es (told 34 0 0) answer c'
+HasEvents c es (StepCall step) answer c' = IfElse (IsStep c.config step) (HasStep c es step answer c') (HasNoEvent c es no_step answer c')
 HasEvents c es (NewFilledCall m to from words) answer c' =
-    IfElse (AreFields c.config m to from words) (HasFilling c es m to from words answer c') (HasNone c es no_step answer c')
-HasEvents c es (MakeCall op) answer c' = IfElse (IsOp c.config op) (HasMaking es op answer) (HasNone c es no_step answer c')
+    IfElse (AreFields c.config m to from words) (HasFilling c es m to from words answer c') (HasNoEvent c es no_step answer c')
+HasEvents c es (MakeCall op) answer c' = IfElse (IsOp c.config op) (HasMaking es op answer) (HasNoEvent c es no_step answer c')
 HasEvents c es (MakeFilledCall m to from words) answer c' =
-    IfElse (AreFields c.config m to from words) (HasMakingAndFilling es m to from words answer) (HasNone c es no_step answer c')
-HasEvents c es CollectCall answer c' = HasCollection es answer
-HasEvents c es CollectAllCall answer c' = HasCollection es answer
+    IfElse (AreFields c.config m to from words) (HasMakingAndFilling es m to from words answer) (HasNoEvent c es no_step answer c')
+HasEvents c es CollectCall answer c' = HasCollected es answer
+HasEvents c es CollectAllCall answer c' = HasCollected es answer
 HasEvents c es (ReadWordsCall m object from before after) answer c' =
     IfElse (HasRegister c m object)
     (HasRead c es m object from before after answer c' ⊎ HasNotRead c es m object from before after answer c')
-    (HasNone c es no_step answer c' × (after ≡ before))
+    (HasNoEvent c es no_step answer c' × (after ≡ before))
 HasEvents c es (WriteWordsCall m object from words) answer c' =
     IfElse (HasRegister c m object)
     (HasWritten es m object from words answer ⊎ HasRefused c es (last_write m (register object) from words) answer c')
-    (HasNone c es no_step answer c')
+    (HasNoEvent c es no_step answer c')
 HasEvents c es (AskCall question) answer c' = HasAsked c es (IsAnswerTo question) answer c'
-HasEvents c es NoStepCall answer c' = HasNone c es no_step answer c'
+HasEvents c es NoStepCall answer c' = HasNoEvent c es no_step answer c'
 HasEvents c es FreeCall answer c' = ⊥
 
 -- a call's events are a run of the graph, from a state that the heap stands for before it to one that it stands for after it

@@ -4,7 +4,7 @@ ghost use Rattle.std.specs.Prelude.{◌≡◌, ◌<◌, ◌≤◌};
 ghost use Rattle.heap_steps.specs.declared.step.Action.TheVariants as actions;
 ghost use Rattle.heap_calls.specs.Numbers as spec;
 ghost use Rattle.heap_calls.specs.Numbers.{by};
-ghost use Rattle.heap_calls.specs.Steps.{Takes, plain};
+ghost use Rattle.heap_calls.specs.Steps.{TakesStep, plain};
 ghost use Rattle.g1heap_c.specs.Calls.{IsCall, NoStepCall, StepCall};
 
 use heap_calls::answer::Answer;
@@ -90,7 +90,7 @@ fn put(
     field: u32,
     value: Option<Register>,
 ) -> Answer
-    ensures { Takes plain heap.old.handle.core (by mutator (actions.Put object field value)) result heap.new.handle.core }
+    ensures { TakesStep plain heap.old.handle.core (by mutator (actions.Put object field value)) result heap.new.handle.core }
 {
     match value {
         None => {

@@ -57,9 +57,9 @@ fn note(entries: &mut [Entry], at: u32, event: &Event)
 }
 
 impl Watch for Notes<'_> {
-    ghost use Rattle.g1heap_c.specs.Noted.{IsNoted};
+    ghost use Rattle.g1heap_c.specs.Noted.{IsEntered};
 
-    ghost sees = { λ x e y. IsNoted x e y };
+    ghost sees = { λ x e y. IsEntered x e y };
 
     fn took(&mut self, event: &Event) {
         note(self.entries, self.count, event);

@@ -9,7 +9,7 @@ ghost use Rattle.collection.specs.Steps.{IsDue};
 ghost use Rattle.heap_calls.specs.Numbers.{config_of};
 ghost use Rattle.heap_calls.specs.Steps.{IsUpTo};
 ghost use Rattle.g1heap_c.specs.Calls.{CollectCall, IsCall, MakeCall, NoStepCall, CollectAllCall};
-ghost use Rattle.g1heap_c.specs.Policies.{Asks, AsksFor, CollectsAll, CollectsAllIn, CollectsDue, CollectsDueIn, CollectsSomeIn};
+ghost use Rattle.g1heap_c.specs.Policies.{AnswersMake, AsksFor, CollectsAll, CollectsAllIn, CollectsDue, CollectsDueIn, CollectsSomeIn};
 ghost use Rattle.g1heap_c.specs.Policies.{TakesDue, asked};
 
 use crate::noted::{Entry, Notes};
@@ -55,7 +55,7 @@ fn with_weaks(mutator: u32, to: u32, pointers: u32, weaks: u8, values: u32) -> O
 fn make_in<W: Watch>(core: &mut Core, policy: &mut Policy, op: Op, watch: &mut W) -> Answer
     requires op { IsOp core.old.config op }
     requires new { IsNew op.action }
-    ensures { Asks core.old op result (Some core.new) }
+    ensures { AnswersMake core.old op result (Some core.new) }
 {
     answer_of(make(core, policy, op, watch))
 }

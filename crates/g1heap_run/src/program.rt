@@ -5,7 +5,7 @@ ghost use Rattle.heap_steps.specs.Faults.{IsRunFault};
 ghost use Rattle.job_ends.specs.Runs.{Performs};
 ghost use Rattle.script_text.specs.Watched.{Reader};
 ghost use Rattle.step_core.specs.Passages.{IsRunInOrder};
-ghost use Rattle.g1heap_run.specs.Alone.{AskForRun, IsPath, RefusesWords, RunsScript, TellsWords};
+ghost use Rattle.g1heap_run.specs.Alone.{AskForRun, IsPathWord, RefusesWords, RunsScript, TellsWords};
 
 use heap_steps::RunFault;
 use job_ends::{JobFault, conclude};
@@ -23,8 +23,8 @@ const WORDS_LINE: &[u8] =
 
 /// Whether a word is a path, and no option.
 fn is_path(word: &str) -> bool
-    ensures yes { result ≡ true → IsPath word.now }
-    ensures no { result ≡ false → IsPath word.now → ⊥ }
+    ensures yes { result ≡ true → IsPathWord word.now }
+    ensures no { result ≡ false → IsPathWord word.now → ⊥ }
 {
     word == "-" || word.as_bytes().first() != Some(&b'-')
 }

@@ -20,11 +20,11 @@ use Rattle.step_core.specs.Words.{AreRefused, Takes, putting, writing}
 use Rattle.step_core.specs.Words as step
 use Rattle.step_core.specs.Near.{ArePut, source}
 use Rattle.heap_calls.specs.Numbers.{counts, register, value}
-use Rattle.heap_calls.specs.Filled.{IsFilled, RunsTo, making, pointing, wording}
+use Rattle.heap_calls.specs.Filled.{FillsFields, StepsTo, making, pointing, wording}
 
 -- so many steps are taken, in a heap of the same sizes
 pub record HasRun (c : CoreState) (step : ℕ → Step) (count : ℕ) (d : CoreState) : Type 0 where
-  pub run : RunsTo c step count d
+  pub run : StepsTo c step count d
   pub config : d.config ≡ c.config
   pub roots : d.roots ≡ c.roots
 
@@ -40,7 +40,7 @@ run_more : (c b d : CoreState) (step : ℕ → Step) (i : ℕ) (taken : Step) (r
 run_more c b d step i taken reply h e t same roots =
     let one : i + 1 ≡ suc i = omega arith in
     record {
-      run = subst (λ (n : ℕ). RunsTo c step n d) (sym one)
+      run = subst (λ (n : ℕ). StepsTo c step n d) (sym one)
           (b, reply, (h.run, subst (λ (s : Step). Takes b s reply d) e t));
       config = same ∙ h.config;
       roots = roots ∙ h.roots;
@@ -87,11 +87,11 @@ pub as_wording : (m to : ℕ) (words : List ℕ) (i w : ℕ) (r : Register) → 
 as_wording m to words i w r f g = ap (λ (x : Register). writing m x i w) f ∙ ap (λ (x : ℕ). writing m (register to) i x) g
 
 -- where the register holds nil, each step is refused
-none_pointed : (c : CoreState) (m to : ℕ) (from : List ℕ) → AreRefused c m (register to) → (n : ℕ) → RunsTo c (pointing m to from) n c
+none_pointed : (c : CoreState) (m to : ℕ) (from : List ℕ) → AreRefused c m (register to) → (n : ℕ) → StepsTo c (pointing m to from) n c
 none_pointed c m to from h zero = refl
 none_pointed c m to from h (suc n) = (c, replies.Refused refusals.Nil, (none_pointed c m to from h n, h.put n (value (slice_index from n))))
 
-none_worded : (c : CoreState) (m to : ℕ) (words : List ℕ) → AreRefused c m (register to) → (n : ℕ) → RunsTo c (wording m to words) n c
+none_worded : (c : CoreState) (m to : ℕ) (words : List ℕ) → AreRefused c m (register to) → (n : ℕ) → StepsTo c (wording m to words) n c
 none_worded c m to words h zero = refl
 none_worded c m to words h (suc n) = (c, replies.Refused refusals.Nil, (none_worded c m to words h n, h.written n (slice_index words n)))
 
@@ -100,7 +100,7 @@ pub still : (k l : Config) (s t : Step) → k ≡ l → s ≡ t → IsStep l t �
 still k l s t e f is = subst (λ (x : Config). IsStep x s) (sym e) (subst (λ (x : Step). IsStep l x) (sym f) is)
 
 pub none_filled : (c : CoreState) (m to : ℕ) (from words : List ℕ) (r : Register) → r ≡ register to → AreRefused c m r
-    → IsFilled c m to from words c
+    → FillsFields c m to from words c
 none_filled c m to from words r e h =
     let all = subst (λ (x : Register). AreRefused c m x) e h in
     (c, (none_pointed c m to from all (length from), none_worded c m to words all (length words)))
@@ -120,7 +120,7 @@ counts_here c m r to a p w d made e h =
 
 -- ---- the pointers, as the core stores them
 pub put_runs : (c : CoreState) (m to : ℕ) (from : List ℕ) (n : ℕ) (r : Register) (d : CoreState) → r ≡ register to → ArePut c m r from n d
-    → RunsTo c (pointing m to from) n d
+    → StepsTo c (pointing m to from) n d
 put_runs c m to from zero r d e h = h
 put_runs c m to from (suc n) r d e (b, (h, t)) = (
   b,

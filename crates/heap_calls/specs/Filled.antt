@@ -11,13 +11,13 @@ use Rattle.heap_steps.specs.declared.step.Step.{Step}
 use Rattle.step_core.specs.Stands.{CoreState}
 use Rattle.step_core.specs.Words.{Takes}
 use Rattle.heap_calls.specs.Numbers.{by, counts, no_heap, no_step, numbers, register, value}
-use Rattle.heap_calls.specs.Steps.{Stays}
+use Rattle.heap_calls.specs.Steps.{StaysSame}
 use Rattle.heap_calls.specs.declared.answer.Answer.{Answer}
 
 -- so many steps lead from one core to another, one after another
-abbrev pub RunsTo : CoreState → (ℕ → Step) → ℕ → CoreState → Type 0
-RunsTo c step zero d = d ≡ c
-RunsTo c step (suc n) d = (b : CoreState) × (reply : Reply) × (RunsTo c step n b × Takes b (step n) reply d)
+abbrev pub StepsTo : CoreState → (ℕ → Step) → ℕ → CoreState → Type 0
+StepsTo c step zero d = d ≡ c
+StepsTo c step (suc n) d = (b : CoreState) × (reply : Reply) × (StepsTo c step n b × Takes b (step n) reply d)
 
 -- an object is made of so many pointers and data words
 abbrev pub making : ℕ → ℕ → List ℕ → List ℕ → Step
@@ -44,13 +44,13 @@ pub record AreFields (config : Config) (m to : ℕ) (from words : List ℕ) : Ty
   pub apart : (i : ℕ) → i < length from → slice_index from i ≢ to
 
 -- the steps that fill the object lead from one core to the other: those of its pointers, and those of its data words
-abbrev pub IsFilled : CoreState → ℕ → ℕ → List ℕ → List ℕ → CoreState → Type 0
-IsFilled c m to from words d =
-    (b : CoreState) × (RunsTo c (pointing m to from) (length from) b × RunsTo b (wording m to words) (length words) d)
+abbrev pub FillsFields : CoreState → ℕ → ℕ → List ℕ → List ℕ → CoreState → Type 0
+FillsFields c m to from words d =
+    (b : CoreState) × (StepsTo c (pointing m to from) (length from) b × StepsTo b (wording m to words) (length words) d)
 
 -- where the object was made, the steps that fill it lead further
 abbrev pub FillsIt : Reply → CoreState → ℕ → ℕ → List ℕ → List ℕ → CoreState → Type 0
-FillsIt (replies.Named (Some name)) c m to from words d = IsFilled c m to from words d
+FillsIt (replies.Named (Some name)) c m to from words d = FillsFields c m to from words d
 FillsIt _ c m to from words d = d ≡ c
 
 -- the object is made by a step of its own, whose reply is the answer, and is filled
@@ -65,8 +65,8 @@ pub record Fills (c : CoreState) (m to : ℕ) (from words : List ℕ) (answer : 
 
 pub record FillsOrNot (c : CoreState) (m to : ℕ) (from words : List ℕ) (answer : Answer) (after : Option CoreState) : Type 0 where
   pub takes : AreFields c.config m to from words → Fills c m to from words answer after
-  pub not : (AreFields c.config m to from words → ⊥) → Stays (Some c) no_step answer after
+  pub not : (AreFields c.config m to from words → ⊥) → StaysSame (Some c) no_step answer after
 
 abbrev pub MakesFilled : Option CoreState → ℕ → ℕ → List ℕ → List ℕ → Answer → Option CoreState → Type 0
-MakesFilled None m to from words answer after = Stays None no_heap answer after
+MakesFilled None m to from words answer after = StaysSame None no_heap answer after
 MakesFilled (Some c) m to from words answer after = FillsOrNot c m to from words answer after

@@ -41,7 +41,7 @@ pub record Steps (tell : CoreState → CoreState → Reply → Answer) (c : Core
   pub full : (s : State) → Stands s c → (reply ≡ replies.Refused refusals.Full) ↔ IsFullStep s.graph step c
 
 -- a heap is as it was
-pub record Stays (before : Option CoreState) (code : Answer) (answer : Answer) (after : Option CoreState) : Type 0 where
+pub record StaysSame (before : Option CoreState) (code : Answer) (answer : Answer) (after : Option CoreState) : Type 0 where
   pub answer_is : answer ≡ code
   pub same : after ≡ before
 
@@ -50,11 +50,11 @@ pub record TakesOrNot (tell : CoreState → CoreState → Reply → Answer) (c :
     (after : Option CoreState)
     : Type 0 where
   pub takes : IsStep c.config step → Steps tell c step answer after
-  pub not : (IsStep c.config step → ⊥) → Stays (Some c) no_step answer after
+  pub not : (IsStep c.config step → ⊥) → StaysSame (Some c) no_step answer after
 
-abbrev pub Takes : (CoreState → CoreState → Reply → Answer) → Option CoreState → Step → Answer → Option CoreState → Type 0
-Takes tell None step answer after = Stays None no_heap answer after
-Takes tell (Some c) step answer after = TakesOrNot tell c step answer after
+abbrev pub TakesStep : (CoreState → CoreState → Reply → Answer) → Option CoreState → Step → Answer → Option CoreState → Type 0
+TakesStep tell None step answer after = StaysSame None no_heap answer after
+TakesStep tell (Some c) step answer after = TakesOrNot tell c step answer after
 
 -- a mutator's step that a heap has if and only if it has the mutator and the register of this number, above which the step names none
 abbrev pub IsUpTo : ℕ → Op → Type 0
@@ -62,12 +62,12 @@ IsUpTo highest o = (c : Config) → IsOp c o ↔ ((o.mutator < c.mutators) × (h
 
 -- the numbers name no step
 abbrev pub TakesNone : Option CoreState → Answer → Option CoreState → Type 0
-TakesNone None answer after = Stays None no_heap answer after
-TakesNone (Some c) answer after = Stays (Some c) no_step answer after
+TakesNone None answer after = StaysSame None no_heap answer after
+TakesNone (Some c) answer after = StaysSame (Some c) no_step answer after
 
 -- a heap tells something, and is as it was
 abbrev pub Tells : (CoreState → Answer → Type 0) → Option CoreState → Answer → Option CoreState → Type 0
-Tells P None answer after = Stays None no_heap answer after
+Tells P None answer after = StaysSame None no_heap answer after
 Tells P (Some c) answer after = P c answer × (after ≡ Some c)
 
 -- a number of the core
@@ -75,7 +75,7 @@ abbrev pub IsNumber : (CoreState → ℕ) → CoreState → Answer → Type 0
 IsNumber f c answer = answer ≡ told 10 (f c) 0
 
 -- so many regions are free side by side, and nowhere more
-pub record IsRun (c : CoreState) (answer : Answer) : Type 0 where
+pub record IsFreeRun (c : CoreState) (answer : Answer) : Type 0 where
   pub count : ℕ
   pub is : answer ≡ told 10 count 0
   pub longest : IsLongestRun c.table count
@@ -114,6 +114,6 @@ pub record IsNotMade (config : Config) (code : ℕ) (after : Option CoreState) :
   pub none : after ≡ None
 
 -- a heap is made in the place of none; one that is there stays
-abbrev pub Makes : Option CoreState → Config → ℕ → Option CoreState → Type 0
-Makes None config code after = IsMade config code after ⊎ IsNotMade config code after
-Makes (Some c) config code after = (code ≡ 34) × (after ≡ Some c)
+abbrev pub MakesHeap : Option CoreState → Config → ℕ → Option CoreState → Type 0
+MakesHeap None config code after = IsMade config code after ⊎ IsNotMade config code after
+MakesHeap (Some c) config code after = (code ≡ 34) × (after ≡ Some c)

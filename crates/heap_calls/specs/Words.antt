@@ -4,7 +4,7 @@ use Rattle.heap_steps.specs.declared.step.Refusal.{Refusal}
 use Rattle.step_core.specs.Stands.{CoreState}
 use Rattle.step_core.specs.Words.{AreRead, AreWritten, HasWords, IsUnread, IsUnwritten}
 use Rattle.heap_calls.specs.Numbers.{no_heap, no_step, refused, register, told}
-use Rattle.heap_calls.specs.Steps.{HasRegister, Stays}
+use Rattle.heap_calls.specs.Steps.{HasRegister, StaysSame}
 use Rattle.heap_calls.specs.declared.answer.Answer.{Answer}
 
 -- the object has so many words from one on, and each is what a step of its own would read
@@ -30,7 +30,7 @@ pub record ReadsIn (m object from : ℕ) (before after : List ℕ) (c : CoreStat
 
 -- what a call reads of a heap, which stays as it was
 abbrev pub ReadsWords : Option CoreState → ℕ → ℕ → ℕ → List ℕ → List ℕ → Answer → Option CoreState → Type 0
-ReadsWords None m object from before after answer left = Stays None no_heap answer left × (after ≡ before)
+ReadsWords None m object from before after answer left = StaysSame None no_heap answer left × (after ≡ before)
 ReadsWords (Some c) m object from before after answer left = ReadsIn m object from before after c answer × (left ≡ Some c)
 
 -- the object has so many words from one on, and steps that write them, one after another, lead to the heap after the call
@@ -51,8 +51,8 @@ pub record WritesNone (c : CoreState) (m object from : ℕ) (words : List ℕ) (
 
 pub record WritesIn (c : CoreState) (m object from : ℕ) (words : List ℕ) (answer : Answer) (after : Option CoreState) : Type 0 where
   pub takes : HasRegister c m object → WritesAll c m object from words answer after ⊎ WritesNone c m object from words answer after
-  pub not : (HasRegister c m object → ⊥) → Stays (Some c) no_step answer after
+  pub not : (HasRegister c m object → ⊥) → StaysSame (Some c) no_step answer after
 
 abbrev pub WritesWords : Option CoreState → ℕ → ℕ → ℕ → List ℕ → Answer → Option CoreState → Type 0
-WritesWords None m object from words answer after = Stays None no_heap answer after
+WritesWords None m object from words answer after = StaysSame None no_heap answer after
 WritesWords (Some c) m object from words answer after = WritesIn c m object from words answer after

@@ -9,7 +9,7 @@ ghost use Rattle.step_core.specs.Mutators.{register_of};
 ghost use Rattle.step_core.specs.Stands.{CoreState};
 ghost use Rattle.heap_calls.specs.Numbers as spec;
 ghost use Rattle.heap_calls.specs.Steps.{HasRegister};
-ghost use Rattle.heap_calls.specs.Filled.{AreFields, Fills, FillsIt, FillsOrNot, IsFilled, IsSource, RunsTo};
+ghost use Rattle.heap_calls.specs.Filled.{AreFields, Fills, FillsIt, FillsOrNot, FillsFields, IsSource, StepsTo};
 ghost use Rattle.heap_calls.specs.Filled.{making, pointing, wording};
 
 use crate::answer::{Answer, answer_of};
@@ -80,7 +80,7 @@ fn word(core: &mut Core, mutator: u32, to: u32, at: Addr, pointers: u32, words: 
     requires pointers { length (pointers_at core.old.table at) ≡ pointers }
     requires weaks { length (weaks_at core.old.table at) ≡ 0 }
     requires counts { length (values_at core.old.table at) ≡ length words.now }
-    ensures { RunsTo core.old (wording mutator to words.now) (length words.now) core.new }
+    ensures { StepsTo core.old (wording mutator to words.now) (length words.now) core.new }
 {
     for i in 0..words.len() as u32 {
         core.write_behind_at(mutator, register(to), at, pointers, i, words[i as usize]);
@@ -94,7 +94,7 @@ fn fill_at(core: &mut Core, mutator: u32, to: u32, at: Addr, from: &[u32], words
     requires fields { AreFields core.old.config mutator to from.now words.now }
     requires made { NamesObject core.old mutator (spec.register to) (length from.now) 0 (length words.now) }
     requires held { register_of core.old mutator (spec.register to) ≡ Some at }
-    ensures { IsFilled core.old mutator to from.now words.now core.new }
+    ensures { FillsFields core.old mutator to from.now words.now core.new }
 {
     core.put_all_at(mutator, register(to), at, from);
     word(core, mutator, to, at, from.len() as u32, words);
@@ -105,7 +105,7 @@ fn fill_at(core: &mut Core, mutator: u32, to: u32, at: Addr, from: &[u32], words
 fn fill_object(core: &mut Core, mutator: u32, to: u32, from: &[u32], words: &[u64])
     requires fields { AreFields core.old.config mutator to from.now words.now }
     requires made { NamesObject core.old mutator (spec.register to) (length from.now) 0 (length words.now) }
-    ensures { IsFilled core.old mutator to from.now words.now core.new }
+    ensures { FillsFields core.old mutator to from.now words.now core.new }
 {
     let Some(at) = core.address_of(mutator, register(to)) else {
         return;
@@ -169,7 +169,7 @@ fn fill(core: &mut Core, mutator: u32, to: u32, from: &[u32], words: &[u64]) -> 
     answer_of(new_reply(&made))
 }
 
-/// Makes an object and fills it, if the numbers name steps of the heap's.
+/// MakesHeap an object and fills it, if the numbers name steps of the heap's.
 #[inline(always)]
 pub fn make(core: &mut Core, mutator: u32, to: u32, from: &[u32], words: &[u64]) -> Answer
     ensures { FillsOrNot core.old mutator to from.now words.now result (Some core.new) }

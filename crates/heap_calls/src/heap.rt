@@ -9,7 +9,7 @@ ghost use Rattle.heap_calls.specs.Held.{is_held};
 ghost use Rattle.heap_steps.specs.declared.step.Action.TheVariants as actions;
 ghost use Rattle.heap_calls.specs.Numbers as spec;
 ghost use Rattle.heap_calls.specs.Numbers.{by, no_step, told};
-ghost use Rattle.heap_calls.specs.Steps.{IsUpTo, Steps, Takes, TakesNone, plain, scanned};
+ghost use Rattle.heap_calls.specs.Steps.{IsUpTo, Steps, TakesStep, TakesNone, plain, scanned};
 
 use crate::answer::{Answer, answer_of, counted, no_heap, no_step, told};
 use crate::handle::Handle;
@@ -69,7 +69,7 @@ fn perform(core: &mut Core, step: Step) -> Answer
 /// Does a step, if the heap's sizes have it. The core stays in its handle.
 #[inline(always)]
 pub fn take(heap: &mut Heap, step: Step) -> Answer
-    ensures { Takes plain heap.old.handle.core step result heap.new.handle.core }
+    ensures { TakesStep plain heap.old.handle.core step result heap.new.handle.core }
 {
     if !heap.live {
         return no_heap();
@@ -119,7 +119,7 @@ pub fn no_step_of(core: &Core, apart: bool) -> Answer
 #[inline(always)]
 fn take_known(core: &mut Core, op: Op, highest: u32, apart: bool) -> Answer
     requires { IsUpTo highest op }
-    ensures { Takes plain (Some core.old) (steps.Mutator op) result (Some core.new) }
+    ensures { TakesStep plain (Some core.old) (steps.Mutator op) result (Some core.new) }
 {
     if is_known(core, op.mutator, highest) {
         perform(core, Step::Mutator(op))
@@ -132,7 +132,7 @@ fn take_known(core: &mut Core, op: Op, highest: u32, apart: bool) -> Answer
 #[inline(always)]
 pub fn take_up_to(heap: &mut Heap, op: Op, highest: u32, apart: bool) -> Answer
     requires { IsUpTo highest op }
-    ensures { Takes plain heap.old.handle.core (steps.Mutator op) result heap.new.handle.core }
+    ensures { TakesStep plain heap.old.handle.core (steps.Mutator op) result heap.new.handle.core }
 {
     if !heap.live {
         return no_heap();
@@ -143,7 +143,7 @@ pub fn take_up_to(heap: &mut Heap, op: Op, highest: u32, apart: bool) -> Answer
 /// Leaves a frame, if the heap's format has that step and its sizes the mutator and the register.
 #[inline(always)]
 fn leave_frame(core: &mut Core, mutator: u32, first: u32) -> Answer
-    ensures { Takes plain (Some core.old) (by mutator (actions.Scope (spec.register first))) result (Some core.new) }
+    ensures { TakesStep plain (Some core.old) (by mutator (actions.Scope (spec.register first))) result (Some core.new) }
 {
     if is_third(core.config().format) && is_known(core, mutator, first) {
         perform(
@@ -163,7 +163,7 @@ fn leave_frame(core: &mut Core, mutator: u32, first: u32) -> Answer
 /// The same in a heap.
 #[inline(always)]
 pub fn take_scope(heap: &mut Heap, mutator: u32, first: u32) -> Answer
-    ensures { Takes plain heap.old.handle.core (by mutator (actions.Scope (spec.register first))) result heap.new.handle.core }
+    ensures { TakesStep plain heap.old.handle.core (by mutator (actions.Scope (spec.register first))) result heap.new.handle.core }
 {
     if !heap.live {
         return no_heap();
@@ -188,7 +188,7 @@ fn scan(core: &mut Core, objects: u32) -> Answer
 
 /// Marks, and counts the objects that were scanned.
 pub fn mark(heap: &mut Heap, objects: u32) -> Answer
-    ensures { Takes scanned heap.old.handle.core (steps.Collector (collector.Mark objects)) result heap.new.handle.core }
+    ensures { TakesStep scanned heap.old.handle.core (steps.Collector (collector.Mark objects)) result heap.new.handle.core }
 {
     if !heap.live {
         return no_heap();

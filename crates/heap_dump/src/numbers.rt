@@ -39,7 +39,7 @@ fn logged_by(core: &Core, mutator: u32) -> u32
     ensures value { result ≡ logged_of core.now mutator }
     ensures few { result < 4 }
 {
-    core.remembers();
+    core.law_remembers();
     core.cards().law();
     core.cards().logged(mutator) as u32
 }

@@ -39,7 +39,7 @@ pub fn part_of(core: &Core, at: Addr, shape: Shape) -> Part
     requires { IsPlacedTile core.now.table at shape }
     ensures { result ≡ part_in core.now at shape }
 {
-    core.remembers();
+    core.law_remembers();
     core.table().law();
     let marker = core.marker();
     match shape {
@@ -92,7 +92,7 @@ fn kept_words(core: &Core, at: Addr) -> u32
     requires { IsSome (object_at core.now.table at) }
     ensures { result ≡ kept_words core.now at }
 {
-    core.remembers();
+    core.law_remembers();
     core.table().law();
     let marker = core.marker();
     if !marker
@@ -114,7 +114,7 @@ fn run_words(core: &Core, region: RegionNo) -> u32
     requires first { kind_of core.now.table region ≡ kinds.First }
     ensures { result ≡ stored_size (kept_of core.now (region * core.now.table.words_per_region)) }
 {
-    core.remembers();
+    core.law_remembers();
     core.table().law();
     let bottom = region.number() * core.table().words_per_region();
     kept_words(core, Addr::new(bottom))
@@ -125,7 +125,7 @@ pub fn live_words(core: &Core, region: RegionNo) -> u32
     requires { region < length core.now.table.regions }
     ensures { result ≡ live_in core.now region }
 {
-    core.remembers();
+    core.law_remembers();
     match core.table().kind(region) {
         Kind::Ordinary => core.marker().live_bound(core.table(), region),
         Kind::First => run_words(core, region),
@@ -138,7 +138,7 @@ fn is_grey(core: &Core, object: Addr) -> bool
     requires { IsSome (object_at core.now.table object) }
     ensures { result ≡ is_grey_at core.now object }
 {
-    core.remembers();
+    core.law_remembers();
     core.table().law();
     let marker = core.marker();
     if !marker.bitmaps.next.get(object) {

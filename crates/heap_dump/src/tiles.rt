@@ -25,7 +25,7 @@ pub fn progress_of(core: &Core, object: Addr) -> Progress
     requires { IsSome (object_at core.now.table object) }
     ensures { result ≡ progress_of core.now object }
 {
-    core.remembers();
+    core.law_remembers();
     core.table().law();
     let marker = core.marker();
     if !marker

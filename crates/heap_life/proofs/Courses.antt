@@ -9,13 +9,13 @@ use Rattle.heap_steps.specs.declared.step.Event.{Event}
 use Rattle.graph_runs.specs.State.{State}
 use Rattle.step_core.specs.Stands.{CoreState, Stands}
 use Rattle.step_core.specs.Passages.{Runs, step_in, actor_in}
-use Rattle.heap_life.specs.Paces.{counts, counted, one_if, IsShown, IsDue}
+use Rattle.heap_life.specs.Paces.{counts, counted, one_if, IsShownEvent, IsMoment}
 use Rattle.heap_life.specs.Lives.{moved_by, moved_in, IsMomentFrom, HasMoment, NotesIf, NotesTold, ToldBy, IsToldOf, AreRising, IsLived}
 use Rattle.heap_life.specs.Tolds.{Told}
 use Rattle.heap_life.specs.Tellers.{HasTold}
 use Rattle.heap_life.specs.declared.moment_text.Teller.{Teller}
 use Rattle.heap_life.proofs.Shown.{told_grown, told_noted, told_start}
-use Rattle.heap_life.specs.Courses.{shows, Passes}
+use Rattle.heap_life.specs.Courses.{shows, PassesEvent}
 use Rattle.heap_life.specs.declared.life.Moment.{Moment}
 use Rattle.heap_life.specs.declared.pace.Pace.{Pace}
 use Rattle.heap_life.specs.declared.course.Course.{Course}
@@ -35,15 +35,15 @@ pub record IsCourseOf (most : ℕ) (t : Told) (first : CoreState) (p : Pace) (xs
     pub few : x.counted ≤ n
     pub copying : x.copied ≡ min (moved_in x.done.events) 18446744073709551615
     pub each : All (IsMomentFrom first x.done.events) x.moments.items
-    pub due : (k : ℕ) → k < n → IsDue p xs k → HasMoment x.moments.items k
-    pub only : All (λ m. IsDue p xs m.event) x.moments.items
+    pub due : (k : ℕ) → k < n → IsMoment p xs k → HasMoment x.moments.items k
+    pub only : All (λ m. IsMoment p xs m.event) x.moments.items
     pub below : All (λ m. m.event < n) x.moments.items
     pub rising : AreRising x.moments.items
     pub start : n ≡ 0 → x.behind ≡ true
-    pub behind : (i : ℕ) → suc i ≡ n → IsShown p xs i → x.behind ≡ true
+    pub behind : (i : ℕ) → suc i ≡ n → IsShownEvent p xs i → x.behind ≡ true
     pub told : IsToldOf most t first x.done.events x.moments.items x.teller
     pub teller : length x.teller.last.items ≡ c.config.regions
-    pub why : x.behind ≡ true → (n ≡ 0) ⊎ ((i : ℕ) × (suc i ≡ n) × IsShown p xs i)
+    pub why : x.behind ≡ true → (n ≡ 0) ⊎ ((i : ℕ) × (suc i ≡ n) × IsShownEvent p xs i)
 
 -- ---- why a moment is due
 
@@ -59,7 +59,7 @@ is_equal : (a b : ℕ) → (a == b) ≡ true → a ≡ b
 is_equal a b e = grind arith
 
 is_shown : (p : Pace) (xs : List Event) (n count : ℕ) (e : Event) → slice_get xs n ≡ Some e → count ≡ counted p (take n xs)
-    → shows p e.step count ≡ true → IsShown p xs n
+    → shows p e.step count ≡ true → IsShownEvent p xs n
 is_shown p xs n count e at is h = record {
   event = e;
   at = at;
@@ -68,8 +68,8 @@ is_shown p xs n count e at is h = record {
 }
 
 why_due : (p : Pace) (xs : List Event) (n : ℕ) (behind ahead stop : Bool)
-    → (behind ≡ true → (n ≡ 0) ⊎ ((i : ℕ) × (suc i ≡ n) × IsShown p xs i))
-    → (ahead ≡ true → IsShown p xs n) → (stop ≡ true → n % p.every ≡ 0) → behind || ahead || stop ≡ true → IsDue p xs n
+    → (behind ≡ true → (n ≡ 0) ⊎ ((i : ℕ) × (suc i ≡ n) × IsShownEvent p xs i))
+    → (ahead ≡ true → IsShownEvent p xs n) → (stop ≡ true → n % p.every ≡ 0) → behind || ahead || stop ≡ true → IsMoment p xs n
 why_due p xs n true ahead stop b a s e = elim (b refl) [ inl none ↦ inl none | inr before ↦ inr (inr (inr (inr before))) ]
 why_due p xs n false true stop b a s e = inr (inr (inr (inl (a refl))))
 why_due p xs n false false stop b a s e = inr (inr (inl (s e)))
@@ -111,13 +111,13 @@ teller_size false c event copied ms ms' x y h told = ap (λ (z : Teller). length
 -- ---- a course, and one event more
 
 pub passed : (most : ℕ) (t : Told) (first : CoreState) (p : Pace) (xs : List Event) (n : ℕ) (e : Event) (c c' : CoreState) (x y : Course)
-    → IsCourseOf most t first p xs n c x → n < length xs → slice_get xs n ≡ Some e → Passes p e n c c' x y
+    → IsCourseOf most t first p xs n c x → n < length xs → slice_get xs n ≡ Some e → PassesEvent p e n c c' x y
     → IsCourseOf most t first p xs (n + 1) c' y
 passed most t first p xs n e c c' x y inv lt at h =
     let made = h.made in
     let events = h.events in
     let due = x.behind || shows p e.step x.counted || n % p.every == 0 in
-    let ahead = λ (shown : IsShown p xs n). shown_ahead p xs n x.counted e at inv.counting shown in
+    let ahead = λ (shown : IsShownEvent p xs n). shown_ahead p xs n x.counted e at inv.counting shown in
     let why = why_due p xs n x.behind (shows p e.step x.counted) (n % p.every == 0) inv.why
     (is_shown p xs n x.counted e at inv.counting) (is_equal (n % p.every) 0) in
     record {
@@ -139,8 +139,8 @@ passed most t first p xs n e c c' x y inv lt at h =
           inv.each));
       due = due_more p xs n due x.behind (shows p e.step x.counted) (n % p.every == 0) c x.copied x.moments.items y.moments.items lt h.notes
           refl inv.due inv.start inv.behind ahead (stops n p.every);
-      only = noted_all (λ (m : Moment). IsDue p xs m.event) due c n x.copied x.moments.items y.moments.items h.notes inv.only
-          (λ m is here. subst (λ (k : ℕ). IsDue p xs k) (sym here) (why is));
+      only = noted_all (λ (m : Moment). IsMoment p xs m.event) due c n x.copied x.moments.items y.moments.items h.notes inv.only
+          (λ m is here. subst (λ (k : ℕ). IsMoment p xs k) (sym here) (why is));
       below = noted_all (λ (m : Moment). m.event < n + 1) due c n x.copied x.moments.items y.moments.items h.notes
           (wider x.moments.items n inv.below) (λ m is here. omega arith);
       rising = rising_noted due c n x.copied x.moments.items y.moments.items h.notes inv.rising inv.below;
@@ -152,7 +152,7 @@ passed most t first p xs n e c c' x y inv lt at h =
           ∙ sym (ap (λ (k : Config). k.regions) h.passed.config);
       start = λ none. absurd (omega (arith, none));
       behind = λ i is shown. let same : i ≡ n = omega (arith, is) in
-          h.behind ∙ ahead (subst (λ (k : ℕ). IsShown p xs k) same shown);
+          h.behind ∙ ahead (subst (λ (k : ℕ). IsShownEvent p xs k) same shown);
       why = λ is. inr (n, omega arith, is_shown p xs n x.counted e at inv.counting (sym h.behind ∙ is));
     }
 
@@ -177,7 +177,7 @@ begun most t first p xs x sizes events counted copied behind moments runs told l
   copying = copied ∙ sym (ap (λ (es : List Event). min (moved_in es) 18446744073709551615) events);
   each = subst (λ (l : List Moment). All (IsMomentFrom first x.done.events) l) (sym moments) (All-nil (IsMomentFrom first x.done.events));
   due = λ k lt is. absurd (omega (arith, lt));
-  only = subst (λ (l : List Moment). All (λ (m : Moment). IsDue p xs m.event) l) (sym moments) (All-nil (λ (m : Moment). IsDue p xs
+  only = subst (λ (l : List Moment). All (λ (m : Moment). IsMoment p xs m.event) l) (sym moments) (All-nil (λ (m : Moment). IsMoment p xs
       m.event));
   below = subst (λ (l : List Moment). All (λ (m : Moment). m.event < 0) l) (sym moments) (All-nil (λ (m : Moment). m.event < 0));
   rising = subst AreRising (sym moments) tt;
@@ -197,8 +197,8 @@ lived most t first p xs c x ms y n is inv noted = let notes = noted.0 in record 
   each = all_noted true first c x.done.events (length xs) x.copied x.moments.items ms notes (sym is ∙ sym inv.many) inv.runs inv.copying
       inv.each;
   due = due_whole p xs c (length xs) x.copied x.moments.items ms notes refl (λ k lt due. inv.due k (omega arith) due);
-  only = noted_all (λ (m : Moment). IsDue p xs m.event) true c (length xs) x.copied x.moments.items ms notes inv.only
-      (λ m due here. subst (λ (k : ℕ). IsDue p xs k) (sym here) (inr (inl refl)));
+  only = noted_all (λ (m : Moment). IsMoment p xs m.event) true c (length xs) x.copied x.moments.items ms notes inv.only
+      (λ m due here. subst (λ (k : ℕ). IsMoment p xs k) (sym here) (inr (inl refl)));
   rising = rising_noted true c (length xs) x.copied x.moments.items ms notes inv.rising
       (subst (λ (k : ℕ). All (λ (m : Moment). m.event < k) x.moments.items) is inv.below);
   told = told_noted most t true first c x.done.events (length xs) x.copied x.moments.items ms x.teller y notes noted.1

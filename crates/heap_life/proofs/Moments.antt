@@ -24,7 +24,7 @@ use Rattle.step_core.specs.Passages.{Runs, RunsTo}
 use Rattle.heap_dump.specs.Numbers.{IsNumbersOf}
 use Rattle.heap_life.specs.declared.life.Moment.{Moment}
 use Rattle.heap_life.specs.declared.pace.Pace.{Pace}
-use Rattle.heap_life.specs.Paces.{counts, counts_with, counted, counted_with, one_if, IsShown, IsDue, IsPaceFor, most_moments}
+use Rattle.heap_life.specs.Paces.{counts, counts_with, counted, counted_with, one_if, IsShownEvent, IsMoment, IsPaceFor, most_moments}
 use Rattle.heap_life.specs.Lives.{moved_by, moved_in, IsMomentFrom, IsMomentOf, HasMoment, NotesIf}
 
 -- ---- counts and sums over one event more
@@ -123,9 +123,9 @@ or_second : (a b : Bool) → b ≡ true → a || b ≡ true
 or_second true b e = refl
 or_second false b e = e
 
-pub is_due : (p : Pace) (es : List Event) (n : ℕ) (behind ahead stop : Bool) → n < length es → IsDue p es n → (n ≡ 0 → behind ≡ true)
-    → ((i : ℕ) → suc i ≡ n → IsShown p es i → behind ≡ true)
-    → (IsShown p es n → ahead ≡ true) → (n % p.every ≡ 0 → stop ≡ true) → behind || ahead || stop ≡ true
+pub is_due : (p : Pace) (es : List Event) (n : ℕ) (behind ahead stop : Bool) → n < length es → IsMoment p es n → (n ≡ 0 → behind ≡ true)
+    → ((i : ℕ) → suc i ≡ n → IsShownEvent p es i → behind ≡ true)
+    → (IsShownEvent p es n → ahead ≡ true) → (n % p.every ≡ 0 → stop ≡ true) → behind || ahead || stop ≡ true
 is_due p es n behind ahead stop lt (inl e) z b a s = or_first (behind || ahead) stop (or_first behind ahead (z e))
 is_due p es n behind ahead stop lt (inr (inl e)) z b a s = absurd (omega arith)
 is_due p es n behind ahead stop lt (inr (inr (inl e))) z b a s = or_second (behind || ahead) stop (s e)
@@ -139,7 +139,7 @@ here xs i e at = get_or_from_slice_get xs i e e at
 
 -- step `index` is shown: so it counts, and its number is right
 pub shown_ahead : (p : Pace) (xs : List Event) (index count : ℕ) (e : Event) → slice_get xs index ≡ Some e
-    → count ≡ counted p (take index xs) → IsShown p xs index → (counts p e.step && count % p.stride == 0) ≡ true
+    → count ≡ counted p (take index xs) → IsShownEvent p xs index → (counts p e.step && count % p.stride == 0) ≡ true
 shown_ahead p xs index count e at is h =
     let found : Some e ≡ Some h.event = sym at ∙ h.at in
     let same : e ≡ h.event = cc in
@@ -157,22 +157,23 @@ stops n every e = eq-eqb (n % every) 0 e
 
 pub due_more : (p : Pace) (xs : List Event) (index : ℕ) (due behind ahead stop : Bool) (c : CoreState) (copied : ℕ) (ms ms' : List Moment)
     → index < length xs → NotesIf due c index copied ms ms'
-    → due ≡ (behind || ahead || stop) → ((n : ℕ) → n < index → IsDue p xs n → HasMoment ms n) → (index ≡ 0 → behind ≡ true)
-    → ((i : ℕ) → suc i ≡ index → IsShown p xs i → behind ≡ true)
-    → (IsShown p xs index → ahead ≡ true) → (index % p.every ≡ 0 → stop ≡ true) → (n : ℕ) → n < index + 1 → IsDue p xs n → HasMoment ms' n
+    → due ≡ (behind || ahead || stop) → ((n : ℕ) → n < index → IsMoment p xs n → HasMoment ms n) → (index ≡ 0 → behind ≡ true)
+    → ((i : ℕ) → suc i ≡ index → IsShownEvent p xs i → behind ≡ true)
+    → (IsShownEvent p xs index → ahead ≡ true) → (index % p.every ≡ 0 → stop ≡ true) → (n : ℕ) → n < index + 1 → IsMoment p xs n
+        → HasMoment ms' n
 due_more p xs index due behind ahead stop c copied ms ms' within notes is earlier z b a s n lt due_here =
     elim (cases_lt n index) [
       | inl less ↦ kept_by_note due c index copied ms ms' n notes (earlier n less due_here)
       | inr ge ↦
           let same : n ≡ index = omega arith in
-          let here : IsDue p xs index = subst (λ (m : ℕ). IsDue p xs m) same due_here in
+          let here : IsMoment p xs index = subst (λ (m : ℕ). IsMoment p xs m) same due_here in
           subst (λ (m : ℕ). HasMoment ms' m) (sym same)
           (noted due c index copied ms ms' (is ∙ is_due p xs index behind ahead stop within here z b a s) notes)
     ]
 
 pub due_whole : (p : Pace) (xs : List Event) (c : CoreState) (end copied : ℕ) (ms ms' : List Moment) → NotesIf true c end copied ms ms'
     → end ≡ length xs
-    → ((n : ℕ) → n < end → IsDue p xs n → HasMoment ms n) → (n : ℕ) → n ≤ length xs → IsDue p xs n → HasMoment ms' n
+    → ((n : ℕ) → n < end → IsMoment p xs n → HasMoment ms n) → (n : ℕ) → n ≤ length xs → IsMoment p xs n → HasMoment ms' n
 due_whole p xs c end copied ms ms' notes is earlier n le due_here =
     elim (cases_lt n end) [
       | inl less ↦ kept_by_note true c end copied ms ms' n notes (earlier n less due_here)

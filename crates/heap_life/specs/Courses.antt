@@ -15,16 +15,16 @@ abbrev pub shows : Pace → Step → ℕ → Bool
 shows p step count = counts p step && count % p.stride == 0
 
 -- the step of an event was done in core c, which led to c': the event that was made of it has the reply
-pub record IsDone (e made : Event) (c c' : CoreState) : Type 0 where
+pub record IsDoneIn (e made : Event) (c c' : CoreState) : Type 0 where
   pub actor : made.actor ≡ e.actor
   pub step : made.step ≡ e.step
   pub config : c'.config ≡ c.config
   pub runs : (first : CoreState) (es : List Event) (s : State) → Runs s first es c → Runs s first (es ++ made ∷ []) c'
 
 -- Event n, from 0, was passed: x was the course before, and y has one event more, and the moment before it where one is due
-pub record Passes (p : Pace) (e : Event) (n : ℕ) (c c' : CoreState) (x y : Course) : Type 0 where
+pub record PassesEvent (p : Pace) (e : Event) (n : ℕ) (c c' : CoreState) (x y : Course) : Type 0 where
   pub made : Event
-  pub passed : IsDone e made c c'
+  pub passed : IsDoneIn e made c c'
   pub events : y.done.events ≡ x.done.events ++ made ∷ []
   pub sizes : y.done.config ≡ x.done.config
   pub counted : y.counted ≡ x.counted + one_if (counts p e.step)

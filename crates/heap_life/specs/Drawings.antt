@@ -5,7 +5,7 @@ use Rattle.script_text.specs.Lines.{script_of}
 use Rattle.script_text.specs.Watched.{Reader, Writer}
 use Rattle.step_core.specs.Passages.{IsRunInOrder}
 use Rattle.job_ends.specs.Answers.{AnswersScript}
-use Rattle.job_ends.specs.Runs.{Tells}
+use Rattle.job_ends.specs.Runs.{TellsEnd}
 use Rattle.job_ends.specs.declared.faults.JobFault.{JobFault}
 use Rattle.heap_life.specs.declared.life.Life.{Life}
 use Rattle.heap_life.specs.Lives.{IsLifeOf}
@@ -34,4 +34,4 @@ Draws name names every given left old new outcome = AnswersScript (IsPageOfScrip
 pub record PerformsDraw (name names : List ℕ) (every : ℕ) (given left : Reader) (old new err err' : Writer) (status : ℕ) : Type 0 where
   pub outcome : Result ⊤ JobFault
   pub draws : Draws name names every given left old new outcome
-  pub tells : Tells err err' outcome status
+  pub tells : TellsEnd err err' outcome status

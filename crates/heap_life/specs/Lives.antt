@@ -10,7 +10,7 @@ use Rattle.graph_runs.specs.Run.{IsRun}
 use Rattle.step_core.specs.Stands.{CoreState, Stands}
 use Rattle.step_core.specs.Passages.{Runs, RunsTo, step_in, actor_in}
 use Rattle.heap_dump.specs.Numbers.{IsNumbersOf}
-use Rattle.heap_life.specs.Paces.{IsDue, IsPaceFor, most_moments}
+use Rattle.heap_life.specs.Paces.{IsMoment, IsPaceFor, most_moments}
 use Rattle.heap_life.specs.Tolds.{Told, nothing_told, tells_tiles, told_of}
 use Rattle.heap_life.specs.Tellers.{HasTold, TellsMoment}
 use Rattle.heap_life.specs.declared.moment_text.Teller.{Teller}
@@ -96,8 +96,8 @@ pub record IsLived (most : ℕ) (t : Told) (first : CoreState) (p : Pace) (event
   pub actors : map actor_in history.events ≡ map actor_in events
   pub runs : (s : State) → Stands s first → Runs s first history.events c
   pub each : All (IsMomentFrom first history.events) ms
-  pub due : (n : ℕ) → n ≤ length events → IsDue p events n → HasMoment ms n
-  pub only : All (λ m. IsDue p events m.event) ms
+  pub due : (n : ℕ) → n ≤ length events → IsMoment p events n → HasMoment ms n
+  pub only : All (λ m. IsMoment p events m.event) ms
   pub rising : AreRising ms
   pub told : IsToldOf most t first history.events ms x
 
@@ -120,8 +120,8 @@ pub record IsLifeOf (every : ℕ) (events : EventList) (life : Life) : Type 0 wh
   pub ends : RunsTo events.config life.history.events end
   pub each : All (IsMomentOf events.config life.history.events) life.moments.items
   pub pace : IsPaceFor every (most_moments events.config) events.events life.pace
-  pub due : (n : ℕ) → n ≤ length events.events → IsDue life.pace events.events n → HasMoment life.moments.items n
-  pub only : All (λ m. IsDue life.pace events.events m.event) life.moments.items
+  pub due : (n : ℕ) → n ≤ length events.events → IsMoment life.pace events.events n → HasMoment life.moments.items n
+  pub only : All (λ m. IsMoment life.pace events.events m.event) life.moments.items
   pub rising : AreRising life.moments.items
   pub shown : List (Moment × CoreState)
   pub moments : life.moments.items ≡ map moment_in shown

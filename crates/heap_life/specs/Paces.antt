@@ -32,15 +32,15 @@ abbrev pub counted : Pace → List Event → ℕ
 counted p es = counted_with p.small es
 
 -- event i, from 0, has a moment before it and one after it: it counts, and it is one of `stride`
-pub record IsShown (p : Pace) (es : List Event) (i : ℕ) : Type 0 where
+pub record IsShownEvent (p : Pace) (es : List Event) (i : ℕ) : Type 0 where
   pub event : Event
   pub at : slice_get es i ≡ Some event
   pub counts : counts p event.step ≡ true
   pub nth : counted p (take i es) % p.stride ≡ 0
 
 -- n events done are a moment: none, all, a multiple of `every`, those before an event that is shown, or those up to it
-abbrev pub IsDue : Pace → List Event → ℕ → Type 0
-IsDue p es n = (n ≡ 0) ⊎ (n ≡ length es) ⊎ (n % p.every ≡ 0) ⊎ IsShown p es n ⊎ ((i : ℕ) × (suc i ≡ n) × IsShown p es i)
+abbrev pub IsMoment : Pace → List Event → ℕ → Type 0
+IsMoment p es n = (n ≡ 0) ⊎ (n ≡ length es) ⊎ (n % p.every ≡ 0) ⊎ IsShownEvent p es n ⊎ ((i : ℕ) × (suc i ≡ n) × IsShownEvent p es i)
 
 -- about how many moments a life of such a heap has at most: few where a moment has many regions, or many words are looked at for it
 abbrev pub most_moments : Config → ℕ

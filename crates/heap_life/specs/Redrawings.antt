@@ -6,7 +6,7 @@ use Rattle.script_text.specs.Events.{record_of}
 use Rattle.script_text.specs.Watched.{Reader, Writer}
 use Rattle.step_core.specs.Passages.{RunsFromNew}
 use Rattle.job_ends.specs.Answers.{AnswersRecord}
-use Rattle.job_ends.specs.Runs.{Tells}
+use Rattle.job_ends.specs.Runs.{TellsEnd}
 use Rattle.job_ends.specs.declared.faults.JobFault.{JobFault}
 use Rattle.job_ends.specs.declared.faults.JobFault.TheVariants as faults
 use Rattle.jobs.specs.Replays.{DiffersAt}
@@ -43,4 +43,4 @@ Redraws name names every given left old new outcome =
 pub record PerformsRedraw (name names : List ℕ) (every : ℕ) (given left : Reader) (old new err err' : Writer) (status : ℕ) : Type 0 where
   pub outcome : Result ⊤ JobFault
   pub draws : Redraws name names every given left old new outcome
-  pub tells : Tells err err' outcome status
+  pub tells : TellsEnd err err' outcome status

@@ -5,7 +5,7 @@ ghost use Rattle.heap_steps.specs.Actors.{AreEvents, IsStep, IsStepOf};
 ghost use Rattle.heap_life.specs.Lives.{moved_by, NotesTold, IsLived};
 ghost use Rattle.heap_life.specs.Tolds.{nothing_told};
 ghost use Rattle.heap_life.specs.Tellers.{HasTold};
-ghost use Rattle.heap_life.specs.Courses.{IsDone, Passes};
+ghost use Rattle.heap_life.specs.Courses.{IsDoneIn, PassesEvent};
 
 use crate::life::Moment;
 use crate::moment_text::Teller;
@@ -88,7 +88,7 @@ fn note_if(
     if !due {
         return Ok(());
     }
-    core.remembers();
+    core.law_remembers();
     let numbers = numbers_of(core);
     let moment = Moment {
         event,
@@ -111,11 +111,11 @@ fn is_due(pace: &Pace, behind: bool, ahead: bool, done: u64) -> bool
 fn do_step(core: &mut Core, event: Event) -> Event
     requires own { IsStepOf core.old.config event.actor event.step }
     requires step { IsStep core.old.config event.step }
-    ensures { IsDone event result core.old core.new }
+    ensures { IsDoneIn event result core.old core.new }
 {
     let reply = core.step(event.step);
-    core.whole();
-    core.remembers();
+    core.law_whole();
+    core.law_remembers();
     Event {
         actor: event.actor,
         step: event.step,
@@ -136,7 +136,7 @@ fn pass(
     requires sizes { course.old.done.config ≡ core.old.config }
     requires few { course.old.counted < 18446744073709551615 }
     requires teller { length course.old.teller.last.items ≡ core.old.config.regions }
-    ensures { OnOk result (Passes pace.now event index core.old core.new course.old course.new) }
+    ensures { OnOk result (PassesEvent pace.now event index core.old core.new course.old course.new) }
 {
     let ahead = pace.shows(event.step, course.counted);
     let due = is_due(pace, course.behind, ahead, index);

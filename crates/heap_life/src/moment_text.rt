@@ -73,7 +73,7 @@ fn put_state(core: &Core, text: &mut Text)
     text.put_number(if core.marking() { 1 } else { 0 });
     text.put_number(u64::from(core.scans()));
     text.put_number(core.next_name());
-    core.remembers();
+    core.law_remembers();
     put_current(core.buffers(), text, core.table().region_count());
     text.put("\n");
 }
@@ -83,7 +83,7 @@ fn put_buffer(core: &Core, text: &mut Text, mutator: u32)
     requires { mutator < core.now.config.mutators }
     ensures { Adds text.old (buffer_of core.now mutator) text.new }
 {
-    core.remembers();
+    core.law_remembers();
     if let Some(buffer) = core.buffers().open_buffer(mutator) {
         text.put("b");
         text.put_number(u64::from(mutator));
@@ -121,7 +121,7 @@ fn put_log(core: &Core, text: &mut Text, mutator: u32)
     requires { mutator < core.now.config.mutators }
     ensures { Adds text.old (log_of core.now mutator) text.new }
 {
-    core.remembers();
+    core.law_remembers();
     let cards = core.cards();
     if cards.logged(mutator) == 0 {
         return;
@@ -156,7 +156,7 @@ fn put_deletion_log(core: &Core, text: &mut Text, mutator: u32)
     requires { mutator < core.now.config.mutators }
     ensures { Adds text.old (deletions_of core.now mutator) text.new }
 {
-    core.remembers();
+    core.law_remembers();
     let logs = &core.marker().logs;
     if logs.len(mutator) == 0 {
         return;

@@ -29,7 +29,7 @@ fn put_tops(core: &Core, text: &mut Text, region: RegionNo)
     requires { region < length core.now.table.regions }
     ensures { Adds text.old (tops_text core.now region) text.new }
 {
-    core.remembers();
+    core.law_remembers();
     let tams = &core.marker().tams;
     let bottom = region.number() * core.table().words_per_region();
     text.put_number(u64::from(tams.previous(region).word() - bottom));
@@ -44,7 +44,7 @@ fn put_shares(core: &Core, text: &mut Text, region: RegionNo)
     requires { region < length core.now.table.regions }
     ensures { Adds text.old (shares_text core.now region) text.new }
 {
-    core.remembers();
+    core.law_remembers();
     let shares = shares_of(core, region);
     text.put_number(u64::from(used_words(core, region)));
     text.put_number(u64::from(shares.marked));
@@ -94,7 +94,7 @@ fn put_source(core: &Core, text: &mut Text, region: RegionNo, source: u32)
     requires source { source < length core.now.table.regions }
     ensures { Adds text.old (whole_text (set_of core.now.sets region) source) text.new }
 {
-    core.remembers();
+    core.law_remembers();
     if core.sets().is_whole(region, RegionNo::new(source)) {
         text.put_number(u64::from(source));
     }
@@ -115,7 +115,7 @@ fn put_set(core: &Core, text: &mut Text, region: RegionNo)
     requires { region < length core.now.table.regions }
     ensures { Adds text.old (set_text core.now (set_of core.now.sets region)) text.new }
 {
-    core.remembers();
+    core.law_remembers();
     if core.sets().card_count(region) == 0 {
         return;
     }

@@ -8,7 +8,7 @@ use Rattle.script_text.specs.Watched.{Reader, Writer}
 use Rattle.step_core.specs.Stands.{CoreState}
 use Rattle.step_core.specs.Passages.{RunsFromNew, RunsTo, step_in}
 use Rattle.job_ends.specs.Answers.{AnswersRecord}
-use Rattle.job_ends.specs.Runs.{Tells}
+use Rattle.job_ends.specs.Runs.{TellsEnd}
 use Rattle.job_ends.specs.declared.faults.JobFault.{JobFault}
 use Rattle.job_ends.specs.declared.faults.JobFault.TheVariants as faults
 use Rattle.jobs.specs.Replays.{reply_in, DiffersAt}
@@ -54,4 +54,4 @@ Reviews glance given left old new outcome =
 pub record PerformsReview (glance : Glance) (given left : Reader) (old new err err' : Writer) (status : ℕ) : Type 0 where
   pub outcome : Result ⊤ JobFault
   pub views : Reviews glance given left old new outcome
-  pub tells : Tells err err' outcome status
+  pub tells : TellsEnd err err' outcome status

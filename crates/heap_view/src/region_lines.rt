@@ -20,7 +20,7 @@ fn put_next_top(core: &Core, text: &mut Text, region: RegionNo)
     requires { region < length core.now.table.regions }
     ensures { Adds text.old (next_top_text core.now region) text.new }
 {
-    core.remembers();
+    core.law_remembers();
     if !core.marking() {
         return;
     }
@@ -33,7 +33,7 @@ fn put_tops(core: &Core, text: &mut Text, region: RegionNo)
     requires { region < length core.now.table.regions }
     ensures { Adds text.old (tops_text core.now region) text.new }
 {
-    core.remembers();
+    core.law_remembers();
     let tams = &core.marker().tams;
     text.put("  top at mark start ");
     text.put_digits(tams.previous(region).word() as u64);
@@ -114,7 +114,7 @@ fn put_remembered(core: &Core, text: &mut Text, region: RegionNo)
     requires { region < length core.now.table.regions }
     ensures { Adds text.old (set_line (set_of core.now.sets region) (length core.now.table.regions)) text.new }
 {
-    core.remembers();
+    core.law_remembers();
     put_set(core.sets(), text, region, core.table().region_count());
 }
 

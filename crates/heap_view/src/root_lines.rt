@@ -121,7 +121,7 @@ fn put_registers(core: &Core, text: &mut Text, mutator: u32)
     requires { mutator < core.now.config.mutators }
     ensures { Adds text.old (registers_line core.now mutator) text.new }
 {
-    core.remembers();
+    core.law_remembers();
     let places = core.roots().places();
     let first = places.register(mutator, 0);
     let end = places.register(mutator, places.registers());
@@ -133,7 +133,7 @@ fn put_registers(core: &Core, text: &mut Text, mutator: u32)
 fn put_globals(core: &Core, text: &mut Text)
     ensures { Adds text.old (globals_line core.now) text.new }
 {
-    core.remembers();
+    core.law_remembers();
     let end = core.roots().places().globals() as usize;
     put_roots(core.table(), core.roots(), text, "g", 0, end);
     text.put("\n");
@@ -144,7 +144,7 @@ fn put_held(core: &Core, text: &mut Text, mutator: u32)
     requires { mutator < core.now.config.mutators }
     ensures { Adds text.old (held_lines core.now mutator) text.new }
 {
-    core.remembers();
+    core.law_remembers();
     put_buffer(core.buffers(), text, mutator);
     put_card_log(core.cards(), text, mutator);
     put_deletion_log(core.table(), &core.marker().logs, text, mutator);

@@ -143,7 +143,7 @@ fn put_shape(core: &Core, text: &mut Text, at: Addr, shape: Shape)
     requires { IsPlacedTile core.now.table at shape }
     ensures { Adds text.old (shape_text core.now at shape) text.new }
 {
-    core.remembers();
+    core.law_remembers();
     let marker = core.marker();
     let kept = is_kept(
         core.table(),

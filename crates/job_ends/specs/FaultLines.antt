@@ -4,7 +4,7 @@ use Rattle.std.specs.Fmt.{decimal}
 use Rattle.heap_words.specs.declared.config.NewFault.{NewFault}
 use Rattle.heap_words.specs.declared.config.NewFault.TheVariants as sizes
 use Rattle.script_text.specs.Faults.{fault_text}
-use Rattle.script_text.specs.Watched.{Writer, Takes, TakesPart}
+use Rattle.script_text.specs.Watched.{Writer, TookBytes, TakesPart}
 use Rattle.script_text.specs.declared.fault.WriteFault.{WriteFault}
 use Rattle.script_text.specs.declared.fault.WriteFault.TheVariants as writes
 use Rattle.heap_steps.specs.declared.fault.RunFault.{RunFault}
@@ -59,4 +59,4 @@ fault_line fault = codes "g1heap: " ++ fault_words fault ++ 10 ∷ []
 
 -- the fault's line was written whole, or a beginning of it, and then the writer refused
 abbrev pub TellsLine : JobFault → Writer → Writer → Type 0
-TellsLine fault old new = Takes old new (fault_line fault) ⊎ TakesPart old new (fault_line fault)
+TellsLine fault old new = TookBytes old new (fault_line fault) ⊎ TakesPart old new (fault_line fault)

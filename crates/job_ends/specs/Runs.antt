@@ -6,7 +6,7 @@ use Rattle.heap_steps.specs.Actors.{StepList, EventList}
 use Rattle.script_text.specs.Lines.{script_of, FailsBy}
 use Rattle.script_text.specs.Records.{record_text}
 use Rattle.script_text.specs.Events.{record_of}
-use Rattle.script_text.specs.Watched.{Reader, Writer, Gives, FailsToGive, Takes, FailsToTake, Stays}
+use Rattle.script_text.specs.Watched.{Reader, Writer, Gives, FailsToGive, TookBytes, FailsToTake, WritesNothing}
 use Rattle.script_text.specs.declared.fault.WriteFault.{WriteFault}
 use Rattle.heap_steps.specs.declared.fault.RunFault.{RunFault}
 use Rattle.job_ends.specs.FaultLines.{TellsLine}
@@ -24,7 +24,7 @@ pub record IsScriptRun (Makes : StepList → EventList → Type 0) (input : List
 
 -- the text of such a record was written, and no more
 abbrev pub WritesRecord : (StepList → EventList → Type 0) → List ℕ → Writer → Writer → Type 0
-WritesRecord Makes input old new = (r : EventList) × IsScriptRun Makes input r × Takes old new (record_text r)
+WritesRecord Makes input old new = (r : EventList) × IsScriptRun Makes input r × TookBytes old new (record_text r)
 
 -- the text of such a record could not be written
 abbrev pub FailsToWrite : (StepList → EventList → Type 0) → List ℕ → WriteFault → Writer → Writer → Type 0
@@ -50,9 +50,9 @@ ReadsRecord given left (Err _) = ⊥
 
 -- what came of a run was answered: the record's text was written, or a beginning of it where the writer refused, or the fault is the run's
 abbrev pub Answers : Result EventList RunFault → Writer → Writer → Result ⊤ JobFault → Type 0
-Answers (Ok r) old new (Ok done) = Takes old new (record_text r)
+Answers (Ok r) old new (Ok done) = TookBytes old new (record_text r)
 Answers (Ok r) old new (Err (Write fault)) = FailsToTake fault old new (record_text r)
-Answers (Err fault) old new (Err (Run told)) = (told ≡ fault) × Stays old new
+Answers (Err fault) old new (Err (Run told)) = (told ≡ fault) × WritesNothing old new
 Answers _ old new _ = ⊥
 
 -- How a script's run ended: the reader was `given` before and is `left` after, and the writer was `old` before and is `new` after. A record
@@ -60,20 +60,20 @@ Answers _ old new _ = ⊥
 abbrev pub Ends : (StepList → EventList → Type 0) → (Config → RunFault → Type 0) → Reader → Reader → Writer → Writer → Result ⊤ JobFault
     → Type 0
 Ends Makes Fails given left old new (Ok done) = (input : List ℕ) × GivesAll given left input × WritesRecord Makes input old new
-Ends Makes Fails given left old new (Err (Read fault)) = FailsToGive fault given left × Stays old new
+Ends Makes Fails given left old new (Err (Read fault)) = FailsToGive fault given left × WritesNothing old new
 Ends Makes Fails given left old new (Err (Line fault)) = (input : List ℕ) × GivesAll given left input
-    × FailsBy fault.kind fault input (script_of input) × Stays old new
+    × FailsBy fault.kind fault input (script_of input) × WritesNothing old new
 Ends Makes Fails given left old new (Err (Run fault)) = (input : List ℕ) × GivesAll given left input
-    × ((plan : StepList) × (script_of input ≡ Ok plan) × Fails plan.config fault) × Stays old new
+    × ((plan : StepList) × (script_of input ≡ Ok plan) × Fails plan.config fault) × WritesNothing old new
 Ends Makes Fails given left old new (Err (Judge fault)) = ⊥
 Ends Makes Fails given left old new (Err (Differs event)) = ⊥
 Ends Makes Fails given left old new (Err (Write fault)) =
     (input : List ℕ) × GivesAll given left input × FailsToWrite Makes input fault old new
 
 -- the status that tells how a run ended, and what standard error took: nothing where the job is done, else the fault's line
-abbrev pub Tells : Writer → Writer → Result ⊤ JobFault → ℕ → Type 0
-Tells old new (Ok done) status = (status ≡ 0) × Stays old new
-Tells old new (Err fault) status = (status ≡ 1) × TellsLine fault old new
+abbrev pub TellsEnd : Writer → Writer → Result ⊤ JobFault → ℕ → Type 0
+TellsEnd old new (Ok done) status = (status ≡ 0) × WritesNothing old new
+TellsEnd old new (Err fault) status = (status ≡ 1) × TellsLine fault old new
 
 -- A script was run, and its end was told so: what was read, what was written, what standard error took, and the status. It is 0 if and only
 -- if the run ended well.
@@ -81,4 +81,4 @@ pub record Performs (Makes : StepList → EventList → Type 0) (Fails : Config 
     (old new err err' : Writer) (status : ℕ) : Type 0 where
   pub outcome : Result ⊤ JobFault
   pub ends : Ends Makes Fails given left old new outcome
-  pub tells : Tells err err' outcome status
+  pub tells : TellsEnd err err' outcome status

@@ -1,9 +1,9 @@
 //! Why a job wasn't done, and the lines on standard error, one for each fault.
 
 ghost use Rattle.std.specs.Prelude.{◌≡◌, ◌≢◌, ◌≤◌, ◌+◌, ◌++◌, OnOk, OnErr, length, take};
-ghost use Rattle.script_text.specs.Watched.{Takes, TakesPart};
+ghost use Rattle.script_text.specs.Watched.{TookBytes, TakesPart};
 ghost use Rattle.job_ends.specs.FaultLines.{sizes_words, run_words, judge_words, write_words, event_words, fault_words, fault_line};
-ghost use Rattle.job_ends.specs.Runs.{Tells};
+ghost use Rattle.job_ends.specs.Runs.{TellsEnd};
 
 use heap_steps::RunFault;
 use heap_words::config::NewFault;
@@ -135,7 +135,7 @@ pub fn put_fault_line(buffer: &mut [u8], fault: JobFault) -> usize
 
 /// Writes a fault's line. Where that fails, the writer refused, and a beginning of the line is written. It takes no memory.
 pub fn tell<E: Write>(fault: JobFault, err: &mut WatchedWriter<E>) -> Result<(), WriteFault>
-    ensures ok { OnOk result (Takes err.old err.new (fault_line fault)) }
+    ensures ok { OnOk result (TookBytes err.old err.new (fault_line fault)) }
     ensures err { OnErr result (TakesPart err.old err.new (fault_line fault)) }
     ensures memory { result ≢ Err WriteFault.NoMemory }
 {
@@ -144,10 +144,10 @@ pub fn tell<E: Write>(fault: JobFault, err: &mut WatchedWriter<E>) -> Result<(),
     write_bytes(err, &buffer[..at])
 }
 
-/// Tells how a job ended, and answers the program's status: 0 where it is done, else 1, with the fault's line on standard error. That a
+/// TellsEnd how a job ended, and answers the program's status: 0 where it is done, else 1, with the fault's line on standard error. That a
 /// write of this line fails changes nothing.
 pub fn conclude<E: Write>(outcome: Result<(), JobFault>, err: &mut WatchedWriter<E>) -> u8
-    ensures { Tells err.old err.new outcome result }
+    ensures { TellsEnd err.old err.new outcome result }
 {
     match outcome {
         Ok(()) => 0,

@@ -16,11 +16,11 @@ use Rattle.object_graph.specs.declared.judge.Verdict.TheVariants.{Yes, No}
 use Rattle.heap_steps.specs.declared.step.Event.{Event}
 use Rattle.script_text.specs.Awaited.{whole_lines}
 use Rattle.script_text.specs.Events.{record_of}
-use Rattle.script_text.specs.Watched.{Reader, Writer, Takes}
+use Rattle.script_text.specs.Watched.{Reader, Writer, TookBytes}
 use Rattle.script_text.proofs.BothWays.Extended.{whole_behind, reads_behind}
 use Rattle.jobs.specs.Verdicts.{verdict_line, IsJudged, IsTextOfRun, TellsVerdict}
 use Rattle.jobs.specs.Explanations.{IsExplained, judged_by}
-use Rattle.jobs.specs.Followed.{BreaksAlready, IsFound, told_text, Follows, PerformsFollow, FollowedYes, FollowedNo}
+use Rattle.jobs.specs.Followed.{BreaksAlready, IsFinding, told_text, EndsFollowed, PerformsFollow, FollowedYes, FollowedNo}
 use Rattle.job_ends.specs.declared.faults.JobFault.{JobFault}
 use Rattle.jobs.proofs.Told.{YesLaw, NoLaw}
 
@@ -32,7 +32,7 @@ explained_yes : (lines : List ℕ) (n : ℕ) → IsExplained lines (Allowed n) �
 explained_yes lines n e = record { history = e.history; read = e.read; suits = e.suits; judged = e.finds }
 
 pub followed_yes : YesLaw → (text : List ℕ) (left : Reader) (n : ℕ)
-    → IsFound text left (Ok (Allowed n)) ↔ (IsAtEnd left.left × IsTextOfRun (whole_lines text) n)
+    → IsFinding text left (Ok (Allowed n)) ↔ (IsAtEnd left.left × IsTextOfRun (whole_lines text) n)
 followed_yes law text left n = (
   λ found. (found.0, (law (whole_lines text) n).0 (explained_yes (whole_lines text) n found.1)),
   λ run. (run.0, yes_explained (whole_lines text) n ((law (whole_lines text) n).1 run.1)),
@@ -92,10 +92,11 @@ told_yes_text true n = refl
 
 -- the status says which
 yes_by : YesLaw → (outcome : Result Finding JobFault) (explained : Bool) (given left : Reader) (old new err told : Writer)
-    → Follows explained given left old new outcome → TellsVerdict err told (judged_by outcome) 0 → FollowedYes given left old new err told
+    → EndsFollowed explained given left old new outcome → TellsVerdict err told (judged_by outcome) 0
+        → FollowedYes given left old new err told
 yes_by law (Ok (Allowed n)) explained given left old new err told f t =
     let run = (followed_yes law f.0.0 left n).0 f.0.2 in
-    (f.0.0, n, (f.0.1, run.0), run.1, subst (λ (l : List ℕ). Takes old new l) (told_yes_text explained n) f.1, t.1)
+    (f.0.0, n, (f.0.1, run.0), run.1, subst (λ (l : List ℕ). TookBytes old new l) (told_yes_text explained n) f.1, t.1)
 yes_by law (Ok (Refused n e g)) explained given left old new err told f t = absurd (let bad = t.0 in omega arith)
 yes_by law (Err fault) explained given left old new err told f t = absurd (let bad = t.0 in omega arith)
 
@@ -104,7 +105,7 @@ pub status_yes : YesLaw → (explained : Bool) (given left : Reader) (old new er
 status_yes law explained given left old new err told p = yes_by law p.outcome explained given left old new err told p.follows p.tells
 
 no_by : NoLaw → (outcome : Result Finding JobFault) (explained : Bool) (given left : Reader) (old new err told : Writer)
-    → Follows explained given left old new outcome → TellsVerdict err told (judged_by outcome) 3
+    → EndsFollowed explained given left old new outcome → TellsVerdict err told (judged_by outcome) 3
     → FollowedNo explained given left old new err told
 no_by law (Ok (Allowed n)) explained given left old new err told f t = absurd (let bad = t.0 in omega arith)
 no_by law (Ok (Refused n e g)) explained given left old new err told f t =

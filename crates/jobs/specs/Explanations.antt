@@ -18,7 +18,7 @@ use Rattle.script_text.specs.Events.{record_of}
 use Rattle.script_text.specs.Hints.{IsFaultReason}
 use Rattle.script_text.specs.Records.{reply_words, event_text}
 use Rattle.script_text.specs.Spelling.{spaced}
-use Rattle.script_text.specs.Watched.{Reader, Writer, FailsToGive, Takes, TakesPart, Stays}
+use Rattle.script_text.specs.Watched.{Reader, Writer, FailsToGive, TookBytes, TakesPart, WritesNothing}
 use Rattle.script_text.specs.declared.fault.LineFault.{LineFault}
 use Rattle.script_text.specs.declared.places.TextKind.TheVariants.{Record}
 use Rattle.script_text.specs.declared.fault.WriteFault.TheVariants as writes
@@ -71,7 +71,7 @@ FindsIn input (Err _) = ⊥
 
 -- what was found of the input was written, and no more
 abbrev pub WritesFinding : List ℕ → Finding → Writer → Writer → Type 0
-WritesFinding input finding old new = IsExplained input finding × Takes old new (finding_text finding)
+WritesFinding input finding old new = IsExplained input finding × TookBytes old new (finding_text finding)
 
 -- a beginning of that was written, not all of it, and then the writer refused
 abbrev pub WritesFindingBeginning : List ℕ → Writer → Writer → Type 0
@@ -81,19 +81,19 @@ WritesFindingBeginning input old new = (finding : Finding) × IsExplained input 
 pub record TellsHint (fault : LineFault) (input : List ℕ) (old new : Writer) : Type 0 where
   pub told : List ℕ
   pub reason : IsFaultReason Record fault input told
-  pub written : Takes old new told ⊎ TakesPart old new told
+  pub written : TookBytes old new told ⊎ TakesPart old new told
 
 -- How the judging of a record ended that is to be explained, as `Judges` has it of one that isn't; but of a line with a fault standard
 -- output is told too.
 abbrev pub Explains : Reader → Reader → Writer → Writer → Result Finding JobFault → Type 0
 Explains given left old new (Ok finding) = (input : List ℕ) × GivesAll given left input × WritesFinding input finding old new
-Explains given left old new (Err (faults.Read fault)) = FailsToGive fault given left × Stays old new
+Explains given left old new (Err (faults.Read fault)) = FailsToGive fault given left × WritesNothing old new
 Explains given left old new (Err (faults.Line fault)) = (input : List ℕ) × GivesAll given left input
     × (record_of input ≡ Err fault) × TellsHint fault input old new
 Explains given left old new (Err (faults.Run fault)) = ⊥
 Explains given left old new (Err (faults.Differs event)) = ⊥
 Explains given left old new (Err (faults.Judge fault)) =
-    (input : List ℕ) × GivesAll given left input × IsUnjudged input fault × Stays old new
+    (input : List ℕ) × GivesAll given left input × IsUnjudged input fault × WritesNothing old new
 Explains given left old new (Err (faults.Write fault)) = (input : List ℕ) × GivesAll given left input × WritesFindingBeginning input old new
     × (fault ≢ writes.NoMemory)
 

@@ -7,7 +7,7 @@ use Rattle.object_graph.specs.declared.judge.Finding.TheVariants.{Allowed, Refus
 use Rattle.object_graph.specs.declared.judge.Verdict.TheVariants.{Yes, No}
 use Rattle.script_text.specs.Awaited.{whole_lines}
 use Rattle.script_text.specs.Events.{record_of}
-use Rattle.script_text.specs.Watched.{Reader, Writer, Gives, FailsToGive, Takes, TakesPart, Stays}
+use Rattle.script_text.specs.Watched.{Reader, Writer, Gives, FailsToGive, TookBytes, TakesPart, WritesNothing}
 use Rattle.script_text.specs.declared.fault.LineFault.{LineFault}
 use Rattle.script_text.specs.declared.fault.WriteFault.TheVariants as writes
 use Rattle.job_ends.specs.Runs.{GivesAll}
@@ -32,19 +32,19 @@ BreaksAlready text n finding = (lines : List ℕ) × GoesOnBehind text lines
 -- What is found of a text that a reader gave so far: yes at the end of input alone, of all that is whole; no where it begins with a record
 -- that breaks at its last event; a line's fault where that is known already, or at the end if no line came; and why it isn't judged where
 -- it begins with a record of which that is so.
-abbrev pub IsFound : List ℕ → Reader → Result Finding JobFault → Type 0
-IsFound text left (Ok (Allowed n)) = IsAtEnd left.left × IsExplained (whole_lines text) (Allowed n)
-IsFound text left (Ok (Refused n e given)) = BreaksAlready text n (Refused n e given)
-IsFound text left (Err (faults.Line fault)) = IsWrongAlready fault text ⊎ (IsAtEnd left.left × (record_of (whole_lines text) ≡ Err fault))
-IsFound text left (Err (faults.Judge fault)) = (lines : List ℕ) × GoesOnBehind text lines × IsUnjudged lines fault
-IsFound text left (Err _) = ⊥
+abbrev pub IsFinding : List ℕ → Reader → Result Finding JobFault → Type 0
+IsFinding text left (Ok (Allowed n)) = IsAtEnd left.left × IsExplained (whole_lines text) (Allowed n)
+IsFinding text left (Ok (Refused n e given)) = BreaksAlready text n (Refused n e given)
+IsFinding text left (Err (faults.Line fault)) = IsWrongAlready fault text ⊎ (IsAtEnd left.left × (record_of (whole_lines text) ≡ Err fault))
+IsFinding text left (Err (faults.Judge fault)) = (lines : List ℕ) × GoesOnBehind text lines × IsUnjudged lines fault
+IsFinding text left (Err _) = ⊥
 
 -- the reader gave a text of which this is found; or reading failed
 abbrev pub FindsBy : Reader → Reader → Result Finding JobFault → Type 0
-FindsBy given left (Ok finding) = (text : List ℕ) × Gives given left text × IsFound text left (Ok finding)
+FindsBy given left (Ok finding) = (text : List ℕ) × Gives given left text × IsFinding text left (Ok finding)
 FindsBy given left (Err (faults.Read fault)) = FailsToGive fault given left
-FindsBy given left (Err (faults.Line fault)) = (text : List ℕ) × Gives given left text × IsFound text left (Err (faults.Line fault))
-FindsBy given left (Err (faults.Judge fault)) = (text : List ℕ) × Gives given left text × IsFound text left (Err (faults.Judge fault))
+FindsBy given left (Err (faults.Line fault)) = (text : List ℕ) × Gives given left text × IsFinding text left (Err (faults.Line fault))
+FindsBy given left (Err (faults.Judge fault)) = (text : List ℕ) × Gives given left text × IsFinding text left (Err (faults.Judge fault))
 FindsBy given left (Err (faults.Run fault)) = ⊥
 FindsBy given left (Err (faults.Write fault)) = ⊥
 FindsBy given left (Err (faults.Differs event)) = ⊥
@@ -56,31 +56,31 @@ told_text true finding = finding_text finding
 
 -- How the judging of a record ended that is read as it is written. What was found is written at Ok alone; a beginning of it where the
 -- writer refused; otherwise nothing.
-abbrev pub Follows : Bool → Reader → Reader → Writer → Writer → Result Finding JobFault → Type 0
-Follows explained given left old new (Ok finding) = FindsBy given left (Ok finding) × Takes old new (told_text explained finding)
-Follows explained given left old new (Err (faults.Write fault)) = (finding : Finding) × FindsBy given left (Ok finding)
+abbrev pub EndsFollowed : Bool → Reader → Reader → Writer → Writer → Result Finding JobFault → Type 0
+EndsFollowed explained given left old new (Ok finding) = FindsBy given left (Ok finding) × TookBytes old new (told_text explained finding)
+EndsFollowed explained given left old new (Err (faults.Write fault)) = (finding : Finding) × FindsBy given left (Ok finding)
     × TakesPart old new (told_text explained finding) × (fault ≢ writes.NoMemory)
-Follows explained given left old new (Err (faults.Read fault)) = FindsBy given left (Err (faults.Read fault)) × Stays old new
-Follows explained given left old new (Err (faults.Line fault)) = FindsBy given left (Err (faults.Line fault)) × Stays old new
-Follows explained given left old new (Err (faults.Judge fault)) = FindsBy given left (Err (faults.Judge fault)) × Stays old new
-Follows explained given left old new (Err (faults.Run fault)) = ⊥
-Follows explained given left old new (Err (faults.Differs event)) = ⊥
+EndsFollowed explained given left old new (Err (faults.Read fault)) = FindsBy given left (Err (faults.Read fault)) × WritesNothing old new
+EndsFollowed explained given left old new (Err (faults.Line fault)) = FindsBy given left (Err (faults.Line fault)) × WritesNothing old new
+EndsFollowed explained given left old new (Err (faults.Judge fault)) = FindsBy given left (Err (faults.Judge fault)) × WritesNothing old new
+EndsFollowed explained given left old new (Err (faults.Run fault)) = ⊥
+EndsFollowed explained given left old new (Err (faults.Differs event)) = ⊥
 
 -- A record was judged so, and it was told so.
 pub record PerformsFollow (explained : Bool) (given left : Reader) (old new err err' : Writer) (status : ℕ) : Type 0 where
   pub outcome : Result Finding JobFault
-  pub follows : Follows explained given left old new outcome
+  pub follows : EndsFollowed explained given left old new outcome
   pub tells : TellsVerdict err err' (judged_by outcome) status
 
 -- The reader gave, to its end, the text of a run and perhaps a cut line, and the verdict yes was written, and no more, with nothing on
 -- standard error.
 abbrev pub FollowedYes : Reader → Reader → Writer → Writer → Writer → Writer → Type 0
 FollowedYes given left old new err err' = (text : List ℕ) × (n : ℕ) × GivesAll given left text × IsTextOfRun (whole_lines text) n
-    × Takes old new (verdict_line (Yes n)) × Stays err err'
+    × TookBytes old new (verdict_line (Yes n)) × WritesNothing err err'
 
 -- The reader gave the text of a record whose last event is the first that isn't allowed, and perhaps more, and the verdict no was written
 -- with that event, and the line of its reason where that is asked for.
 abbrev pub FollowedNo : Bool → Reader → Reader → Writer → Writer → Writer → Writer → Type 0
 FollowedNo explained given left old new err err' =
     (text : List ℕ) × (lines : List ℕ) × (finding : Finding) × (n : ℕ) × Gives given left text × GoesOnBehind text lines
-    × IsTextBrokenAt lines n × (verdict_of finding ≡ No n) × Takes old new (told_text explained finding) × Stays err err'
+    × IsTextBrokenAt lines n × (verdict_of finding ≡ No n) × TookBytes old new (told_text explained finding) × WritesNothing err err'

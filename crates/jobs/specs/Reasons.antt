@@ -14,7 +14,7 @@ use Rattle.script_text.specs.declared.places.TextKind.{TextKind}
 use Rattle.script_text.specs.Faults.{shown}
 use Rattle.script_text.specs.Lines.{heap_line_of}
 use Rattle.script_text.specs.Hints.{line_reason, IsLine, IsFaultReason, IsLineReason}
-use Rattle.script_text.specs.Watched.{Writer, Takes, TakesPart, Stays}
+use Rattle.script_text.specs.Watched.{Writer, TookBytes, TakesPart, WritesNothing}
 use Rattle.job_ends.specs.FaultLines.{fault_line}
 use Rattle.job_ends.specs.declared.faults.JobFault.{JobFault}
 use Rattle.job_ends.specs.declared.faults.JobFault.TheVariants as faults
@@ -92,10 +92,10 @@ IsReadReason name told = (why : List ℕ) × (told ≡ shown name ++ codes ": " 
 -- The fault's line and a text that explains it were written whole, or a beginning of both, and then the writer refused.
 abbrev pub TellsMore : JobFault → (List ℕ → Type 0) → Writer → Writer → Type 0
 TellsMore fault Explains old new = (told : List ℕ) × Explains told
-    × (Takes old new (fault_line fault ++ told) ⊎ TakesPart old new (fault_line fault ++ told))
+    × (TookBytes old new (fault_line fault ++ told) ⊎ TakesPart old new (fault_line fault ++ told))
 
 -- the status that tells how a job on an input ended, and what standard error took: nothing where it is done, else the fault's line and what
 -- explains it
 abbrev pub TellsExplained : TextKind → List ℕ → Counts → Writer → Writer → Result ⊤ JobFault → ℕ → Type 0
-TellsExplained kind input counts old new (Ok done) status = (status ≡ 0) × Stays old new
+TellsExplained kind input counts old new (Ok done) status = (status ≡ 0) × WritesNothing old new
 TellsExplained kind input counts old new (Err fault) status = (status ≡ 1) × TellsMore fault (IsReason kind input counts fault) old new

@@ -12,7 +12,7 @@ use Rattle.object_graph.specs.declared.judge.Verdict.TheVariants.{Yes, No}
 use Rattle.script_text.specs.Fits.{IsRecord}
 use Rattle.script_text.specs.Records.{record_text}
 use Rattle.script_text.specs.Events.{record_of}
-use Rattle.script_text.specs.Watched.{Reader, Writer, FailsToGive, Takes, TakesPart, Stays}
+use Rattle.script_text.specs.Watched.{Reader, Writer, FailsToGive, TookBytes, TakesPart, WritesNothing}
 use Rattle.script_text.specs.declared.fault.WriteFault.TheVariants as writes
 use Rattle.job_ends.specs.FaultLines.{TellsLine}
 use Rattle.job_ends.specs.Runs.{GivesAll}
@@ -53,7 +53,7 @@ IsUnjudged input fault = (history : EventList) × (record_of input ≡ Ok histor
 
 -- the verdict on the input was written, and no more
 abbrev pub WritesVerdict : List ℕ → Verdict → Writer → Writer → Type 0
-WritesVerdict input verdict old new = IsJudged input verdict × Takes old new (verdict_line verdict)
+WritesVerdict input verdict old new = IsJudged input verdict × TookBytes old new (verdict_line verdict)
 
 -- a beginning of the verdict on the input was written, not all of it, and then the writer refused
 abbrev pub WritesVerdictBeginning : List ℕ → Writer → Writer → Type 0
@@ -64,19 +64,20 @@ WritesVerdictBeginning input old new = (verdict : Verdict) × IsJudged input ver
 -- memory to be written.
 abbrev pub Judges : Reader → Reader → Writer → Writer → Result Verdict JobFault → Type 0
 Judges given left old new (Ok verdict) = (input : List ℕ) × GivesAll given left input × WritesVerdict input verdict old new
-Judges given left old new (Err (faults.Read fault)) = FailsToGive fault given left × Stays old new
+Judges given left old new (Err (faults.Read fault)) = FailsToGive fault given left × WritesNothing old new
 Judges given left old new (Err (faults.Line fault)) = (input : List ℕ) × GivesAll given left input
-    × (record_of input ≡ Err fault) × Stays old new
+    × (record_of input ≡ Err fault) × WritesNothing old new
 Judges given left old new (Err (faults.Run fault)) = ⊥
 Judges given left old new (Err (faults.Differs event)) = ⊥
-Judges given left old new (Err (faults.Judge fault)) = (input : List ℕ) × GivesAll given left input × IsUnjudged input fault × Stays old new
+Judges given left old new (Err (faults.Judge fault)) = (input : List ℕ) × GivesAll given left input × IsUnjudged input fault
+    × WritesNothing old new
 Judges given left old new (Err (faults.Write fault)) = (input : List ℕ) × GivesAll given left input × WritesVerdictBeginning input old new
     × (fault ≢ writes.NoMemory)
 
 -- the status that tells a verdict, 0 for yes and 3 for no, or 1 for a fault, and what standard error took: nothing, or the fault's line
 abbrev pub TellsVerdict : Writer → Writer → Result Verdict JobFault → ℕ → Type 0
-TellsVerdict old new (Ok (Yes n)) status = (status ≡ 0) × Stays old new
-TellsVerdict old new (Ok (No n)) status = (status ≡ 3) × Stays old new
+TellsVerdict old new (Ok (Yes n)) status = (status ≡ 0) × WritesNothing old new
+TellsVerdict old new (Ok (No n)) status = (status ≡ 3) × WritesNothing old new
 TellsVerdict old new (Err fault) status = (status ≡ 1) × TellsLine fault old new
 
 -- A record was judged so, and it was told so.
@@ -106,9 +107,9 @@ pub record IsTextBrokenAt (input : List ℕ) (n : ℕ) : Type 0 where
 -- The reader gave the text of a run, to its end, and the verdict yes was written, and no more, with nothing on standard error.
 abbrev pub ToldYes : Reader → Reader → Writer → Writer → Writer → Writer → Type 0
 ToldYes given left old new err err' = (input : List ℕ) × (n : ℕ) × GivesAll given left input × IsTextOfRun input n
-    × Takes old new (verdict_line (Yes n)) × Stays err err'
+    × TookBytes old new (verdict_line (Yes n)) × WritesNothing err err'
 
 -- The reader gave the text of a record, to its end, and the verdict no was written with its first event that isn't allowed, and no more.
 abbrev pub ToldNo : Reader → Reader → Writer → Writer → Writer → Writer → Type 0
 ToldNo given left old new err err' = (input : List ℕ) × (n : ℕ) × GivesAll given left input × IsTextBrokenAt input n
-    × Takes old new (verdict_line (No n)) × Stays err err'
+    × TookBytes old new (verdict_line (No n)) × WritesNothing err err'

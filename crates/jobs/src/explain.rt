@@ -2,7 +2,7 @@
 
 ghost use Rattle.std.specs.Prelude.{◌≡◌, ◌≢◌, ◌≤◌, ◌+◌, ◌++◌, ℕ, List, OnOk, OnErr, length, take};
 ghost use Rattle.std.specs.Fmt.{decimal};
-ghost use Rattle.script_text.specs.Watched.{Takes, TakesPart};
+ghost use Rattle.script_text.specs.Watched.{TookBytes, TakesPart};
 ghost use Rattle.object_graph.specs.Reasons.{verdict_of};
 ghost use Rattle.object_graph.specs.declared.judge.Finding.{Finding};
 ghost use Rattle.jobs.specs.Verdicts.{IsJudged};
@@ -111,7 +111,7 @@ pub(crate) fn write_finding<W: Write>(
     finding: Finding,
     writer: &mut WatchedWriter<W>,
 ) -> Result<(), WriteFault>
-    ensures ok { OnOk result (Takes writer.old writer.new (finding_text finding)) }
+    ensures ok { OnOk result (TookBytes writer.old writer.new (finding_text finding)) }
     ensures err { OnErr result (TakesPart writer.old writer.new (finding_text finding)) }
     ensures memory { result ≢ Err WriteFault.NoMemory }
 {

@@ -8,10 +8,10 @@ ghost use Rattle.object_graph.specs.declared.judge.Verdict.{Verdict};
 ghost use Rattle.heap_steps.specs.declared.step.Event as events;
 ghost use Rattle.script_text.specs.Awaited.{whole_lines};
 ghost use Rattle.script_text.specs.Events.{record_of};
-ghost use Rattle.script_text.specs.Watched.{Reader, Writer, Gives, Takes, TakesPart};
+ghost use Rattle.script_text.specs.Watched.{Reader, Writer, Gives, TookBytes, TakesPart};
 ghost use Rattle.heap_words.specs.Configs.{Suits};
 ghost use Rattle.jobs.specs.Verdicts.{IsJudged, IsTextOfRun};
-ghost use Rattle.jobs.specs.Followed.{IsFound, FindsBy, told_text, Follows, PerformsFollow, FollowedYes, FollowedNo};
+ghost use Rattle.jobs.specs.Followed.{IsFinding, FindsBy, told_text, EndsFollowed, PerformsFollow, FollowedYes, FollowedNo};
 
 use crate::explain::{judged_by, write_finding};
 use crate::judge::{conclude_verdict, verdict_law, write_verdict};
@@ -117,7 +117,7 @@ fn write_told<W: Write>(
     finding: Finding,
     writer: &mut WatchedWriter<W>,
 ) -> Result<(), WriteFault>
-    ensures ok { OnOk result (Takes writer.old writer.new (told_text explained finding)) }
+    ensures ok { OnOk result (TookBytes writer.old writer.new (told_text explained finding)) }
     ensures err { OnErr result (TakesPart writer.old writer.new (told_text explained finding)) }
     ensures memory { result ≢ Err WriteFault.NoMemory }
 {
@@ -138,7 +138,7 @@ pub fn follow_record<R: Read, W: Write>(
     reader: &mut WatchedReader<R>,
     writer: &mut WatchedWriter<W>,
 ) -> Result<Finding, JobFault>
-    ensures { Follows explained reader.old reader.new writer.old writer.new result }
+    ensures { EndsFollowed explained reader.old reader.new writer.old writer.new result }
 {
     let Ok(mut lines) = LineBuffer::new(alloc) else {
         return Err(JobFault::Read(ReadFault::NoMemory));
@@ -170,10 +170,10 @@ pub fn follow_and_conclude<R: Read, W: Write, E: Write>(
 /// What is found is the verdict of `check` on the text without its cut last line: yes at the end of input, if and only if that is the text
 /// of a run of so many events; no n where, whatever comes after, `check` has no other verdict.
 pub fn follow_law()
-    ensures yes { (text : List ℕ) (left : Reader) (n : ℕ) → IsFound text left (Ok (Finding.Allowed n))
+    ensures yes { (text : List ℕ) (left : Reader) (n : ℕ) → IsFinding text left (Ok (Finding.Allowed n))
         ↔ (IsAtEnd left.left × IsTextOfRun (whole_lines text) n) }
     ensures no { (text : List ℕ) (left : Reader) (n : ℕ) (e : events.Event) (given : Given)
-        → IsFound text left (Ok (Finding.Refused n e given)) → (more : List ℕ) (v : Verdict) → IsJudged (whole_lines (text ++ more)) v
+        → IsFinding text left (Ok (Finding.Refused n e given)) → (more : List ℕ) (v : Verdict) → IsJudged (whole_lines (text ++ more)) v
         → v ≡ Verdict.No n }
 {
     verdict_law();

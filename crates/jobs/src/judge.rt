@@ -1,7 +1,7 @@
 //! A record that is read, judged and answered by the verdict.
 
 ghost use Rattle.std.specs.Prelude.{◌≡◌, ◌≢◌, ◌≤◌, ◌↔◌, ℕ, List, OnOk, OnErr, length, take};
-ghost use Rattle.script_text.specs.Watched.{Reader, Writer, Takes, TakesPart};
+ghost use Rattle.script_text.specs.Watched.{Reader, Writer, TookBytes, TakesPart};
 ghost use Rattle.object_graph.specs.declared.judge.Verdict.{Verdict};
 ghost use Rattle.jobs.specs.Verdicts.{verdict_word, verdict_number, verdict_line, IsJudged, Judges, TellsVerdict, PerformsCheck};
 ghost use Rattle.jobs.specs.Verdicts.{IsTextOfRun, IsTextBrokenAt, ToldYes, ToldNo};
@@ -58,7 +58,7 @@ pub(crate) fn write_verdict<W: Write>(
     verdict: Verdict,
     writer: &mut WatchedWriter<W>,
 ) -> Result<(), WriteFault>
-    ensures ok { OnOk result (Takes writer.old writer.new (verdict_line verdict)) }
+    ensures ok { OnOk result (TookBytes writer.old writer.new (verdict_line verdict)) }
     ensures err { OnErr result (TakesPart writer.old writer.new (verdict_line verdict)) }
     ensures memory { result ≢ Err WriteFault.NoMemory }
 {

@@ -17,7 +17,7 @@ use Rattle.step_core.specs.Stands.{CoreState, Stands, IsCore}
 use Rattle.step_core.specs.Fresh.{fresh_core}
 use Rattle.step_core.specs.Passages.{actor_of, RunsTo}
 use Rattle.mutators.specs.Scripts.{same_actor, scripted, lines_of}
-use Rattle.mutators.specs.Journals.{Keeps, IsLine}
+use Rattle.mutators.specs.Journals.{Keeps, IsScriptLine}
 use Rattle.step_core.proofs.Cores.Running.{runs_none}
 
 same_is : (a b : Actor) → same_actor a b ≡ true → b ≡ a
@@ -58,8 +58,8 @@ keeps_none {V} f xs config steps c places same suits fresh core stands yet rows 
       own = λ k d below. absurd (omega arith);
       each_script = length-map xs f ∙ rows ∙ ap (λ n. n + 1) (sym m);
       each_place = spots ∙ ap (λ n. n + 1) (sym m);
-      lines = subst (λ (n : Config). (k : ℕ) → k ≤ n.mutators → All (IsLine n k) (get_or (map f xs) k [])) (sym same)
-          (λ k below. subst (All (IsLine config k)) (sym (each k below)) (lines_are config (scripted config.mutators k) steps yet));
+      lines = subst (λ (n : Config). (k : ℕ) → k ≤ n.mutators → All (IsScriptLine n k) (get_or (map f xs) k [])) (sym same)
+          (λ k below. subst (All (IsScriptLine config k)) (sym (each k below)) (lines_are config (scripted config.mutators k) steps yet));
       few = let few = few_mutators config suits in rw m few;
     }
 

@@ -17,7 +17,7 @@ use Rattle.mutators.specs.declared.journal.Turn.{Turn}
 use Rattle.mutators.specs.declared.journal.Turn.TheVariants.{Done, Idle, End}
 use Rattle.mutators.specs.Scripts.{scripted, lines_of, is_scripted, mark_4}
 use Rattle.mutators.specs.Journals.{JournalState, Keeps, mutators_of, script_at, event_of}
-use Rattle.mutators.specs.Turns.{TurnIs, SamePlan, Takes, next_step, next_at, moved}
+use Rattle.mutators.specs.Turns.{TurnIs, SamePlan, TakesTurn, next_step, next_at, moved}
 use Rattle.mutators.specs.Interleavings.{IsAsked, AreAsked}
 use Rattle.mutators.specs.Draws.{lefts, lefts_of, one_less, scripted_actors, Picks, open_places, pick, IsRound, LeavesScripts, rest_of}
 use Rattle.mutators.specs.Draws.{drawn, total, after_round, counts_of, drawn_actors, has_background}
@@ -89,8 +89,8 @@ takes_row d e End a k keeps turn actor some same =
 
 -- a scripted actor with a line left does it in its turn
 pub takes_line : (d e : JournalState) (t : Turn) (a : Actor) (k : ℕ) → TurnIs t d e a → a ≡ scripted (mutators_of d) k
-    → 0 < get_or (lefts_of d) k 0 → Takes d e (scripted (mutators_of d) k)
-takes_line d e Done a k takes actor some = subst (λ (y : Actor). Takes d e y) actor takes
+    → 0 < get_or (lefts_of d) k 0 → TakesTurn d e (scripted (mutators_of d) k)
+takes_line d e Done a k takes actor some = subst (λ (y : Actor). TakesTurn d e y) actor takes
 takes_line d e Idle a k turn actor some =
     let h = next_row d k in absurd (cc (turn.0, actor, h.2, ap is_scripted actor))
 takes_line d e End a k turn actor some =
@@ -109,14 +109,14 @@ two_words next markers refiners g g' h first second some =
 -- a round with background actors is a line of a script and a turn of one of those
 pub two_turns : (next : Lcg → ℕ × Lcg) (markers refiners word other : ℕ) (d between e : JournalState) (g g' h : Lcg)
     → word ≡ (next g).0 → g' ≡ (next g).1 → other ≡ (next g').0 → h ≡ (next g').1 → 0 < markers + refiners
-    → Takes d between (scripted (mutators_of d) (pick word (lefts_of d)))
+    → TakesTurn d between (scripted (mutators_of d) (pick word (lefts_of d)))
     → HasTurn between e (background_by other markers refiners) → TakesRound next markers refiners d g e h
 two_turns next markers refiners word other d between e g g' h is first is' second some takes turn =
     let turn' : HasTurn between e (background_by (next (next g).1).0 markers refiners) =
     subst (λ (w : ℕ). HasTurn between e (background_by w markers refiners)) (is' ∙ ap (λ (x : Lcg). (next x).0) first) turn in
     record {
       between = between;
-      line = subst (λ (w : ℕ). Takes d between (scripted (mutators_of d) (pick w (lefts_of d)))) is takes;
+      line = subst (λ (w : ℕ). TakesTurn d between (scripted (mutators_of d) (pick w (lefts_of d)))) is takes;
       beside = subst (λ (b : Bool). HasTurnIf b between e (background_by (next (next g).1).0 markers refiners))
           (sym (lt-ltb 0 (markers + refiners) some)) turn';
       words = two_words next markers refiners g g' h first second some;

@@ -21,8 +21,8 @@ use Rattle.step_core.specs.Stands.{CoreState}
 use Rattle.step_core.specs.Cycle.{Does}
 use Rattle.step_core.specs.Passages.{actor_of, RunsTo}
 use Rattle.mutators.specs.Scripts.{same_actor, scripted, steps_of, is_scripted, IsOwn, mark_4, refine_2}
-use Rattle.mutators.specs.Journals.{JournalState, mutators_of, script_at, Begins, Keeps, event_of, IsLine}
-use Rattle.mutators.specs.Turns.{Takes, IsCast, next_at, next_step, moved}
+use Rattle.mutators.specs.Journals.{JournalState, mutators_of, script_at, IsBeginning, Keeps, event_of, IsScriptLine}
+use Rattle.mutators.specs.Turns.{TakesTurn, IsCast, next_at, next_step, moved}
 use Rattle.mutators.proofs.Lines.{steps_push_same, steps_push_other}
 
 -- the same actor only at the same place
@@ -47,9 +47,9 @@ take_next xs i s here =
     (low, take_more xs i s low ∙ ap (λ x. take i xs ++ x ∷ []) (get_or_from_slice_get xs i s s here))
 
 pub begins_row : (m : ℕ) (scripts : List (List Step)) (places : List ℕ) (events : List Event) (k : ℕ) (s : Step) (r : Reply)
-    → Begins m scripts places events → k ≤ m → length places ≡ m + 1
+    → IsBeginning m scripts places events → k ≤ m → length places ≡ m + 1
     → slice_get (slice_index_or scripts k []) (slice_index places k) ≡ Some s
-    → Begins m scripts (slice_set places k (slice_index places k + 1)) (events ++ event_of (scripted m k) s r ∷ [])
+    → IsBeginning m scripts (slice_set places k (slice_index places k + 1)) (events ++ event_of (scripted m k) s r ∷ [])
 begins_row m scripts places events k s r was below spots here j within =
     let p = slice_index places k in
     let e : Event = event_of (scripted m k) s r in
@@ -72,7 +72,7 @@ begins_row m scripts places events k s r was below spots here j within =
     (cases_eq j k)
 
 pub begins_other : (m : ℕ) (scripts : List (List Step)) (places : List ℕ) (events : List Event) (a : Actor) (s : Step) (r : Reply)
-    → Begins m scripts places events → is_scripted a ≡ false → Begins m scripts places (events ++ event_of a s r ∷ [])
+    → IsBeginning m scripts places events → is_scripted a ≡ false → IsBeginning m scripts places (events ++ event_of a s r ∷ [])
 begins_other m scripts places events a s r was background j within =
     (steps_push_other (scripted m j) events (event_of a s r) (not_scripted m j a background) ∙ (was j within).0, (was j within).1)
   where
@@ -99,7 +99,8 @@ only P e h (suc k) d below = absurd (omega arith)
 -- one event more
 keeps_event : (d : JournalState) (c : CoreState) (places : List ℕ) (a : Actor) (s : Step) (r : Reply) → Keeps d
     → Records d.core d.events c (event_of a s r) → c.config ≡ d.core.config
-    → length places ≡ length d.places → Begins (mutators_of d) d.scripts places (d.events ++ event_of a s r ∷ []) → IsOwn d.core.config a s
+    → length places ≡ length d.places → IsBeginning (mutators_of d) d.scripts places (d.events ++ event_of a s r ∷ [])
+        → IsOwn d.core.config a s
     → Keeps (record { core = c; scripts = d.scripts; places = places; events = d.events ++ event_of a s r ∷ [] })
 keeps_event d c places a s r was runs same len begins own =
     let m : c.config.mutators ≡ mutators_of d = ap (λ x. x.mutators) same in
@@ -107,27 +108,27 @@ keeps_event d c places a s r was runs same len begins own =
     let Own : Config → Event → Type 0 = λ n x. IsOwn n x.actor x.step in
     record {
       runs = subst (λ (n : Config). RunsTo n (d.events ++ e ∷ []) c) (sym same) (runs d.core.config was.runs);
-      begins = subst (λ (n : ℕ). Begins n d.scripts places (d.events ++ e ∷ [])) (sym m) begins;
+      begins = subst (λ (n : ℕ). IsBeginning n d.scripts places (d.events ++ e ∷ [])) (sym m) begins;
       own = subst (λ (n : Config). All (Own n) (d.events ++ e ∷ [])) (sym same)
           (All-append (Own d.core.config) d.events (e ∷ []) was.own (only (Own d.core.config) e own));
       each_script = was.each_script ∙ ap (λ n. n + 1) (sym m);
       each_place = len ∙ was.each_place ∙ ap (λ n. n + 1) (sym m);
-      lines = subst (λ (n : Config). (k : ℕ) → k ≤ n.mutators → All (IsLine n k) (script_at d k)) (sym same) was.lines;
+      lines = subst (λ (n : Config). (k : ℕ) → k ≤ n.mutators → All (IsScriptLine n k) (script_at d k)) (sym same) was.lines;
       few = rw m was.few;
     }
 
 -- a line of a script is a step of its actor
-own_line : (config : Config) (k : ℕ) (s : Step) → IsLine config k s → IsOwn config (scripted config.mutators k) s
+own_line : (config : Config) (k : ℕ) (s : Step) → IsScriptLine config k s → IsOwn config (scripted config.mutators k) s
 own_line config k s line = subst (λ (a : Actor). IsOwn config a s) line.1 (own s line.0)
   where
     own : (s : Step) → IsStep config s → IsOwn config (actor_of s) s
     own (steps.Mutator o) yet = (refl, yet)
     own (steps.Collector c) yet = yet
 
-pub line_at : (d : JournalState) (k : ℕ) (s : Step) → Keeps d → k ≤ mutators_of d → next_at d k ≡ Some s → IsLine d.core.config k s
+pub line_at : (d : JournalState) (k : ℕ) (s : Step) → Keeps d → k ≤ mutators_of d → next_at d k ≡ Some s → IsScriptLine d.core.config k s
 line_at d k s was below next =
     let at = inside (script_at d k) (slice_index d.places k) s next in
-    subst (IsLine d.core.config k) (get_or_from_slice_get (script_at d k) (slice_index d.places k) s s next)
+    subst (IsScriptLine d.core.config k) (get_or_from_slice_get (script_at d k) (slice_index d.places k) s s next)
     (was.lines k below (slice_index d.places k) s at)
 
 pub keeps_row : (d : JournalState) (c : CoreState) (k : ℕ) (s : Step) (r : Reply) → Keeps d → k ≤ mutators_of d → next_at d k ≡ Some s
@@ -219,11 +220,11 @@ pub row_turn : (d w : JournalState) (c : CoreState) (a : Actor) (k p : ℕ) (s :
     → k ≤ mutators_of d → a ≡ scripted (mutators_of d) k → next_at w k ≡ Some s → slice_index w.places k ≡ p
     → Records w.core w.events c (event_of a s r) → Does s r w.core c → c.config ≡ w.core.config → events ≡ w.events ++ event_of a s r ∷ []
     → Keeps (record { core = c; scripts = w.scripts; places = slice_set w.places k (p + 1); events = events })
-    × Takes d (record { core = c; scripts = w.scripts; places = slice_set w.places k (p + 1); events = events }) a
+    × TakesTurn d (record { core = c; scripts = w.scripts; places = slice_set w.places k (p + 1); events = events }) a
 row_turn d w c a k p s r events same was below actor next place step does config pushed =
     let Goal : JournalState → Actor → ℕ → List Event → Type 0 = λ d a p es.
     Keeps (record { core = c; scripts = w.scripts; places = slice_set w.places k (p + 1); events = es })
-    × Takes d (record { core = c; scripts = w.scripts; places = slice_set w.places k (p + 1); events = es }) a in
+    × TakesTurn d (record { core = c; scripts = w.scripts; places = slice_set w.places k (p + 1); events = es }) a in
     let actor' : a ≡ scripted (mutators_of w) k = actor ∙ ap (λ (x : JournalState). scripted (mutators_of x) k) (sym same) in
     let below' : k ≤ mutators_of w = rw same below in
     let a' : Actor = scripted (mutators_of w) k in
@@ -243,11 +244,11 @@ pub other_turn : (d w : JournalState) (c : CoreState) (a : Actor) (s : Step) (r 
     → IsCast (mutators_of d) a → is_scripted a ≡ false → next_step d a ≡ Some s
     → Records w.core w.events c (event_of a s r) → Does s r w.core c → c.config ≡ w.core.config → events ≡ w.events ++ event_of a s r ∷ []
     → Keeps (record { core = c; scripts = w.scripts; places = w.places; events = events })
-    × Takes d (record { core = c; scripts = w.scripts; places = w.places; events = events }) a
+    × TakesTurn d (record { core = c; scripts = w.scripts; places = w.places; events = events }) a
 other_turn d w c a s r events same was cast background next step does config pushed =
     let Goal : JournalState → List Event → Type 0 = λ d es.
     Keeps (record { core = c; scripts = w.scripts; places = w.places; events = es })
-    × Takes d (record { core = c; scripts = w.scripts; places = w.places; events = es }) a in
+    × TakesTurn d (record { core = c; scripts = w.scripts; places = w.places; events = es }) a in
     let next' : next_step w a ≡ Some s = ap (λ (x : JournalState). next_step x a) same ∙ next in
     let cast' : IsCast (mutators_of w) a = subst (λ (x : JournalState). IsCast (mutators_of x) a) (sym same) cast in
     let here : Goal w (w.events ++ event_of a s r ∷ []) = (

@@ -28,13 +28,13 @@ abbrev pub script_at : JournalState → ℕ → List Step
 script_at j k = slice_index_or j.scripts k []
 
 -- a line of the scripted actor at a place
-abbrev pub IsLine : Config → ℕ → Step → Type 0
-IsLine config k s = IsStep config s × (actor_of s ≡ scripted config.mutators k)
+abbrev pub IsScriptLine : Config → ℕ → Step → Type 0
+IsScriptLine config k s = IsStep config s × (actor_of s ≡ scripted config.mutators k)
 
 -- a beginning of an interleaving of the scripts: the steps of each scripted actor's events are the first lines of its
 -- script, as many as its place says
-abbrev pub Begins : ℕ → List (List Step) → List ℕ → List Event → Type 0
-Begins m scripts places events =
+abbrev pub IsBeginning : ℕ → List (List Step) → List ℕ → List Event → Type 0
+IsBeginning m scripts places events =
     (k : ℕ) → k ≤ m → (steps_of (scripted m k) events ≡ take (slice_index places k) (slice_index_or scripts k []))
     × (slice_index places k ≤ length (slice_index_or scripts k []))
 
@@ -42,9 +42,9 @@ Begins m scripts places events =
 -- scripts
 pub record Keeps (j : JournalState) : Type 0 where
   pub runs : RunsTo j.core.config j.events j.core
-  pub begins : Begins (mutators_of j) j.scripts j.places j.events
+  pub begins : IsBeginning (mutators_of j) j.scripts j.places j.events
   pub own : AreOwn j.core.config j.events
   pub each_script : length j.scripts ≡ mutators_of j + 1
   pub each_place : length j.places ≡ mutators_of j + 1
-  pub lines : (k : ℕ) → k ≤ mutators_of j → All (IsLine j.core.config k) (script_at j k)
+  pub lines : (k : ℕ) → k ≤ mutators_of j → All (IsScriptLine j.core.config k) (script_at j k)
   pub few : mutators_of j ≤ 64

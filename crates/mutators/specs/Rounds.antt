@@ -10,7 +10,7 @@ use Rattle.rand_pcg.specs.Lcg.{Lcg, started, increment_of}
 use Rattle.rand_pcg.specs.Pcg.{multiplier_64, pcg32}
 use Rattle.mutators.specs.Scripts.{scripted, lines_of}
 use Rattle.mutators.specs.Journals.{JournalState, mutators_of, script_at}
-use Rattle.mutators.specs.Turns.{Takes, next_step}
+use Rattle.mutators.specs.Turns.{TakesTurn, next_step}
 use Rattle.mutators.specs.Draws.{after_round, has_background, lefts_of, pick, total}
 
 -- the background actor at a place: markers by number, then refiners
@@ -23,7 +23,7 @@ background_by word markers refiners = background markers (word % (markers + refi
 
 -- an actor's turn: its next step is done, or it has none and nothing changes
 abbrev pub HasTurn : JournalState → JournalState → Actor → Type 0
-HasTurn d e a = Takes d e a ⊎ ((next_step d a ≡ None) × (e ≡ d))
+HasTurn d e a = TakesTurn d e a ⊎ ((next_step d a ≡ None) × (e ≡ d))
 
 -- its turn, where there is one
 abbrev pub HasTurnIf : Bool → JournalState → JournalState → Actor → Type 0
@@ -34,7 +34,7 @@ HasTurnIf false d e a = e ≡ d
 -- one that another word picks has its turn
 pub record TakesRound (next : Lcg → ℕ × Lcg) (markers refiners : ℕ) (d : JournalState) (g : Lcg) (e : JournalState) (h : Lcg) : Type 0 where
   pub between : JournalState
-  pub line : Takes d between (scripted (mutators_of d) (pick (next g).0 (lefts_of d)))
+  pub line : TakesTurn d between (scripted (mutators_of d) (pick (next g).0 (lefts_of d)))
   pub beside : HasTurnIf (has_background markers refiners) between e (background_by (next (next g).1).0 markers refiners)
   pub words : h ≡ after_round next (has_background markers refiners) g
 

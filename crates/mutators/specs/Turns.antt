@@ -35,7 +35,7 @@ abbrev pub SamePlan : JournalState → JournalState → Type 0
 SamePlan j j' = (j'.core.config ≡ j.core.config) × (j'.scripts ≡ j.scripts)
 
 -- the actor's next step was done in the core, and it is one event more
-pub record Takes (j j' : JournalState) (a : Actor) : Type 0 where
+pub record TakesTurn (j j' : JournalState) (a : Actor) : Type 0 where
   pub step : Step
   pub reply : Reply
   pub next : next_step j a ≡ Some step
@@ -45,7 +45,7 @@ pub record Takes (j j' : JournalState) (a : Actor) : Type 0 where
 
 -- an actor that has nothing to do changes nothing: a scripted one is at its end, one in the background is idle
 abbrev pub TurnIs : Turn → JournalState → JournalState → Actor → Type 0
-TurnIs Done j j' a = Takes j j' a
+TurnIs Done j j' a = TakesTurn j j' a
 TurnIs Idle j j' a = (is_scripted a ≡ false) × (next_step j a ≡ None) × (j' ≡ j)
 TurnIs End j j' a = (is_scripted a ≡ true) × (next_step j a ≡ None) × (j' ≡ j)
 

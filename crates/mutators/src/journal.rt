@@ -196,8 +196,8 @@ fn record(
 {
     events.reserve(1)?;
     let reply = core.step(*step);
-    core.whole();
-    core.remembers();
+    core.law_whole();
+    core.law_remembers();
     note(events, actor, step, reply);
     Ok(reply)
 }

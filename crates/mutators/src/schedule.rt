@@ -12,7 +12,7 @@ ghost use Rattle.heap_steps.specs.Faults.{IsRunFault};
 ghost use Rattle.rand_pcg.specs.Lcg.{Lcg};
 ghost use Rattle.mutators.specs.Scripts.{scripted, is_scripted};
 ghost use Rattle.mutators.specs.Journals.{mutators_of};
-ghost use Rattle.mutators.specs.Turns.{SamePlan, IsCast, Takes};
+ghost use Rattle.mutators.specs.Turns.{SamePlan, IsCast, TakesTurn};
 ghost use Rattle.mutators.specs.Draws.{open_places, lefts_of, pick, total, Picks, LeavesScripts, IsRound};
 ghost use Rattle.mutators.specs.Rounds.{background, background_by, HasTurn, TakesRound, TakesRounds, AreDrawn};
 ghost use Rattle.mutators.specs.Draws.{has_background, scripted_actors, drawn_by, rest_of};
@@ -73,7 +73,7 @@ fn open_places(alloc: Global, journal: &Journal) -> Result<Vec<usize>, AllocErro
     Ok(unfinished)
 }
 
-/// Takes the n-th place out, if it isn't to be kept.
+/// TakesTurn the n-th place out, if it isn't to be kept.
 fn keep_if(places: &mut Vec<usize>, n: usize, kept: bool)
     requires { n < length places.old.items }
     ensures { places.new.items ≡ (if kept then places.old.items else (take n places.old.items ++ drop (n + 1) places.old.items)) }
@@ -93,7 +93,8 @@ fn scripted_round(
     requires some { 0 < length unfinished.old.items }
     ensures plan { SamePlan journal.old journal.new }
     ensures picks { OnOk result (Picks journal.old journal.new (pick word (lefts_of journal.old))) }
-    ensures takes { OnOk result (Takes journal.old journal.new (scripted (mutators_of journal.old) (pick word (lefts_of journal.old)))) }
+    ensures takes { OnOk result (TakesTurn journal.old journal.new (scripted (mutators_of journal.old) (pick word
+        (lefts_of journal.old)))) }
     ensures unfinished { OnOk result (unfinished.new.items ≡ open_places (lefts_of journal.new)) }
     ensures asked { (markers refiners : ℕ)
         → OnOk result (AreAsked markers refiners journal.old.events → AreAsked markers refiners journal.new.events) }

@@ -10,7 +10,7 @@ use Rattle.heap_steps.specs.declared.step.Step.{Step}
 use Rattle.heap_steps.specs.declared.step.Step.TheVariants as steps
 use Rattle.script_text.specs.Records.{actor_word, body_words, reply_words, record_text, IsToldBy}
 use Rattle.script_text.specs.Spelling.{step_words, spaced}
-use Rattle.script_text.specs.Watched.{Writer, Takes, TakesPart}
+use Rattle.script_text.specs.Watched.{Writer, TookBytes, TakesPart}
 use Rattle.script_text.proofs.BothWays.EventsRead.{some_body}
 use Rattle.script_text.proofs.Output.LinesOut.{fails}
 use Rattle.heap_words.specs.declared.config.Config.{Config}
@@ -145,13 +145,13 @@ stopped_within plan c old new lines fault h =
 
 -- all is done, and the last lines are written
 pub finished : (plan : StepList) (c : CoreState) (old now new : Writer) (lines : Lines) (r : Result ⊤ WriteFault)
-    → OnOk r ((w : Writer) (had : EventList) → AreLinesOf had w now lines → Takes w new (record_text had))
+    → OnOk r ((w : Writer) (had : EventList) → AreLinesOf had w now lines → TookBytes w new (record_text had))
     → HasDone plan [] c old now lines (Ok tt) → r ≡ Ok tt → AnswersInOrder plan old new (Ok tt)
 finished plan c old now new lines r took h is =
     let made = record_by plan h.events in
-    let took : (w : Writer) (had : EventList) → AreLinesOf had w now lines → Takes w new (record_text had) =
+    let took : (w : Writer) (had : EventList) → AreLinesOf had w now lines → TookBytes w new (record_text had) =
     subst (λ (done : Result ⊤ WriteFault). OnOk done ((w : Writer) (had : EventList) → AreLinesOf had w now lines
-    → Takes w new (record_text had))) is took in
+    → TookBytes w new (record_text had))) is took in
     (Ok made, all_done plan c old now lines (Ok tt) h, tt, took old made h.record_is)
 
 -- all is done, and the writer refused the last lines

@@ -44,7 +44,7 @@ EndsAt text past true = past + 1 ≤ end_of text
 EndsAt text past false = past ≡ end_of text
 
 -- a word from a place on, where it ends, and whether more follow
-pub record IsLast (text : List ℕ) (at : ℕ) (word : List ℕ) (past : ℕ) (more : Bool) : Type 0 where
+pub record IsLastWord (text : List ℕ) (at : ℕ) (word : List ℕ) (past : ℕ) (more : Bool) : Type 0 where
   pub words : words_from text at ≡ word ∷ words_behind text past more
   pub ends : EndsAt text past more
 

@@ -26,18 +26,18 @@ FailsToGive reads.CannotRead old new = ((some : List ℕ) × Consumes old.left n
 FailsToGive reads.NoMemory old new = (some : List ℕ) × Gives old new some
 
 -- the writer took these bytes, and refused nothing
-abbrev pub Takes : Writer → Writer → List ℕ → Type 0
-Takes old new bytes = Appends old.held new.held bytes × (new.refused ≡ old.refused)
+abbrev pub TookBytes : Writer → Writer → List ℕ → Type 0
+TookBytes old new bytes = Appends old.held new.held bytes × (new.refused ≡ old.refused)
 
 -- the writer took a beginning of these bytes, not all, and refused to take more
 abbrev pub TakesPart : Writer → Writer → List ℕ → Type 0
 TakesPart old new bytes = ((n : ℕ) × (n < length bytes) × Appends old.held new.held (take n bytes)) × IsTrue new.refused
 
 -- the writer was given nothing
-abbrev pub Stays : Writer → Writer → Type 0
-Stays old new = Keeps old.held new.held × (new.refused ≡ old.refused)
+abbrev pub WritesNothing : Writer → Writer → Type 0
+WritesNothing old new = Keeps old.held new.held × (new.refused ≡ old.refused)
 
 -- writing these bytes failed: the writer refused a part of them, or memory was refused before the first
 abbrev pub FailsToTake : WriteFault → Writer → Writer → List ℕ → Type 0
 FailsToTake writes.CannotWrite old new bytes = TakesPart old new bytes
-FailsToTake writes.NoMemory old new bytes = Stays old new
+FailsToTake writes.NoMemory old new bytes = WritesNothing old new

@@ -4,7 +4,7 @@ use Rattle.heap_words.specs.declared.config.Config.{Config}
 use Rattle.heap_steps.specs.Actors.{EventList}
 use Rattle.heap_steps.specs.declared.step.Event.{Event}
 use Rattle.script_text.specs.Records.{record_text}
-use Rattle.script_text.specs.Watched.{Writer, Takes}
+use Rattle.script_text.specs.Watched.{Writer, TookBytes}
 
 -- how many events have their line, and the bytes that are still to be written
 pub record Lines : Type 0 where
@@ -23,7 +23,7 @@ with_events r more = record { config = r.config; events = r.events ++ more }
 pub record IsWriting (text : List ℕ) (first now : Writer) (held : List ℕ) : Type 0 where
   pub done : ℕ
   pub within : done ≤ length text
-  pub written : Takes first now (take done text)
+  pub written : TookBytes first now (take done text)
   pub rest : held ≡ drop done text
 
 -- the lines are those of the record: since `first` the writer took a beginning of its text, and the rest is held

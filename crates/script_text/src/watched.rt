@@ -8,7 +8,7 @@
 ghost use Rattle.std.specs.Prelude.{◌≡◌, ◌≢◌, ◌<◌, ◌≤◌, ◌++◌, OnOk, OnErr, IfOk, IfErr, IfSome, IsTrue, false, length, take};
 ghost use Rattle.std.specs.Io.{appended_bytes};
 ghost use Rattle.std.specs.Io.KnownBytes.{IsAtEnd, Keeps};
-ghost use Rattle.script_text.specs.Watched.{Gives, FailsToGive, Takes};
+ghost use Rattle.script_text.specs.Watched.{Gives, FailsToGive, TookBytes};
 
 use crate::fault::{ReadFault, WriteFault};
 use std::io;
@@ -174,7 +174,7 @@ impl<W: Write> WatchedWriter<W> {
         requires { 0 < length bytes.now }
         ensures within { IfOk result (λ count. count ≤ length bytes.now) }
         ensures some { IfOk result (λ count. 0 < count) }
-        ensures takes { IfOk result (λ count. Takes self.old self.new (take count bytes.now)) }
+        ensures takes { IfOk result (λ count. TookBytes self.old self.new (take count bytes.now)) }
         ensures keeps { OnErr result (Keeps self.old.held self.new.held) }
         ensures refused { OnErr result (IsTrue self.new.refused) }
     {

@@ -90,7 +90,7 @@ impl Core {
         requires field { field < length (pointers_at self.old.table at) }
         ensures { Fills self.old (putting mutator object field value) at self.new }
     {
-        self.remembers();
+        self.law_remembers();
         self.put_known(mutator, object, at, field, value);
     }
 
@@ -119,7 +119,7 @@ impl Core {
         requires field { field < length (values_at self.old.table at) }
         ensures { Fills self.old (writing mutator object field value) at self.new }
     {
-        self.remembers();
+        self.law_remembers();
         self.write_known(mutator, object, at, pointers, field, value);
     }
 }

@@ -202,7 +202,7 @@ impl Core {
 
     /// Tells a proof what every core keeps, that cross-region pointers are remembered among it, and that a card is dirty exactly
     /// when it is listed, once. It does nothing.
-    pub fn remembers(&self)
+    pub fn law_remembers(&self)
         ensures core { IsCore self.now }
         ensures fields { RemembersFields self.now }
         ensures cards { ListsDirtyOnce self.now.cards }
@@ -211,7 +211,7 @@ impl Core {
     }
 
     /// Tells a proof what every table of regions is: its regions have words, and not too many of them. It does nothing.
-    pub fn shaped(&self)
+    pub fn law_shaped(&self)
         ensures { IsShaped self.now.table }
     {
         self.table.law();
@@ -219,7 +219,7 @@ impl Core {
 
     /// Tells a proof that each object that a root reaches stands, whole and once, in regions in use. It
     /// does nothing.
-    pub fn whole(&self)
+    pub fn law_whole(&self)
         ensures { (s : State) → Stands s self.now → IsWhole s.graph self.now }
     {
         self.table.law();

@@ -119,7 +119,7 @@ impl Core {
         ensures fills { Fills self.old (putting mutator object field value) at self.new }
         ensures idle { self.new.marker.running ≡ false }
     {
-        self.remembers();
+        self.law_remembers();
         let target = self.stored_in(row, mutator, value);
         if self.is_near(at, field, &target) {
             self.store_near(at, field, target);

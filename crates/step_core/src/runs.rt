@@ -44,8 +44,8 @@ impl Core {
     {
         let actor = actor_of(step);
         let reply = self.step(*step);
-        self.whole();
-        self.remembers();
+        self.law_whole();
+        self.law_remembers();
         Event {
             actor,
             step: *step,

@@ -349,7 +349,7 @@ fn check_remembered(rt: &impl Abort, core: &Core) {
 
 /// Whether a region remembers a card, and whether the card is dirty. None where there is no such region or card.
 pub(crate) fn remembers(core: &Core, region: u32, card: u32) -> Option<(bool, bool)> {
-    core.remembers();
+    core.law_remembers();
     let table = core.table();
     table.law();
     let regions = table.region_count();
@@ -382,8 +382,8 @@ fn a_run(rt: HostRuntime) -> Result<(), Fail> {
     let Ok(core) = Core::new(rt.alloc(), &CONFIG) else {
         return Err(Fail::from("a core"));
     };
-    core.remembers();
-    core.whole();
+    core.law_remembers();
+    core.law_whole();
     assert!(rt; core.queued() == 0 && !core.marking());
     Ok(())
 }

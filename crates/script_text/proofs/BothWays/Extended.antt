@@ -9,7 +9,7 @@ use Rattle.heap_steps.specs.declared.step.Event.{Event}
 use Rattle.script_text.specs.declared.fault.Kind.{Kind}
 use Rattle.script_text.specs.declared.fault.Kind.TheVariants as kinds
 use Rattle.script_text.specs.declared.fault.LineFault.{LineFault}
-use Rattle.script_text.specs.Awaited.{whole_lines, Begins, IsUnended, IsWrong}
+use Rattle.script_text.specs.Awaited.{whole_lines, EndsLine, IsUnended, IsWrong}
 use Rattle.script_text.specs.Spelling.{heap_words, spaced}
 use Rattle.script_text.specs.Records.{event_lines}
 use Rattle.script_text.specs.Lines.{pieces_of, heap_line_of}
@@ -71,7 +71,7 @@ extends lines r t read =
     sym first ∙ more ∙ ap (λ (k : ℕ). read_on r (events_of k r.config (pieces_of t))) count
 
 -- the heap line was taken
-pub head_taken : (text line rest : List ℕ) (c : Config) → Begins text line rest → heap_line_of line ≡ Ok c
+pub head_taken : (text line rest : List ℕ) (c : Config) → EndsLine text line rest → heap_line_of line ≡ Ok c
     → (head : List ℕ) × (text ≡ head ++ rest) × (record_of head ≡ Ok (begun c))
 head_taken text line rest c at ok =
     let clear = first_clear text line (pieces_of rest) at in
@@ -80,7 +80,7 @@ head_taken text line rest c at ok =
     (line ++ 10 ∷ [], cut, is_done (begun c) 1 c [] (record_of (line ++ 10 ∷ [])) refl refl on)
 
 -- the line of the next event was taken
-pub event_taken : (lines text line rest : List ℕ) (r : EventList) (e : Event) → record_of lines ≡ Ok r → Begins text line rest
+pub event_taken : (lines text line rest : List ℕ) (r : EventList) (e : Event) → record_of lines ≡ Ok r → EndsLine text line rest
     → event_line_of (length r.events + 1) r.config line ≡ Ok e →
     (more : List ℕ) × (lines ++ text ≡ more ++ rest) × (record_of more ≡ Ok (with_event r e))
 event_taken lines text line rest r e read at ok =
@@ -105,7 +105,7 @@ heap_long line long = rw (lt-ltb 120 (length line) long) refl
 -- a line that is wrong stays wrong, whatever comes after up to a line feed
 pub stays_wrong : {A : Type 0} (read : List ℕ → Result A Kind) (text : List ℕ) (k : Kind) (more : List ℕ)
     → ((line : List ℕ) → 120 < length line → read line ≡ Err kinds.LongLine) → IsWrong read text k →
-    (line : List ℕ) × (rest : List ℕ) × Begins (text ++ more ++ 10 ∷ []) line rest × (read line ≡ Err k)
+    (line : List ℕ) × (rest : List ℕ) × EndsLine (text ++ more ++ 10 ∷ []) line rest × (read line ≡ Err k)
 stays_wrong read text k more long (inl (line, rest, at, bad)) =
     let clear = first_clear text line (pieces_of rest) at in
     let cut : text ++ more ++ 10 ∷ [] ≡ line ++ 10 ∷ (rest ++ more ++ 10 ∷ []) =

@@ -8,7 +8,7 @@ use Rattle.heap_steps.specs.Actors.{EventList}
 use Rattle.heap_steps.specs.declared.step.Event.{Event}
 use Rattle.script_text.specs.Spelling.{heap_words, line}
 use Rattle.script_text.specs.Records.{event_line, event_lines, record_text}
-use Rattle.script_text.specs.Watched.{Writer, Takes, TakesPart, FailsToTake}
+use Rattle.script_text.specs.Watched.{Writer, TookBytes, TakesPart, FailsToTake}
 use Rattle.script_text.specs.declared.fault.WriteFault.{WriteFault}
 use Rattle.script_text.specs.declared.fault.WriteFault.TheVariants as writes
 use Rattle.script_text.specs.Written.{Lines, IsWriting, AreLinesOf, no_events, with_events}
@@ -26,7 +26,7 @@ lines_begin config w held put = record {
 -- some of what was held is written, and the next event's line is put
 pub line_put : (r : EventList) (e : Event) (first old new : Writer) (lines : Lines) (count : ℕ) (held left after : List ℕ)
     → AreLinesOf r first old lines → lines ≡ record { events = count; held = held }
-    → (written : List ℕ) × Takes old new written × (held ≡ written ++ left)
+    → (written : List ℕ) × TookBytes old new written × (held ≡ written ++ left)
     → after ≡ left ++ event_line (count + 1) e
     → AreLinesOf (with_events r (e ∷ [])) first new (record { events = count + 1; held = after })
 line_put r e first old new lines count held left after before is made put =

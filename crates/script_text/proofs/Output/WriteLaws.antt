@@ -5,7 +5,7 @@ use Rattle.std.proofs.Math.Seq.{take-add, take-append_seam, drop-append_seam}
 use Rattle.std.proofs.lemmas.List.{take_all, length-drop, length-append, take-append-le, drop-append-le, drop-drop}
 use Rattle.std.proofs.KnownBytes.{Appends-nil, Appends-trans}
 use Rattle.std.specs.Io.KnownBytes.{Appends}
-use Rattle.script_text.specs.Watched.{Writer, Takes, TakesPart}
+use Rattle.script_text.specs.Watched.{Writer, TookBytes, TakesPart}
 use Rattle.script_text.specs.Written.{IsWriting}
 
 -- after the first bytes, the next ones
@@ -16,21 +16,22 @@ appends_more first old new bytes at count p q =
     rw (take-add at count bytes) (Appends-trans first old new (take at bytes) (take count (drop at bytes)) p (rw whole at q))
 
 -- after the first bytes, the next ones, and no refusal
-pub takes_more : (first old new : Writer) (bytes : List ℕ) (at count : ℕ) → Takes first old (take at bytes)
-    → Takes old new (take count (take (length bytes - at) (drop at bytes))) → Takes first new (take (at + count) bytes)
+pub takes_more : (first old new : Writer) (bytes : List ℕ) (at count : ℕ) → TookBytes first old (take at bytes)
+    → TookBytes old new (take count (take (length bytes - at) (drop at bytes))) → TookBytes first new (take (at + count) bytes)
 takes_more first old new bytes at count p q = (appends_more first.held old.held new.held bytes at count p.0 q.0, q.1 ∙ p.1)
 
-takes_none : (now : Writer) → Takes now now []
+takes_none : (now : Writer) → TookBytes now now []
 takes_none now = (Appends-nil now.held, refl)
 
-takes_both : (a b c : Writer) (xs ys : List ℕ) → Takes a b xs → Takes b c ys → Takes a c (xs ++ ys)
+takes_both : (a b c : Writer) (xs ys : List ℕ) → TookBytes a b xs → TookBytes b c ys → TookBytes a c (xs ++ ys)
 takes_both a b c xs ys p q = (Appends-trans a.held b.held c.held xs ys p.0 q.0, q.1 ∙ p.1)
 
 pub nothing_written : (text : List ℕ) (now : Writer) (held : List ℕ) → held ≡ text → IsWriting text now now held
 nothing_written text now held all = record { done = 0; within = omega arith; written = takes_none now; rest = all }
 
 -- a part of what was held is written
-pub part_written : (text : List ℕ) (first old new : Writer) (held part left : List ℕ) → IsWriting text first old held → Takes old new part
+pub part_written : (text : List ℕ) (first old new : Writer) (held part left : List ℕ) → IsWriting text first old held
+    → TookBytes old new part
     → held ≡ part ++ left → IsWriting text first new left
 part_written text first old new held part left before appends cut =
     let whole : drop before.done text ≡ part ++ left = sym before.rest ∙ cut in
@@ -42,7 +43,7 @@ part_written text first old new held part left before appends cut =
     record {
       done = before.done + length part;
       within = let w = before.within in omega arith;
-      written = subst (λ (t : List ℕ). Takes first new t) (sym more)
+      written = subst (λ (t : List ℕ). TookBytes first new t) (sym more)
           (takes_both first old new (take before.done text) part before.written appends);
       rest = sym (sym (drop-drop (length part) before.done text) ∙ ap (drop (length part)) whole ∙ drop-append_seam part left);
     }
@@ -54,7 +55,7 @@ more_held text more whole first now held new before grown put =
     subst (λ (t : List ℕ). IsWriting t first now new) (sym grown) (record {
       done = before.done;
       within = let w = before.within in omega (arith, length-append text more);
-      written = subst (λ (t : List ℕ). Takes first now t) (sym (take-append-le before.done text more before.within)) before.written;
+      written = subst (λ (t : List ℕ). TookBytes first now t) (sym (take-append-le before.done text more before.within)) before.written;
       rest = put ∙ ap (λ (t : List ℕ). t ++ more) before.rest ∙ sym (drop-append-le before.done text more before.within);
     })
 

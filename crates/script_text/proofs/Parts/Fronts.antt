@@ -9,7 +9,7 @@ use Rattle.std.proofs.lemmas.Bool.{cases_lt}
 use Rattle.std.proofs.lemmas.List.{ext_get_or, get_or-take, get_or-drop, length-take-le, length-drop}
 use Rattle.script_text.specs.Feeds.{end_of}
 use Rattle.script_text.specs.Lines.{words_of}
-use Rattle.script_text.specs.Fronts.{part, IsClear, IsNext, IsLast}
+use Rattle.script_text.specs.Fronts.{part, IsClear, IsNext, IsLastWord}
 use Rattle.script_text.proofs.Parts.Splitting.{here_ends, not_yet, word_then, word_last}
 
 -- a space ends it
@@ -22,7 +22,7 @@ next_word text at past ended clear space =
 
 -- a space does where more words follow, else a line feed
 pub last_word : (text : List ℕ) (at past : ℕ) (more : Bool) → end_of text < length text → IsClear text at past
-    → get_or text past 0 ≡ cond more 32 10 → IsLast text at (part text at past) past more
+    → get_or text past 0 ≡ cond more 32 10 → IsLastWord text at (part text at past) past more
 last_word text at past true ended clear space =
     let next = next_word text at past ended clear space in
     record { words = next.words; ends = next.within }

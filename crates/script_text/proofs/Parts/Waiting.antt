@@ -7,7 +7,7 @@ use Rattle.std.proofs.lemmas.List.{length-take, length-take-le, length-drop, len
 use Rattle.std.proofs.lemmas.List.{get_or-take, get_or-drop}
 use Rattle.std.proofs.lemmas.List.Splits.{slice_split_none}
 use borrow.Rule.Slice.PartMut.{put_mid, post_of}
-use Rattle.script_text.specs.Awaited.{Begins, IsUnended}
+use Rattle.script_text.specs.Awaited.{EndsLine, IsUnended}
 use Rattle.script_text.specs.Feeds.{end_of, line_of}
 use Rattle.script_text.specs.Lines.{pieces_of}
 use Rattle.script_text.specs.Waiting.{EndsWhole}
@@ -57,7 +57,7 @@ waits_cut bytes start end w fits =
 
 -- the line at the front is taken
 line_behind : (bytes : List ℕ) (start whole end : ℕ) → EndsWhole bytes start whole end → end ≤ length bytes → start < whole
-    → Begins (waiting bytes start end) (line_of (waiting bytes start end))
+    → EndsLine (waiting bytes start end) (line_of (waiting bytes start end))
     (waiting bytes (start + (end_of (waiting bytes start end) + 1)) end)
 line_behind bytes start whole end w fits lt =
     let t = waiting bytes start end in
@@ -66,14 +66,14 @@ line_behind bytes start whole end w fits lt =
 
 pub line_taken : (self seen bytes : List ℕ) (start whole end n : ℕ) → waiting seen start end ≡ self → seen ≡ bytes
     → EndsWhole bytes start whole end → end ≤ length bytes → start < whole → n ≡ end_of (waiting seen start end) →
-    Begins self (line_of self) (waiting bytes (start + (n + 1)) end)
+    EndsLine self (line_of self) (waiting bytes (start + (n + 1)) end)
 line_taken self seen bytes start whole end n is same w fits lt ends =
     let t : waiting bytes start end ≡ self = ap (λ (b : List ℕ). waiting b start end) (sym same) ∙ is in
     let e : n ≡ end_of (waiting bytes start end) = ends ∙ ap (λ (b : List ℕ). end_of (waiting b start end)) same in
-    let here : Begins self (line_of self) (waiting bytes (start + (end_of (waiting bytes start end) + 1)) end) =
-    subst (λ (s : List ℕ). Begins s (line_of s) (waiting bytes (start + (end_of (waiting bytes start end) + 1)) end)) t
+    let here : EndsLine self (line_of self) (waiting bytes (start + (end_of (waiting bytes start end) + 1)) end) =
+    subst (λ (s : List ℕ). EndsLine s (line_of s) (waiting bytes (start + (end_of (waiting bytes start end) + 1)) end)) t
     (line_behind bytes start whole end w fits lt) in
-    subst (λ (k : ℕ). Begins self (line_of self) (waiting bytes (start + (k + 1)) end)) (sym e) here
+    subst (λ (k : ℕ). EndsLine self (line_of self) (waiting bytes (start + (k + 1)) end)) (sym e) here
 
 -- and the whole lines after it end where they did
 pub still_whole : (seen bytes : List ℕ) (start whole end n : ℕ) → seen ≡ bytes → EndsWhole bytes start whole end → end ≤ length bytes

@@ -16,7 +16,7 @@ ghost use Rattle.script_text.specs.Feeds.{end_of, line_of};
 ghost use Rattle.script_text.specs.Lines.{heap_line_of};
 ghost use Rattle.script_text.specs.Events.{event_line_of};
 ghost use Rattle.script_text.specs.Watched.{Gives, FailsToGive};
-ghost use Rattle.script_text.specs.Awaited.{Begins, IsUnended, IsNext};
+ghost use Rattle.script_text.specs.Awaited.{EndsLine, IsUnended, IsNext};
 ghost use Rattle.script_text.specs.Waiting.{EndsWhole};
 
 use crate::fault::{Kind, ReadFault};
@@ -152,9 +152,9 @@ impl LineBuffer {
 
     /// What the line at the front gives as a heap line, where it is whole. It is taken, unless it has a fault.
     fn take_heap(&mut self) -> Option<Result<Config, Kind>>
-        ensures config { IfSome result (λ r. IfOk r (λ x. (line : List ℕ) × Begins self.old line self.new × (heap_line_of line ≡ Ok x))) }
+        ensures config { IfSome result (λ r. IfOk r (λ x. (line : List ℕ) × EndsLine self.old line self.new × (heap_line_of line ≡ Ok x))) }
         ensures fault { IfSome result (λ r. IfErr r (λ k. (line : List ℕ) × (rest : List ℕ) ×
-            Begins self.old line rest × (heap_line_of line ≡ Err k) × (self.new ≡ self.old))) }
+            EndsLine self.old line rest × (heap_line_of line ≡ Err k) × (self.new ≡ self.old))) }
         ensures none { IfNone result (IsUnended self.old × (self.new ≡ self.old)) }
     {
         if self.start == self.whole {
@@ -174,9 +174,9 @@ impl LineBuffer {
     #[inline(always)]
     fn take_event(&mut self, count: u64, config: &Config) -> Option<Result<Event, Kind>>
         ensures event { IfSome result (λ r. IfOk r (λ e. (line : List ℕ) ×
-            Begins self.old line self.new × (event_line_of count config.now line ≡ Ok e) × IsEvent config.now e)) }
+            EndsLine self.old line self.new × (event_line_of count config.now line ≡ Ok e) × IsEvent config.now e)) }
         ensures fault { IfSome result (λ r. IfErr r (λ k. (line : List ℕ) × (rest : List ℕ) ×
-            Begins self.old line rest × (event_line_of count config.now line ≡ Err k) × (self.new ≡ self.old))) }
+            EndsLine self.old line rest × (event_line_of count config.now line ≡ Err k) × (self.new ≡ self.old))) }
         ensures none { IfNone result (IsUnended self.old × (self.new ≡ self.old)) }
     {
         if self.start == self.whole {

@@ -14,7 +14,7 @@ ghost use Rattle.script_text.specs.Feeds.{end_of};
 ghost use Rattle.script_text.specs.Reading.{small, most_weaks};
 ghost use Rattle.script_text.specs.Spelling.{register_word, global_word, value_word};
 ghost use Rattle.script_text.specs.Fits.{RegisterFits, GlobalFits, ValueFits};
-ghost use Rattle.script_text.specs.Fronts.{part, words_from, words_behind, EndsAt, IsClear, IsNext, IsLast};
+ghost use Rattle.script_text.specs.Fronts.{part, words_from, words_behind, EndsAt, IsClear, IsNext, IsLastWord};
 
 use crate::read::words::digit;
 use heap_steps::{GlobalRoot, Register};
@@ -114,7 +114,7 @@ pub(crate) fn next_number(text: &[u8], at: usize) -> Option<Found<u32>>
 pub(crate) fn last_number(text: &[u8], at: usize, more: bool) -> Option<Found<u32>>
     requires ended { end_of text.now < length text.now }
     requires within { at ≤ end_of text.now }
-    ensures { IfSome result (λ w. IsLast text.now at (decimal w.value) w.past more × (w.value ≤ small)) }
+    ensures { IfSome result (λ w. IsLastWord text.now at (decimal w.value) w.past more × (w.value ≤ small)) }
 {
     let word = some!(number_at(text, at));
     if !ends_word(text, word.past, more) {
@@ -162,7 +162,7 @@ pub(crate) fn last_lettered(text: &[u8], at: usize, letter: u8, more: bool) -> O
     requires ended { end_of text.now < length text.now }
     requires within { at ≤ end_of text.now }
     requires letter { 32 < letter }
-    ensures { IfSome result (λ w. IsLast text.now at (letter ∷ decimal w.value) w.past more × (w.value ≤ small)) }
+    ensures { IfSome result (λ w. IsLastWord text.now at (letter ∷ decimal w.value) w.past more × (w.value ≤ small)) }
 {
     let word = some!(lettered_at(text, at, letter));
     if !ends_word(text, word.past, more) {
@@ -208,7 +208,7 @@ pub(crate) fn next_register(text: &[u8], at: usize) -> Option<Found<Register>>
 pub(crate) fn last_register(text: &[u8], at: usize, more: bool) -> Option<Found<Register>>
     requires ended { end_of text.now < length text.now }
     requires within { at ≤ end_of text.now }
-    ensures { IfSome result (λ w. IsLast text.now at (register_word w.value) w.past more × RegisterFits w.value) }
+    ensures { IfSome result (λ w. IsLastWord text.now at (register_word w.value) w.past more × RegisterFits w.value) }
 {
     let word = some!(last_lettered(text, at, b'r', more));
     let value = Register { number: word.value };
@@ -238,7 +238,7 @@ pub(crate) fn next_global(text: &[u8], at: usize) -> Option<Found<GlobalRoot>>
 pub(crate) fn last_global(text: &[u8], at: usize, more: bool) -> Option<Found<GlobalRoot>>
     requires ended { end_of text.now < length text.now }
     requires within { at ≤ end_of text.now }
-    ensures { IfSome result (λ w. IsLast text.now at (global_word w.value) w.past more × GlobalFits w.value) }
+    ensures { IfSome result (λ w. IsLastWord text.now at (global_word w.value) w.past more × GlobalFits w.value) }
 {
     let word = some!(last_lettered(text, at, b'g', more));
     let value = GlobalRoot { number: word.value };
@@ -271,7 +271,7 @@ pub(crate) fn last_literal(text: &[u8], at: usize, word: &[u8], more: bool) -> O
     requires ended { end_of text.now < length text.now }
     requires within { at ≤ end_of text.now }
     requires letters { All (λ b. 32 < b) word.now }
-    ensures { IfSome result (λ past. IsLast text.now at word.now past more) }
+    ensures { IfSome result (λ past. IsLastWord text.now at word.now past more) }
 {
     let past = some!(word_end(text, at, word));
     if !ends_word(text, past, more) {
@@ -314,7 +314,7 @@ pub(crate) fn number_after(text: &[u8], at: usize, verb: &[u8], more: bool) -> O
 pub(crate) fn last_value(text: &[u8], at: usize, more: bool) -> Option<Found<Option<Register>>>
     requires ended { end_of text.now < length text.now }
     requires within { at ≤ end_of text.now }
-    ensures { IfSome result (λ v. IsLast text.now at (value_word v.value) v.past more × ValueFits v.value) }
+    ensures { IfSome result (λ v. IsLastWord text.now at (value_word v.value) v.past more × ValueFits v.value) }
 {
     if text[at] == b'r' {
         let word = some!(last_register(text, at, more));

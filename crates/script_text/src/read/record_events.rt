@@ -110,7 +110,8 @@ impl<'a> RecordEvents<'a> {
         self.config
     }
 
-    /// Takes the next event, where its line is one of the usual ones, which are read in one go. Where it isn't, or no event is left, none
+    /// TookBytes the next event, where its line is one of the usual ones, which are read in one go. Where it isn't, or no event is left,
+        none
     /// is taken and nothing changes: `next_event` takes whatever is left. The event is made where the caller has it, and not copied.
     ///
     /// ```rust
@@ -142,7 +143,8 @@ impl<'a> RecordEvents<'a> {
         Some(event)
     }
 
-    /// Takes the next event, read from its line. None where no event is left. There, and where the next line has a fault, nothing changes.
+    /// TookBytes the next event, read from its line. None where no event is left. There, and where the next line has a fault, nothing
+        changes.
     ///
     /// ```rust
     /// let history = parse_record(alloc, record)?;

@@ -12,7 +12,7 @@ ghost use Rattle.std.specs.Prelude.{◌≡◌, ◌≢◌, ◌≤◌, ◌<◌, �
 ghost use Rattle.heap_steps.specs.Actors.{EventList};
 ghost use Rattle.heap_steps.specs.declared.step.Event as events;
 ghost use Rattle.script_text.specs.Records.{record_text, IsToldBy};
-ghost use Rattle.script_text.specs.Watched.{Writer, Takes, TakesPart, FailsToTake};
+ghost use Rattle.script_text.specs.Watched.{Writer, TookBytes, TakesPart, FailsToTake};
 ghost use Rattle.script_text.specs.Written.{AreLinesOf, no_events, with_events};
 
 use crate::fault::WriteFault;
@@ -40,7 +40,7 @@ fn make_room<W: Write>(
     requires within { at ≤ ROOM }
     ensures room { IfOk result (λ left. left + LINE_ROOM ≤ ROOM) }
     ensures ok { IfOk result (λ left. (written : List ℕ) ×
-        Takes writer.old writer.new written × (take at buffer.now ≡ written ++ take left buffer.now)) }
+        TookBytes writer.old writer.new written × (take at buffer.now ≡ written ++ take left buffer.now)) }
     ensures err { OnErr result (TakesPart writer.old writer.new (take at buffer.now)) }
     ensures memory { result ≢ Err WriteFault.NoMemory }
 {
@@ -179,7 +179,7 @@ impl RecordLines {
     /// ```
     pub fn finish<W: Write>(self, writer: &mut WatchedWriter<W>) -> Result<(), WriteFault>
         ensures ok { OnOk result ((first : Writer) (r : EventList) → AreLinesOf r first writer.old self
-            → Takes first writer.new (record_text r)) }
+            → TookBytes first writer.new (record_text r)) }
         ensures err { OnErr result ((first : Writer) (r : EventList) → AreLinesOf r first writer.old self
             → TakesPart first writer.new (record_text r)) }
         ensures memory { result ≢ Err WriteFault.NoMemory }
@@ -224,7 +224,7 @@ pub fn write_record<W: Write>(
     history: &Record,
     writer: &mut WatchedWriter<W>,
 ) -> Result<(), WriteFault>
-    ensures ok { OnOk result (Takes writer.old writer.new (record_text history.now)) }
+    ensures ok { OnOk result (TookBytes writer.old writer.new (record_text history.now)) }
     ensures err { IfErr result (λ fault. FailsToTake fault writer.old writer.new (record_text history.now)) }
 {
     let Ok(mut lines) = RecordLines::new(alloc, &history.config()) else {

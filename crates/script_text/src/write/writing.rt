@@ -1,7 +1,7 @@
 //! Bytes, written in their order.
 
 ghost use Rattle.std.specs.Prelude.{◌≢◌, OnOk, OnErr};
-ghost use Rattle.script_text.specs.Watched.{Takes, TakesPart};
+ghost use Rattle.script_text.specs.Watched.{TookBytes, TakesPart};
 
 use crate::fault::WriteFault;
 use crate::watched::WatchedWriter;
@@ -15,7 +15,7 @@ use std::io::Write;
 /// assert_eq!(rt; writer.into_inner().as_slice(), b"yes 1\n".as_slice());
 /// ```
 pub fn write_bytes<W: Write>(writer: &mut WatchedWriter<W>, bytes: &[u8]) -> Result<(), WriteFault>
-    ensures ok { OnOk result (Takes writer.old writer.new bytes.now) }
+    ensures ok { OnOk result (TookBytes writer.old writer.new bytes.now) }
     ensures err { OnErr result (TakesPart writer.old writer.new bytes.now) }
     ensures memory { result ≢ Err WriteFault.NoMemory }
 {

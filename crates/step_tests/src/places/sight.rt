@@ -160,7 +160,7 @@ pub(crate) fn named(core: &Core, place: usize) -> Option<Seen> {
 fn space_seen(core: &Core, number: u32) -> Space
     requires { number < core.now.config.regions }
 {
-    core.remembers();
+    core.law_remembers();
     let region = RegionNo::new(number);
     let table = core.table();
     let tams = &core.marker().tams;

@@ -7,7 +7,7 @@ use Rattle.collection.proofs.compaction.compact_for.Goals as goal
 pub returns-then-not-compact_once-clause-collects : goal.returns-then-not-compact_once-clause-collects
 returns-then-not-compact_once-clause-collects g c =
     let most = end_within c.args.core.now.table in
-    let count = c.remembers.ensures.core.layers.region_count in
+    let count = c.law_remembers.ensures.core.layers.region_count in
     chain g.W.Watch.sees (ordinary_end c.args.core.now.table - ordinary_end c.compactions.core.table) 1 _
     c.args.core.now c.compactions.core c.compact_once.new.core c.args.watch.now c.compactions.watch c.compact_once.new.watch
     (omega (arith, most, count)) c.compactions.invariant.collects c.compact_once.ensures.collects
@@ -24,7 +24,7 @@ returns-then-is_spared-clause-packed g c graph q = c.compact_once.ensures.packed
 pub returns-then-is_spared-clause-collects : goal.returns-then-is_spared-clause-collects
 returns-then-is_spared-clause-collects g c =
     let most = end_within c.args.core.now.table in
-    let count = c.remembers.ensures.core.layers.region_count in
+    let count = c.law_remembers.ensures.core.layers.region_count in
     chain g.W.Watch.sees (ordinary_end c.args.core.now.table - ordinary_end c.compactions.core.table) 1 _
     c.args.core.now c.compactions.core c.compact_once.new.core c.args.watch.now c.compactions.watch c.compact_once.new.watch
     (omega (arith, most, count)) c.compactions.invariant.collects c.compact_once.ensures.collects

@@ -10,9 +10,9 @@ use Rattle.collection.proofs.room.fits_open.Goals.{in-Some+else-size-open, in_de
 pub returns-then-size-open-clause-fits : goal.returns-then-size-open-clause-fits
 returns-then-size-open-clause-fits c =
     let small : 2 * c.args.size ≤ c.args.core.now.table.words_per_region =
-    (let e = c.remembers.ensures.core.layers.region_size in let s = c.requires.small in omega (arith, e, s)) in
+    (let e = c.law_remembers.ensures.core.layers.region_size in let s = c.requires.small in omega (arith, e, s)) in
     let lt : c.args.mutator < length c.args.core.now.buffers.open_buffers =
-    (let e = c.remembers.ensures.core.layers.open_buffers in let s = c.requires.known in omega (arith, e, s)) in
+    (let e = c.law_remembers.ensures.core.layers.open_buffers in let s = c.requires.known in omega (arith, e, s)) in
     let got = sym (ap (λ (b : Buffers). slice_get b.open_buffers c.args.mutator) c.buffers.ensures) ∙ c.open_buffer.ensures
     ∙ ap Some c.in-Some.is in (
       λ t. in_open c.args.core.now c.args.mutator c.args.size small c.in-Some.open
@@ -23,9 +23,9 @@ returns-then-size-open-clause-fits c =
 pub returns-then-size-buffer-clause-fits : goal.returns-then-size-buffer-clause-fits
 returns-then-size-buffer-clause-fits c =
     let small : 2 * c.args.size ≤ c.args.core.now.table.words_per_region =
-    (let e = c.remembers.ensures.core.layers.region_size in let s = c.requires.small in omega (arith, e, s)) in
+    (let e = c.law_remembers.ensures.core.layers.region_size in let s = c.requires.small in omega (arith, e, s)) in
     let lt : c.args.mutator < length c.args.core.now.buffers.open_buffers =
-    (let e = c.remembers.ensures.core.layers.open_buffers in let s = c.requires.known in omega (arith, e, s)) in
+    (let e = c.law_remembers.ensures.core.layers.open_buffers in let s = c.requires.known in omega (arith, e, s)) in
     let got = sym (ap (λ (b : Buffers). slice_get b.open_buffers c.args.mutator) c.buffers.ensures) ∙ c.open_buffer.ensures in
     let read = buffer_is c.args.core.now c.args.mutator c.args.size small c.open_buffer.result lt got in
     let out : IsOut c.args.core.now c.args.mutator c.args.size small = elim c.match-open_buffer.branch [
@@ -33,7 +33,7 @@ returns-then-size-buffer-clause-fits c =
           w.if-size-open.false
       | in_default w ↦ none_open c.args.core.now c.args.mutator c.args.size small (read ∙ w.in_default.is)
     ] in
-    let words = c.remembers.ensures.core.layers.buffer_size in
+    let words = c.law_remembers.ensures.core.layers.buffer_size in
     let same = ap (λ (x : Config). x.buffer) c.config-buffer.ensures.config in
     let cond = c.if-size-buffer.true in
     in_new c.args.core.now c.args.mutator c.args.size small out (omega (arith, words, same, cond)) c.has_rest.result
@@ -42,9 +42,9 @@ returns-then-size-buffer-clause-fits c =
 pub returns-else-size-buffer-clause-fits : goal.returns-else-size-buffer-clause-fits
 returns-else-size-buffer-clause-fits c =
     let small : 2 * c.args.size ≤ c.args.core.now.table.words_per_region =
-    (let e = c.remembers.ensures.core.layers.region_size in let s = c.requires.small in omega (arith, e, s)) in
+    (let e = c.law_remembers.ensures.core.layers.region_size in let s = c.requires.small in omega (arith, e, s)) in
     let lt : c.args.mutator < length c.args.core.now.buffers.open_buffers =
-    (let e = c.remembers.ensures.core.layers.open_buffers in let s = c.requires.known in omega (arith, e, s)) in
+    (let e = c.law_remembers.ensures.core.layers.open_buffers in let s = c.requires.known in omega (arith, e, s)) in
     let got = sym (ap (λ (b : Buffers). slice_get b.open_buffers c.args.mutator) c.buffers.ensures) ∙ c.open_buffer.ensures in
     let read = buffer_is c.args.core.now c.args.mutator c.args.size small c.open_buffer.result lt got in
     let out : IsOut c.args.core.now c.args.mutator c.args.size small = elim c.match-open_buffer.branch [
@@ -52,7 +52,7 @@ returns-else-size-buffer-clause-fits c =
           w.if-size-open.false
       | in_default w ↦ none_open c.args.core.now c.args.mutator c.args.size small (read ∙ w.in_default.is)
     ] in
-    let words = c.remembers.ensures.core.layers.buffer_size in
+    let words = c.law_remembers.ensures.core.layers.buffer_size in
     let same = ap (λ (x : Config). x.buffer) c.config-buffer.ensures.config in
     let cond = c.if-size-buffer.false in
     alone_in c.args.core.now c.args.mutator c.args.size small out (omega (arith, words, same, cond)) c.has_rest-else-size-buffer.result
@@ -61,9 +61,9 @@ returns-else-size-buffer-clause-fits c =
 pub returns-then-size-buffer-clause-takes : goal.returns-then-size-buffer-clause-takes
 returns-then-size-buffer-clause-takes c e =
     let small : 2 * c.args.size ≤ c.args.core.now.table.words_per_region =
-    (let e = c.remembers.ensures.core.layers.region_size in let s = c.requires.small in omega (arith, e, s)) in
+    (let e = c.law_remembers.ensures.core.layers.region_size in let s = c.requires.small in omega (arith, e, s)) in
     let lt : c.args.mutator < length c.args.core.now.buffers.open_buffers =
-    (let e = c.remembers.ensures.core.layers.open_buffers in let s = c.requires.known in omega (arith, e, s)) in
+    (let e = c.law_remembers.ensures.core.layers.open_buffers in let s = c.requires.known in omega (arith, e, s)) in
     let got = sym (ap (λ (b : Buffers). slice_get b.open_buffers c.args.mutator) c.buffers.ensures) ∙ c.open_buffer.ensures in
     let read = buffer_is c.args.core.now c.args.mutator c.args.size small c.open_buffer.result lt got in
     let out : IsOut c.args.core.now c.args.mutator c.args.size small = elim c.match-open_buffer.branch [
@@ -71,7 +71,7 @@ returns-then-size-buffer-clause-takes c e =
           w.if-size-open.false
       | in_default w ↦ none_open c.args.core.now c.args.mutator c.args.size small (read ∙ w.in_default.is)
     ] in
-    let words = c.remembers.ensures.core.layers.buffer_size in
+    let words = c.law_remembers.ensures.core.layers.buffer_size in
     let same = ap (λ (x : Config). x.buffer) c.config-buffer.ensures.config in
     let cond = c.if-size-buffer.true in
     new_taken c.args.core.now c.args.mutator c.args.size small out (omega (arith, words, same, cond)) c.has_rest.result
@@ -80,9 +80,9 @@ returns-then-size-buffer-clause-takes c e =
 pub returns-else-size-buffer-clause-takes : goal.returns-else-size-buffer-clause-takes
 returns-else-size-buffer-clause-takes c e =
     let small : 2 * c.args.size ≤ c.args.core.now.table.words_per_region =
-    (let e = c.remembers.ensures.core.layers.region_size in let s = c.requires.small in omega (arith, e, s)) in
+    (let e = c.law_remembers.ensures.core.layers.region_size in let s = c.requires.small in omega (arith, e, s)) in
     let lt : c.args.mutator < length c.args.core.now.buffers.open_buffers =
-    (let e = c.remembers.ensures.core.layers.open_buffers in let s = c.requires.known in omega (arith, e, s)) in
+    (let e = c.law_remembers.ensures.core.layers.open_buffers in let s = c.requires.known in omega (arith, e, s)) in
     let got = sym (ap (λ (b : Buffers). slice_get b.open_buffers c.args.mutator) c.buffers.ensures) ∙ c.open_buffer.ensures in
     let read = buffer_is c.args.core.now c.args.mutator c.args.size small c.open_buffer.result lt got in
     let out : IsOut c.args.core.now c.args.mutator c.args.size small = elim c.match-open_buffer.branch [
@@ -90,7 +90,7 @@ returns-else-size-buffer-clause-takes c e =
           w.if-size-open.false
       | in_default w ↦ none_open c.args.core.now c.args.mutator c.args.size small (read ∙ w.in_default.is)
     ] in
-    let words = c.remembers.ensures.core.layers.buffer_size in
+    let words = c.law_remembers.ensures.core.layers.buffer_size in
     let same = ap (λ (x : Config). x.buffer) c.config-buffer.ensures.config in
     let cond = c.if-size-buffer.false in
     alone_taken c.args.core.now c.args.mutator c.args.size small out (omega (arith, words, same, cond)) c.has_rest-else-size-buffer.result

@@ -11,7 +11,7 @@ returns-then-free_regions-gt2-clause-spared c e =
     let b = c.from.ensures in
     let d = c.from-2.ensures in
     let f = ap (λ (x : Config). x.words) c.config.ensures.config in
-    let h = c.remembers.ensures.core.layers.region_size in
+    let h = c.law_remembers.ensures.core.layers.region_size in
     let i = c.requires.asked.size in
     let j = c.if-free_regions-gt2.true in
     let k = c.free_regions.ensures in
@@ -23,7 +23,7 @@ returns-else-from-clause-spared c e =
     let b = c.from.ensures in
     let d = c.from-2.ensures in
     let f = ap (λ (x : Config). x.words) c.config.ensures.config in
-    let h = c.remembers.ensures.core.layers.region_size in
+    let h = c.law_remembers.ensures.core.layers.region_size in
     let i = c.requires.asked.size in
     run_spared c.args.core.now c.args.op.now c.requires.asked.new (omega (arith, a, b, d, f, h, i))
     (subst (λ (n : ℕ). HasRun c.args.core.now n) c.requires.asked.size (c.has_run.ensures.0 e))
@@ -42,7 +42,7 @@ returns-else-from-clause-full c e =
     let b = c.from.ensures in
     let d = c.from-2.ensures in
     let f = ap (λ (x : Config). x.words) c.config.ensures.config in
-    let h = c.remembers.ensures.core.layers.region_size in
+    let h = c.law_remembers.ensures.core.layers.region_size in
     let i = c.requires.asked.size in
     run_full c.args.core.now c.args.op.now c.requires.asked.new (omega (arith, a, b, d, f, h, i))
     (λ run. clash c.has_run.result (c.has_run.ensures.1 (subst (λ (n : ℕ). HasRun c.args.core.now n) (sym i) run)) e)

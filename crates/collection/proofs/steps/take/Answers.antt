@@ -11,9 +11,10 @@ returns-clause-collects g c =
     let e : Event = record { actor = actors.Collector; step = steps.Collector c.args.step; reply = c.step-reply.result } in
     one g.W.Watch.sees c.args.core.now c.step-reply.new.self c.args.watch.now c.took.new.self e c.args.step refl refl c.took.ensures
     (λ s stands. passes s e c.args.core.now c.step-reply.new.self (c.step-reply.ensures.follows s stands) c.step-reply.ensures.does
-    (c.step-reply.ensures.full s stands) c.remembers-2.ensures.core c.remembers-2.ensures.cards c.whole.ensures)
-    (keeps c.args.core.now c.step-reply.new.self c.remembers.ensures.core c.shaped.ensures c.shaped-2.ensures
-    (same_length c.args.core.now c.step-reply.new.self c.remembers.ensures.core c.remembers-2.ensures.core c.step-reply.ensures.config)
+    (c.step-reply.ensures.full s stands) c.law_remembers-2.ensures.core c.law_remembers-2.ensures.cards c.law_whole.ensures)
+    (keeps c.args.core.now c.step-reply.new.self c.law_remembers.ensures.core c.law_shaped.ensures c.law_shaped-2.ensures
+    (same_length c.args.core.now c.step-reply.new.self c.law_remembers.ensures.core c.law_remembers-2.ensures.core
+        c.step-reply.ensures.config)
     c.args.step c.step-reply.result c.step-reply.ensures.does)
     c.step-reply.ensures.config
     (next_stays c.args.core.now c.step-reply.new.self c.args.step c.step-reply.result c.step-reply.ensures.does)
@@ -23,9 +24,10 @@ returns-clause-some g c =
     let e : Event = record { actor = actors.Collector; step = steps.Collector c.args.step; reply = c.step-reply.result } in
     one_some g.W.Watch.sees c.args.core.now c.step-reply.new.self c.args.watch.now c.took.new.self e c.args.step refl refl c.took.ensures
     (λ s stands. passes s e c.args.core.now c.step-reply.new.self (c.step-reply.ensures.follows s stands) c.step-reply.ensures.does
-    (c.step-reply.ensures.full s stands) c.remembers-2.ensures.core c.remembers-2.ensures.cards c.whole.ensures)
-    (keeps c.args.core.now c.step-reply.new.self c.remembers.ensures.core c.shaped.ensures c.shaped-2.ensures
-    (same_length c.args.core.now c.step-reply.new.self c.remembers.ensures.core c.remembers-2.ensures.core c.step-reply.ensures.config)
+    (c.step-reply.ensures.full s stands) c.law_remembers-2.ensures.core c.law_remembers-2.ensures.cards c.law_whole.ensures)
+    (keeps c.args.core.now c.step-reply.new.self c.law_remembers.ensures.core c.law_shaped.ensures c.law_shaped-2.ensures
+    (same_length c.args.core.now c.step-reply.new.self c.law_remembers.ensures.core c.law_remembers-2.ensures.core
+        c.step-reply.ensures.config)
     c.args.step c.step-reply.result c.step-reply.ensures.does)
     c.step-reply.ensures.config
     (next_stays c.args.core.now c.step-reply.new.self c.args.step c.step-reply.result c.step-reply.ensures.does)

@@ -10,7 +10,7 @@ pub returns-then-free_regions-config-clause-collects :
     goal.returns-then-free_regions-config-clause-collects
 returns-then-free_regions-config-clause-collects g c =
     let a = count_by-le-length is_free c.pauses.core.table.regions in
-    let b = c.remembers.ensures.core.layers.region_count in
+    let b = c.law_remembers.ensures.core.layers.region_count in
     let e = ap (λ (x : Config). x.regions) c.pauses.invariant.collects.config in
     more g.W.Watch.sees _ _ c.args.core.now c.pauses.core c.args.watch.now c.pauses.watch (omega
     (arith, a, b, e)) c.pauses.invariant.collects
@@ -18,7 +18,7 @@ returns-then-free_regions-config-clause-collects g c =
 pub returns-then-free_regions-config-clause-packed :
     goal.returns-then-free_regions-config-clause-packed
 returns-then-free_regions-config-clause-packed g c s q two =
-    all_free s.graph c.pauses.core c.remembers.ensures.core
+    all_free s.graph c.pauses.core c.law_remembers.ensures.core
     (let a = c.if-free_regions-config.true in
     let b = c.free_regions.ensures in
     let e = ap (λ (x : Config). x.regions) c.config.ensures.config in
@@ -49,5 +49,5 @@ pauses-preserved g c =
 
 pub returns-then-is_packed-clause-packed : goal.returns-then-is_packed-clause-packed
 returns-then-is_packed-clause-packed g c s q two =
-    dense_packed s c.pauses.core c.remembers.ensures.core c.shaped.ensures (c.pauses.invariant.quiet s q)
+    dense_packed s c.pauses.core c.law_remembers.ensures.core c.law_shaped.ensures (c.pauses.invariant.quiet s q)
     (c.is_packed.ensures c.if-is_packed.true)

@@ -2,7 +2,7 @@ use Rattle.std.proofs.Common.{refl, subst}
 use Rattle.heap_steps.specs.declared.step.Op.{Op}
 use Rattle.step_core.specs.Making.{HasMade}
 use Rattle.collection.proofs.Took.{unseen_made}
-use Rattle.g1heap_c.specs.Policies.{Asks}
+use Rattle.g1heap_c.specs.Policies.{AnswersMake}
 use Rattle.std.specs.Prelude.{Some}
 use Rattle.g1heap_c.proofs.made_filled.make_and_fill.Goals as goal
 
@@ -14,7 +14,7 @@ fill_made-requires-clause-made g c =
 pub returns : goal.returns
 returns g c = record {
   made = c.make-reply.new.core;
-  asks = subst (λ (op : Op). Asks c.args.core.now op (c.answer_of.result) (Some c.make-reply.new.core)) c.plain-op.ensures.op
+  asks = subst (λ (op : Op). AnswersMake c.args.core.now op (c.answer_of.result) (Some c.make-reply.new.core)) c.plain-op.ensures.op
       (record {
         reply = c.make-reply.result;
         core = c.make-reply.new.core;

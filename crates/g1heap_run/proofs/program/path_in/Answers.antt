@@ -1,7 +1,7 @@
 use Rattle.std.proofs.Common.{◌≡◌, ◌≤◌, ◌<◌, ◌∙◌, ◌∷◌, [], ℕ, List, ap, arith, codes, length, map, refl, slice_index_or}
 use Rattle.std.proofs.Common.{string_bytes, subst, sym}
 use Rattle.std.proofs.lemmas.Slice.Eq.{bytes_eq-Decides}
-use Rattle.g1heap_run.specs.Alone.{IsPath}
+use Rattle.g1heap_run.specs.Alone.{IsPathWord}
 use Rattle.g1heap_run.proofs.program.path_in.Goals as goal
 
 -- three words, by the second and the third
@@ -26,4 +26,4 @@ returns-then-is_path-clause-some c =
     let words : map string_bytes c.args.words.now ≡ found.0 ∷ codes "run" ∷ c.as_str-then-is_path.result.now ∷ [] =
     found.1 ∙ ap (λ (x : List ℕ). found.0 ∷ x ∷ string_bytes path ∷ []) run
     ∙ ap (λ (x : List ℕ). found.0 ∷ codes "run" ∷ x ∷ []) same in
-    ((found.0, words), subst IsPath (c.as_str-then-eq.ensures.value ∙ same) (c.is_path.ensures.yes c.if-is_path.true))
+    ((found.0, words), subst IsPathWord (c.as_str-then-eq.ensures.value ∙ same) (c.is_path.ensures.yes c.if-is_path.true))

@@ -8,7 +8,7 @@ use Rattle.heap_dump.proofs.shares.part_of.Goals as goal
 
 pub get-requires : goal.get-requires
 get-requires c =
-    let known = c.remembers.ensures.core.layers.marker.previous.each_word in
+    let known = c.law_remembers.ensures.core.layers.marker.previous.each_word in
     let shaped = subst IsShaped c.table.ensures c.law.ensures in
     let there = subst (λ (s : Shape). IsPlacedTile c.args.core.now.table c.args.at s) c.in-Object.is c.requires in
     let word = shape_within c.args.core.now.table c.args.at _ _ _ (length c.args.core.now.marker.bitmaps.previous) shaped known there in

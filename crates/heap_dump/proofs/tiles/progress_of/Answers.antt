@@ -6,4 +6,4 @@ use Rattle.heap_dump.proofs.tiles.progress_of.Goals as goal
 pub get-requires : goal.get-requires
 get-requires c =
     marked_word c.args.core.now _ _ _ (ap (λ (m : Marker). length m.bitmaps.next) c.marker-marker.ensures
-    ∙ c.remembers.ensures.core.layers.marker.next.each_word) c.table.ensures c.law.ensures c.requires
+    ∙ c.law_remembers.ensures.core.layers.marker.next.each_word) c.table.ensures c.law.ensures c.requires

@@ -9,5 +9,5 @@ returns c = record {
   config = c.step-reply.ensures.config;
   runs = λ first es s ran.
       goes_on s first es _ c.args.core.now c.step-reply.new.self ran c.step-reply.ensures.follows c.step-reply.ensures.does
-      c.step-reply.ensures.full c.remembers.ensures.core c.remembers.ensures.cards c.whole.ensures;
+      c.step-reply.ensures.full c.law_remembers.ensures.core c.law_remembers.ensures.cards c.law_whole.ensures;
 }

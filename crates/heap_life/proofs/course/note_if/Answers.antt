@@ -3,7 +3,7 @@ use Rattle.heap_life.proofs.Shown.{noted_told, not_noted}
 use Rattle.heap_life.proofs.course.note_if.Goals as goal
 
 pub tell-requires : goal.tell-requires
-tell-requires c = c.requires ∙ sym c.remembers.ensures.core.layers.region_count
+tell-requires c = c.requires ∙ sym c.law_remembers.ensures.core.layers.region_count
 
 pub returns-then-not-due : goal.returns-then-not-due
 returns-then-not-due c =

@@ -10,7 +10,7 @@ use Rattle.graph_runs.specs.State.{first_state}
 use Rattle.heap_steps.specs.Faults.{IsRunFault}
 use Rattle.step_core.specs.Passages.{RunsTo, step_in, actor_in}
 use Rattle.step_core.proofs.Cores.Following.{passage_is_run}
-use Rattle.heap_life.specs.Paces.{IsDue}
+use Rattle.heap_life.specs.Paces.{IsMoment}
 use Rattle.heap_life.specs.declared.pace.Pace.{Pace}
 use Rattle.heap_life.specs.declared.life.Moment.{Moment}
 use Rattle.heap_life.specs.Lives.{IsMomentOf, HasMoment}
@@ -56,11 +56,11 @@ returns-in-Ok-life_of-clause-life c =
       pace = pace_for c.args.every c.from.result c.most_moments.result config c.args.events.now.config c.events.result.now
           c.args.events.now.events life.pace c.pace_of-pace.result
           c.pace_of-pace.ensures c.from.ensures c.most_moments.ensures is c.events.ensures.events pace;
-      due = subst (λ (p : Pace). (n : ℕ) → n ≤ length c.args.events.now.events → IsDue p c.args.events.now.events n → HasMoment ms n)
-          (sym pace) (subst (λ (l : List Event). (n : ℕ) → n ≤ length l → IsDue c.pace_of-pace.result l n
+      due = subst (λ (p : Pace). (n : ℕ) → n ≤ length c.args.events.now.events → IsMoment p c.args.events.now.events n → HasMoment ms n)
+          (sym pace) (subst (λ (l : List Event). (n : ℕ) → n ≤ length l → IsMoment c.pace_of-pace.result l n
           → HasMoment ms n) events lived.due);
-      only = subst (λ (p : Pace). All (λ (m : Moment). IsDue p c.args.events.now.events m.event) ms) (sym pace)
-          (subst (λ (l : List Event). All (λ (m : Moment). IsDue c.pace_of-pace.result l m.event) ms) events lived.only);
+      only = subst (λ (p : Pace). All (λ (m : Moment). IsMoment p c.args.events.now.events m.event) ms) (sym pace)
+          (subst (λ (l : List Event). All (λ (m : Moment). IsMoment c.pace_of-pace.result l m.event) ms) events lived.only);
       rising = lived.rising;
       shown = shown;
       moments = lived.told.moments;

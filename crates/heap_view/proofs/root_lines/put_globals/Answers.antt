@@ -7,6 +7,6 @@ put_roots-requires-clause-within c =
     omega (
       arith,
       c.globals-end.ensures ∙ ap (λ (p : Places). p.globals) (c.places.ensures.places ∙ c.roots.ensures.places),
-      c.remembers.ensures.core.places,
+      c.law_remembers.ensures.core.places,
       ap (λ (l : List (Option ℕ)). length l) c.roots-2.ensures.words,
     )

@@ -21,4 +21,4 @@ put_roots-requires-clause-within c =
     let end = c.register-end.ensures ∙ ap₂ (λ (p : Places) (n : ℕ). register_place p c.args.mutator n) places
     (c.registers.ensures ∙ ap (λ (p : Places). p.registers) places) in
     let row = row_within (places_of c.args.core.now.config) (suc c.args.mutator) c.requires in
-    omega (arith, end, row, c.remembers.ensures.core.places, ap (λ (l : List (Option ℕ)). length l) c.roots-2.ensures.words)
+    omega (arith, end, row, c.law_remembers.ensures.core.places, ap (λ (l : List (Option ℕ)). length l) c.roots-2.ensures.words)

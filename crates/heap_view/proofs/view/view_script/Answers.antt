@@ -1,5 +1,5 @@
 use Rattle.std.proofs.Common.{◌≡◌, List, ℕ, Err, ap, subst}
-use Rattle.script_text.specs.Watched.{Takes, TakesPart}
+use Rattle.script_text.specs.Watched.{TookBytes, TakesPart}
 use Rattle.script_text.specs.declared.fault.WriteFault.{WriteFault}
 use Rattle.script_text.specs.declared.fault.WriteFault.TheVariants as writes
 use Rattle.heap_view.proofs.view.view_script.Goals as goal
@@ -7,7 +7,7 @@ use Rattle.heap_view.proofs.view.view_script.Goals as goal
 pub returns-in-Ok-write_bytes : goal.returns-in-Ok-write_bytes
 returns-in-Ok-write_bytes g c =
     let (input, gives, read) = c.in_ok-plan.ensures in
-    let taken = subst (λ (l : List ℕ). Takes c.args.writer.now c.write_bytes.new.writer l) c.as_slice.ensures.value
+    let taken = subst (λ (l : List ℕ). TookBytes c.args.writer.now c.write_bytes.new.writer l) c.as_slice.ensures.value
     c.in-Ok-write_bytes.ensures.ok in
     (input, gives, (c.in-Ok.text.items, record { plan = c.in_ok-plan.plan; read = read; viewed = c.in-Ok.ensures.text }, taken))
 

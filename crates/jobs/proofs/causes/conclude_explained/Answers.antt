@@ -1,5 +1,5 @@
 use Rattle.std.proofs.Common.{◌≡◌, ◌∙◌, ◌++◌, ◌⊎◌, ℕ, List, ap, refl, subst, take}
-use Rattle.script_text.specs.Watched.{Takes, TakesPart}
+use Rattle.script_text.specs.Watched.{TookBytes, TakesPart}
 use Rattle.job_ends.specs.FaultLines.{fault_line}
 use Rattle.jobs.proofs.Reasons.{one_way}
 use Rattle.jobs.proofs.causes.conclude_explained.Goals as goal
@@ -14,7 +14,8 @@ returns-in-Err g c =
       (
         told.0,
         told.1,
-        subst (λ (t : List ℕ). Takes c.args.err.now c.write_bytes.new.writer t ⊎ TakesPart c.args.err.now c.write_bytes.new.writer t) whole
+        subst (λ (t : List ℕ). TookBytes c.args.err.now c.write_bytes.new.writer t ⊎ TakesPart c.args.err.now c.write_bytes.new.writer t)
+            whole
             (one_way c.write_bytes.result c.write_bytes.ensures.ok c.write_bytes.ensures.err),
       ),
     )

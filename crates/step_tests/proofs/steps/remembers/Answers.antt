@@ -25,13 +25,13 @@ card_known k t config card long regions words core et ec er ew el lt =
 
 pub covers-covered-requires-clause-card : goal.covers-covered-requires-clause-card
 covers-covered-requires-clause-card c =
-    let known = card_known _ _ _ c.args.card _ _ _ c.remembers.ensures.core c.table-table.ensures c.config.ensures.config
+    let known = card_known _ _ _ c.args.card _ _ _ c.law_remembers.ensures.core c.table-table.ensures c.config.ensures.config
     c.region_count-regions.ensures c.words_per_region.ensures c.card_words-length.ensures (omega (arith, c.if-card-length.false)) in
     subst (λ (s : Sets). c.new-2.result < card_count s) (sym c.sets.ensures)
-    (omega (arith, known, c.new-2.ensures, c.remembers.ensures.core.cards.each_card))
+    (omega (arith, known, c.new-2.ensures, c.law_remembers.ensures.core.cards.each_card))
 
 pub is_dirty-requires : goal.is_dirty-requires
 is_dirty-requires c =
-    let known = card_known _ _ _ c.args.card _ _ _ c.remembers.ensures.core c.table-table.ensures c.config.ensures.config
+    let known = card_known _ _ _ c.args.card _ _ _ c.law_remembers.ensures.core c.table-table.ensures c.config.ensures.config
     c.region_count-regions.ensures c.words_per_region.ensures c.card_words-length.ensures (omega (arith, c.if-card-length.false)) in
     subst (λ (s : Cards). c.new-3.result < length s.dirty) (sym c.cards.ensures) (omega (arith, known, c.new-3.ensures))

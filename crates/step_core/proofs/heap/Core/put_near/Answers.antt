@@ -9,14 +9,15 @@ use Rattle.step_core.proofs.heap.Core.put_near.Goals as goal
 
 pub is_near-requires-clause-rooted : goal.is_near-requires-clause-rooted
 is_near-requires-clause-rooted c =
-    (names_at _ c.args.mutator c.args.object c.args.at c.remembers.ensures.core c.requires.mutator c.requires.object c.requires.held).rooted
+    (names_at _ c.args.mutator c.args.object c.args.at c.law_remembers.ensures.core c.requires.mutator c.requires.object
+        c.requires.held).rooted
 
 pub is_near-requires-clause-field : goal.is_near-requires-clause-field
 is_near-requires-clause-field c = pointer_within c.args.self.now.table c.args.at c.args.field c.requires.field
 
 pub store_near-requires-clause-can : goal.store_near-requires-clause-can
 store_near-requires-clause-can c = record {
-  rooted = (names_at _ c.args.mutator c.args.object c.args.at c.remembers.ensures.core c.requires.mutator c.requires.object
+  rooted = (names_at _ c.args.mutator c.args.object c.args.at c.law_remembers.ensures.core c.requires.mutator c.requires.object
       c.requires.held).rooted;
   field = c.requires.field;
   held = root_held _ _ c.stored_in-target.ensures.rooted;
@@ -24,7 +25,7 @@ store_near-requires-clause-can c = record {
 
 pub store_far-requires-clause-can : goal.store_far-requires-clause-can
 store_far-requires-clause-can c = record {
-  rooted = (names_at _ c.args.mutator c.args.object c.args.at c.remembers.ensures.core c.requires.mutator c.requires.object
+  rooted = (names_at _ c.args.mutator c.args.object c.args.at c.law_remembers.ensures.core c.requires.mutator c.requires.object
       c.requires.held).rooted;
   field = c.requires.field;
   held = root_held _ _ c.stored_in-target.ensures.rooted;
@@ -32,20 +33,20 @@ store_far-requires-clause-can c = record {
 
 pub returns-then-is_near-clause-fills : goal.returns-then-is_near-clause-fills
 returns-then-is_near-clause-fills c =
-    put_fills _ _ c.args.mutator c.args.object c.args.at c.args.field c.args.value c.stored_in-target.result c.remembers.ensures.core
+    put_fills _ _ c.args.mutator c.args.object c.args.at c.args.field c.args.value c.stored_in-target.result c.law_remembers.ensures.core
     c.requires.field (ap (λ (d : CoreState). d.table) (c.store_near.ensures c.args.mutator).core)
     (put_does _ _ c.args.mutator c.args.object c.args.at c.args.field c.args.value _
-    (names_at _ c.args.mutator c.args.object c.args.at c.remembers.ensures.core c.requires.mutator c.requires.object c.requires.held)
+    (names_at _ c.args.mutator c.args.object c.args.at c.law_remembers.ensures.core c.requires.mutator c.requires.object c.requires.held)
     c.requires.field c.stored_in-target.ensures
     (near_stores _ _ c.args.mutator c.args.at c.args.field _ (c.is_near.ensures.near c.if-is_near.true)
     (c.store_near.ensures c.args.mutator)))
 
 pub returns-else-is_near-clause-fills : goal.returns-else-is_near-clause-fills
 returns-else-is_near-clause-fills c =
-    put_fills _ _ c.args.mutator c.args.object c.args.at c.args.field c.args.value c.stored_in-target.result c.remembers.ensures.core
+    put_fills _ _ c.args.mutator c.args.object c.args.at c.args.field c.args.value c.stored_in-target.result c.law_remembers.ensures.core
     c.requires.field (ap (λ (d : CoreState). d.table) c.store_far.ensures.core)
     (put_does _ _ c.args.mutator c.args.object c.args.at c.args.field c.args.value _
-    (names_at _ c.args.mutator c.args.object c.args.at c.remembers.ensures.core c.requires.mutator c.requires.object c.requires.held)
+    (names_at _ c.args.mutator c.args.object c.args.at c.law_remembers.ensures.core c.requires.mutator c.requires.object c.requires.held)
     c.requires.field c.stored_in-target.ensures c.store_far.ensures)
 
 pub returns-then-is_near-clause-idle : goal.returns-then-is_near-clause-idle

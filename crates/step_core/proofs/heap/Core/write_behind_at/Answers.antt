@@ -6,12 +6,12 @@ use Rattle.step_core.proofs.heap.Core.write_behind_at.Goals as goal
 
 pub write_known-requires-clause-names : goal.write_known-requires-clause-names
 write_known-requires-clause-names c =
-    names_at _ c.args.mutator c.args.object c.args.at c.remembers.ensures.core c.requires.mutator c.requires.object c.requires.held
+    names_at _ c.args.mutator c.args.object c.args.at c.law_remembers.ensures.core c.requires.mutator c.requires.object c.requires.held
 
 pub write_known-requires-clause-fields : goal.write_known-requires-clause-fields
 write_known-requires-clause-fields c =
     let count = fields_count c.args.self.now.table c.args.at in omega (arith, count, c.requires.pointers, c.requires.weaks)
 
 pub returns : goal.returns
-returns c = write_fills _ _ c.args.mutator c.args.object c.args.at c.args.field c.args.value c.remembers.ensures.core c.requires.field
+returns c = write_fills _ _ c.args.mutator c.args.object c.args.at c.args.field c.args.value c.law_remembers.ensures.core c.requires.field
     c.write_known.ensures.table c.write_known.ensures.does

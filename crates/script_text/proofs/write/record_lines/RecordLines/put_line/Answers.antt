@@ -1,7 +1,7 @@
 use Rattle.std.proofs.Common.{ℕ, List, ◌≡◌, ◌+◌, ◌<◌, ◌^◌, ◌∙◌, ◌++◌, length, take, ap, sym, subst}
 use Rattle.std.proofs.lemmas.List.{with_items_is}
 use Rattle.script_text.specs.Records.{event_line}
-use Rattle.script_text.specs.Watched.{Takes, TakesPart}
+use Rattle.script_text.specs.Watched.{TookBytes, TakesPart}
 use Rattle.script_text.specs.Written.{Lines}
 use Rattle.script_text.proofs.Output.LinesOut.{line_put, lines_stopped, no_more}
 use Rattle.script_text.proofs.write.record_lines.RecordLines.put_line.Goals as goal
@@ -12,9 +12,9 @@ returns-in-Ok-clause-ok g c first r e told before =
     let new = c.put_told-self-inside.new.buffer in
     let small : l.events + 1 < 2 ^ 64 = rw (ap (λ (lines : Lines). lines.events) c.self.view_is) c.requires.few in
     let len : length new ≡ l.buffer.len = c.put_told-self-inside.auto.buffer ∙ c.deref_mut.ensures.len in
-    let made : (written : List ℕ) × Takes c.args.writer.now c.make_room.new.writer written
+    let made : (written : List ℕ) × TookBytes c.args.writer.now c.make_room.new.writer written
     × (take l.at l.buffer.items ≡ written ++ take c.in-Ok.left l.buffer.items) =
-    subst (λ (items : List ℕ). (written : List ℕ) × Takes c.args.writer.now c.make_room.new.writer written
+    subst (λ (items : List ℕ). (written : List ℕ) × TookBytes c.args.writer.now c.make_room.new.writer written
     × (take l.at items ≡ written ++ take c.in-Ok.left items)) c.deref.ensures.value c.in-Ok.ensures.ok in
     line_put r e first c.args.writer.now c.make_room.new.writer c.args.self.now l.events
     (take l.at l.buffer.items) (take c.in-Ok.left l.buffer.items) _ before (sym c.self.view_is) made
