@@ -25,7 +25,7 @@ use denote.RawPtr.{Ptr, block_ptr}
 use denote.Ref.{MutBor, MutRef, mut_vals, mut_Tells}
 use denote.Signature.{plain, mut_ref_to}
 use denote.Steps.{nothing, opens, heard}
-use denote.Triple.Walked.{says, StaysSame, stay_dropped, walk_of, ends_at, Goes-spent_ref}
+use denote.Triple.Walked.{says, Stays, stay_dropped, walk_of, ends_at, Goes-spent_ref}
 use Rattle.std.proofs.raw_atomic.Walks.{proved}
 use Rattle.std_alloc.proofs.VecSteps.Shapes.{after}
 use Rattle.std_heap.specs.contracts.Global.{the_row as Z}
@@ -43,7 +43,7 @@ use Rattle.heap_calls.proofs.handle.Handle.core_mut.Code as code
 abbrev L : RattleType
 L = handle.the_row
 
-abbrev stayed : StaysSame f.ended.signature.params f.ended.kept
+abbrev stayed : Stays f.ended.signature.params f.ended.kept
 stayed = (stay_dropped (mut_ref_to (0 ∷ []) tt (plain (λ _. L))) no, tt)
 
 -- all of the handle but its core

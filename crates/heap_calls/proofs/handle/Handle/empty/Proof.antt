@@ -17,7 +17,7 @@ use denote.RattleType.{RattleType, owns}
 use denote.RawPtr.{null_ptr, ptr_val}
 use denote.Signature.{plain}
 use denote.Steps.{nothing}
-use denote.Triple.Walked.{StaysSame, stay_dropped, walk_of}
+use denote.Triple.Walked.{Stays, stay_dropped, walk_of}
 use Rattle.core.proofs.alloc.Calls.{Goes-blank, handle_tells}
 use Rattle.std.proofs.raw_atomic.Walks.{proved_at, leaves}
 use Rattle.std_heap.specs.contracts.Global.{the_row as Z}
@@ -36,7 +36,7 @@ L = Z
 abbrev the_none : Option R.Denot
 the_none = None
 
-abbrev stayed : StaysSame f.ended.signature.params f.ended.kept
+abbrev stayed : Stays f.ended.signature.params f.ended.kept
 stayed = (stay_dropped (plain (λ _. L)) yes, tt)
 
 pub empty_spec : {M : Type 1} → statement M

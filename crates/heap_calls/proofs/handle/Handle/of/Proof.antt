@@ -16,7 +16,7 @@ use denote.RattleType.{RattleType, owns}
 use denote.RawPtr.{block_ptr}
 use denote.Signature.{plain}
 use denote.Steps.{nothing}
-use denote.Triple.Walked.{StaysSame, stay_dropped, walk_of}
+use denote.Triple.Walked.{Stays, stay_dropped, walk_of}
 use Rattle.core.proofs.alloc.Calls.{Goes-blank}
 use Rattle.std.proofs.raw_atomic.Walks.{proved_at, leaves}
 use Rattle.std_heap.specs.contracts.Global.{the_row as Z}
@@ -33,7 +33,7 @@ use Rattle.heap_calls.proofs.handle.Handle.of.Code as code
 abbrev L : RattleType
 L = loose.the_row R Z ghosts
 
-abbrev stayed : StaysSame f.ended.signature.params f.ended.kept
+abbrev stayed : Stays f.ended.signature.params f.ended.kept
 stayed = (stay_dropped (plain (λ _. L)) yes, tt)
 
 pub of_spec : {M : Type 1} → statement M
