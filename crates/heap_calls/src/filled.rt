@@ -169,7 +169,7 @@ fn fill(core: &mut Core, mutator: u32, to: u32, from: &[u32], words: &[u64]) -> 
     answer_of(new_reply(&made))
 }
 
-/// MakesHeap an object and fills it, if the numbers name steps of the heap's.
+/// Makes an object and fills it, if the numbers name steps of the heap's.
 #[inline(always)]
 pub fn make(core: &mut Core, mutator: u32, to: u32, from: &[u32], words: &[u64]) -> Answer
     ensures { FillsOrNot core.old mutator to from.now words.now result (Some core.new) }

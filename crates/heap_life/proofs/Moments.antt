@@ -160,7 +160,7 @@ pub due_more : (p : Pace) (xs : List Event) (index : ℕ) (due behind ahead stop
     → due ≡ (behind || ahead || stop) → ((n : ℕ) → n < index → IsMoment p xs n → HasMoment ms n) → (index ≡ 0 → behind ≡ true)
     → ((i : ℕ) → suc i ≡ index → IsShownEvent p xs i → behind ≡ true)
     → (IsShownEvent p xs index → ahead ≡ true) → (index % p.every ≡ 0 → stop ≡ true) → (n : ℕ) → n < index + 1 → IsMoment p xs n
-        → HasMoment ms' n
+    → HasMoment ms' n
 due_more p xs index due behind ahead stop c copied ms ms' within notes is earlier z b a s n lt due_here =
     elim (cases_lt n index) [
       | inl less ↦ kept_by_note due c index copied ms ms' n notes (earlier n less due_here)

@@ -144,7 +144,7 @@ pub fn tell<E: Write>(fault: JobFault, err: &mut WatchedWriter<E>) -> Result<(),
     write_bytes(err, &buffer[..at])
 }
 
-/// TellsEnd how a job ended, and answers the program's status: 0 where it is done, else 1, with the fault's line on standard error. That a
+/// Tells how a job ended, and answers the program's status: 0 where it is done, else 1, with the fault's line on standard error. That a
 /// write of this line fails changes nothing.
 pub fn conclude<E: Write>(outcome: Result<(), JobFault>, err: &mut WatchedWriter<E>) -> u8
     ensures { TellsEnd err.old err.new outcome result }

@@ -93,7 +93,7 @@ told_yes_text true n = refl
 -- the status says which
 yes_by : YesLaw → (outcome : Result Finding JobFault) (explained : Bool) (given left : Reader) (old new err told : Writer)
     → EndsFollowed explained given left old new outcome → TellsVerdict err told (judged_by outcome) 0
-        → FollowedYes given left old new err told
+    → FollowedYes given left old new err told
 yes_by law (Ok (Allowed n)) explained given left old new err told f t =
     let run = (followed_yes law f.0.0 left n).0 f.0.2 in
     (f.0.0, n, (f.0.1, run.0), run.1, subst (λ (l : List ℕ). TookBytes old new l) (told_yes_text explained n) f.1, t.1)

@@ -100,7 +100,7 @@ only P e h (suc k) d below = absurd (omega arith)
 keeps_event : (d : JournalState) (c : CoreState) (places : List ℕ) (a : Actor) (s : Step) (r : Reply) → Keeps d
     → Records d.core d.events c (event_of a s r) → c.config ≡ d.core.config
     → length places ≡ length d.places → IsBeginning (mutators_of d) d.scripts places (d.events ++ event_of a s r ∷ [])
-        → IsOwn d.core.config a s
+    → IsOwn d.core.config a s
     → Keeps (record { core = c; scripts = d.scripts; places = places; events = d.events ++ event_of a s r ∷ [] })
 keeps_event d c places a s r was runs same len begins own =
     let m : c.config.mutators ≡ mutators_of d = ap (λ x. x.mutators) same in

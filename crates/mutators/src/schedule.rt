@@ -73,7 +73,7 @@ fn open_places(alloc: Global, journal: &Journal) -> Result<Vec<usize>, AllocErro
     Ok(unfinished)
 }
 
-/// TakesTurn the n-th place out, if it isn't to be kept.
+/// Takes the n-th place out, if it isn't to be kept.
 fn keep_if(places: &mut Vec<usize>, n: usize, kept: bool)
     requires { n < length places.old.items }
     ensures { places.new.items ≡ (if kept then places.old.items else (take n places.old.items ++ drop (n + 1) places.old.items)) }

@@ -139,7 +139,7 @@ impl<C: Crew> Shared<C> {
         Some(self.turn(actor, mine))
     }
 
-    /// TakesTurn it apart. A share with every part has the number of events.
+    /// Takes it apart. A share with every part has the number of events.
     pub fn close(self, all: &mut Share<C>) -> (Journal, bool)
         requires { all.old.parts ≡ C.parts }
         ensures whole { length result.0.events ≡ all.new.amount }

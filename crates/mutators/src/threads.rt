@@ -118,7 +118,7 @@ fn is_skipped(skipped: &AtomicU64, worker: u32) -> bool {
     skipped.load(Ordering::SeqCst) == u64::from(worker)
 }
 
-/// TakesTurn turns till nothing is left to do.
+/// Takes turns till nothing is left to do.
 fn work<C: Crew, F: Fn(u32) + Sync, R: Wait>(
     hall: &Hall<'_, C, F, R>,
     mut pass: Pass<u32, ()>,

@@ -110,8 +110,7 @@ impl<'a> RecordEvents<'a> {
         self.config
     }
 
-    /// TookBytes the next event, where its line is one of the usual ones, which are read in one go. Where it isn't, or no event is left,
-        none
+    /// Takes the next event, where its line is one of the usual ones, which are read in one go. Where it isn't, or no event is left, none
     /// is taken and nothing changes: `next_event` takes whatever is left. The event is made where the caller has it, and not copied.
     ///
     /// ```rust
@@ -143,8 +142,7 @@ impl<'a> RecordEvents<'a> {
         Some(event)
     }
 
-    /// TookBytes the next event, read from its line. None where no event is left. There, and where the next line has a fault, nothing
-        changes.
+    /// Takes the next event, read from its line. None where no event is left. There, and where the next line has a fault, nothing changes.
     ///
     /// ```rust
     /// let history = parse_record(alloc, record)?;

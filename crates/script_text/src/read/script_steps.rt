@@ -116,7 +116,7 @@ impl<'a> ScriptSteps<'a> {
         self.config
     }
 
-    /// TookBytes the next step with its line, from which it is read. None where no step is left, and then nothing changes.
+    /// Takes the next step with its line, from which it is read. None where no step is left, and then nothing changes.
     ///
     /// ```rust
     /// let plan = parse(alloc, script)?;

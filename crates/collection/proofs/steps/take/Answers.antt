@@ -14,7 +14,7 @@ returns-clause-collects g c =
     (c.step-reply.ensures.full s stands) c.law_remembers-2.ensures.core c.law_remembers-2.ensures.cards c.law_whole.ensures)
     (keeps c.args.core.now c.step-reply.new.self c.law_remembers.ensures.core c.law_shaped.ensures c.law_shaped-2.ensures
     (same_length c.args.core.now c.step-reply.new.self c.law_remembers.ensures.core c.law_remembers-2.ensures.core
-        c.step-reply.ensures.config)
+    c.step-reply.ensures.config)
     c.args.step c.step-reply.result c.step-reply.ensures.does)
     c.step-reply.ensures.config
     (next_stays c.args.core.now c.step-reply.new.self c.args.step c.step-reply.result c.step-reply.ensures.does)
@@ -27,7 +27,7 @@ returns-clause-some g c =
     (c.step-reply.ensures.full s stands) c.law_remembers-2.ensures.core c.law_remembers-2.ensures.cards c.law_whole.ensures)
     (keeps c.args.core.now c.step-reply.new.self c.law_remembers.ensures.core c.law_shaped.ensures c.law_shaped-2.ensures
     (same_length c.args.core.now c.step-reply.new.self c.law_remembers.ensures.core c.law_remembers-2.ensures.core
-        c.step-reply.ensures.config)
+    c.step-reply.ensures.config)
     c.args.step c.step-reply.result c.step-reply.ensures.does)
     c.step-reply.ensures.config
     (next_stays c.args.core.now c.step-reply.new.self c.args.step c.step-reply.result c.step-reply.ensures.does)
