@@ -1,42 +1,22 @@
 -- How the tests make their tables.
-use Rattle.std.proofs.Common.{◌≡◌, ℕ, ◌+◌, ◌-◌, ◌<◌, ◌≤◌, [], ◌∷◌, Option, Some, None, length, refl, arith}
+use Rattle.std.proofs.Common.{◌≡◌, ℕ, ◌+◌, ◌-◌, ◌<◌, [], ◌∷◌, Option, Some, None, length, refl, arith}
 use Rattle.regions.specs.Tiles.{Object, Filler}
 use Rattle.regions.specs.Table.{Table, Free, Ordinary, fields_at, first_free, weaks_at, kind_of, object_at, put_object, push_tile}
 use Rattle.regions.specs.Table.{region_at, nth_region, replace_tile, set_field, set_weak, taken, tile_in, used_of, new_object, remainder}
-use Rattle.region_tests.proofs.TableSamples.{filled1, IsUsable}
-use Rattle.region_tests.specs.Evacuated.{alone, by_weak_slot, held, holder, itself, sample_of}
+use Rattle.region_tests.proofs.TableSamples.{IsUsable}
+use Rattle.region_tests.specs.Samples.{one_object}
+use Rattle.region_tests.specs.Evacuated.{by_weak_slot, held, holder, itself, sample_of}
 
--- ---- an object at 0 of p pointers and so many weak slots, which has n words
-abbrev cut : ℕ → Table
-cut n = sample_of (Ordinary (Filler n ∷ []) ∷ Free ∷ Free ∷ Free ∷ [])
-
+-- ---- an object at 0 of one pointer and one weak slot
 abbrev made : Option ℕ → Option ℕ → Table
 made p weak =
     sample_of (Ordinary (Object (record { name = 7; pointers = p ∷ []; weaks = weak ∷ []; values = [] }) ∷ []) ∷ Free ∷ Free ∷ Free ∷ [])
-
-pub usable : (t : Table) (k n : ℕ) → t ≡ filled1 → k ≡ 0 → n ≤ 16 → IsUsable t k n
-unfolding kind_of nth_region used_of
-usable t k n e p q = rw (e, p) (record { known = omega arith; ordinary = refl; room = omega arith })
-
-pub is_cut : (t t' : Table) (k n m : ℕ) → t ≡ filled1 → t' ≡ push_tile t k (Filler n) → k ≡ 0 → n ≡ m → t' ≡ cut m
-unfolding push_tile nth_region
-is_cut t t' k n m e g p q = rw (g, e, p, q) refl
-
-pub filler_there : (t : Table) (a n m : ℕ) → t ≡ cut m → a ≡ 0 → n ≡ m → tile_in t a ≡ Some (Filler n)
-unfolding tile_in region_at
-filler_there t a n m e p q = rw (e, p, q) refl
-
-pub is_made : (t t' : Table) (a n p weak d : ℕ) → t ≡ cut 4
-    → t' ≡ replace_tile t a (Object (new_object 7 p weak d) ∷ remainder (n - (2 + p + weak + d))) → a ≡ 0 → n ≡ 4 → p ≡ 1
-    → weak ≡ 1 → d ≡ 0 → t' ≡ made None None
-unfolding replace_tile region_at
-is_made t t' a n p weak d e g x y z v w = rw (g, e, x, y, z, v, w) refl
 
 pub has_field : (p weak : Option ℕ) (t : Table) (a i : ℕ) → t ≡ made p weak → a ≡ 0 → i < 2 → i < length (fields_at t a)
 unfolding fields_at object_at tile_in region_at
 has_field p weak t a i e q h = rw (e, q) h
 
-pub names_itself : (t t' : Table) (a : ℕ) → t ≡ made None None → t' ≡ set_field t a 0 (Some a) → a ≡ 0 → t' ≡ made (Some 0) None
+pub names_itself : (t t' : Table) (a : ℕ) → t ≡ one_object 4 1 1 0 → t' ≡ set_field t a 0 (Some a) → a ≡ 0 → t' ≡ made (Some 0) None
 unfolding set_field object_at tile_in region_at put_object
 names_itself t t' a e g p = rw (g, e, p) refl
 
@@ -45,12 +25,6 @@ unfolding set_field object_at tile_in region_at put_object
 names_itself_twice t t' a e g p = rw (g, e, p) refl
 
 -- ---- one of a weak slot, and a second one in region 1
-pub is_alone : (t t' : Table) (a n p weak d : ℕ) → t ≡ cut 3
-    → t' ≡ replace_tile t a (Object (new_object 7 p weak d) ∷ remainder (n - (2 + p + weak + d))) → a ≡ 0
-    → n ≡ 3 → p ≡ 0 → weak ≡ 1 → d ≡ 0 → t' ≡ alone
-unfolding replace_tile region_at
-is_alone t t' a n p weak d e g x y z v w = rw (g, e, x, y, z, v, w) refl
-
 abbrev two : Table
 two = sample_of (Ordinary (Object (holder None) ∷ []) ∷ Ordinary [] ∷ Free ∷ Free ∷ [])
 
@@ -60,7 +34,7 @@ two_cut = sample_of (Ordinary (Object (holder None) ∷ []) ∷ Ordinary (Filler
 abbrev both : Table
 both = sample_of (Ordinary (Object (holder None) ∷ []) ∷ Ordinary (Object held ∷ []) ∷ Free ∷ Free ∷ [])
 
-pub is_two : (t t' : Table) → t ≡ alone → t' ≡ taken t (first_free t) → t' ≡ two
+pub is_two : (t t' : Table) → t ≡ one_object 3 0 1 0 → t' ≡ taken t (first_free t) → t' ≡ two
 is_two t t' e g = rw (g, e) refl
 
 pub usable_two : (t : Table) (k n : ℕ) → t ≡ two → k ≡ 1 → n ≡ 2 → IsUsable t k n

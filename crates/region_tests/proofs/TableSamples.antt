@@ -1,12 +1,15 @@
 -- The tables that the tests go through.
-use Rattle.std.proofs.Common.{◌≡◌, ◌≢◌, ℕ, ◌+◌, ◌-◌, ◌*◌, ◌/◌, ◌<◌, ◌≤◌, Option, Some, None, List, [], ◌∷◌, length, refl, ap, ◌∙◌, arith}
+use Rattle.std.proofs.Common.{◌≡◌, ◌≢◌, ℕ, zero, suc, ◌+◌, ◌-◌, ◌*◌, ◌/◌, ◌<◌, ◌≤◌, ◌++◌, Option, Some, None}
+use Rattle.std.proofs.Common.{List, [], ◌∷◌, length, refl, ap, ◌∙◌, arith}
 use Rattle.std.specs.Prelude.{IsSome}
 use Rattle.heap_model.specs.Heap.{Stored}
-use Rattle.regions.specs.Tiles.{Object, Filler, Forwarded}
+use Rattle.regions.specs.Tiles.{Tile, Object, Filler, Forwarded}
 use Rattle.regions.specs.Table.{Table, Region, Free, Ordinary, First, Rest, region_at, tile_in, object_at, pointers_at, fields_at}
 use Rattle.regions.specs.Table.{values_at, put_object, set_pointer, set_field, set_value, EachForwardedIn, object_words, IsOrdinary}
 use Rattle.regions.specs.Table.{is_free, first_free, taken, nth_region, used_of, push_tile, new_object, kind_of, free_table, replace_tile}
 use Rattle.regions.specs.Table.{remainder, first_run, with_run, IsReleasable, released}
+use Rattle.region_tests.specs.Filled.{moving, stepped, twice}
+use Rattle.region_tests.specs.Samples.{one_object}
 use Rattle.regions.specs.declared.row.Kind.TheVariants as kinds
 
 abbrev pub sample : List Region → Table
@@ -57,15 +60,38 @@ pub fill_value : (t t' : Table) (a : ℕ) → t ≡ with_sample (sample_object (
 unfolding set_value object_at tile_in region_at put_object
 fill_value t t' a e f p = rw (f, e, p) refl
 
+-- ---- an object is made in a filler of m words
+abbrev pub cut : ℕ → Table
+cut n = sample (Ordinary (Filler n ∷ []) ∷ Free ∷ Free ∷ Free ∷ [])
+
 -- what the calls ask for
 pub record IsUsable (t : Table) (k n : ℕ) : Type 0 where
   pub known : k < length t.regions
   pub ordinary : kind_of t k ≡ kinds.Ordinary
   pub room : used_of t k + n ≤ t.words_per_region
 
-pub usable1 : (t : Table) (k n : ℕ) → t ≡ filled1 → k ≡ 0 → n ≡ 10 → IsUsable t k n
+pub usable : (t : Table) (k n : ℕ) → t ≡ filled1 → k ≡ 0 → n ≤ 16 → IsUsable t k n
 unfolding kind_of nth_region used_of
-usable1 t k n e p q = rw (e, p, q) (record { known = omega arith; ordinary = refl; room = omega arith })
+usable t k n e p q = rw (e, p) (record { known = omega arith; ordinary = refl; room = omega arith })
+
+pub is_cut : (t t' : Table) (k n m : ℕ) → t ≡ filled1 → t' ≡ push_tile t k (Filler n) → k ≡ 0 → n ≡ m → t' ≡ cut m
+unfolding push_tile nth_region
+is_cut t t' k n m e g p q = rw (g, e, p, q) refl
+
+pub filler_there : (t : Table) (a n m : ℕ) → t ≡ cut m → a ≡ 0 → n ≡ m → tile_in t a ≡ Some (Filler n)
+unfolding tile_in region_at
+filler_there t a n m e p q = rw (e, p, q) refl
+
+nothing_after : (n : ℕ) → remainder n ++ [] ≡ remainder n
+nothing_after zero = refl
+nothing_after (suc n) = refl
+
+pub is_made : (t t' : Table) (a n p weak d m : ℕ) → t ≡ cut m
+    → t' ≡ replace_tile t a (Object (new_object 7 p weak d) ∷ remainder (n - (2 + p + weak + d))) → a ≡ 0 → n ≡ m
+    → t' ≡ one_object m p weak d
+unfolding replace_tile region_at
+is_made t t' a n p weak d m e g x y = rw (g, e, x, y) (ap (λ (ts : List Tile).
+    sample (Ordinary (Object (new_object 7 p weak d) ∷ ts) ∷ Free ∷ Free ∷ Free ∷ [])) (nothing_after (m - (2 + p + weak + d))))
 
 pub usable_filled : (s : Stored) (t : Table) (k : ℕ) → t ≡ with_sample s → k ≡ 0 → (k < length t.regions) × (kind_of t k ≡ kinds.Ordinary)
 unfolding kind_of nth_region
@@ -98,20 +124,8 @@ pub word_inside : (rs : List Region) (t : Table) (w n : ℕ) → t ≡ sample rs
 word_inside rs t w n e l p h = rw (e, l, p) h
 
 -- an object moves
-abbrev pub moved1 : Table
-moved1 = sample (Ordinary [] ∷ Ordinary [] ∷ Free ∷ Free ∷ [])
-
-abbrev pub moved2 : Table
-moved2 = sample (Ordinary (Filler 4 ∷ []) ∷ Ordinary [] ∷ Free ∷ Free ∷ [])
-
-abbrev pub moving : Stored
-moving = record { name = 7; pointers = []; weaks = None ∷ None ∷ []; values = [] }
-
 abbrev pub moved3 : Table
 moved3 = sample (Ordinary (Object moving ∷ []) ∷ Ordinary [] ∷ Free ∷ Free ∷ [])
-
-abbrev pub moved4 : Table
-moved4 = sample (Ordinary (Object moving ∷ []) ∷ Ordinary (Object moving ∷ []) ∷ Free ∷ Free ∷ [])
 
 abbrev pub moved5 : Table
 moved5 = sample (Ordinary (Forwarded 16 4 ∷ []) ∷ Ordinary (Object moving ∷ []) ∷ Free ∷ Free ∷ [])
@@ -119,25 +133,15 @@ moved5 = sample (Ordinary (Forwarded 16 4 ∷ []) ∷ Ordinary (Object moving �
 abbrev pub moved6 : Table
 moved6 = sample (Free ∷ Ordinary (Object moving ∷ []) ∷ Free ∷ Free ∷ [])
 
-pub move_take : (t t' : Table) → t ≡ filled1 → t' ≡ taken t (first_free t) → t' ≡ moved1
-move_take t t' e f = f ∙ ap (λ (u : Table). taken u (first_free u)) e
-
-pub move_push : (t t' : Table) (k n : ℕ) → t ≡ moved1 → t' ≡ push_tile t k (Filler n) → k ≡ 0 → n ≡ 4 → t' ≡ moved2
-unfolding push_tile nth_region
-move_push t t' k n e f p q = rw (f, e, p, q) refl
-
-pub move_make : (t t' : Table) (a n p weak d : ℕ) → t ≡ moved2
-    → t' ≡ replace_tile t a (Object (new_object 7 p weak d) ∷ remainder (n - (2 + p + weak + d))) → a ≡ 0 → n ≡ 4
-    → p ≡ 0 → weak ≡ 2 → d ≡ 0 → t' ≡ moved3
-unfolding replace_tile region_at
-move_make t t' a n p weak d e f h i j l k = rw (f, e, h, i, j, l, k) refl
+pub move_take : (t t' : Table) → t ≡ one_object 4 0 2 0 → t' ≡ taken t (first_free t) → t' ≡ moved3
+move_take t t' e f = rw (f, e) refl
 
 pub move_copy : (t t' : Table) (a k : ℕ) → t ≡ moved3
-    → ((s : Stored) → object_at t a ≡ Some s → t' ≡ push_tile t k (Object s)) → a ≡ 0 → k ≡ 1 → t' ≡ moved4
+    → ((s : Stored) → object_at t a ≡ Some s → t' ≡ push_tile t k (Object s)) → a ≡ 0 → k ≡ 1 → t' ≡ twice
 unfolding object_at tile_in region_at push_tile nth_region
 move_copy t t' a k e f p q = f moving (rw (e, p) refl) ∙ rw (e, q) refl
 
-pub move_forward : (t t' : Table) (a b : ℕ) → t ≡ moved4
+pub move_forward : (t t' : Table) (a b : ℕ) → t ≡ twice
     → t' ≡ replace_tile t a (Forwarded b (object_words t a) ∷ []) → a ≡ 0 → b ≡ 16 → t' ≡ moved5
 unfolding replace_tile region_at object_words object_at tile_in
 move_forward t t' a b e f p q = rw (f, e, p, q) refl
@@ -145,14 +149,6 @@ move_forward t t' a b e f p q = rw (f, e, p, q) refl
 pub move_release : (t t' : Table) (k : ℕ) → t ≡ moved5 → t' ≡ released t k → k ≡ 0 → t' ≡ moved6
 unfolding released nth_region
 move_release t t' k e f p = rw (f, e, p) refl
-
-pub usable_moved1 : (t : Table) (k n : ℕ) → t ≡ moved1 → k ≡ 0 → n ≡ 4 → IsUsable t k n
-unfolding kind_of nth_region used_of
-usable_moved1 t k n e p q = rw (e, p, q) (record { known = omega arith; ordinary = refl; room = omega arith })
-
-pub filler_moved2 : (t : Table) (a n : ℕ) → t ≡ moved2 → a ≡ 0 → n ≡ 4 → tile_in t a ≡ Some (Filler n)
-unfolding tile_in region_at
-filler_moved2 t a n e p q = rw (e, p, q) refl
 
 pub record IsCopyable (t : Table) (a k : ℕ) : Type 0 where
   pub object : IsSome (object_at t a)
@@ -169,7 +165,7 @@ pub record IsForwardable (t : Table) (a b : ℕ) : Type 0 where
   pub copy : object_words t b ≡ object_words t a
   pub untargeted : EachForwardedIn (λ x. x ≢ a) t.regions
 
-pub forwardable4 : (t : Table) (a b : ℕ) → t ≡ moved4 → a ≡ 0 → b ≡ 16 → IsForwardable t a b
+pub forwardable4 : (t : Table) (a b : ℕ) → t ≡ twice → a ≡ 0 → b ≡ 16 → IsForwardable t a b
 unfolding object_at tile_in region_at object_words
 forwardable4 t a b e p q = rw (e, p, q) (record { object = refl; ordinary = tt; copy = refl; untargeted = (tt, (tt, tt)) })
 
@@ -216,33 +212,10 @@ pub known_region : (rs : List Region) (t : Table) (k n : ℕ) → t ≡ sample r
 known_region rs t k n e l p h = rw (e, l, p) h
 
 -- from tile to tile
-abbrev pub stepped2 : Table
-stepped2 = sample (Ordinary (Filler 6 ∷ []) ∷ Free ∷ Free ∷ Free ∷ [])
-
-abbrev pub stepped : Option ℕ → Table
-stepped p = sample (Ordinary (Object (sample_object p 0) ∷ Filler 2 ∷ []) ∷ Free ∷ Free ∷ Free ∷ [])
-
-pub step_push : (t t' : Table) (k n : ℕ) → t ≡ filled1 → t' ≡ push_tile t k (Filler n) → k ≡ 0 → n ≡ 6 → t' ≡ stepped2
-unfolding push_tile nth_region
-step_push t t' k n e f p q = rw (f, e, p, q) refl
-
-pub step_make : (t t' : Table) (a n p weak d : ℕ) → t ≡ stepped2
-    → t' ≡ replace_tile t a (Object (new_object 7 p weak d) ∷ remainder (n - (2 + p + weak + d))) → a ≡ 0 → n ≡ 6
-    → p ≡ 1 → weak ≡ 0 → d ≡ 1 → t' ≡ stepped None
-unfolding replace_tile region_at
-step_make t t' a n p weak d e f h i j k l = rw (f, e, h, i, j, k, l) refl
-
-pub step_field : (t t' : Table) (a to : ℕ) → t ≡ stepped None → t' ≡ set_field t a 0 (Some to) → a ≡ 0 → to ≡ 4 → t' ≡ stepped (Some 4)
+pub step_field : (t t' : Table) (a to : ℕ) → t ≡ one_object 6 1 0 1 → t' ≡ set_field t a 0 (Some to) → a ≡ 0 → to ≡ 4
+    → t' ≡ stepped (Some 4)
 unfolding set_field object_at tile_in region_at put_object
 step_field t t' a to e f p q = rw (f, e, p, q) refl
-
-pub filler_stepped : (t : Table) (a n : ℕ) → t ≡ stepped2 → a ≡ 0 → n ≡ 6 → tile_in t a ≡ Some (Filler n)
-unfolding tile_in region_at
-filler_stepped t a n e p q = rw (e, p, q) refl
-
-pub usable_step : (t : Table) (k n : ℕ) → t ≡ filled1 → k ≡ 0 → n ≡ 6 → IsUsable t k n
-unfolding kind_of nth_region used_of
-usable_step t k n e p q = rw (e, p, q) (record { known = omega arith; ordinary = refl; room = omega arith })
 
 pub record IsStepped (t : Table) (a : ℕ) : Type 0 where
   pub object : IsSome (object_at t a)

@@ -1,5 +1,5 @@
 -- The heaps that the tests evacuate.
-use Rattle.std.specs.Prelude.{◌≡◌, false, Some, None, Option, ℕ, List, [], ◌∷◌, replicate}
+use Rattle.std.specs.Prelude.{◌≡◌, false, Some, Option, ℕ, List, [], ◌∷◌, replicate}
 use Rattle.heap_model.specs.Heap.{Stored}
 use Rattle.regions.specs.Tiles.{Object}
 use Rattle.regions.specs.Table.{Region, Table, Free, Ordinary}
@@ -27,11 +27,7 @@ holder w = record { name = 7; pointers = []; weaks = w ∷ []; values = [] }
 abbrev pub held : Stored
 held = record { name = 8; pointers = []; weaks = []; values = [] }
 
--- the first is at 0, and three regions are free
-abbrev pub alone : Table
-alone = sample_of (Ordinary (Object (holder None) ∷ []) ∷ Free ∷ Free ∷ Free ∷ [])
-
--- its weak slot names the second, which is at 16, and two regions are free
+-- the first is at 0, its weak slot names the second, which is at 16, and two regions are free
 abbrev pub by_weak_slot : Table
 by_weak_slot = sample_of (Ordinary (Object (holder (Some 16)) ∷ []) ∷ Ordinary (Object held ∷ []) ∷ Free ∷ Free ∷ [])
 

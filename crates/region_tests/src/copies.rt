@@ -10,38 +10,19 @@ ghost use Rattle.std.specs.Prelude.{◌<◌, IfOk, IsSome, length};
 ghost use Rattle.regions.specs.Table.{object_at, weaks_at};
 ghost use Rattle.region_tests.specs.Copied.{IsCopyable};
 
+use crate::refining::one_object;
 use heap_words::addr::{Addr, Ptr, RegionNo};
-use heap_words::config::{Config, Format};
-use heap_words::header::{Count, FillerSize, HeaderCounts};
 use object_copy::{Destinations, copy};
 use regions::RegionTable;
 use std::alloc::Global;
 use std::test::Fail;
 
 /// Region 0 is taken and has an object of a weak slot, which names the object itself, and a data word; the others are free.
-fn one_object(alloc: Global) -> Result<RegionTable, Fail>
+fn own_object(alloc: Global) -> Result<RegionTable, Fail>
     ensures { IfOk result IsCopyable }
 {
-    let sizes = Config {
-        format: Format::V1,
-        regions: 4,
-        words: 16,
-        buffer: 8,
-        mutators: 1,
-        first_name: 0,
-    };
-    let Ok(mut table) = RegionTable::new(alloc, &sizes) else {
-        return Err(Fail::from("a table is made"));
-    };
-    table.take_free();
+    let mut table = one_object(alloc, 4, 0, 1, 1)?;
     let object = Addr::new(0);
-    table.push_filler(RegionNo::new(0), FillerSize::new(4));
-    let counts = HeaderCounts {
-        pointers: Count::new(0),
-        weaks: 1,
-        values: Count::new(1),
-    };
-    table.make_object(object, FillerSize::new(4), 7, counts);
     table.set_field(object, 0, Some(object));
     Ok(table)
 }
@@ -57,7 +38,7 @@ fn slots(table: &RegionTable, object: Addr) -> (u32, Ptr)
 /// The copy is at the bottom of the lowest free region, and the object is forwarded to it.
 #[test]
 fn copies_to_the_lowest_free_region(rt: HostRuntime) -> Result<(), Fail> {
-    let mut table = one_object(rt.alloc())?;
+    let mut table = own_object(rt.alloc())?;
     let mut destinations = Destinations::new(rt.alloc(), 4)?;
     let object = Addr::new(0);
     let place = Addr::new(16);
@@ -79,7 +60,7 @@ fn copies_to_the_lowest_free_region(rt: HostRuntime) -> Result<(), Fail> {
 /// The copy has the weak slot, and it holds what it held: whoever copies an object updates its fields afterwards.
 #[test]
 fn copies_weak_slots(rt: HostRuntime) -> Result<(), Fail> {
-    let mut table = one_object(rt.alloc())?;
+    let mut table = own_object(rt.alloc())?;
     let mut destinations = Destinations::new(rt.alloc(), 4)?;
     let object = Addr::new(0);
     let place = copy(&mut table, &mut destinations, object);

@@ -2,14 +2,13 @@
 //! cards of eight.
 
 ghost use Rattle.std.specs.Prelude.{◌≡◌, ◌*◌, ◌<◌, ◌∷◌, [], Some, IfOk, length};
-ghost use Rattle.region_tests.specs.Evacuated.{alone, by_weak_slot, itself, two_cards};
+ghost use Rattle.region_tests.specs.Evacuated.{by_weak_slot, itself, two_cards};
 
-use crate::refining::free_regions;
+use crate::refining::one_object;
 use bit_sets::bounded::BoundedBits;
 use cards::CardTable;
 use evacuation::{Moved, PauseRoom, evacuate};
 use heap_words::addr::{Addr, Card, Ptr, RegionNo};
-use heap_words::config::{Config, Format};
 use heap_words::header::{Count, FillerSize, HeaderCounts};
 use mark_bitmap::bitmaps::Bitmaps;
 use mark_bitmap::tams::Tams;
@@ -24,43 +23,18 @@ use std::test::Fail;
 fn names_itself(alloc: Global) -> Result<RegionTable, Fail>
     ensures { IfOk result (λ table. table ≡ itself) }
 {
-    let mut table = free_regions(alloc)?;
+    let mut table = one_object(alloc, 4, 1, 1, 0)?;
     let object = Addr::new(0);
-    table.take_free();
-    table.push_filler(RegionNo::new(0), FillerSize::new(4));
-    let counts = HeaderCounts {
-        pointers: Count::new(1),
-        weaks: 1,
-        values: Count::new(0),
-    };
-    table.make_object(object, FillerSize::new(4), 7, counts);
     table.set_field(object, 0, Some(object));
     table.set_field(object, 1, Some(object));
     Ok(table)
 }
 
-/// Region 0 is taken, and has an object at 0 whose one weak slot is nil.
-fn has_weak_slot(alloc: Global) -> Result<RegionTable, Fail>
-    ensures { IfOk result (λ table. table ≡ alone) }
-{
-    let mut table = free_regions(alloc)?;
-    let object = Addr::new(0);
-    table.take_free();
-    table.push_filler(RegionNo::new(0), FillerSize::new(3));
-    let counts = HeaderCounts {
-        pointers: Count::new(0),
-        weaks: 1,
-        values: Count::new(0),
-    };
-    table.make_object(object, FillerSize::new(3), 7, counts);
-    Ok(table)
-}
-
-/// Besides, region 1 is taken, and has an object at 16, of no field, which the weak slot names.
+/// Region 0 has an object at 0 of one weak slot, which names an object of no field, at 16 in region 1.
 fn held_weakly(alloc: Global) -> Result<RegionTable, Fail>
     ensures { IfOk result (λ table. table ≡ by_weak_slot) }
 {
-    let mut table = has_weak_slot(alloc)?;
+    let mut table = one_object(alloc, 3, 0, 1, 0)?;
     let object = Addr::new(16);
     table.take_free();
     table.push_filler(RegionNo::new(1), FillerSize::new(2));

@@ -12,7 +12,7 @@ ghost use Rattle.std.specs.Prelude.{◌≡◌, ◌+◌, ◌<◌, ◌≤◌, ◌^
 ghost use Rattle.regions.specs.Table.{free_table};
 ghost use Rattle.remembered_sets.specs.Sets.{card_count};
 ghost use Rattle.refinement.specs.Refining.{CanScan};
-ghost use Rattle.region_tests.specs.Samples.{IsSample};
+ghost use Rattle.region_tests.specs.Samples.{IsSample, one_object};
 
 use cards::CardTable;
 use heap_words::addr::{Addr, Card, RegionNo};
@@ -135,6 +135,37 @@ pub(crate) fn free_regions(alloc: Global) -> Result<RegionTable, Fail>
     let Ok(table) = RegionTable::new(alloc, &sizes) else {
         return Err(Fail::from("a table is made"));
     };
+    Ok(table)
+}
+
+/// Region 0 is taken, and has an object of nil fields and zeros at its bottom, made in a filler of so many words.
+pub(crate) fn one_object(
+    alloc: Global,
+    words: u32,
+    pointers: u32,
+    weaks: u8,
+    values: u32,
+) -> Result<RegionTable, Fail>
+    requires small { words ≤ 16 }
+    requires room { 2 + pointers + weaks + values ≤ words }
+    ensures { IfOk result (λ table. table ≡ one_object words pointers weaks values) }
+{
+    let mut table = free_regions(alloc)?;
+    let region = RegionNo::new(0);
+    let object = Addr::new(0);
+    let size = FillerSize::new(words);
+    if table.take_free() != Some(region) {
+        return Err(Fail::from("region 0 is the lowest free one"));
+    }
+    if table.push_filler(region, size) != object {
+        return Err(Fail::from("a filler is at the bottom"));
+    }
+    let counts = HeaderCounts {
+        pointers: Count::new(pointers),
+        weaks,
+        values: Count::new(values),
+    };
+    table.make_object(object, size, 7, counts);
     Ok(table)
 }
 

@@ -1,10 +1,11 @@
 //! Tables of regions, changed call by call: what is written is read back.
 
-ghost use Rattle.std.specs.Prelude.{◌≡◌, ◌*◌, ◌<◌, ◌^◌, length, IfOk, IsSome};
+ghost use Rattle.std.specs.Prelude.{◌≡◌, ◌*◌, ◌<◌, ◌^◌, length, IfOk, IsSome, Some};
 ghost use Rattle.regions.specs.Table.{free_table, object_at, pointers_at, weaks_at, fields_at, values_at};
-ghost use Rattle.region_tests.specs.Filled.{IsFilled};
+ghost use Rattle.region_tests.specs.Filled.{IsFilled, slotted, stepped, twice};
+ghost use Rattle.region_tests.specs.Samples.{one_object};
 
-use crate::refining::{add, free_regions, take_free};
+use crate::refining::{add, free_regions, one_object, take_free};
 use heap_words::addr::{Addr, Ptr, RegionNo};
 use heap_words::config::{Config, Format, NewFault};
 use heap_words::header::{Count, FillerSize, HeaderCounts};
@@ -200,21 +201,23 @@ fn walks_over_a_region(rt: HostRuntime) -> Result<(), Fail> {
     Ok(())
 }
 
+/// Region 0 has an object of a pointer and a data word, and a filler after it, which the pointer names.
+fn before_a_filler(alloc: Global) -> Result<RegionTable, Fail>
+    ensures { IfOk result (λ table. table ≡ stepped (Some 4)) }
+{
+    let mut table = one_object(alloc, 6, 1, 0, 1)?;
+    table.set_field(Addr::new(0), 0, Some(Addr::new(4)));
+    Ok(table)
+}
+
 /// Free regions are counted, a field names a filler, and the filler is the tile after the field's object.
 #[test]
 fn steps_over_tiles(rt: HostRuntime) -> Result<(), Fail> {
-    let Ok(mut table) = small_table(rt.alloc()) else {
-        return Err(Fail::from("a table is made"));
-    };
-    let region = RegionNo::new(0);
+    assert_eq!(rt; free_regions(rt.alloc())?.free_count(), 4);
+    let table = before_a_filler(rt.alloc())?;
     let object = Addr::new(0);
     let rest = Addr::new(4);
-    assert_eq!(rt; table.free_count(), 4);
-    assert_eq!(rt; table.take_free(), Some(region));
     assert_eq!(rt; table.free_count(), 3);
-    assert_eq!(rt; table.push_filler(region, FillerSize::new(6)), object);
-    table.make_object(object, FillerSize::new(6), 7, counts(1, 0, 1));
-    table.set_field(object, 0, Some(rest));
     assert_eq!(rt; table.field_count(object), 1);
     assert_eq!(rt; table.get_field(object, 0), Some(rest));
     assert_eq!(rt; table.next_tile(object), Some(rest));
@@ -222,24 +225,30 @@ fn steps_over_tiles(rt: HostRuntime) -> Result<(), Fail> {
     Ok(())
 }
 
+/// An object of two weak slots is at 0, and its copy at 16, in region 1.
+fn copied(rt: &impl Abort, alloc: Global) -> Result<RegionTable, Fail>
+    ensures { IfOk result (λ table. table ≡ twice) }
+{
+    let mut table = one_object(alloc, 4, 0, 2, 0)?;
+    let to = RegionNo::new(1);
+    let object = Addr::new(0);
+    let copy = Addr::new(16);
+    assert_eq!(rt; table.take_free(), Some(to));
+    check_next_with_weaks(rt, &table, object, Some(object));
+    check_next_with_weaks(rt, &table, Addr::new(1), None);
+    assert_eq!(rt; table.copy_object(object, to), copy);
+    check_next_with_weaks(rt, &table, Addr::new(1), Some(copy));
+    Ok(table)
+}
+
 /// An object is copied to another region and forwarded, and its old region released.
 #[test]
 fn moves_an_object(rt: HostRuntime) -> Result<(), Fail> {
-    let Ok(mut table) = small_table(rt.alloc()) else {
-        return Err(Fail::from("a table is made"));
-    };
+    let mut table = copied(&rt, rt.alloc())?;
     let from = RegionNo::new(0);
     let to = RegionNo::new(1);
     let object = Addr::new(0);
     let copy = Addr::new(16);
-    assert_eq!(rt; table.take_free(), Some(from));
-    assert_eq!(rt; table.take_free(), Some(to));
-    assert_eq!(rt; table.push_filler(from, FillerSize::new(4)), object);
-    table.make_object(object, FillerSize::new(4), 7, counts(0, 2, 0));
-    check_next_with_weaks(&rt, &table, object, Some(object));
-    check_next_with_weaks(&rt, &table, Addr::new(1), None);
-    assert_eq!(rt; table.copy_object(object, to), copy);
-    check_next_with_weaks(&rt, &table, Addr::new(1), Some(copy));
     table.forward(object, copy);
     check_next_with_weaks(&rt, &table, object, Some(copy));
     assert_eq!(rt; table.target(object), Some(copy));
@@ -279,25 +288,29 @@ fn holds_a_run(rt: HostRuntime) -> Result<(), Fail> {
     Ok(())
 }
 
+/// Fills the second weak slot, the first, and the data word of the object at 0.
+fn fill_slots(table: &mut RegionTable)
+    requires { table.old ≡ one_object 6 1 2 1 }
+    ensures { table.new ≡ slotted }
+{
+    let object = Addr::new(0);
+    table.set_weak(object, 1, Some(Addr::new(9)));
+    table.set_field(object, 1, Some(object));
+    table.set_value(object, 0, 9);
+}
+
 /// An object of one pointer, two weak slots and one data word: what is written to it is read back.
 #[test]
 fn holds_weak_slots(rt: HostRuntime) -> Result<(), Fail> {
-    let Ok(mut table) = small_table(rt.alloc()) else {
-        return Err(Fail::from("a table is made"));
-    };
     let region = RegionNo::new(0);
     let object = Addr::new(0);
     let other = Addr::new(9);
-    check_next_with_weaks(&rt, &table, object, None);
-    assert_eq!(rt; table.take_free(), Some(region));
-    assert_eq!(rt; table.push_filler(region, FillerSize::new(6)), object);
-    table.make_object(object, FillerSize::new(6), 7, counts(1, 2, 1));
+    check_next_with_weaks(&rt, &free_regions(rt.alloc())?, object, None);
+    let mut table = one_object(rt.alloc(), 6, 1, 2, 1)?;
     assert_eq!(rt; table.lowest_tile(region), Some(object));
     check_next_with_weaks(&rt, &table, object, Some(object));
     check_next_with_weaks(&rt, &table, Addr::new(1), None);
-    table.set_weak(object, 1, Some(other));
-    table.set_field(object, 1, Some(object));
-    table.set_value(object, 0, 9);
+    fill_slots(&mut table);
     assert_eq!(rt; about(&table, object), (7, 1, 1, 6));
     assert_eq!(rt; fields(&table, object), (None, 9));
     assert_eq!(rt; slots(&table, object), (2, Some(object), Some(other)));

@@ -2,20 +2,11 @@ use Rattle.std.proofs.Common.{refl}
 use Rattle.region_tests.proofs.PauseTables.{is_two, usable_two, is_two_cut, second_filler, is_both, has_slot, is_by_weak_slot}
 use Rattle.region_tests.proofs.pauses.held_weakly.Goals as goal
 
-pub push_filler-requires-clause-known : goal.push_filler-requires-clause-known
-push_filler-requires-clause-known c =
+pub push_filler-requires : goal.push_filler-requires
+push_filler-requires c =
     let t1 = is_two _ _ c.in_ok-table.ensures c.take_free.ensures.taken in
-    (usable_two _ _ _ t1 c.new.ensures c.new-2.ensures).known
-
-pub push_filler-requires-clause-ordinary : goal.push_filler-requires-clause-ordinary
-push_filler-requires-clause-ordinary c =
-    let t1 = is_two _ _ c.in_ok-table.ensures c.take_free.ensures.taken in
-    (usable_two _ _ _ t1 c.new.ensures c.new-2.ensures).ordinary
-
-pub push_filler-requires-clause-room : goal.push_filler-requires-clause-room
-push_filler-requires-clause-room c =
-    let t1 = is_two _ _ c.in_ok-table.ensures c.take_free.ensures.taken in
-    (usable_two _ _ _ t1 c.new.ensures c.new-2.ensures).room
+    let u = usable_two _ _ _ t1 c.new.ensures c.new-2.ensures in
+    record { known = u.known; ordinary = u.ordinary; room = u.room }
 
 pub make_object-requires-clause-there : goal.make_object-requires-clause-there
 make_object-requires-clause-there c =

@@ -1,4 +1,4 @@
-use Rattle.std.proofs.Common.{◌≡◌, ◌∙◌, ℕ, Some, [], ◌∷◌, arith, length, refl, sym, ap, subst}
+use Rattle.std.proofs.Common.{◌∙◌, ℕ, [], ◌∷◌, length, sym, ap, subst}
 use Rattle.remembered_sets.specs.Sets.{card_count}
 use Rattle.regions.specs.Table.{Table}
 use Rattle.evacuation.specs.Rooms.{RoomSizes}

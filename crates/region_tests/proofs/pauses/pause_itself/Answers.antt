@@ -1,4 +1,4 @@
-use Rattle.std.proofs.Common.{◌≡◌, ◌∙◌, ℕ, length, Some, [], ◌∷◌, arith, refl, sym, ap, subst}
+use Rattle.std.proofs.Common.{◌∙◌, ℕ, length, [], ◌∷◌, sym, ap, subst}
 use Rattle.remembered_sets.specs.Sets.{card_count, empty_sets}
 use Rattle.regions.specs.Table.{Table}
 use Rattle.evacuation.specs.Rooms.{RoomSizes}

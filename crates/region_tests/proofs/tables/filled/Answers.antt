@@ -1,16 +1,13 @@
-use Rattle.region_tests.proofs.TableSamples.{fill_take, fill_push, fill_split, fill_make, fill_pointer, fill_value, usable1}
+use Rattle.std.proofs.Common.{arith}
+use Rattle.region_tests.proofs.TableSamples.{fill_take, fill_push, fill_split, fill_make, fill_pointer, fill_value, usable}
 use Rattle.region_tests.proofs.TableSamples.{filler2, filler3, sample_is}
 use Rattle.region_tests.proofs.tables.filled.Goals as goal
 
-pub push_filler-requires-clause-ordinary : goal.push_filler-requires-clause-ordinary
-push_filler-requires-clause-ordinary g c =
+pub push_filler-requires : goal.push_filler-requires
+push_filler-requires g c =
     let t1 = fill_take _ _ c.in-Ok.ensures c.take_free.ensures.taken in
-    (usable1 _ _ _ t1 c.new-region.ensures c.new.ensures).ordinary
-
-pub push_filler-requires-clause-room : goal.push_filler-requires-clause-room
-push_filler-requires-clause-room g c =
-    let t1 = fill_take _ _ c.in-Ok.ensures c.take_free.ensures.taken in
-    (usable1 _ _ _ t1 c.new-region.ensures c.new.ensures).room
+    let u = usable _ _ _ t1 c.new-region.ensures (let n = c.new.ensures in omega arith) in
+    record { known = u.known; ordinary = u.ordinary; room = u.room }
 
 pub split_filler-requires-clause-there : goal.split_filler-requires-clause-there
 split_filler-requires-clause-there g c =

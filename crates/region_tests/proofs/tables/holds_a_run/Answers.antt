@@ -12,19 +12,13 @@ take_run-requires-clause-tight g c =
     let t1 = fill_take _ _ c.in-Ok.ensures c.take_free.ensures.taken in
     (run_fits _ _ _ _ t1 c.counts.ensures.pointers_are c.counts.ensures.weaks_are c.counts.ensures.values_are).1
 
-pub release-requires-clause-releasable : goal.release-requires-clause-releasable
-release-requires-clause-releasable g c =
+pub release-requires : goal.release-requires
+release-requires g c =
     let t1 = fill_take _ _ c.in-Ok.ensures c.take_free.ensures.taken in
     let t2 =
     run_take _ _ _ _ _ t1 c.take_run.ensures.taken c.counts.ensures.pointers_are c.counts.ensures.weaks_are c.counts.ensures.values_are in
-    (releasable_run _ _ t2 c.new-first.ensures).releasable
-
-pub release-requires-clause-untargeted : goal.release-requires-clause-untargeted
-release-requires-clause-untargeted g c =
-    let t1 = fill_take _ _ c.in-Ok.ensures c.take_free.ensures.taken in
-    let t2 =
-    run_take _ _ _ _ _ t1 c.take_run.ensures.taken c.counts.ensures.pointers_are c.counts.ensures.weaks_are c.counts.ensures.values_are in
-    (releasable_run _ _ t2 c.new-first.ensures).untargeted
+    let p = releasable_run _ _ t2 c.new-first.ensures in
+    record { known = p.known; releasable = p.releasable; untargeted = p.untargeted }
 
 pub check_kind-requires-3 : goal.check_kind-requires-3
 check_kind-requires-3 g c =
