@@ -22,62 +22,26 @@ stored : (a b c d : ℕ) → c ≡ d → a ∷ b ∷ c ∷ [] ≡ a ∷ b ∷ d 
 stored a b c d e = ap (λ (n : ℕ). a ∷ b ∷ n ∷ []) e
 
 action_rows : (v : ActionVerb) → IsRow actions_grammar v
-action_rows verbs.New = (refl, refl, (λ n. refl), (λ n. refl))
-action_rows verbs.NewWeak = (refl, refl, (λ n. refl), (λ n. refl))
-action_rows verbs.Get = (refl, refl, (λ n. refl), (λ n. refl))
-action_rows verbs.GetWeak = (refl, refl, (λ n. refl), (λ n. refl))
 action_rows verbs.Put = (refl, refl, (λ n. refl), (λ n. stored (n 0) (n 1) _ (n 2) (value_same (n 2))))
 action_rows verbs.PutWeak = (refl, refl, (λ n. refl), (λ n. stored (n 0) (n 1) _ (n 2) (value_same (n 2))))
-action_rows verbs.Read = (refl, refl, (λ n. refl), (λ n. refl))
-action_rows verbs.Write = (refl, refl, (λ n. refl), (λ n. refl))
-action_rows verbs.Move = (refl, refl, (λ n. refl), (λ n. refl))
-action_rows verbs.Drop = (refl, refl, (λ n. refl), (λ n. refl))
-action_rows verbs.Load = (refl, refl, (λ n. refl), (λ n. refl))
-action_rows verbs.Save = (refl, refl, (λ n. refl), (λ n. refl))
-action_rows verbs.Scope = (refl, refl, (λ n. refl), (λ n. refl))
-action_rows verbs.Shape = (refl, refl, (λ n. refl), (λ n. refl))
-action_rows verbs.Weaks = (refl, refl, (λ n. refl), (λ n. refl))
+action_rows _ = (refl, refl, (λ n. refl), (λ n. refl))
 
 action_made : (a : Action) → actions_grammar.make (actions_grammar.verb a) (λ i. get_or (actions_grammar.numbers a) i 0) ≡ a
-action_made (actions.New to counts) = refl
-action_made (actions.Get to object i) = refl
 action_made (actions.Put object i None) = refl
-action_made (actions.Put object i (Some r)) = refl
-action_made (actions.Read object j) = refl
-action_made (actions.Write object j value) = refl
-action_made (actions.Move to from) = refl
-action_made (actions.Drop register) = refl
-action_made (actions.Load to from) = refl
-action_made (actions.Save to from) = refl
-action_made (actions.Shape object) = refl
-action_made (actions.NewWeak to counts w) = refl
-action_made (actions.GetWeak to object i) = refl
 action_made (actions.PutWeak object i None) = refl
-action_made (actions.PutWeak object i (Some r)) = refl
-action_made (actions.Weaks object) = refl
-action_made (actions.Scope from) = refl
+action_made _ = refl
 
 pub actions_are : IsGrammar actions_grammar
 actions_are = record { rows = action_rows; made = action_made }
 
 collection_rows : (v : CollectionVerb) → IsRow collections_grammar v
 collection_rows collections.Begin = (refl, refl, (λ n. refl), (λ n. refl))
-collection_rows collections.Mark = (refl, refl, (λ n. refl), (λ n. refl))
-collection_rows collections.Remark = (refl, refl, (λ n. refl), (λ n. refl))
-collection_rows collections.Cleanup = (refl, refl, (λ n. refl), (λ n. refl))
-collection_rows collections.Refine = (refl, refl, (λ n. refl), (λ n. refl))
-collection_rows collections.Pause = (refl, refl, (λ n. refl), (λ n. refl))
-collection_rows collections.Compact = (refl, refl, (λ n. refl), (λ n. refl))
+collection_rows _ = (refl, refl, (λ n. refl), (λ n. refl))
 
 collection_made : (k : CollectorStep)
     → collections_grammar.make (collections_grammar.verb k) (λ i. get_or (collections_grammar.numbers k) i 0) ≡ k
 collection_made collector.Begin = refl
-collection_made (collector.Mark k) = refl
-collection_made collector.Remark = refl
-collection_made collector.Cleanup = refl
-collection_made (collector.Refine k) = refl
-collection_made (collector.Pause k) = refl
-collection_made (collector.Compact k) = refl
+collection_made _ = refl
 
 pub collections_are : IsGrammar collections_grammar
 collections_are = record { rows = collection_rows; made = collection_made }

@@ -29,14 +29,12 @@ true_both true d e f = f
 true_both false d e f = absurd cc
 
 pub third : (f : Format) → is_third f ≡ true → IsThird f
-third V1 e = absurd cc
-third (V2 card) e = absurd cc
 third (V3 card globals registers) e = tt
+third _ e = absurd cc
 
 pub third_again : (f : Format) → IsThird f → is_third f ≡ true
-third_again V1 h = absurd h
-third_again (V2 card) h = absurd h
 third_again (V3 card globals registers) h = refl
+third_again _ h = absurd h
 
 -- a format has a row if the test says so
 pub row_is : (f : Format) (t : Bool) → has_row f t ≡ true → HasRow f t
@@ -51,20 +49,14 @@ row_again f false h = refl
 there_is : (p : Places) (k : Operand) (n : ℕ) → is_there p k n ≡ true → IsThere p k n
 there_is p operands.Register n e = ltb-true n p.registers e
 there_is p operands.Global n e = ltb-true n p.globals e
-there_is p operands.Value zero e = tt
 there_is p operands.Value (suc n) e = ltb-true n p.registers e
-there_is p operands.Small n e = tt
-there_is p operands.Byte n e = tt
-there_is p operands.Large n e = tt
+there_is p _ n e = tt
 
 there_again : (p : Places) (k : Operand) (n : ℕ) → IsThere p k n → is_there p k n ≡ true
 there_again p operands.Register n h = lt-ltb n p.registers h
 there_again p operands.Global n h = lt-ltb n p.globals h
-there_again p operands.Value zero h = refl
 there_again p operands.Value (suc n) h = lt-ltb n p.registers h
-there_again p operands.Small n h = refl
-there_again p operands.Byte n h = refl
-there_again p operands.Large n h = refl
+there_again p _ n h = refl
 
 are_is : (p : Places) (rs : List Root) → are_there p rs ≡ true → AreThere p rs
 are_is p [] e = tt

@@ -162,12 +162,6 @@ no_config c e = cc
 
 pub heap_is : (ws : List (List ℕ)) (c : Config) → sizes_of ws ≡ Some c → AreSizes ws c
 unfolding sizes_of
-heap_is [] c e = absurd cc
-heap_is (verb ∷ []) c e = absurd cc
-heap_is (verb ∷ n ∷ []) c e = absurd cc
-heap_is (verb ∷ n ∷ r ∷ []) c e = absurd cc
-heap_is (verb ∷ n ∷ r ∷ b ∷ []) c e = absurd cc
-heap_is (verb ∷ n ∷ r ∷ b ∷ m ∷ []) c e = absurd cc
 heap_is (verb ∷ n ∷ r ∷ b ∷ m ∷ f ∷ []) c e =
     elim (chosen (bytes_eq verb (codes "heap")) (sizes_in V1 n r b m f) None c e) [
       | inl h ↦
@@ -191,7 +185,6 @@ heap_is (verb ∷ n ∷ r ∷ b ∷ m ∷ f ∷ card ∷ []) c e =
           }
       | inr h ↦ absurd (no_config c h.1)
     ]
-heap_is (verb ∷ n ∷ r ∷ b ∷ m ∷ f ∷ g ∷ h ∷ []) c e = absurd cc
 heap_is (verb ∷ n ∷ r ∷ b ∷ m ∷ f ∷ card ∷ globals ∷ registers ∷ []) c e =
     elim (chosen (bytes_eq verb (codes "heap3")) (third_of card globals registers >>= λ k. sizes_in k n r b m f) None c e) [
       | inl h ↦
@@ -205,4 +198,4 @@ heap_is (verb ∷ n ∷ r ∷ b ∷ m ∷ f ∷ card ∷ globals ∷ registers �
           }
       | inr h ↦ absurd (no_config c h.1)
     ]
-heap_is (verb ∷ n ∷ r ∷ b ∷ m ∷ f ∷ g ∷ h ∷ i ∷ j ∷ ws) c e = absurd cc
+heap_is _ c e = absurd cc

@@ -127,26 +127,16 @@ same_step c a ws s t spelled owned fits e =
 marked : (c : Config) (i : ℕ) (ws : List (List ℕ)) (k : CollectorStep) (s : Step) → i < 8 → ws ≡ collection_words k → CollectionFits k
     → marker_step k ≡ Some s → IsTaken c (actors.Marker i) ws s
 unfolding marker_step
-marked c i ws collector.Begin s known spelled fits e = absurd (no_step s e)
 marked c i ws (collector.Mark n) s known spelled fits e =
     same_step c (actors.Marker i) ws (steps.Collector (collector.Mark n)) s spelled known fits e
-marked c i ws collector.Remark s known spelled fits e = absurd (no_step s e)
-marked c i ws collector.Cleanup s known spelled fits e = absurd (no_step s e)
-marked c i ws (collector.Refine n) s known spelled fits e = absurd (no_step s e)
-marked c i ws (collector.Pause n) s known spelled fits e = absurd (no_step s e)
-marked c i ws (collector.Compact n) s known spelled fits e = absurd (no_step s e)
+marked c i ws _ s known spelled fits e = absurd (no_step s e)
 
 refined : (c : Config) (i : ℕ) (ws : List (List ℕ)) (k : CollectorStep) (s : Step) → i < 8 → ws ≡ collection_words k → CollectionFits k
     → refiner_step k ≡ Some s → IsTaken c (actors.Refiner i) ws s
 unfolding refiner_step
-refined c i ws collector.Begin s known spelled fits e = absurd (no_step s e)
-refined c i ws (collector.Mark n) s known spelled fits e = absurd (no_step s e)
-refined c i ws collector.Remark s known spelled fits e = absurd (no_step s e)
-refined c i ws collector.Cleanup s known spelled fits e = absurd (no_step s e)
 refined c i ws (collector.Refine n) s known spelled fits e =
     same_step c (actors.Refiner i) ws (steps.Collector (collector.Refine n)) s spelled known fits e
-refined c i ws (collector.Pause n) s known spelled fits e = absurd (no_step s e)
-refined c i ws (collector.Compact n) s known spelled fits e = absurd (no_step s e)
+refined c i ws _ s known spelled fits e = absurd (no_step s e)
 
 taken_is : (c : Config) (a : Actor) (ws : List (List ℕ)) (s : Step) → KnownActor c a → taken_of c a ws ≡ Some s → IsTaken c a ws s
 unfolding taken_of
@@ -256,16 +246,9 @@ some_body (steps.Mutator o) = (_, _, refl)
 some_body (steps.Collector k) = (_, _, refl)
 
 pub some_reply : (r : Reply) → (x : List ℕ) × (xs : List (List ℕ)) × (reply_words r ≡ x ∷ xs)
-some_reply replies.Done = (_, _, refl)
 some_reply (replies.Named None) = (_, _, refl)
 some_reply (replies.Named (Some n)) = (_, _, refl)
-some_reply (replies.Word w) = (_, _, refl)
-some_reply (replies.Shape p d) = (_, _, refl)
-some_reply (replies.Marked n) = (_, _, refl)
-some_reply (replies.Reclaimed n) = (_, _, refl)
-some_reply (replies.Refined n) = (_, _, refl)
-some_reply (replies.Moved n w) = (_, _, refl)
-some_reply (replies.Refused why) = (_, _, refl)
+some_reply _ = (_, _, refl)
 
 pub event_text_is : (n : ℕ) (e : Event) → event_text n e ≡ spaced (event_words n e)
 event_text_is n e =

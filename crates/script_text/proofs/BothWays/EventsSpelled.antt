@@ -52,20 +52,17 @@ plain_number : (n : ℕ) → n ≤ large → is_equals (decimal n) ≡ false
 plain_number n fits = number_not n (codes "=") fits (omega arith)
 
 operand_plain : (k : Operand) (n : ℕ) → OperandFits k n → is_equals (operand_word k n) ≡ false
-operand_plain operands.Register n fits = refl
-operand_plain operands.Global n fits = refl
-operand_plain operands.Value zero fits = refl
-operand_plain operands.Value (suc n) fits = refl
 operand_plain operands.Small n fits = plain_number n (omega (arith, fits))
 operand_plain operands.Byte n fits = plain_number n (omega (arith, fits))
 operand_plain operands.Large n fits = plain_number n fits
+operand_plain operands.Value zero fits = refl
+operand_plain _ n fits = refl
 
 operands_plain : (ks : List Operand) (ns : List ℕ) → OperandsFit ks ns → ArePlain (operand_words ks ns)
 operands_plain [] [] fits = All-nil (λ w. is_equals w ≡ false)
-operands_plain [] (n ∷ ns) fits = absurd fits
-operands_plain (k ∷ ks) [] fits = absurd fits
 operands_plain (k ∷ ks) (n ∷ ns) fits =
     All-cons (λ w. is_equals w ≡ false) (operand_word k n) (operand_words ks ns) (operand_plain k n fits.0) (operands_plain ks ns fits.1)
+operands_plain _ _ fits = absurd fits
 
 words_plain : {V A : Type 0} (g : Grammar V A) (is : IsGrammar g) (x : A) → FitsBy g x → ArePlain (words_by g x)
 words_plain g is x fits =
@@ -83,12 +80,7 @@ body_long (steps.Collector k) fits = words_long collections_grammar collections_
 
 refused_long : (why : Refusal) → nat_le (length (spaced (codes "refused" ∷ refusal_words why))) 32 ≡ true
 refused_long refusals.Nil = refl
-refused_long refusals.NoField = refl
-refused_long refusals.Full = refl
-refused_long refusals.TooBig = refl
-refused_long refusals.NamesSpent = refl
-refused_long refusals.MarkRunning = refl
-refused_long refusals.NotMarking = refl
+refused_long _ = refl
 
 reply_long : (r : Reply) → ReplyFits r → length (spaced (reply_words r)) ≤ 32
 reply_long replies.Done fits = omega arith
@@ -103,6 +95,10 @@ reply_long (replies.Moved n w) fits =
     omega (arith, three_long (codes "moved") (decimal n) (decimal w), small_long n fits.0, small_long w fits.1)
 reply_long (replies.Refused why) fits = leb-true (length (spaced (codes "refused" ∷ refusal_words why))) 32 (refused_long why)
 
+refused_words : (why : Refusal) → AreWords (codes "refused" ∷ refusal_words why)
+refused_words refusals.Nil = word3 _ _ _ (literal _ refl refl) (literal _ refl refl) (literal _ refl refl)
+refused_words _ = word3 _ _ _ (literal _ refl refl) (literal _ refl refl) (literal _ refl refl)
+
 -- the words of the parts
 reply_is_words : (r : Reply) → ReplyFits r → AreWords (reply_words r)
 reply_is_words replies.Done fits = word1 _ (literal (codes "ok") refl refl)
@@ -110,24 +106,9 @@ reply_is_words (replies.Named None) fits = word1 _ (literal (codes "nil") refl r
 reply_is_words (replies.Named (Some n)) fits = word1 _ (lettered 35 n (omega arith) fits)
 reply_is_words (replies.Word w) fits = word1 _ (number_word w fits)
 reply_is_words (replies.Shape p d) fits = word2 _ _ (small_word p fits.0) (small_word d fits.1)
-reply_is_words (replies.Marked n) fits = word2 _ _ (literal (codes "marked") refl refl) (small_word n fits)
-reply_is_words (replies.Reclaimed n) fits = word2 _ _ (literal (codes "reclaimed") refl refl) (small_word n fits)
-reply_is_words (replies.Refined n) fits = word2 _ _ (literal (codes "refined") refl refl) (small_word n fits)
 reply_is_words (replies.Moved n w) fits = word3 _ _ _ (literal (codes "moved") refl refl) (small_word n fits.0) (small_word w fits.1)
-reply_is_words (replies.Refused refusals.Nil) fits =
-    word3 _ _ _ (literal (codes "refused") refl refl) (literal (codes "1") refl refl) (literal (codes "Nil") refl refl)
-reply_is_words (replies.Refused refusals.NoField) fits =
-    word3 _ _ _ (literal (codes "refused") refl refl) (literal (codes "2") refl refl) (literal (codes "NoField") refl refl)
-reply_is_words (replies.Refused refusals.Full) fits =
-    word3 _ _ _ (literal (codes "refused") refl refl) (literal (codes "3") refl refl) (literal (codes "Full") refl refl)
-reply_is_words (replies.Refused refusals.TooBig) fits =
-    word3 _ _ _ (literal (codes "refused") refl refl) (literal (codes "4") refl refl) (literal (codes "TooBig") refl refl)
-reply_is_words (replies.Refused refusals.NamesSpent) fits =
-    word3 _ _ _ (literal (codes "refused") refl refl) (literal (codes "5") refl refl) (literal (codes "NamesSpent") refl refl)
-reply_is_words (replies.Refused refusals.MarkRunning) fits =
-    word3 _ _ _ (literal (codes "refused") refl refl) (literal (codes "6") refl refl) (literal (codes "MarkRunning") refl refl)
-reply_is_words (replies.Refused refusals.NotMarking) fits =
-    word3 _ _ _ (literal (codes "refused") refl refl) (literal (codes "7") refl refl) (literal (codes "NotMarking") refl refl)
+reply_is_words (replies.Refused why) fits = refused_words why
+reply_is_words _ fits = word2 _ _ (literal _ refl refl) (small_word _ fits)
 
 body_is_words : (s : Step) → StepFits s → AreWords (body_words s)
 body_is_words (steps.Mutator o) fits = words_are actions_grammar actions_are o.action fits
@@ -165,9 +146,7 @@ ActorFits _ = Unit {0}
 
 actor_fits : (c : Config) (a : Actor) → c.mutators ≤ small → KnownActor c a → ActorFits a
 actor_fits c (actors.Mutator m) few known = omega arith
-actor_fits c actors.Collector few known = tt
-actor_fits c (actors.Marker i) few known = tt
-actor_fits c (actors.Refiner i) few known = tt
+actor_fits c _ few known = tt
 
 is_actor : (c : Config) (a : Actor) → ActorFits a → KnownActor c a → IsActor c a
 unfolding actor_of foreground_of background_of
@@ -199,31 +178,16 @@ is_own c (actors.Mutator m) (steps.Mutator o) h fits = record {
   known = subst (λ (k : ℕ). k < c.mutators) h.0 h.1.at.mutator;
   again = rw (allowed_again c o h.1 fits) (ap (λ (k : ℕ). Some (steps.Mutator (record { mutator = k; action = o.action }))) (sym h.0));
 }
-is_own c (actors.Mutator m) (steps.Collector k) h fits = absurd h
-is_own c actors.Collector (steps.Mutator o) h fits = absurd h
 is_own c actors.Collector (steps.Collector k) h fits = record { known = tt; again = rw (collection_again c.format k h fits) refl }
-is_own c (actors.Marker i) (steps.Mutator o) h fits = absurd h
-is_own c (actors.Marker i) (steps.Collector collector.Begin) h fits = absurd h
 is_own c (actors.Marker i) (steps.Collector (collector.Mark k)) h fits = record {
   known = h;
   again = rw (collection_again c.format (collector.Mark k) tt fits) refl;
 }
-is_own c (actors.Marker i) (steps.Collector collector.Remark) h fits = absurd h
-is_own c (actors.Marker i) (steps.Collector collector.Cleanup) h fits = absurd h
-is_own c (actors.Marker i) (steps.Collector (collector.Refine k)) h fits = absurd h
-is_own c (actors.Marker i) (steps.Collector (collector.Pause b)) h fits = absurd h
-is_own c (actors.Marker i) (steps.Collector (collector.Compact b)) h fits = absurd h
-is_own c (actors.Refiner i) (steps.Mutator o) h fits = absurd h
-is_own c (actors.Refiner i) (steps.Collector collector.Begin) h fits = absurd h
-is_own c (actors.Refiner i) (steps.Collector (collector.Mark k)) h fits = absurd h
-is_own c (actors.Refiner i) (steps.Collector collector.Remark) h fits = absurd h
-is_own c (actors.Refiner i) (steps.Collector collector.Cleanup) h fits = absurd h
 is_own c (actors.Refiner i) (steps.Collector (collector.Refine k)) h fits = record {
   known = h;
   again = rw (collection_again c.format (collector.Refine k) tt fits) refl;
 }
-is_own c (actors.Refiner i) (steps.Collector (collector.Pause b)) h fits = absurd h
-is_own c (actors.Refiner i) (steps.Collector (collector.Compact b)) h fits = absurd h
+is_own c _ _ h fits = absurd h
 
 longer : (x : List ℕ) (xs ws : List (List ℕ)) → ws ≡ x ∷ xs → 1 ≤ length ws
 longer x xs ws e = let count : length ws ≡ length (x ∷ xs) = ap length e in omega arith
@@ -307,9 +271,7 @@ any_actor c (actors.Mutator m) (steps.Mutator o) owned =
     let known : o.mutator < none.mutators = (owned none).1.at.mutator in
     absurd (omega arith)
 any_actor c (actors.Mutator m) (steps.Collector k) owned = absurd (owned c)
-any_actor c actors.Collector s owned = tt
-any_actor c (actors.Marker i) s owned = tt
-any_actor c (actors.Refiner i) s owned = tt
+any_actor c _ s owned = tt
 
 -- the line of an event of any heap, by its words
 pub any_event_again : (n : ℕ) (c : Config) (line : List ℕ) (e : Event) → length line ≤ 120

@@ -74,9 +74,8 @@ operand_is operands.Large w n e = number_of_is large w n e
 -- operands
 pub operands_again : (ks : List Operand) (ns : List ℕ) → OperandsFit ks ns → operands_of ks (operand_words ks ns) ≡ Some ns
 operands_again [] [] fits = refl
-operands_again [] (n ∷ ns) fits = absurd fits
-operands_again (k ∷ ks) [] fits = absurd fits
 operands_again (k ∷ ks) (n ∷ ns) fits = rw (operand_again k n fits.0, operands_again ks ns fits.1) refl
+operands_again _ _ fits = absurd fits
 
 pub joined : (a b : List ℕ) (xs ys : List (List ℕ)) → a ≡ b → xs ≡ ys → a ∷ xs ≡ b ∷ ys
 joined a b xs ys e f = cc
@@ -84,8 +83,6 @@ joined a b xs ys e f = cc
 pub operands_is : (ks : List Operand) (ws : List (List ℕ)) (ns : List ℕ) → operands_of ks ws ≡ Some ns
     → (ws ≡ operand_words ks ns) × OperandsFit ks ns
 operands_is [] [] ns e = let none = some_is [] ns e in rw (← none) (refl, tt)
-operands_is [] (w ∷ ws) ns e = absurd cc
-operands_is (k ∷ ks) [] ns e = absurd cc
 operands_is (k ∷ ks) (w ∷ ws) ns e =
     let p = option_bind (operand_of k w) (λ n. operands_of ks ws >>= λ ms. Some (n ∷ ms)) ns e in
     let q = option_bind (operands_of ks ws) (λ ms. Some (p.0 ∷ ms)) ns p.2 in
@@ -93,23 +90,22 @@ operands_is (k ∷ ks) (w ∷ ws) ns e =
     let rest = operands_is ks ws q.0 q.1 in
     let same = some_is (p.0 ∷ q.0) ns q.2 in
     rw (← same) (joined w (operand_word k p.0) ws (operand_words ks q.0) one.0 rest.0, (one.1, rest.1))
+operands_is _ _ ns e = absurd cc
 
 pub same_length : (ks : List Operand) (ns : List ℕ) → OperandsFit ks ns → length ns ≡ length ks
 same_length [] [] fits = refl
-same_length [] (n ∷ ns) fits = absurd fits
-same_length (k ∷ ks) [] fits = absurd fits
 same_length (k ∷ ks) (n ∷ ns) fits = ap suc (same_length ks ns fits.1)
+same_length _ _ fits = absurd fits
 
 -- words of another number than the operands are none
 pub too_many : (ks : List Operand) (ws : List (List ℕ)) → (length ks ≡ length ws → ⊥) → operands_of ks ws ≡ None
 too_many [] [] other = absurd (other refl)
-too_many [] (w ∷ ws) other = refl
-too_many (k ∷ ks) [] other = refl
 too_many (k ∷ ks) (w ∷ ws) other = go (operand_of k w) (too_many ks ws (λ e. other (ap suc e)))
   where
     go : (o : Option ℕ) → operands_of ks ws ≡ None → (o >>= λ n. operands_of ks ws >>= λ ns. Some (n ∷ ns)) ≡ None
     go None rest = refl
     go (Some n) rest = rw rest refl
+too_many _ _ other = refl
 
 -- the numbers at the first places
 abbrev pub listed : (ℕ → ℕ) → ℕ → List ℕ
@@ -118,9 +114,8 @@ listed n (suc k) = n 0 ∷ listed (λ i. n (suc i)) k
 
 listed_is : (ns : List ℕ) (k : ℕ) → length ns ≡ k → listed (λ i. get_or ns i 0) k ≡ ns
 listed_is [] zero e = refl
-listed_is [] (suc k) e = absurd (omega (arith, e))
-listed_is (n ∷ ns) zero e = absurd (omega (arith, e))
 listed_is (n ∷ ns) (suc k) e = ap (λ (ms : List ℕ). n ∷ ms) (listed_is ns k (omega (arith, e)))
+listed_is _ _ e = absurd (omega (arith, e))
 
 -- the laws of a verb's row: its lines are good ones, its word tells it from other verbs, and what it makes has it and its numbers
 abbrev pub IsRow : {V A : Type 0} → Grammar V A → V → Type 0

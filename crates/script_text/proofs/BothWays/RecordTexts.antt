@@ -88,8 +88,6 @@ record IsText (text : List ℕ) (r : EventList) : Type 0 where
 
 pieces_read : (ps : List (List ℕ)) (r : EventList) → pieces_record ps ≡ Ok r → IsText (join_with_byte 10 ps) r
 unfolding pieces_record
-pieces_read [] r e = absurd cc
-pieces_read (last ∷ []) r e = absurd cc
 pieces_read (first ∷ next ∷ ps) r e =
     let head = result_bind (at 1 (heap_line_of first)) (λ c. events_of 1 c (next ∷ ps) >>= λ es. Ok (made c es)) r e in
     let tail = result_bind (events_of 1 head.0 (next ∷ ps)) (λ es. Ok (made head.0 es)) r head.2 in
@@ -102,6 +100,7 @@ pieces_read (first ∷ next ∷ ps) r e =
           ∙ sym (append_assoc (spaced (heap_words head.0)) (10 ∷ []) (event_lines 1 tail.0));
       good = record { config = heap.1; owned = rest.owned; fits = rest.fits; few = omega arith };
     })
+pieces_read _ r e = absurd cc
 
 pub record_read : (text : List ℕ) (r : EventList) → record_of text ≡ Ok r → (text ≡ record_text r) × IsRecord r
 record_read text r e =

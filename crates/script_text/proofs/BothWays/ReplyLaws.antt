@@ -169,19 +169,15 @@ long_is a b c r e =
 -- what is read is spelled so
 pub reply_is : (ws : List (List ℕ)) (r : Reply) → reply_of ws ≡ Some r → IsReply ws r
 unfolding reply_of
-reply_is [] r e = absurd (no_reply r e)
 reply_is (a ∷ []) r e = lone_is a r e
 reply_is (a ∷ b ∷ []) r e = pair_is a b r e
 reply_is (a ∷ b ∷ c ∷ []) r e = long_is a b c r e
-reply_is (a ∷ b ∷ c ∷ d ∷ ws) r e = absurd (no_reply r e)
+reply_is _ r e = absurd (no_reply r e)
 
 pub no_long_reply : (ws : List (List ℕ)) → 4 ≤ length ws → reply_of ws ≡ None
 unfolding reply_of
-no_long_reply [] le = absurd (omega arith)
-no_long_reply (a ∷ []) le = absurd (omega arith)
-no_long_reply (a ∷ b ∷ []) le = absurd (omega arith)
-no_long_reply (a ∷ b ∷ c ∷ []) le = absurd (omega arith)
 no_long_reply (a ∷ b ∷ c ∷ d ∷ ws) le = refl
+no_long_reply _ le = absurd (omega arith)
 
 false_by : (b : Bool) → (b ≡ true → ⊥) → b ≡ false
 false_by true never = absurd (never refl)
@@ -207,6 +203,11 @@ word_again (b ∷ digits) w e fits =
     let other : eqb b 35 ≡ false = ne_eqb b 35 (λ same. omega arith) in
     rw (other, number_of_some large (b ∷ digits) w (omega arith) e fits) refl
 
+refusal_read : (why : Refusal) → reply_of (codes "refused" ∷ refusal_words why) ≡ Some (replies.Refused why)
+unfolding reply_of long_reply_of refusal_of numbered
+refusal_read refusals.Nil = refl
+refusal_read _ = refl
+
 -- what is spelled so is read so
 pub reply_read : (r : Reply) → ReplyFits r → reply_of (reply_words r) ≡ Some r
 unfolding reply_of lone_reply_of pair_reply_of long_reply_of refusal_of numbered name_or_word
@@ -224,14 +225,6 @@ reply_read (replies.Shape p d) fits =
       num p fits.0,
       num d fits.1,
     ) refl
-reply_read (replies.Marked n) fits = rw (num n fits) refl
-reply_read (replies.Reclaimed n) fits = rw (num n fits) refl
-reply_read (replies.Refined n) fits = rw (num n fits) refl
 reply_read (replies.Moved n w) fits = rw (num n fits.0, num w fits.1) refl
-reply_read (replies.Refused refusals.Nil) fits = refl
-reply_read (replies.Refused refusals.NoField) fits = refl
-reply_read (replies.Refused refusals.Full) fits = refl
-reply_read (replies.Refused refusals.TooBig) fits = refl
-reply_read (replies.Refused refusals.NamesSpent) fits = refl
-reply_read (replies.Refused refusals.MarkRunning) fits = refl
-reply_read (replies.Refused refusals.NotMarking) fits = refl
+reply_read (replies.Refused why) fits = refusal_read why
+reply_read _ fits = rw (num _ fits) refl

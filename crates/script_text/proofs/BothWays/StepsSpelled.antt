@@ -142,14 +142,12 @@ rest_is_words c fits =
     All-append IsWord (size_words c) (format_words c.format) (sizes_are_words c fits) (format_is_words c.format fits.format)
 
 verb_is_word : (f : Format) → IsWord (verb_of f)
-verb_is_word V1 = literal (codes "heap") refl refl
-verb_is_word (V2 card) = literal (codes "heap2") refl refl
-verb_is_word (V3 card globals registers) = literal (codes "heap3") refl refl
+verb_is_word V1 = literal _ refl refl
+verb_is_word _ = literal _ refl refl
 
 verb_short : (f : Format) → length (verb_of f) ≤ 5
 verb_short V1 = omega arith
-verb_short (V2 card) = omega arith
-verb_short (V3 card globals registers) = omega arith
+verb_short _ = omega arith
 
 heap_is_words : (c : Config) → ConfigFits c → AreWords (heap_words c)
 unfolding behind_verb

@@ -88,8 +88,6 @@ pub record IsText (text : List ℕ) (p : StepList) : Type 0 where
 
 pieces_read : (ps : List (List ℕ)) (p : StepList) → pieces_script ps ≡ Ok p → IsText (join_with_byte 10 ps) p
 unfolding pieces_script
-pieces_read [] p e = absurd cc
-pieces_read (last ∷ []) p e = absurd cc
 pieces_read (first ∷ next ∷ ps) p e =
     let head = result_bind (at 1 (heap_line_of first)) (λ c. steps_of 2 c (next ∷ ps) >>= λ ss. Ok (plan c ss)) p e in
     let tail = result_bind (steps_of 2 head.0 (next ∷ ps)) (λ ss. Ok (plan head.0 ss)) p head.2 in
@@ -101,6 +99,7 @@ pieces_read (first ∷ next ∷ ps) p e =
           ∙ sym (append_assoc (spaced (heap_words head.0)) (10 ∷ []) (lines tail.0));
       good = record { config = heap.1; owned = rest.owned; fits = rest.fits };
     })
+pieces_read _ p e = absurd cc
 
 pub text_read : (text : List ℕ) (p : StepList) → script_of text ≡ Ok p → (text ≡ script_text p) × IsScript p
 text_read text p e =

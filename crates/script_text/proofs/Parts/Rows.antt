@@ -73,21 +73,19 @@ pub small_long : (n : ℕ) → n ≤ small → length (decimal n) ≤ 10
 small_long n fits = length-decimal-le 10 n (omega arith) (omega (arith, fits)) (omega (arith, fits))
 
 operand_long : (k : Operand) (n : ℕ) → OperandFits k n → length (operand_word k n) ≤ most_bytes k
-operand_long operands.Register n fits = let ten = small_long n fits in omega arith
-operand_long operands.Global n fits = let ten = small_long n fits in omega arith
 operand_long operands.Value zero fits = omega arith
 operand_long operands.Value (suc n) fits = let ten = small_long n fits in omega arith
 operand_long operands.Small n fits = small_long n fits
 operand_long operands.Byte n fits = length-decimal-le 3 n (omega arith) (omega (arith, fits)) (omega (arith, fits))
 operand_long operands.Large n fits = number_short n fits
+operand_long _ n fits = let ten = small_long n fits in omega arith
 
 -- the words of operands
 pub operands_are_words : (ks : List Operand) (ns : List ℕ) → OperandsFit ks ns → AreWords (operand_words ks ns)
 operands_are_words [] [] fits = All-nil IsWord
-operands_are_words [] (n ∷ ns) fits = absurd fits
-operands_are_words (k ∷ ks) [] fits = absurd fits
 operands_are_words (k ∷ ks) (n ∷ ns) fits =
     All-cons IsWord (operand_word k n) (operand_words ks ns) (operand_is_word k n fits.0) (operands_are_words ks ns fits.1)
+operands_are_words _ _ fits = absurd fits
 
 spaced_next : (w x : List ℕ) (ws : List (List ℕ)) → length (spaced (w ∷ x ∷ ws)) ≡ length w + 1 + length (spaced (x ∷ ws))
 spaced_next w x ws = omega (arith, length-append w (32 ∷ spaced (x ∷ ws)))
@@ -95,14 +93,12 @@ spaced_next w x ws = omega (arith, length-append w (32 ∷ spaced (x ∷ ws)))
 pub operands_long : (w : List ℕ) (ks : List Operand) (ns : List ℕ) → OperandsFit ks ns
     → length (spaced (w ∷ operand_words ks ns)) ≤ length w + room ks
 operands_long w [] [] fits = omega arith
-operands_long w [] (n ∷ ns) fits = absurd fits
-operands_long w (k ∷ ks) [] fits = absurd fits
 operands_long w (k ∷ ks) (n ∷ ns) fits =
     let first = operand_long k n fits.0 in
     let rest = operands_long (operand_word k n) ks ns fits.1 in
     omega (arith, spaced_next w (operand_word k n) (operand_words ks ns))
+operands_long w _ _ fits = absurd fits
 
 pub operand_count : (ks : List Operand) (ns : List ℕ) → length (operand_words ks ns) ≤ length ks
-operand_count [] ns = omega arith
-operand_count (k ∷ ks) [] = omega arith
 operand_count (k ∷ ks) (n ∷ ns) = let rest = operand_count ks ns in omega arith
+operand_count _ _ = omega arith

@@ -45,12 +45,10 @@ one_root p k n (r ∷ rs) = refl
 
 more_roots : (p : Places) (k : Operand) (n : ℕ) (ks : List Operand) (ns : List ℕ)
     → is_there p k n && are_there p (roots_in ks ns) ≡ are_there p (roots_in (k ∷ ks) (n ∷ ns))
-more_roots p operands.Register n ks ns = one_root p operands.Register n (roots_in ks ns)
-more_roots p operands.Global n ks ns = one_root p operands.Global n (roots_in ks ns)
-more_roots p operands.Value n ks ns = one_root p operands.Value n (roots_in ks ns)
 more_roots p operands.Small n ks ns = refl
 more_roots p operands.Byte n ks ns = refl
 more_roots p operands.Large n ks ns = refl
+more_roots p k n ks ns = one_root p k n (roots_in ks ns)
 
 -- whether words were read as operands, and a heap has the roots among them
 abbrev all_there : Config → List Operand → Option (List ℕ) → Bool
@@ -59,9 +57,6 @@ all_there c ks (Some ns) = are_there (places_of c) (roots_in ks ns)
 
 operands_fit : (c : Config) (ks : List Operand) (ws : List (List ℕ))
     → all_fit c (map places.Operand ks ++ places.End ∷ []) ws ≡ all_there c ks (operands_of ks ws)
-operands_fit c [] [] = refl
-operands_fit c [] (w ∷ ws) = refl
-operands_fit c (k ∷ ks) [] = refl
 operands_fit c (k ∷ ks) (w ∷ ws) = go (operand_of k w) (operands_of ks ws) (operands_fit c ks ws)
   where
     go : (o : Option ℕ) (r : Option (List ℕ)) → all_fit c (map places.Operand ks ++ places.End ∷ []) ws ≡ all_there c ks r
@@ -70,6 +65,8 @@ operands_fit c (k ∷ ks) (w ∷ ws) = go (operand_of k w) (operands_of ks ws) (
     go None r e = refl
     go (Some n) None e = rw e (and_false (has_root c k n))
     go (Some n) (Some ns) e = rw e (more_roots (places_of c) k n ks ns)
+operands_fit c [] [] = refl
+operands_fit c _ _ = refl
 
 made : {A : Type 0} (t : Bool) (a : A) → is_some {T = A} (if t then Some a else None) ≡ t
 made true a = refl
@@ -128,23 +125,15 @@ are_numbers [] = true
 are_numbers (k ∷ ks) = not (is_root k) && are_numbers ks
 
 no_roots : (ks : List Operand) (ns : List ℕ) → are_numbers ks ≡ true → roots_in ks ns ≡ []
-no_roots [] ns e = refl
-no_roots (k ∷ ks) [] e = refl
-no_roots (operands.Register ∷ ks) (n ∷ ns) e = absurd cc
-no_roots (operands.Global ∷ ks) (n ∷ ns) e = absurd cc
-no_roots (operands.Value ∷ ks) (n ∷ ns) e = absurd cc
 no_roots (operands.Small ∷ ks) (n ∷ ns) e = no_roots ks ns e
 no_roots (operands.Byte ∷ ks) (n ∷ ns) e = no_roots ks ns e
 no_roots (operands.Large ∷ ks) (n ∷ ns) e = no_roots ks ns e
+no_roots (k ∷ ks) (n ∷ ns) e = absurd cc
+no_roots _ _ e = refl
 
 numbers_alone : (v : CollectionVerb) → are_numbers (collection_row v).operands ≡ true
 numbers_alone collections.Begin = refl
-numbers_alone collections.Mark = refl
-numbers_alone collections.Remark = refl
-numbers_alone collections.Cleanup = refl
-numbers_alone collections.Refine = refl
-numbers_alone collections.Pause = refl
-numbers_alone collections.Compact = refl
+numbers_alone _ = refl
 
 -- the collector's step is read where its words fit their places
 pub collects_by : (c : Config) (word : List ℕ) (args : List (List ℕ)) → is_some (collection_of c.format (word ∷ args))

@@ -26,8 +26,7 @@ line_anywhere : (r : Result Step Kind) (more more' : Result (List Step) LineFaul
     → ((ts : List Step) → more ≡ Ok ts → more' ≡ Ok ts) → (at n r >>= λ s. more >>= λ ts. Ok (s ∷ ts)) ≡ Ok ss
     → (at m r >>= λ s. more' >>= λ ts. Ok (s ∷ ts)) ≡ Ok ss
 line_anywhere (Ok s) (Ok ts) more' n m ss rest e = rw (rest ts refl) e
-line_anywhere (Ok s) (Err f) more' n m ss rest e = absurd cc
-line_anywhere (Err k) more more' n m ss rest e = absurd cc
+line_anywhere _ _ more' n m ss rest e = absurd cc
 
 ok_anywhere : (ps : List (List ℕ)) (p : List ℕ) (n m : ℕ) (c : Config) (ss : List Step) → steps_of n c (p ∷ ps) ≡ Ok ss
     → steps_of m c (p ∷ ps) ≡ Ok ss

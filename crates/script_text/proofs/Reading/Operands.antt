@@ -10,24 +10,20 @@ use Rattle.script_text.specs.Reading.{◌>>=◌, operand_of, operands_of, operan
 use Rattle.script_text.proofs.BothWays.Grammars.{operands_is, too_many}
 
 pub behind_form : (ks : List Operand) (ws : List (List ℕ)) (i : ℕ) → length ks ≤ i → operand_at ks ws i ≡ Some 0
-behind_form [] ws i le = refl
-behind_form (k ∷ ks) [] i le = refl
 behind_form (k ∷ ks) (w ∷ ws) zero le = absurd (omega (arith, le))
 behind_form (k ∷ ks) (w ∷ ws) (suc i) le = behind_form ks ws i (omega (arith, le))
+behind_form _ _ i le = refl
 
 pub behind_words : (ks : List Operand) (ws : List (List ℕ)) (i : ℕ) → length ws ≤ i → operand_at ks ws i ≡ Some 0
-behind_words [] ws i le = refl
-behind_words (k ∷ ks) [] i le = refl
 behind_words (k ∷ ks) (w ∷ ws) zero le = absurd (omega (arith, le))
 behind_words (k ∷ ks) (w ∷ ws) (suc i) le = behind_words ks ws i (omega (arith, le))
+behind_words _ _ i le = refl
 
 pub inside : (ks : List Operand) (ws : List (List ℕ)) (i : ℕ) (k : Operand) (w : List ℕ) → i < length ks → i < length ws
     → operand_of (get_or ks i k) (get_or ws i w) ≡ operand_at ks ws i
-inside [] ws i k w le lt = absurd (omega (arith, le))
-inside (x ∷ ks) [] i k w le lt = absurd (omega (arith, lt))
 inside (x ∷ ks) (y ∷ ws) zero k w le lt = refl
 inside (x ∷ ks) (y ∷ ws) (suc i) k w le lt = inside ks ws i k w (omega (arith, le)) (omega (arith, lt))
-
+inside _ _ i k w le lt = absurd (omega (arith, le, lt))
 abbrev texts : List (Bor (List ℕ)) → List (List ℕ)
 texts ws = map (λ w. w.now) ws
 
@@ -44,14 +40,13 @@ no_number ks ws i le =
 
 -- a word that is none makes all of them none
 pub none_at : (ks : List Operand) (ws : List (List ℕ)) (i : ℕ) → operand_at ks ws i ≡ None → operands_of ks ws ≡ None
-none_at [] ws i e = absurd cc
-none_at (k ∷ ks) [] i e = absurd cc
 none_at (k ∷ ks) (w ∷ ws) zero e = rw e refl
 none_at (k ∷ ks) (w ∷ ws) (suc i) e = go (operand_of k w) (none_at ks ws i e)
   where
     go : (o : Option ℕ) → operands_of ks ws ≡ None → (o >>= λ n. operands_of ks ws >>= λ ns. Some (n ∷ ns)) ≡ None
     go None rest = refl
     go (Some n) rest = rw rest refl
+none_at _ _ i e = absurd cc
 
 -- numbers at all places are those of all words
 all_at : (ks : List Operand) (ws : List (List ℕ)) (n : ℕ → ℕ) → length ks ≡ length ws → ((i : ℕ) → operand_at ks ws i ≡ Some (n i))
@@ -60,8 +55,6 @@ all_at [] [] n e at = ([], refl, λ i. sym (some_number 0 (n i) (at i)))
   where
     some_number : (a b : ℕ) → Some a ≡ Some b → a ≡ b
     some_number a b e = cc
-all_at [] (w ∷ ws) n e at = absurd (omega (arith, e))
-all_at (k ∷ ks) [] n e at = absurd (omega (arith, e))
 all_at (k ∷ ks) (w ∷ ws) n e at =
     let rest = all_at ks ws (λ i. n (suc i)) (omega (arith, e)) (λ i. at (suc i)) in
     (n 0 ∷ rest.0, rw (at 0, rest.1) refl, each rest.0 rest.2)
@@ -69,23 +62,19 @@ all_at (k ∷ ks) (w ∷ ws) n e at =
     each : (ns : List ℕ) → ((i : ℕ) → n (suc i) ≡ get_or ns i 0) → (i : ℕ) → n i ≡ get_or (n 0 ∷ ns) i 0
     each ns same zero = refl
     each ns same (suc i) = same i
+all_at _ _ n e at = absurd (omega (arith, e))
 
 -- a number that fits its operand is all in its bits
 low_same : (k : Operand) (n : ℕ) → OperandFits k n → low k n ≡ n
-low_same operands.Register n fits = omega (arith, fits)
-low_same operands.Global n fits = omega (arith, fits)
 low_same operands.Value zero fits = refl
-low_same operands.Value (suc n) fits = omega (arith, fits)
-low_same operands.Small n fits = omega (arith, fits)
-low_same operands.Byte n fits = omega (arith, fits)
 low_same operands.Large n fits = refl
+low_same _ n fits = omega (arith, fits)
 
 low_all : (ks : List Operand) (ns : List ℕ) → OperandsFit ks ns → (i : ℕ) → numbers_in ks ns i ≡ get_or ns i 0
 low_all [] [] fits i = refl
-low_all [] (n ∷ ns) fits i = absurd fits
-low_all (k ∷ ks) [] fits i = absurd fits
 low_all (k ∷ ks) (n ∷ ns) fits zero = low_same k n fits.0
 low_all (k ∷ ks) (n ∷ ns) fits (suc i) = low_all ks ns fits.1 i
+low_all _ _ fits i = absurd fits
 
 pub all_read : (ks : List Operand) (ws : List (List ℕ)) (numbers : List ℕ) → length ks ≡ length ws
     → ((i : ℕ) → operand_at ks ws i ≡ Some (get_or numbers i 0))

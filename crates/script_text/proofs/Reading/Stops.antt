@@ -72,13 +72,7 @@ heap_line_never line k e memory =
 pub fault_is : {Y : Type 0} (k : Kind) (n : ℕ) (text : List ℕ) (total : Result Y LineFault) → (k ≡ kinds.NoMemory → ⊥)
     → total ≡ Err (fault n k) → FailsBy k (fault n k) text total
 fault_is kinds.NoMemory n text total other e = absurd (other refl)
-fault_is kinds.Cut n text total other e = e
-fault_is kinds.LongLine n text total other e = e
-fault_is kinds.BadHeap n text total other e = e
-fault_is kinds.BadActor n text total other e = e
-fault_is kinds.BadStep n text total other e = e
-fault_is kinds.BadCount n text total other e = e
-fault_is kinds.BadReply n text total other e = e
+fault_is _ n text total other e = e
 
 -- a fault of the lines from line n on is one of line n or of a later one
 abbrev wrong : LineFault → Result (List Step) LineFault

@@ -26,13 +26,6 @@ no_long_collection f (w ∷ ws) many =
 
 step_of_twelve : (c : Config) (ws : List (List ℕ)) → step_of c (take 12 ws) ≡ step_of c ws
 unfolding step_of
-step_of_twelve c [] = refl
-step_of_twelve c (a ∷ []) = refl
-step_of_twelve c (a ∷ b ∷ []) = refl
-step_of_twelve c (a ∷ b ∷ d ∷ []) = refl
-step_of_twelve c (a ∷ b ∷ d ∷ e ∷ []) = refl
-step_of_twelve c (a ∷ b ∷ d ∷ e ∷ f ∷ []) = refl
-step_of_twelve c (a ∷ b ∷ d ∷ e ∷ f ∷ g ∷ []) = refl
 step_of_twelve c (a ∷ b ∷ d ∷ e ∷ f ∷ g ∷ h ∷ ws) =
     rw (
       no_long_collection c.format (b ∷ d ∷ e ∷ f ∷ g ∷ h ∷ take 5 ws) (omega arith),
@@ -40,20 +33,12 @@ step_of_twelve c (a ∷ b ∷ d ∷ e ∷ f ∷ g ∷ h ∷ ws) =
       no_long_action c (b ∷ d ∷ e ∷ f ∷ g ∷ h ∷ take 5 ws) (omega arith),
       no_long_action c (b ∷ d ∷ e ∷ f ∷ g ∷ h ∷ ws) (omega arith),
     ) refl
+step_of_twelve c _ = refl
 
 heap_of_twelve : (ws : List (List ℕ)) → sizes_of (take 12 ws) ≡ sizes_of ws
 unfolding sizes_of
-heap_of_twelve [] = refl
-heap_of_twelve (a ∷ []) = refl
-heap_of_twelve (a ∷ b ∷ []) = refl
-heap_of_twelve (a ∷ b ∷ d ∷ []) = refl
-heap_of_twelve (a ∷ b ∷ d ∷ e ∷ []) = refl
-heap_of_twelve (a ∷ b ∷ d ∷ e ∷ f ∷ []) = refl
-heap_of_twelve (a ∷ b ∷ d ∷ e ∷ f ∷ g ∷ []) = refl
-heap_of_twelve (a ∷ b ∷ d ∷ e ∷ f ∷ g ∷ h ∷ []) = refl
-heap_of_twelve (a ∷ b ∷ d ∷ e ∷ f ∷ g ∷ h ∷ i ∷ []) = refl
-heap_of_twelve (a ∷ b ∷ d ∷ e ∷ f ∷ g ∷ h ∷ i ∷ j ∷ []) = refl
 heap_of_twelve (a ∷ b ∷ d ∷ e ∷ f ∷ g ∷ h ∷ i ∷ j ∷ k ∷ ws) = refl
+heap_of_twelve _ = refl
 
 short : (line : List ℕ) → length line ≤ 120 → nat_lt 120 (length line) ≡ false
 short line le = le-ltb 120 (length line) le

@@ -11,11 +11,8 @@ of_words : (k : Kind) (kind : TextKind) (n : ℕ) (input line hint : List ℕ) �
 of_words kinds.Cut kind n input line hint a b c d names = absurd (a refl)
 of_words kinds.LongLine kind n input line hint a b c d names = absurd (b refl)
 of_words kinds.BadHeap kind n input line hint a b c d names = absurd (c refl)
-of_words kinds.BadActor kind n input line hint a b c d names = names
-of_words kinds.BadStep kind n input line hint a b c d names = names
-of_words kinds.BadCount kind n input line hint a b c d names = names
-of_words kinds.BadReply kind n input line hint a b c d names = names
 of_words kinds.NoMemory kind n input line hint a b c d names = absurd (d refl)
+of_words _ kind n input line hint a b c d names = names
 
 pub returns-in_default-clause-put : goal.returns-in_default-clause-put
 returns-in_default-clause-put c =
