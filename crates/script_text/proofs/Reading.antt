@@ -4,7 +4,6 @@ pub mod Twelve
 pub mod TwelveEvents
 pub mod Parting
 pub mod ReadOn
-pub mod RecordOn
 pub mod Stops
 pub mod RecordStops
 pub mod LeftSteps

@@ -11,7 +11,7 @@ use Rattle.script_text.specs.declared.fault.Kind.TheVariants as kinds
 use Rattle.script_text.specs.declared.fault.LineFault.{LineFault}
 use Rattle.script_text.specs.Reading.{number_of, large}
 use Rattle.script_text.specs.EventWords.{background_of, taken_of, step_part, answer_of}
-use Rattle.script_text.specs.Lines.{◌>>=◌, or_fault, words_of, pieces_of, at, mutator_of, heap_line_of}
+use Rattle.script_text.specs.Lines.{◌>>=◌, or_fault, words_of, pieces_of, mutator_of, items_of, headed}
 
 -- a mutator, where the word names no background actor
 unfoldable pub foreground_of : Config → List ℕ → Option Actor → Result Actor Kind
@@ -44,22 +44,15 @@ unfoldable pub event_line_of : ℕ → Config → List ℕ → Result Event Kind
 event_line_of n c line = if nat_lt 120 (length line) then Err kinds.LongLine else event_of n c (words_of line)
 
 -- the events of the lines from event n on
-unfoldable pub events_of : ℕ → Config → List (List ℕ) → Result (List Event) LineFault
-events_of n c [] = Ok []
-events_of n c (last ∷ []) = if length last == 0 then Ok [] else Err (record { line = n + 1; kind = kinds.Cut })
-events_of n c (line ∷ next ∷ lines) = do
-  e ← at (n + 1) (event_line_of n c line)
-  es ← events_of (n + 1) c (next ∷ lines)
-  Ok (e ∷ es)
+abbrev pub events_of : ℕ → Config → List (List ℕ) → Result (List Event) LineFault
+events_of n c lines = items_of (λ k. event_line_of k c) (λ k. k + 1) n lines
 
-unfoldable pub pieces_record : List (List ℕ) → Result EventList LineFault
-pieces_record [] = Err (record { line = 1; kind = kinds.BadHeap })
-pieces_record (last ∷ []) = Err (record { line = 1; kind = if length last == 0 then kinds.BadHeap else kinds.Cut })
-pieces_record (line ∷ next ∷ lines) = do
-  c ← at 1 (heap_line_of line)
-  es ← events_of 1 c (next ∷ lines)
+-- the record of these sizes
+abbrev pub record_by : Config → List (List ℕ) → Result EventList LineFault
+record_by c lines = do
+  es ← events_of 1 c lines
   Ok (record { config = c; events = es })
 
 -- the record that a text spells, or its first fault
 abbrev pub record_of : List ℕ → Result EventList LineFault
-record_of text = pieces_record (pieces_of text)
+record_of text = headed record_by (pieces_of text)

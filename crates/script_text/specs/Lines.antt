@@ -58,26 +58,36 @@ abbrev pub at : {A : Type 0} → ℕ → Result A Kind → Result A LineFault
 at n (Ok x) = Ok x
 at n (Err k) = Err (record { line = n; kind = k })
 
--- the steps of the lines from line n on
-unfoldable pub steps_of : ℕ → Config → List (List ℕ) → Result (List Step) LineFault
-steps_of n c [] = Ok []
-steps_of n c (last ∷ []) = if length last == 0 then Ok [] else Err (record { line = n; kind = kinds.Cut })
-steps_of n c (line ∷ next ∷ lines) = do
-  s ← at n (step_line_of c line)
-  ss ← steps_of (n + 1) c (next ∷ lines)
-  Ok (s ∷ ss)
+-- what the lines say from item n on: `read` says what a line does by its item's number, and `number` which line is an item's
+unfoldable pub items_of : {A : Type 0} → (ℕ → List ℕ → Result A Kind) → (ℕ → ℕ) → ℕ → List (List ℕ) → Result (List A) LineFault
+items_of read number n [] = Ok []
+items_of read number n (last ∷ []) = if length last == 0 then Ok [] else Err (record { line = number n; kind = kinds.Cut })
+items_of read number n (line ∷ next ∷ lines) = do
+  x ← at (number n) (read n line)
+  xs ← items_of read number (n + 1) (next ∷ lines)
+  Ok (x ∷ xs)
 
-unfoldable pub pieces_script : List (List ℕ) → Result StepList LineFault
-pieces_script [] = Err (record { line = 1; kind = kinds.BadHeap })
-pieces_script (last ∷ []) = Err (record { line = 1; kind = if length last == 0 then kinds.BadHeap else kinds.Cut })
-pieces_script (line ∷ next ∷ lines) = do
+-- what the lines of a text say, of which the first gives the sizes and the others what `rest` says by them
+unfoldable pub headed : {Y : Type 0} → (Config → List (List ℕ) → Result Y LineFault) → List (List ℕ) → Result Y LineFault
+headed rest [] = Err (record { line = 1; kind = kinds.BadHeap })
+headed rest (last ∷ []) = Err (record { line = 1; kind = if length last == 0 then kinds.BadHeap else kinds.Cut })
+headed rest (line ∷ next ∷ lines) = do
   c ← at 1 (heap_line_of line)
-  ss ← steps_of 2 c (next ∷ lines)
+  rest c (next ∷ lines)
+
+-- the steps of the lines from line n on
+abbrev pub steps_of : ℕ → Config → List (List ℕ) → Result (List Step) LineFault
+steps_of n c lines = items_of (λ k. step_line_of c) (λ k. k) n lines
+
+-- the script of these sizes
+abbrev pub script_by : Config → List (List ℕ) → Result StepList LineFault
+script_by c lines = do
+  ss ← steps_of 2 c lines
   Ok (record { config = c; steps = ss })
 
 -- the script that a text spells, or its first fault
 abbrev pub script_of : List ℕ → Result StepList LineFault
-script_of text = pieces_script (pieces_of text)
+script_of text = headed script_by (pieces_of text)
 
 -- Memory was refused while a line of the text was read: a line feed ends it, and neither it nor a line before it has a fault.
 pub record StopsAt {Y : Type 0} (line : ℕ) (text : List ℕ) (read : Result Y LineFault) : Type 0 where

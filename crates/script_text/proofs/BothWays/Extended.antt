@@ -13,11 +13,10 @@ use Rattle.script_text.specs.Awaited.{whole_lines, EndsLine, IsUnended, IsWrong}
 use Rattle.script_text.specs.Spelling.{heap_words, spaced}
 use Rattle.script_text.specs.Records.{event_lines}
 use Rattle.script_text.specs.Lines.{pieces_of, heap_line_of}
-use Rattle.script_text.specs.Events.{event_line_of, events_of, record_of}
+use Rattle.script_text.specs.Events.{event_line_of, events_of, record_by, record_of}
 use Rattle.script_text.proofs.Parts.FirstLines.{first_clear, begins_is, pieces_at, ends_longer}
 use Rattle.script_text.proofs.Parts.WholeLines.{no_whole, whole_at, whole_front}
-use Rattle.script_text.proofs.Reading.ReadOn.{fault}
-use Rattle.script_text.proofs.Reading.RecordOn.{begun, with_event, read_on, begins, begins_wrong, no_line, goes_on, goes_wrong, is_done}
+use Rattle.script_text.proofs.Reading.ReadOn.{record_items, fault, no_events, read_on, record_begins, begins_wrong, no_line, goes_on, goes_wrong, is_done}
 use Rattle.script_text.proofs.BothWays.StepsSpelled.{heap_line_again, heap_no_feed}
 use Rattle.script_text.proofs.BothWays.EventsRead.{event_text}
 use Rattle.script_text.proofs.BothWays.EventsSpelled.{event_line_again, event_no_feed}
@@ -25,13 +24,13 @@ use Rattle.script_text.proofs.BothWays.RecordTexts.{AreGood, good_first, good_re
 
 -- events that are spelled are read, whatever comes after them
 events_extend : (es : List Event) (n : ℕ) (c : Config) (p : EventList) (t : List ℕ) → AreGood n c es →
-    read_on p (events_of n c (pieces_of (event_lines n es ++ t)))
-    ≡ read_on (record p { events = p.events ++ es }) (events_of (n + length es) c (pieces_of t))
+    read_on (record_items c) p (events_of n c (pieces_of (event_lines n es ++ t)))
+    ≡ read_on (record_items c) (record p { events = p.events ++ es }) (events_of (n + length es) c (pieces_of t))
 events_extend [] n c p t good =
     let same : n + length {A = Event} [] ≡ n = omega arith in
     sym (ap (λ (xs : List Event).
-    read_on (record p { events = xs }) (events_of (n + length {A = Event} []) c (pieces_of t))) (append-nil p.events)
-    ∙ ap (λ (k : ℕ). read_on p (events_of k c (pieces_of t))) same)
+    read_on (record_items c) (record p { events = xs }) (events_of (n + length {A = Event} []) c (pieces_of t))) (append-nil p.events)
+    ∙ ap (λ (k : ℕ). read_on (record_items c) p (events_of k c (pieces_of t))) same)
 events_extend (e ∷ es) n c p t good =
     let head = good_first n c e es good in
     let rest = event_lines (n + 1) es ++ t in
@@ -40,16 +39,16 @@ events_extend (e ∷ es) n c p t good =
     ∙ append_assoc (event_text n e) (10 ∷ event_lines (n + 1) es) t in
     let pieces : pieces_of (event_lines n (e ∷ es) ++ t) ≡ event_text n e ∷ pieces_of rest =
     ap pieces_of cut ∙ pieces_at (event_text n e) rest (event_no_feed n c e head) in
-    let on = goes_on p n c (event_lines n (e ∷ es) ++ t) (event_text n e) rest e _ pieces (event_line_again n c e head) refl in
-    let more = events_extend es (n + 1) c (with_event p e) t (good_rest n c e es good) in
+    let on = goes_on (record_items c) p n (event_lines n (e ∷ es) ++ t) (event_text n e) rest e _ pieces (event_line_again n c e head) refl in
+    let more = events_extend es (n + 1) c ((record_items c).more p (e ∷ [])) t (good_rest n c e es good) in
     let same : (p.events ++ e ∷ []) ++ es ≡ p.events ++ e ∷ es = append_assoc p.events (e ∷ []) es in
     let count : (n + 1) + length es ≡ n + length (e ∷ es) = omega arith in
-    sym on ∙ more ∙ ap (λ (xs : List Event). read_on (record p { events = xs }) (events_of ((n + 1) + length es) c (pieces_of t))) same
-    ∙ ap (λ (k : ℕ). read_on (record p { events = p.events ++ e ∷ es }) (events_of k c (pieces_of t))) count
+    sym on ∙ more ∙ ap (λ (xs : List Event). read_on (record_items c) (record p { events = xs }) (events_of ((n + 1) + length es) c (pieces_of t))) same
+    ∙ ap (λ (k : ℕ). read_on (record_items c) (record p { events = p.events ++ e ∷ es }) (events_of k c (pieces_of t))) count
 
 -- a text after the text of a record is read from its next event on
 pub extends : (lines : List ℕ) (r : EventList) (t : List ℕ) → record_of lines ≡ Ok r
-    → record_of (lines ++ t) ≡ read_on r (events_of (length r.events + 1) r.config (pieces_of t))
+    → record_of (lines ++ t) ≡ read_on (record_items r.config) r (events_of (length r.events + 1) r.config (pieces_of t))
 extends lines r t read =
     let is = record_read lines r read in
     let rest = event_lines 1 r.events ++ t in
@@ -59,30 +58,30 @@ extends lines r t read =
     ∙ append_assoc head (10 ∷ event_lines 1 r.events) t in
     let pieces : pieces_of (lines ++ t) ≡ head ∷ pieces_of rest =
     ap pieces_of cut ∙ pieces_at head rest (heap_no_feed r.config is.1.config) in
-    let first = begins (lines ++ t) head rest r.config pieces (heap_line_again r.config is.1.config) in
+    let first = record_begins (lines ++ t) head rest r.config pieces (heap_line_again r.config is.1.config) in
     let good : AreGood 1 r.config r.events = record {
       counted = (let few = is.1.few in omega arith);
       few = is.1.config.mutators;
       owned = is.1.owned;
       fits = is.1.fits;
     } in
-    let more = events_extend r.events 1 r.config (begun r.config) t good in
+    let more = events_extend r.events 1 r.config (no_events r.config) t good in
     let count : 1 + length r.events ≡ length r.events + 1 = omega arith in
-    sym first ∙ more ∙ ap (λ (k : ℕ). read_on r (events_of k r.config (pieces_of t))) count
+    sym first ∙ more ∙ ap (λ (k : ℕ). read_on (record_items r.config) r (events_of k r.config (pieces_of t))) count
 
 -- the heap line was taken
 pub head_taken : (text line rest : List ℕ) (c : Config) → EndsLine text line rest → heap_line_of line ≡ Ok c
-    → (head : List ℕ) × (text ≡ head ++ rest) × (record_of head ≡ Ok (begun c))
+    → (head : List ℕ) × (text ≡ head ++ rest) × (record_of head ≡ Ok (no_events c))
 head_taken text line rest c at ok =
     let clear = first_clear text line (pieces_of rest) at in
     let cut : text ≡ (line ++ 10 ∷ []) ++ rest = begins_is text line rest at ∙ sym (append_assoc line (10 ∷ []) rest) in
-    let on = begins (line ++ 10 ∷ []) line [] c (pieces_at line [] clear) ok in
-    (line ++ 10 ∷ [], cut, is_done (begun c) 1 c [] (record_of (line ++ 10 ∷ [])) refl refl on)
+    let on = record_begins (line ++ 10 ∷ []) line [] c (pieces_at line [] clear) ok in
+    (line ++ 10 ∷ [], cut, is_done (record_items c) (no_events c) 1 [] (record_of (line ++ 10 ∷ [])) refl refl on)
 
 -- the line of the next event was taken
 pub event_taken : (lines text line rest : List ℕ) (r : EventList) (e : Event) → record_of lines ≡ Ok r → EndsLine text line rest
     → event_line_of (length r.events + 1) r.config line ≡ Ok e →
-    (more : List ℕ) × (lines ++ text ≡ more ++ rest) × (record_of more ≡ Ok (with_event r e))
+    (more : List ℕ) × (lines ++ text ≡ more ++ rest) × (record_of more ≡ Ok ((record_items r.config).more r (e ∷ [])))
 event_taken lines text line rest r e read at ok =
     let clear = first_clear text line (pieces_of rest) at in
     let more = lines ++ (line ++ 10 ∷ []) in
@@ -90,8 +89,8 @@ event_taken lines text line rest r e read at ok =
     ap (λ (t : List ℕ). lines ++ t) (begins_is text line rest at ∙ sym (append_assoc line (10 ∷ []) rest))
     ∙ sym (append_assoc lines (line ++ 10 ∷ []) rest) in
     let all = extends lines r (line ++ 10 ∷ []) read in
-    let on = goes_on r (length r.events + 1) r.config (line ++ 10 ∷ []) line [] e (record_of more) (pieces_at line [] clear) ok (sym all) in
-    (more, cut, is_done (with_event r e) (length r.events + 1 + 1) r.config [] (record_of more) refl refl on)
+    let on = goes_on (record_items r.config) r (length r.events + 1) (line ++ 10 ∷ []) line [] e (record_of more) (pieces_at line [] clear) ok (sym all) in
+    (more, cut, is_done (record_items r.config) ((record_items r.config).more r (e ∷ [])) (length r.events + 1 + 1) [] (record_of more) refl refl on)
 
 -- a line with more than 120 bytes has that fault
 event_long : (n : ℕ) (c : Config) (line : List ℕ) → 120 < length line → event_line_of n c line ≡ Err kinds.LongLine
@@ -120,7 +119,7 @@ stays_wrong read text k more long (inr (part, many, is)) =
 pub head_wrong : (text more : List ℕ) (k : Kind) → IsWrong heap_line_of text k → record_of (text ++ more ++ 10 ∷ []) ≡ Err (fault 1 k)
 head_wrong text more k wrong =
     let still = stays_wrong heap_line_of text k more heap_long wrong in
-    begins_wrong (text ++ more ++ 10 ∷ []) still.0 still.1 k still.2 still.3
+    begins_wrong record_by (text ++ more ++ 10 ∷ []) still.0 still.1 k still.2 still.3
 
 -- the line of the next event is wrong, whatever comes
 pub event_wrong : (lines text more : List ℕ) (r : EventList) (k : Kind) → record_of lines ≡ Ok r
@@ -130,7 +129,7 @@ event_wrong lines text more r k read wrong =
     let still = stays_wrong (event_line_of (length r.events + 1) r.config) text k more (event_long (length r.events + 1) r.config) wrong in
     let cut : lines ++ text ++ more ++ 10 ∷ [] ≡ lines ++ (text ++ more ++ 10 ∷ []) =
     ap (λ (t : List ℕ). t ++ 10 ∷ []) (append_assoc lines text more) ∙ append_assoc lines (text ++ more) (10 ∷ []) in
-    ap record_of cut ∙ goes_wrong r (length r.events + 1) r.config (text ++ more ++ 10 ∷ []) still.0 still.1 k
+    ap record_of cut ∙ goes_wrong (record_items r.config) r (length r.events + 1) (text ++ more ++ 10 ∷ []) still.0 still.1 k
     (record_of (lines ++ (text ++ more ++ 10 ∷ []))) still.2 still.3 (sym (extends lines r (text ++ more ++ 10 ∷ []) read))
 
 -- the text of a record ends in a line feed
@@ -155,7 +154,7 @@ whole_of_record lines part r read unended =
 
 -- where no line came there is no heap line
 pub whole_of_none : (text : List ℕ) → IsUnended text → record_of (whole_lines text) ≡ Err (fault 1 kinds.BadHeap)
-whole_of_none text unended = ap record_of (no_whole text (first_clear text text [] unended)) ∙ no_line [] kinds.BadHeap refl refl
+whole_of_none text unended = ap record_of (no_whole text (first_clear text text [] unended)) ∙ no_line record_by [] kinds.BadHeap refl refl
 
 -- a record's lines stay, whatever comes after them
 pub whole_behind : (lines x : List ℕ) (r : EventList) → record_of lines ≡ Ok r → whole_lines (lines ++ x) ≡ lines ++ whole_lines x
@@ -165,13 +164,13 @@ whole_behind lines x r read =
     let cut : (t : List ℕ) → lines ++ t ≡ ends.0 ++ 10 ∷ t = λ t. ap (λ (l : List ℕ). l ++ t) feed ∙ append_assoc ends.0 (10 ∷ []) t in
     ap whole_lines (cut x) ∙ whole_front ends.0 x ∙ sym (cut (whole_lines x))
 
-read_ok : (p q : EventList) (r : Result (List Event) LineFault) → read_on p r ≡ Ok q
+read_ok : (c : Config) (p q : EventList) (r : Result (List Event) LineFault) → read_on (record_items c) p r ≡ Ok q
     → (es : List Event) × (q ≡ record p { events = p.events ++ es })
-read_ok p q (Ok es) e = (es, cc)
-read_ok p q (Err f) e = absurd (cc)
+read_ok c p q (Ok es) e = (es, cc)
+read_ok c p q (Err f) e = absurd (cc)
 
 -- a record whose text goes on has more events
 pub reads_behind : (lines t : List ℕ) (r q : EventList) → record_of lines ≡ Ok r → record_of (lines ++ t) ≡ Ok q
     → (es : List Event) × (q ≡ record r { events = r.events ++ es })
 reads_behind lines t r q read more =
-    read_ok r q (events_of (length r.events + 1) r.config (pieces_of t)) (sym (extends lines r t read) ∙ more)
+    read_ok r.config r q (events_of (length r.events + 1) r.config (pieces_of t)) (sym (extends lines r t read) ∙ more)

@@ -16,10 +16,9 @@ use Rattle.script_text.specs.Reading.{small, large}
 use Rattle.script_text.specs.Fits.{EventFits, IsRecord}
 use Rattle.script_text.specs.Spelling.{heap_words, spaced}
 use Rattle.script_text.specs.Records.{event_lines, record_text}
-use Rattle.script_text.specs.Lines.{◌>>=◌, at, pieces_of, heap_line_of}
-use Rattle.script_text.specs.Events.{event_line_of, events_of, pieces_record, record_of}
-use Rattle.script_text.proofs.Reading.ReadOn.{fault}
-use Rattle.script_text.proofs.Reading.RecordOn.{begun, read_on, record_begins, events_more}
+use Rattle.script_text.specs.Lines.{◌>>=◌, at, pieces_of, heap_line_of, items_of, headed}
+use Rattle.script_text.specs.Events.{event_line_of, events_of, record_by, record_of}
+use Rattle.script_text.proofs.Reading.ReadOn.{record_items, fault, heap_first, items_more}
 use Rattle.script_text.proofs.BothWays.StepsRead.{result_bind, guarded, heap_line_is}
 use Rattle.script_text.proofs.BothWays.StepsSpelled.{heap_line_again, heap_no_feed}
 use Rattle.script_text.proofs.BothWays.Texts.{at_ok}
@@ -60,7 +59,7 @@ one_read n c text first rest e es cut head tail = record {
 
 events_read : (ps : List (List ℕ)) (n : ℕ) (c : Config) (p : List ℕ) (es : List Event) → events_of n c (p ∷ ps) ≡ Ok es
     → AreRead n c (join_with_byte 10 (p ∷ ps)) es
-unfolding events_of
+unfolding items_of
 events_read [] n c p es e =
     let g = guarded (length p == 0) [] es (fault (n + 1) kinds.Cut) e in
     subst (AreRead n c p) g.1 (none_read n c p (nil_from_length p (eqb-true _ _ g.0)))
@@ -86,8 +85,8 @@ record IsText (text : List ℕ) (r : EventList) : Type 0 where
   spelled : text ≡ record_text r
   good : IsRecord r
 
-pieces_read : (ps : List (List ℕ)) (r : EventList) → pieces_record ps ≡ Ok r → IsText (join_with_byte 10 ps) r
-unfolding pieces_record
+pieces_read : (ps : List (List ℕ)) (r : EventList) → headed record_by ps ≡ Ok r → IsText (join_with_byte 10 ps) r
+unfolding headed
 pieces_read (first ∷ next ∷ ps) r e =
     let head = result_bind (at 1 (heap_line_of first)) (λ c. events_of 1 c (next ∷ ps) >>= λ es. Ok (made c es)) r e in
     let tail = result_bind (events_of 1 head.0 (next ∷ ps)) (λ es. Ok (made head.0 es)) r head.2 in
@@ -141,13 +140,13 @@ good_rest n c e es good = record {
 }
 
 events_again : (es : List Event) (n : ℕ) (c : Config) → AreGood n c es → events_of n c (pieces n es) ≡ Ok es
-unfolding events_of pieces
+unfolding items_of pieces
 events_again [] n c good = refl
 events_again (e ∷ es) n c good =
     let more = some_piece (n + 1) es in
     let first = event_line_again n c e (good_first n c e es good) in
     let rest : events_of (n + 1) c (pieces (n + 1) es) ≡ Ok es = events_again es (n + 1) c (good_rest n c e es good) in
-    events_more n c (event_text n e) (pieces (n + 1) es) more.0 more.1 e more.2 first
+    items_more (record_items c) n (event_text n e) (pieces (n + 1) es) more.0 more.1 e more.2 first
     ∙ ap (λ (r : Result (List Event) LineFault). r >>= λ ts. Ok (e ∷ ts)) rest
 
 pieces_again : (es : List Event) (n : ℕ) (c : Config) → AreGood n c es → pieces_of (event_lines n es) ≡ pieces n es
@@ -174,6 +173,8 @@ record_again r is =
     ∙ slice_split_at (λ b. eqb b 10) (spaced (heap_words r.config)) 10 (event_lines 1 r.events) clear refl
     ∙ ap (λ (ps : List (List ℕ)). spaced (heap_words r.config) ∷ ps) (pieces_again r.events 1 r.config good) in
     let more = some_piece 1 r.events in
-    let begun_so =
-    record_begins (spaced (heap_words r.config)) (pieces 1 r.events) more.0 more.1 r.config more.2 (heap_line_again r.config is.config) in
-    ap pieces_record cut ∙ sym begun_so ∙ ap (read_on (begun r.config)) (events_again r.events 1 r.config good)
+    let heap =
+    heap_first record_by (spaced (heap_words r.config)) (pieces 1 r.events) more.0 more.1 r.config more.2
+    (heap_line_again r.config is.config) in
+    ap (headed record_by) cut ∙ sym heap
+    ∙ ap (λ (t : Result (List Event) LineFault). t >>= λ es. Ok (made r.config es)) (events_again r.events 1 r.config good)

@@ -16,8 +16,8 @@ use Rattle.script_text.specs.declared.fault.LineFault.{LineFault}
 use Rattle.script_text.specs.Reading.{small}
 use Rattle.script_text.specs.Fits.{StepFits, IsScript}
 use Rattle.script_text.specs.Spelling.{step_words, heap_words, spaced, line, script_text}
-use Rattle.script_text.specs.Lines.{◌>>=◌, at, pieces_of, step_line_of, heap_line_of, steps_of, pieces_script, script_of}
-use Rattle.script_text.proofs.Reading.ReadOn.{fault, begun, read_on, script_begins, steps_more}
+use Rattle.script_text.specs.Lines.{◌>>=◌, at, pieces_of, step_line_of, heap_line_of, items_of, steps_of, headed, script_by, script_of}
+use Rattle.script_text.proofs.Reading.ReadOn.{script_items, fault, heap_first, items_more}
 use Rattle.script_text.proofs.BothWays.StepsRead.{result_bind, guarded, IsLine, step_line_is, heap_line_is}
 use Rattle.script_text.proofs.BothWays.StepsSpelled.{step_line_again, heap_line_again, step_no_feed, heap_no_feed}
 
@@ -60,7 +60,7 @@ one_read c text first rest s ss cut head tail = record {
 
 steps_read : (ps : List (List ℕ)) (n : ℕ) (c : Config) (p : List ℕ) (ss : List Step) → steps_of n c (p ∷ ps) ≡ Ok ss
     → AreRead c (join_with_byte 10 (p ∷ ps)) ss
-unfolding steps_of
+unfolding items_of
 steps_read [] n c p ss e =
     let g = guarded (length p == 0) [] ss (fault n kinds.Cut) e in
     subst (AreRead c p) g.1 (none_read c p (nil_from_length p (eqb-true _ _ g.0)))
@@ -86,8 +86,8 @@ pub record IsText (text : List ℕ) (p : StepList) : Type 0 where
   pub spelled : text ≡ script_text p
   pub good : IsScript p
 
-pieces_read : (ps : List (List ℕ)) (p : StepList) → pieces_script ps ≡ Ok p → IsText (join_with_byte 10 ps) p
-unfolding pieces_script
+pieces_read : (ps : List (List ℕ)) (p : StepList) → headed script_by ps ≡ Ok p → IsText (join_with_byte 10 ps) p
+unfolding headed
 pieces_read (first ∷ next ∷ ps) p e =
     let head = result_bind (at 1 (heap_line_of first)) (λ c. steps_of 2 c (next ∷ ps) >>= λ ss. Ok (plan c ss)) p e in
     let tail = result_bind (steps_of 2 head.0 (next ∷ ps)) (λ ss. Ok (plan head.0 ss)) p head.2 in
@@ -126,13 +126,13 @@ good_rest : (c : Config) (s : Step) (ss : List Step) → AreGood c (s ∷ ss) �
 good_rest c s ss good = record { few = good.few; owned = All-tail (IsStep c) s ss good.owned; fits = All-tail StepFits s ss good.fits }
 
 steps_again : (ss : List Step) (n : ℕ) (c : Config) → AreGood c ss → steps_of n c (pieces ss) ≡ Ok ss
-unfolding steps_of pieces
+unfolding items_of pieces
 steps_again [] n c good = refl
 steps_again (s ∷ ss) n c good =
     let more = some_piece ss in
     let first = step_line_again c s good.few (All-head (IsStep c) s ss good.owned) (All-head StepFits s ss good.fits) in
     let rest : steps_of (n + 1) c (pieces ss) ≡ Ok ss = steps_again ss (n + 1) c (good_rest c s ss good) in
-    steps_more n c (spaced (step_words s)) (pieces ss) more.0 more.1 s more.2 first
+    items_more (script_items c) n (spaced (step_words s)) (pieces ss) more.0 more.1 s more.2 first
     ∙ ap (λ (r : Result (List Step) LineFault). r >>= λ ts. Ok (s ∷ ts)) rest
 
 pieces_again : (ss : List Step) (c : Config) → AreGood c ss → pieces_of (lines ss) ≡ pieces ss
@@ -154,6 +154,8 @@ text_again p script =
     ∙ slice_split_at (λ b. eqb b 10) (spaced (heap_words p.config)) 10 (lines p.steps) clear refl
     ∙ ap (λ (ps : List (List ℕ)). spaced (heap_words p.config) ∷ ps) (pieces_again p.steps p.config good) in
     let more = some_piece p.steps in
-    let begun_so =
-    script_begins (spaced (heap_words p.config)) (pieces p.steps) more.0 more.1 p.config more.2 (heap_line_again p.config script.config) in
-    ap pieces_script cut ∙ sym begun_so ∙ ap (read_on (begun p.config)) (steps_again p.steps 2 p.config good)
+    let heap =
+    heap_first script_by (spaced (heap_words p.config)) (pieces p.steps) more.0 more.1 p.config more.2
+    (heap_line_again p.config script.config) in
+    ap (headed script_by) cut ∙ sym heap
+    ∙ ap (λ (r : Result (List Step) LineFault). r >>= λ ss. Ok (plan p.config ss)) (steps_again p.steps 2 p.config good)

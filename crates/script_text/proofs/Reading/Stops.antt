@@ -4,16 +4,14 @@ use Rattle.std.proofs.Common.{ℕ, Bool, true, false, cond, List, [], length, Op
 use Rattle.std.specs.Prelude.{◌==◌, nat_lt, codes}
 use Rattle.std.specs.Str.{bytes_eq}
 use Rattle.heap_words.specs.declared.config.Config.{Config}
-use Rattle.heap_steps.specs.Actors.{StepList}
-use Rattle.heap_steps.specs.declared.step.Step.{Step}
 use Rattle.heap_steps.specs.declared.step.Step.TheVariants as steps
 use Rattle.script_text.specs.declared.fault.Kind.{Kind}
 use Rattle.script_text.specs.declared.fault.Kind.TheVariants as kinds
 use Rattle.script_text.specs.declared.fault.LineFault.{LineFault}
 use Rattle.script_text.specs.Reading.{number_of, small, allowed_of, collection_of, sizes_of}
 use Rattle.script_text.specs.Lines.{◌>>=◌, or_fault, at, words_of, pieces_of, mutator_of, step_of, heap_line_of}
-use Rattle.script_text.specs.Lines.{step_line_of, steps_of, script_of, FailsBy, StopsAt}
-use Rattle.script_text.proofs.Reading.ReadOn.{fault, with_step, read_on, pieces_some, goes_on}
+use Rattle.script_text.specs.Lines.{step_line_of, items_of, FailsBy, StopsAt}
+use Rattle.script_text.proofs.Reading.ReadOn.{Items, items, fault, read_on, pieces_some, goes_on}
 
 -- a line's own fault is never want of memory
 abbrev pub Never : {A : Type 0} → Result A Kind → Type 0
@@ -74,31 +72,33 @@ pub fault_is : {Y : Type 0} (k : Kind) (n : ℕ) (text : List ℕ) (total : Resu
 fault_is kinds.NoMemory n text total other e = absurd (other refl)
 fault_is _ n text total other e = e
 
--- a fault of the lines from line n on is one of line n or of a later one
-abbrev wrong : LineFault → Result (List Step) LineFault
+-- a fault of the lines from an item on is one of its line or of a later one
+abbrev wrong : {A : Type 0} → LineFault → Result (List A) LineFault
 wrong f = Err f
 
-pub at_line : (n : ℕ) (f g : LineFault) → f ≡ g → n ≤ f.line → n ≤ g.line
+at_line : (n : ℕ) (f g : LineFault) → f ≡ g → n ≤ f.line → n ≤ g.line
 at_line n f g e le = rw (sym e) le
 
-cut_later : (b : Bool) (n : ℕ) (f : LineFault) → cond b (Ok []) (Err (fault n kinds.Cut)) ≡ wrong f → n ≤ f.line
+cut_later : {A : Type 0} (b : Bool) (n : ℕ) (f : LineFault) → cond b (Ok []) (Err (fault n kinds.Cut)) ≡ wrong {A = A} f → n ≤ f.line
 cut_later true n f e = absurd cc
 cut_later false n f e = let same : fault n kinds.Cut ≡ f = cc in at_line n (fault n kinds.Cut) f same (omega arith)
 
-line_later : (r : Result Step Kind) (more : Result (List Step) LineFault) (n : ℕ) (f : LineFault)
-    → ((g : LineFault) → more ≡ Err g → n + 1 ≤ g.line) → (at n r >>= λ s. more >>= λ ss. Ok (s ∷ ss)) ≡ Err f → n ≤ f.line
-line_later (Ok s) (Ok ss) n f rest e = absurd cc
-line_later (Ok s) (Err g) n f rest e = let same : g ≡ f = cc in let le = rest g refl in at_line n g f same (omega arith)
+line_later : {A : Type 0} (r : Result A Kind) (more : Result (List A) LineFault) (n : ℕ) (f : LineFault)
+    → ((g : LineFault) → more ≡ Err g → n + 1 ≤ g.line) → (at n r >>= λ x. more >>= λ xs. Ok (x ∷ xs)) ≡ Err f → n ≤ f.line
+line_later (Ok x) (Ok xs) n f rest e = absurd cc
+line_later (Ok x) (Err g) n f rest e = let same : g ≡ f = cc in let le = rest g refl in at_line n g f same (omega arith)
 line_later (Err k) more n f rest e = let same : fault n k ≡ f = cc in at_line n (fault n k) f same (omega arith)
 
-later : (ps : List (List ℕ)) (n : ℕ) (c : Config) (p : List ℕ) (f : LineFault) → steps_of n c (p ∷ ps) ≡ Err f → n ≤ f.line
-unfolding steps_of
-later [] n c p f e = cut_later (length p == 0) n f e
-later (q ∷ ps) n c p f e = line_later (step_line_of c p) (steps_of (n + 1) c (q ∷ ps)) n f (λ g h. later ps (n + 1) c q g h) e
+later : {A P : Type 0} (t : Items A P) (ps : List (List ℕ)) (n : ℕ) (p : List ℕ) (f : LineFault) → items t n (p ∷ ps) ≡ Err f
+    → t.number n ≤ f.line
+unfolding items_of
+later t [] n p f e = cut_later (length p == 0) (t.number n) f e
+later t (q ∷ ps) n p f e = line_later (t.read n p) (items t (n + 1) (q ∷ ps)) (t.number n) f
+    (λ g h. let le : t.number (n + 1) ≤ g.line = later t ps (n + 1) q g h in omega (arith, t.next n)) e
 
-pub rest_fails : (p : StepList) (r : Result (List Step) LineFault) (f : LineFault) → read_on p r ≡ Err f → r ≡ Err f
-rest_fails p (Ok ss) f e = absurd cc
-rest_fails p (Err g) f e = cc
+pub rest_fails : {A P : Type 0} (t : Items A P) (p : P) (r : Result (List A) LineFault) (f : LineFault) → read_on t p r ≡ Err f → r ≡ Err f
+rest_fails t p (Ok xs) f e = absurd cc
+rest_fails t p (Err g) f e = cc
 
 -- a line less is left, and its number is one more
 pub one_less : (n : ℕ) (rest line after : List ℕ) → pieces_of rest ≡ line ∷ pieces_of after
@@ -106,20 +106,19 @@ pub one_less : (n : ℕ) (rest line after : List ℕ) → pieces_of rest ≡ lin
 one_less n rest line after e = let count : length (pieces_of rest) ≡ length (line ∷ pieces_of after) = ap length e in omega arith
 
 -- the line is read, and nothing up to it is at fault
-pub stops : (p : StepList) (n : ℕ) (c : Config) (text rest line after : List ℕ) (s : Step)
-    → pieces_of rest ≡ line ∷ pieces_of after → step_line_of c line ≡ Ok s
-    → read_on p (steps_of n c (pieces_of rest)) ≡ script_of text → 1 ≤ n
-    → n + length (pieces_of rest) ≡ length (pieces_of text) + 1 → StopsAt n text (script_of text)
-stops p n c text rest line after s e ok so_far from count =
+pub stops : {A P : Type 0} (t : Items A P) (p : P) (n : ℕ) (text rest line after : List ℕ) (x : A) (total : Result P LineFault)
+    → pieces_of rest ≡ line ∷ pieces_of after → t.read n line ≡ Ok x → read_on t p (items t n (pieces_of rest)) ≡ total
+    → 1 ≤ t.number n → t.number n + length (pieces_of rest) ≡ length (pieces_of text) + 1 → StopsAt (t.number n) text total
+stops t p n text rest line after x total e ok so_far from count =
     let some = pieces_some after in
     let two : length (pieces_of rest) ≡ length (line ∷ some.0 ∷ some.1) = ap length (e ∙ ap (λ (ps : List (List ℕ)). line ∷ ps) some.2) in
     record {
       counted = from;
       ended = omega arith;
       before = λ first wrong.
-          let failed : steps_of (n + 1) c (pieces_of after) ≡ Err first =
-          rest_fails (with_step p s) (steps_of (n + 1) c (pieces_of after)) first
-          (goes_on p n c rest line after s (script_of text) e ok so_far ∙ wrong) in
-          let le : n + 1 ≤ first.line = later some.1 (n + 1) c some.0 first (ap (steps_of (n + 1) c) (sym some.2) ∙ failed) in
-          omega arith;
+          let failed : items t (n + 1) (pieces_of after) ≡ Err first =
+          rest_fails t (t.more p (x ∷ [])) (items t (n + 1) (pieces_of after)) first
+          (goes_on t p n rest line after x total e ok so_far ∙ wrong) in
+          let le : t.number (n + 1) ≤ first.line = later t some.1 (n + 1) some.0 first (ap (items t (n + 1)) (sym some.2) ∙ failed) in
+          omega (arith, t.next n);
     }

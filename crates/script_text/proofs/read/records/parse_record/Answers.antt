@@ -1,8 +1,8 @@
 use Rattle.std.proofs.Common.{◌≡◌, ◌∙◌, ◌∷◌, ◌+◌, ◌<◌, Err, ap, sym, refl, arith, rules, length, take}
 use Rattle.std.proofs.lemmas.List.{length-drop}
-use Rattle.script_text.proofs.Reading.RecordOn.{begins, goes_on, goes_wrong, is_done, is_cut, read_from, read_with}
-use Rattle.script_text.proofs.Reading.Stops.{fault_is, one_less}
-use Rattle.script_text.proofs.Reading.RecordStops.{event_line_never, stops}
+use Rattle.script_text.proofs.Reading.ReadOn.{record_items, no_events, record_begins, goes_on, goes_wrong, is_done, is_cut, read_same}
+use Rattle.script_text.proofs.Reading.Stops.{fault_is, one_less, stops}
+use Rattle.script_text.proofs.Reading.RecordStops.{event_line_never}
 use Rattle.script_text.proofs.Parts.Pieces.{behind, behind_is, pieces_behind, pieces_ended}
 use Rattle.heap_steps.specs.Actors.{EventList}
 use Rattle.script_text.specs.Feeds.{end_of, line_of}
@@ -21,8 +21,8 @@ lines-init c =
     let k = c.in-Ok.line.length in
     let config = c.in-Ok.line.config in
     record {
-      so_far = read_from c.new-history.result config _ _ c.new-history.ensures
-          (begins text (take k text) (behind (k + 1) text) config (pieces_behind text k c.in-Ok.ensures.line) c.in-Ok.ensures.config);
+      so_far = read_same (record_items config) _ (no_events config) _ _ c.new-history.ensures
+          (record_begins text (take k text) (behind (k + 1) text) config (pieces_behind text k c.in-Ok.ensures.line) c.in-Ok.ensures.config);
       config = search rules;
       bound = omega (arith, ap length (behind_is (k + 1) text), length-drop (k + 1) text);
       from = omega arith;
@@ -40,7 +40,7 @@ returns-in-Err-event c =
     sym c.front_event-length.ensures.event ∙ c.in-Err-event.is in
     fault_is c.in-Err-event.kind (c.lines.count + 1) c.args.text.now _
     (event_line_never c.lines.count c.in-Ok.line.config (line_of rest) c.in-Err-event.kind bad)
-    (goes_wrong c.lines.history c.lines.count c.in-Ok.line.config rest (line_of rest) after c.in-Err-event.kind _
+    (goes_wrong (record_items c.in-Ok.line.config) c.lines.history c.lines.count rest (line_of rest) after c.in-Err-event.kind _
     piece bad c.lines.invariant.so_far)
 
 pub lines-preserved : goal.lines-preserved
@@ -52,8 +52,8 @@ lines-preserved c =
     let piece : pieces_of rest ≡ line_of rest ∷ pieces_of after = pieces_ended rest line.length ended c.front_event-length.ensures.length in
     let within : line.length < length rest = c.front_event-length.ensures.within in
     record {
-      so_far = read_with _ c.lines.history c.in-Ok-event.event _ _ c.in-Ok-push.ensures.ok
-          (goes_on c.lines.history c.lines.count c.in-Ok.line.config rest (line_of rest) after c.in-Ok-event.event _
+      so_far = read_same (record_items c.in-Ok.line.config) _ _ _ _ c.in-Ok-push.ensures.ok
+          (goes_on (record_items c.in-Ok.line.config) c.lines.history c.lines.count rest (line_of rest) after c.in-Ok-event.event _
           piece (sym c.front_event-length.ensures.event ∙ c.in-Ok-event.is) c.lines.invariant.so_far);
       config = ap (λ (p : EventList). p.config) c.in-Ok-push.ensures.ok ∙ c.lines.invariant.config;
       bound = omega (arith, within, ap length (behind_is (line.length + 1) rest), length-drop (line.length + 1) rest);
@@ -69,14 +69,14 @@ returns-in_default c =
     let rest = c.lines.rest.now in
     let after = behind (end_of rest + 1) rest in
     let piece : pieces_of rest ≡ line_of rest ∷ pieces_of after = pieces_ended rest (end_of rest) (c.lines-test.ensures.found refl) refl in
-    stops c.lines.history c.lines.count c.in-Ok.line.config c.args.text.now rest (line_of rest) after c.in-Ok-event.event
-    piece (sym c.front_event-length.ensures.event ∙ c.in-Ok-event.is) c.lines.invariant.so_far c.lines.invariant.from
-    c.lines.invariant.lines
+    stops (record_items c.in-Ok.line.config) c.lines.history c.lines.count c.args.text.now rest (line_of rest) after _ _
+    piece (sym c.front_event-length.ensures.event ∙ c.in-Ok-event.is) c.lines.invariant.so_far (omega arith)
+    (let lines = c.lines.invariant.lines in omega arith)
 
 pub returns-then-is_empty : goal.returns-then-is_empty
-returns-then-is_empty c = is_done c.lines.history c.lines.count c.in-Ok.line.config c.lines.rest.now _
+returns-then-is_empty c = is_done (record_items c.in-Ok.line.config) c.lines.history c.lines.count c.lines.rest.now _
     (c.lines-test.ensures.none refl) (sym c.is_empty.ensures ∙ c.if-is_empty.true) c.lines.invariant.so_far
 
 pub returns-else-is_empty : goal.returns-else-is_empty
-returns-else-is_empty c = is_cut c.lines.history c.lines.count c.in-Ok.line.config c.lines.rest.now _
+returns-else-is_empty c = is_cut (record_items c.in-Ok.line.config) c.lines.history c.lines.count c.lines.rest.now _
     (c.lines-test.ensures.none refl) (sym c.is_empty.ensures ∙ c.if-is_empty.false) c.lines.invariant.so_far

@@ -1,6 +1,6 @@
 use Rattle.std.proofs.Common.{◌≡◌, ◌∙◌, ◌∷◌, ◌+◌, ◌<◌, ap, sym, refl, arith, rules, length, take}
 use Rattle.std.proofs.lemmas.List.{length-drop}
-use Rattle.script_text.proofs.Reading.ReadOn.{begins, goes_on, goes_wrong, is_done, is_cut, read_from, read_with}
+use Rattle.script_text.proofs.Reading.ReadOn.{script_items, no_steps, script_begins, goes_on, goes_wrong, is_done, is_cut, read_same}
 use Rattle.script_text.proofs.Reading.Stops.{fault_is, step_line_never, one_less, stops}
 use Rattle.script_text.proofs.Parts.Pieces.{behind, behind_is, pieces_behind, pieces_ended}
 use Rattle.script_text.specs.Feeds.{end_of, line_of}
@@ -20,8 +20,8 @@ lines-init c =
     let config = c.in-Ok.line.config in
     record {
       room = refl;
-      so_far = read_from c.new-plan.result config _ _ c.new-plan.ensures
-          (begins text (take k text) (behind (k + 1) text) config (pieces_behind text k c.in-Ok.ensures.line) c.in-Ok.ensures.config);
+      so_far = read_same (script_items config) _ (no_steps config) _ _ c.new-plan.ensures
+          (script_begins text (take k text) (behind (k + 1) text) config (pieces_behind text k c.in-Ok.ensures.line) c.in-Ok.ensures.config);
       config = search rules;
       number = omega (arith, ap length (behind_is (k + 1) text), length-drop (k + 1) text);
       from = omega arith;
@@ -37,7 +37,7 @@ returns-in-Err-front_step c =
     let piece : pieces_of rest ≡ line_of rest ∷ pieces_of after = pieces_ended rest (end_of rest) (c.lines-test.ensures.found refl) refl in
     fault_is c.in-Err-front_step.kind c.lines.number c.args.text.now _
     (step_line_never c.in-Ok.line.config (line_of rest) c.in-Err-front_step.kind c.in-Err-front_step.ensures.fault)
-    (goes_wrong c.lines.plan c.lines.number c.in-Ok.line.config rest (line_of rest) after c.in-Err-front_step.kind _
+    (goes_wrong (script_items c.in-Ok.line.config) c.lines.plan c.lines.number rest (line_of rest) after c.in-Err-front_step.kind _
     piece c.in-Err-front_step.ensures.fault c.lines.invariant.so_far)
 
 pub lines-preserved : goal.lines-preserved
@@ -50,8 +50,8 @@ lines-preserved c =
     let within : line.length < length rest = omega (arith, ended, c.in-Ok-front_step.ensures.length) in
     record {
       room = c.front_step.ensures.room;
-      so_far = read_with _ c.lines.plan line.step _ _ c.in-Ok-push.ensures.ok
-          (goes_on c.lines.plan c.lines.number c.in-Ok.line.config rest (line_of rest) after line.step _
+      so_far = read_same (script_items c.in-Ok.line.config) _ _ _ _ c.in-Ok-push.ensures.ok
+          (goes_on (script_items c.in-Ok.line.config) c.lines.plan c.lines.number rest (line_of rest) after line.step _
           piece c.in-Ok-front_step.ensures.step c.lines.invariant.so_far);
       config = ap (λ (p : StepList). p.config) c.in-Ok-push.ensures.ok ∙ c.lines.invariant.config;
       number = omega (arith, within, ap length (behind_is (line.length + 1) rest), length-drop (line.length + 1) rest);
@@ -67,13 +67,13 @@ returns-in_default c =
     let rest = c.lines.rest.now in
     let after = behind (end_of rest + 1) rest in
     let piece : pieces_of rest ≡ line_of rest ∷ pieces_of after = pieces_ended rest (end_of rest) (c.lines-test.ensures.found refl) refl in
-    stops c.lines.plan c.lines.number c.in-Ok.line.config c.args.text.now rest (line_of rest) after c.in-Ok-front_step.line.step
+    stops (script_items c.in-Ok.line.config) c.lines.plan c.lines.number c.args.text.now rest (line_of rest) after _ _
     piece c.in-Ok-front_step.ensures.step c.lines.invariant.so_far c.lines.invariant.from c.lines.invariant.count
 
 pub returns-then-is_empty : goal.returns-then-is_empty
-returns-then-is_empty c = is_done c.lines.plan c.lines.number c.in-Ok.line.config c.lines.rest.now _
+returns-then-is_empty c = is_done (script_items c.in-Ok.line.config) c.lines.plan c.lines.number c.lines.rest.now _
     (c.lines-test.ensures.none refl) (sym c.is_empty.ensures ∙ c.if-is_empty.true) c.lines.invariant.so_far
 
 pub returns-else-is_empty : goal.returns-else-is_empty
-returns-else-is_empty c = is_cut c.lines.plan c.lines.number c.in-Ok.line.config c.lines.rest.now _
+returns-else-is_empty c = is_cut (script_items c.in-Ok.line.config) c.lines.plan c.lines.number c.lines.rest.now _
     (c.lines-test.ensures.none refl) (sym c.is_empty.ensures ∙ c.if-is_empty.false) c.lines.invariant.so_far
