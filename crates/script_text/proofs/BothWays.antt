@@ -10,6 +10,7 @@ pub mod EventsRead
 pub mod Lengths
 pub mod StepsSpelled
 pub mod EventsSpelled
+pub mod ItemTexts
 pub mod Texts
 pub mod RecordTexts
 pub mod Extended

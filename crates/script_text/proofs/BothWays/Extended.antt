@@ -20,10 +20,11 @@ use Rattle.script_text.proofs.Reading.ReadOn.{record_items, fault, no_events, re
 use Rattle.script_text.proofs.BothWays.StepsSpelled.{heap_line_again, heap_no_feed}
 use Rattle.script_text.proofs.BothWays.EventsRead.{event_text}
 use Rattle.script_text.proofs.BothWays.EventsSpelled.{event_line_again, event_no_feed}
-use Rattle.script_text.proofs.BothWays.RecordTexts.{AreGood, good_first, good_rest, record_read}
+use Rattle.script_text.proofs.BothWays.ItemTexts.{AllGood}
+use Rattle.script_text.proofs.BothWays.RecordTexts.{Good, record_good, record_read}
 
 -- events that are spelled are read, whatever comes after them
-events_extend : (es : List Event) (n : ℕ) (c : Config) (p : EventList) (t : List ℕ) → AreGood n c es →
+events_extend : (es : List Event) (n : ℕ) (c : Config) (p : EventList) (t : List ℕ) → AllGood (Good c) n es →
     read_on (record_items c) p (events_of n c (pieces_of (event_lines n es ++ t)))
     ≡ read_on (record_items c) (record p { events = p.events ++ es }) (events_of (n + length es) c (pieces_of t))
 events_extend [] n c p t good =
@@ -32,7 +33,7 @@ events_extend [] n c p t good =
     read_on (record_items c) (record p { events = xs }) (events_of (n + length {A = Event} []) c (pieces_of t))) (append-nil p.events)
     ∙ ap (λ (k : ℕ). read_on (record_items c) p (events_of k c (pieces_of t))) same)
 events_extend (e ∷ es) n c p t good =
-    let head = good_first n c e es good in
+    let head = good.0 in
     let rest = event_lines (n + 1) es ++ t in
     let cut : event_lines n (e ∷ es) ++ t ≡ event_text n e ++ 10 ∷ rest =
     ap (λ (l : List ℕ). l ++ t) (append_assoc (event_text n e) (10 ∷ []) (event_lines (n + 1) es))
@@ -40,7 +41,7 @@ events_extend (e ∷ es) n c p t good =
     let pieces : pieces_of (event_lines n (e ∷ es) ++ t) ≡ event_text n e ∷ pieces_of rest =
     ap pieces_of cut ∙ pieces_at (event_text n e) rest (event_no_feed n c e head) in
     let on = goes_on (record_items c) p n (event_lines n (e ∷ es) ++ t) (event_text n e) rest e _ pieces (event_line_again n c e head) refl in
-    let more = events_extend es (n + 1) c ((record_items c).more p (e ∷ [])) t (good_rest n c e es good) in
+    let more = events_extend es (n + 1) c ((record_items c).more p (e ∷ [])) t good.1 in
     let same : (p.events ++ e ∷ []) ++ es ≡ p.events ++ e ∷ es = append_assoc p.events (e ∷ []) es in
     let count : (n + 1) + length es ≡ n + length (e ∷ es) = omega arith in
     sym on ∙ more ∙ ap (λ (xs : List Event). read_on (record_items c) (record p { events = xs }) (events_of ((n + 1) + length es) c (pieces_of t))) same
@@ -59,13 +60,7 @@ extends lines r t read =
     let pieces : pieces_of (lines ++ t) ≡ head ∷ pieces_of rest =
     ap pieces_of cut ∙ pieces_at head rest (heap_no_feed r.config is.1.config) in
     let first = record_begins (lines ++ t) head rest r.config pieces (heap_line_again r.config is.1.config) in
-    let good : AreGood 1 r.config r.events = record {
-      counted = (let few = is.1.few in omega arith);
-      few = is.1.config.mutators;
-      owned = is.1.owned;
-      fits = is.1.fits;
-    } in
-    let more = events_extend r.events 1 r.config (no_events r.config) t good in
+    let more = events_extend r.events 1 r.config (no_events r.config) t (record_good r is.1) in
     let count : 1 + length r.events ≡ length r.events + 1 = omega arith in
     sym first ∙ more ∙ ap (λ (k : ℕ). read_on (record_items r.config) r (events_of k r.config (pieces_of t))) count
 

@@ -42,7 +42,3 @@ put_behind old new text at start end within ends same written before =
     ∙ ap (λ (k : ℕ). take k old ++ (text ++ drop end old)) here ∙ sym (append_assoc (take at old) text (drop end old)) in
     ap (λ (t : List ℕ). take end t) whole ∙ ap (λ (k : ℕ). take k ((take at old ++ text) ++ drop end old)) (sym long)
     ∙ take-append_seam (take at old ++ text) (drop end old)
-
--- one text after another
-pub behind_both : (old middle new first second : List ℕ) → middle ≡ old ++ first → new ≡ middle ++ second → new ≡ old ++ (first ++ second)
-behind_both old middle new first second e f = f ∙ ap (λ (t : List ℕ). t ++ second) e ∙ append_assoc old first second

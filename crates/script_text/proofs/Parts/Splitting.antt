@@ -167,9 +167,6 @@ first_piece text at within lt feed =
     slice_split_first (λ b. eqb b 10) text 0 (rw ends lt) in
     split ∙ ap (λ (n : ℕ). take n text ∷ pieces_of (drop (n + 1) text)) ends
 
-pub one_piece : (text : List ℕ) (at : ℕ) → at ≤ end_of text → length text ≤ at → pieces_of text ≡ text ∷ []
-one_piece text at within past = slice_split_none (λ b. eqb b 10) text (λ k d lt. fails_before_first (λ b. eqb b 10) text k d (omega arith))
-
 -- the first line feed is no later than one that is there
 pub first_is_first : (text : List ℕ) (at : ℕ) → get_or text at 0 ≡ 10 → end_of text ≤ at
 first_is_first text at feed =

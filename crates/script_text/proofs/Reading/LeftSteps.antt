@@ -118,9 +118,6 @@ abbrev pub IsReadTo : Config → ℕ → List ℕ → List ℕ → Type 0
 IsReadTo c n rest lines = (before : List Step)
     × (read_on (script_items c) (record { config = c; steps = before }) (steps_of n c (pieces_of rest)) ≡ read_on (script_items c) (no_steps c) (steps_of 2 c (pieces_of lines)))
 
-pub nothing_read : (c : Config) (lines : List ℕ) → IsReadTo c 2 lines lines
-nothing_read c lines = ([], refl)
-
 pub one_read : (c : Config) (n : ℕ) (rest line after lines : List ℕ) (s : Step) → pieces_of rest ≡ line ∷ pieces_of after
     → step_line_of c line ≡ Ok s → IsReadTo c n rest lines → IsReadTo c (n + 1) after lines
 one_read c n rest line after lines s e ok (before, so_far) =

@@ -87,7 +87,7 @@ heap_fails : {Y : Type 0} (by : Config → List (List ℕ) → Result Y LineFaul
 unfolding headed
 heap_fails by line ps x xs k e bad = rw (e, bad) refl
 
-begins : {Y : Type 0} (by : Config → List (List ℕ) → Result Y LineFault) (text line rest : List ℕ) (c : Config)
+pub begins : {Y : Type 0} (by : Config → List (List ℕ) → Result Y LineFault) (text line rest : List ℕ) (c : Config)
     → pieces_of text ≡ line ∷ pieces_of rest → heap_line_of line ≡ Ok c → by c (pieces_of rest) ≡ headed by (pieces_of text)
 begins by text line rest c e ok =
     let some = pieces_some rest in
