@@ -18,11 +18,8 @@ use Rattle.script_text.specs.Fits.{Fits}
 use Rattle.script_text.specs.Reading.{action_of, allowed_of}
 use Rattle.script_text.specs.Spelling.{action_words}
 use Rattle.script_text.proofs.BothWays.Actions.{action_again, action_is}
-use Rattle.script_text.proofs.BothWays.Grammars.{option_bind}
-
-both_true : (b d : Bool) → (b && d) ≡ true → (b ≡ true) × (d ≡ true)
-both_true true d e = (refl, e)
-both_true false d e = absurd cc
+use Rattle.script_text.proofs.BothWays.Grammars.{option_bind, some_is}
+use Rattle.script_text.proofs.Parts.Spelled.{both_true}
 
 true_both : (b d : Bool) → b ≡ true → d ≡ true → (b && d) ≡ true
 true_both true d e f = f
@@ -86,8 +83,8 @@ op_again c m a h =
     true_both (names_roots (places_of c) a) (has_action c.format a) (are_again (places_of c) (action_roots a) h.at.roots)
     (row_again c.format (action_row (action_verb a)).third h.known)
 
-guarded : (b : Bool) (x y : Action) → cond b (Some x) None ≡ Some y → (b ≡ true) × (x ≡ y)
-guarded true x y e = (refl, cc)
+pub guarded : {A : Type 0} (b : Bool) (x y : A) → cond b (Some x) None ≡ Some y → (b ≡ true) × (x ≡ y)
+guarded true x y e = (refl, some_is x y e)
 guarded false x y e = absurd cc
 
 -- an action of a mutator, and its words

@@ -16,19 +16,15 @@ use Rattle.script_text.specs.Reading.{sizes_in, third_of, sizes_of}
 use Rattle.script_text.specs.Fits.{CollectionFits, FormatFits, ConfigFits}
 use Rattle.script_text.specs.Spelling.{collection_words, verb_of, size_words, format_words, heap_words}
 use Rattle.script_text.proofs.Parts.Numbers.{number_of_is}
-use Rattle.script_text.proofs.BothWays.Grammars.{option_bind, chosen, some_is, joined, made_is, verb_is, operands_again}
+use Rattle.script_text.proofs.BothWays.Grammars.{option_bind, none_is, chosen, some_is, joined, made_is, verb_is, operands_again}
 use Rattle.script_text.proofs.BothWays.Actions.{collections_are}
-use Rattle.script_text.proofs.BothWays.Allowed.{row_is, row_again}
+use Rattle.script_text.proofs.BothWays.Allowed.{guarded, row_is, row_again}
 
 -- a step of the collector, and its words
 pub record IsCollection (f : Format) (words : List (List ℕ)) (k : CollectorStep) : Type 0 where
   pub spelled : words ≡ collection_words k
   pub known : HasCollection f k
   pub fits : CollectionFits k
-
-guarded : (b : Bool) (v u : CollectionVerb) → cond b (Some v) None ≡ Some u → (b ≡ true) × (v ≡ u)
-guarded true v u e = (refl, some_is v u e)
-guarded false v u e = absurd cc
 
 pub collection_is : (f : Format) (ws : List (List ℕ)) (k : CollectorStep) → collection_of f ws ≡ Some k → IsCollection f ws k
 unfolding collection_of
@@ -136,9 +132,6 @@ record IsThird (words : List (List ℕ)) (f : Format) : Type 0 where
   verb : verb_of f ≡ codes "heap3"
   fits : FormatFits f
 
-format_some : (f g : Format) → Some f ≡ Some g → f ≡ g
-format_some f g e = cc
-
 words3 : (a b c x y z : List ℕ) → a ≡ x → b ≡ y → c ≡ z → a ∷ b ∷ c ∷ [] ≡ x ∷ y ∷ z ∷ []
 words3 a b c x y z p q r = cc
 
@@ -151,14 +144,11 @@ third_is a b c f e =
     let q0 = number_of_is small a p0.0 p0.1 in
     let q1 = number_of_is small b p1.0 p1.1 in
     let q2 = number_of_is small c p2.0 p2.1 in
-    subst (IsThird (a ∷ b ∷ c ∷ [])) (format_some (V3 p0.0 p1.0 p2.0) f p2.2) (record {
+    subst (IsThird (a ∷ b ∷ c ∷ [])) (some_is (V3 p0.0 p1.0 p2.0) f p2.2) (record {
       spelled = words3 a b c (decimal p0.0) (decimal p1.0) (decimal p2.0) q0.0 q1.0 q2.0;
       verb = refl;
       fits = (q0.1, q1.1, q2.1);
     })
-
-no_config : (c : Config) → None ≡ Some c → ⊥
-no_config c e = cc
 
 pub heap_is : (ws : List (List ℕ)) (c : Config) → sizes_of ws ≡ Some c → AreSizes ws c
 unfolding sizes_of
@@ -170,7 +160,7 @@ heap_is (verb ∷ n ∷ r ∷ b ∷ m ∷ f ∷ []) c e =
             spelled = lined verb (n ∷ r ∷ b ∷ m ∷ f ∷ []) V1 c ((bytes_eq-Decides verb (codes "heap")).0 h.0) a;
             fits = fitted (n ∷ r ∷ b ∷ m ∷ f ∷ []) V1 c a tt;
           }
-      | inr h ↦ absurd (no_config c h.1)
+      | inr h ↦ absurd (none_is c h.1)
     ]
 heap_is (verb ∷ n ∷ r ∷ b ∷ m ∷ f ∷ card ∷ []) c e =
     elim (chosen (bytes_eq verb (codes "heap2")) (number_of small card >>= λ k. sizes_in (V2 k) n r b m f) None c e) [
@@ -183,7 +173,7 @@ heap_is (verb ∷ n ∷ r ∷ b ∷ m ∷ f ∷ card ∷ []) c e =
                 ∙ lined verb (n ∷ r ∷ b ∷ m ∷ f ∷ []) (V2 p.0) c ((bytes_eq-Decides verb (codes "heap2")).0 h.0) a;
             fits = fitted (n ∷ r ∷ b ∷ m ∷ f ∷ []) (V2 p.0) c a q.1;
           }
-      | inr h ↦ absurd (no_config c h.1)
+      | inr h ↦ absurd (none_is c h.1)
     ]
 heap_is (verb ∷ n ∷ r ∷ b ∷ m ∷ f ∷ card ∷ globals ∷ registers ∷ []) c e =
     elim (chosen (bytes_eq verb (codes "heap3")) (third_of card globals registers >>= λ k. sizes_in k n r b m f) None c e) [
@@ -196,6 +186,6 @@ heap_is (verb ∷ n ∷ r ∷ b ∷ m ∷ f ∷ card ∷ globals ∷ registers �
                 ∙ lined verb (n ∷ r ∷ b ∷ m ∷ f ∷ []) p.0 c ((bytes_eq-Decides verb (codes "heap3")).0 h.0 ∙ sym q.verb) a;
             fits = fitted (n ∷ r ∷ b ∷ m ∷ f ∷ []) p.0 c a q.fits;
           }
-      | inr h ↦ absurd (no_config c h.1)
+      | inr h ↦ absurd (none_is c h.1)
     ]
 heap_is _ c e = absurd cc

@@ -28,10 +28,11 @@ use Rattle.script_text.specs.EventWords.{background_of, marker_step, refiner_ste
 use Rattle.script_text.specs.Lines.{◌>>=◌, or_fault, words_of, mutator_of}
 use Rattle.script_text.specs.Events.{foreground_of, actor_of, counted_of, event_of, event_line_of}
 use Rattle.script_text.proofs.Parts.Numbers.{number_of_is}
-use Rattle.script_text.proofs.BothWays.Grammars.{option_bind}
+use Rattle.script_text.proofs.BothWays.Grammars as grammars
+use Rattle.script_text.proofs.BothWays.Grammars.{option_bind, some_is, none_is}
 use Rattle.script_text.proofs.BothWays.Allowed.{allowed_is}
 use Rattle.script_text.proofs.BothWays.Collections.{collection_is}
-use Rattle.script_text.proofs.BothWays.StepsRead.{result_bind, or_fault_is, either, mutator_is, joined, too_long}
+use Rattle.script_text.proofs.BothWays.StepsRead.{result_bind, ok_is, or_fault_is, either, mutator_is, joined, too_long}
 use Rattle.script_text.proofs.BothWays.ReplyLaws.{pick, reply_is}
 use Rattle.script_text.proofs.Reading.Parting.{parted}
 
@@ -54,18 +55,6 @@ record IsActorWord (c : Config) (word : List ℕ) (a : Actor) : Type 0 where
   spelled : word ≡ actor_word a
   known : KnownActor c a
 
-actor_some : (a b : Actor) → Some a ≡ Some b → a ≡ b
-actor_some a b e = cc
-
-abbrev named : Actor → Result Actor Kind
-named a = Ok a
-
-actor_ok : (a b : Actor) → named a ≡ named b → a ≡ b
-actor_ok a b e = cc
-
-no_actor : (a : Actor) → None ≡ Some a → ⊥
-no_actor a e = cc
-
 first_byte : (b d : ℕ) (digits rest : List ℕ) → b ≡ d → digits ≡ rest → b ∷ digits ≡ d ∷ rest
 first_byte b d digits rest e f = cc
 
@@ -74,7 +63,7 @@ same_actor c word a b spelled known e = subst (IsActorWord c word) e (record { s
 
 background_is : (c : Config) (word : List ℕ) (a : Actor) → background_of word ≡ Some a → IsActorWord c word a
 unfolding background_of
-background_is c [] a e = absurd (no_actor a e)
+background_is c [] a e = absurd (none_is a e)
 background_is c (b ∷ digits) a e =
     pick (eqb b 109) _ _ a e
     (λ h f.
@@ -82,28 +71,28 @@ background_is c (b ∷ digits) a e =
     let number = number_of_is 7 digits read.0 read.1 in
     let few = number.1 in
     same_actor c (b ∷ digits) (actors.Marker read.0) a (first_byte b 109 digits (decimal read.0) (eqb-true b 109 h) number.0) (omega arith)
-    (actor_some (actors.Marker read.0) a read.2)) (λ other e1. pick (eqb b 102) _ _ a e1
+    (some_is (actors.Marker read.0) a read.2)) (λ other e1. pick (eqb b 102) _ _ a e1
     (λ h f.
     let read = option_bind (number_of 7 digits) (λ i. Some (actors.Refiner i)) a f in
     let number = number_of_is 7 digits read.0 read.1 in
     let few = number.1 in
     same_actor c (b ∷ digits) (actors.Refiner read.0) a (first_byte b 102 digits (decimal read.0) (eqb-true b 102 h) number.0) (omega arith)
-    (actor_some (actors.Refiner read.0) a read.2)) (λ other2 e2. absurd (no_actor a e2)))
+    (some_is (actors.Refiner read.0) a read.2)) (λ other2 e2. absurd (none_is a e2)))
 
 foreground_is : (c : Config) (word : List ℕ) (o : Option Actor) (a : Actor) → background_of word ≡ o
     → foreground_of c word o ≡ Ok a → IsActorWord c word a
 unfolding foreground_of
-foreground_is c word (Some b) a is e = subst (IsActorWord c word) (actor_ok b a e) (background_is c word b is)
+foreground_is c word (Some b) a is e = subst (IsActorWord c word) (ok_is b a e) (background_is c word b is)
 foreground_is c word None a is e =
     let read = result_bind (mutator_of c word) (λ m. Ok (actors.Mutator m)) a e in
     let mutator = mutator_is c word read.0 read.1 in
-    same_actor c word (actors.Mutator read.0) a mutator.0 mutator.1 (actor_ok (actors.Mutator read.0) a read.2)
+    same_actor c word (actors.Mutator read.0) a mutator.0 mutator.1 (ok_is (actors.Mutator read.0) a read.2)
 
 actor_is : (c : Config) (word : List ℕ) (a : Actor) → actor_of c word ≡ Ok a → IsActorWord c word a
 unfolding actor_of
 actor_is c word a e =
     elim (either (bytes_eq word (codes "gc")) (Ok actors.Collector) (foreground_of c word (background_of word)) a e) [
-      | inl h ↦ same_actor c word actors.Collector a ((bytes_eq-Decides word (codes "gc")).0 h.0) tt (actor_ok actors.Collector a h.1)
+      | inl h ↦ same_actor c word actors.Collector a ((bytes_eq-Decides word (codes "gc")).0 h.0) tt (ok_is actors.Collector a h.1)
       | inr h ↦ foreground_is c word (background_of word) a refl h.1
     ]
 
@@ -113,30 +102,24 @@ record IsTaken (c : Config) (a : Actor) (words : List (List ℕ)) (s : Step) : T
   owned : IsStepOf c a s
   fits : StepFits s
 
-step_some : (s t : Step) → Some s ≡ Some t → s ≡ t
-step_some s t e = cc
-
-no_step : (s : Step) → None ≡ Some s → ⊥
-no_step s e = cc
-
 same_step : (c : Config) (a : Actor) (ws : List (List ℕ)) (s t : Step) → ws ≡ body_words s → IsStepOf c a s
     → StepFits s → Some s ≡ Some t → IsTaken c a ws t
 same_step c a ws s t spelled owned fits e =
-    subst (IsTaken c a ws) (step_some s t e) (record { spelled = spelled; owned = owned; fits = fits })
+    subst (IsTaken c a ws) (some_is s t e) (record { spelled = spelled; owned = owned; fits = fits })
 
 marked : (c : Config) (i : ℕ) (ws : List (List ℕ)) (k : CollectorStep) (s : Step) → i < 8 → ws ≡ collection_words k → CollectionFits k
     → marker_step k ≡ Some s → IsTaken c (actors.Marker i) ws s
 unfolding marker_step
 marked c i ws (collector.Mark n) s known spelled fits e =
     same_step c (actors.Marker i) ws (steps.Collector (collector.Mark n)) s spelled known fits e
-marked c i ws _ s known spelled fits e = absurd (no_step s e)
+marked c i ws _ s known spelled fits e = absurd (none_is s e)
 
 refined : (c : Config) (i : ℕ) (ws : List (List ℕ)) (k : CollectorStep) (s : Step) → i < 8 → ws ≡ collection_words k → CollectionFits k
     → refiner_step k ≡ Some s → IsTaken c (actors.Refiner i) ws s
 unfolding refiner_step
 refined c i ws (collector.Refine n) s known spelled fits e =
     same_step c (actors.Refiner i) ws (steps.Collector (collector.Refine n)) s spelled known fits e
-refined c i ws _ s known spelled fits e = absurd (no_step s e)
+refined c i ws _ s known spelled fits e = absurd (none_is s e)
 
 taken_is : (c : Config) (a : Actor) (ws : List (List ℕ)) (s : Step) → KnownActor c a → taken_of c a ws ≡ Some s → IsTaken c a ws s
 unfolding taken_of
@@ -166,15 +149,6 @@ record IsCounted (c : Config) (words : List (List ℕ)) (e : Event) : Type 0 whe
 abbrev made : Actor → Step → Reply → Event
 made a s r = record { actor = a; step = s; reply = r }
 
-abbrev found : Event → Result Event Kind
-found x = Ok x
-
-event_ok : (x y : Event) → found x ≡ found y → x ≡ y
-event_ok x y e = cc
-
-onto : (a w : List ℕ) (xs ys : List (List ℕ)) → a ≡ w → xs ≡ ys → a ∷ xs ≡ w ∷ ys
-onto a w xs ys e f = cc
-
 both_parts : (ws step reply body words : List (List ℕ)) → ws ≡ step ++ codes "=" ∷ reply → step ≡ body
     → reply ≡ words → ws ≡ body ++ codes "=" ∷ words
 both_parts ws step reply body words e f g =
@@ -197,8 +171,8 @@ counted_is c (word ∷ rest) e h =
     let reply = reply_is behind.0 why.0 behind.2 in
     let words = both_parts rest (step_part rest) behind.0 (body_words what.0) (reply_words why.0)
     (parted rest behind.0 behind.1) step.spelled reply.spelled in
-    subst (IsCounted c (word ∷ rest)) {x = made who.0 what.0 why.0} (event_ok (made who.0 what.0 why.0) e why.2) (record {
-      spelled = onto word (actor_word who.0) rest (body_words what.0 ++ codes "=" ∷ reply_words why.0) actor.spelled words;
+    subst (IsCounted c (word ∷ rest)) {x = made who.0 what.0 why.0} (ok_is (made who.0 what.0 why.0) e why.2) (record {
+      spelled = grammars.joined word (actor_word who.0) rest (body_words what.0 ++ codes "=" ∷ reply_words why.0) actor.spelled words;
       owned = step.owned;
       fits = (step.fits, reply.fits);
     })
@@ -225,7 +199,7 @@ event_is n c (word ∷ rest) e h =
     let is = counted_is c rest e same.1 in
     record {
       counted = (let le = number.1 in let is = eqb-true read.0 n same.0 in omega arith);
-      spelled = onto word (decimal n) rest (actor_word e.actor ∷ (body_words e.step ++ codes "=" ∷ reply_words e.reply))
+      spelled = grammars.joined word (decimal n) rest (actor_word e.actor ∷ (body_words e.step ++ codes "=" ∷ reply_words e.reply))
           (number.0 ∙ ap decimal (eqb-true read.0 n same.0)) is.spelled;
       owned = is.owned;
       fits = is.fits;

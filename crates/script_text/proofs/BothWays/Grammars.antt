@@ -36,6 +36,9 @@ pub some_is : {A : Type 0} (x y : A) → Some x ≡ Some y → x ≡ y
 unfolding some_or
 some_is x y e = ap (some_or x) e
 
+pub none_is : {A : Type 0} (x : A) → None ≡ Some x → ⊥
+none_is x e = cc
+
 -- an operand
 pub operand_again : (k : Operand) (n : ℕ) → OperandFits k n → operand_of k (operand_word k n) ≡ Some n
 unfolding operand_of

@@ -15,7 +15,7 @@ use Rattle.script_text.specs.Spelling.{heap_words, spaced, line}
 use Rattle.script_text.specs.Lines.{◌>>=◌, at, pieces_of, heap_line_of, items_of, headed}
 use Rattle.script_text.proofs.Parts.FirstLines.{pieces_at}
 use Rattle.script_text.proofs.Reading.ReadOn.{Items, items, fault, pieces_some, begins, items_more}
-use Rattle.script_text.proofs.BothWays.StepsRead.{result_bind, guarded, heap_line_is}
+use Rattle.script_text.proofs.BothWays.StepsRead.{result_bind, ok_is, guarded, heap_line_is}
 use Rattle.script_text.proofs.BothWays.StepsSpelled.{heap_line_again, heap_no_feed}
 
 -- the lines of items that are counted from a number on
@@ -43,12 +43,6 @@ at_ok : {A : Type 0} (n : ℕ) (r : Result A Kind) (x : A) → at n r ≡ Ok x �
 at_ok n (Ok y) x e = cc
 at_ok n (Err k) x e = absurd cc
 
-abbrev found : {Y : Type 0} → Y → Result Y LineFault
-found y = Ok y
-
-pub same_found : {Y : Type 0} (x y : Y) → found x ≡ found y → x ≡ y
-same_found x y e = cc
-
 pub items_read : {A P : Type 0} (t : Items A P) (Good : ℕ → A → Type 0) (text : ℕ → A → List ℕ) (is : AreSpelled t Good text)
     (ps : List (List ℕ)) (n : ℕ) (p : List ℕ) (xs : List A) → items t n (p ∷ ps) ≡ Ok xs
     → (join_with_byte 10 (p ∷ ps) ≡ lines text n xs) × AllGood Good n xs
@@ -65,7 +59,7 @@ items_read t Good text is (q ∷ ps) n p xs e =
     ap (λ (l : List ℕ). l ++ 10 ∷ join_with_byte 10 (q ∷ ps)) head.0 ∙ ap (λ (l : List ℕ). text n first.0 ++ 10 ∷ l) tail.0
     ∙ sym (append_assoc (text n first.0) (10 ∷ []) (lines text (n + 1) rest.0)) in
     subst (λ (ys : List _). (join_with_byte 10 (p ∷ q ∷ ps) ≡ lines text n ys) × AllGood Good n ys)
-    (same_found (first.0 ∷ rest.0) xs rest.2) (cut, (head.1, tail.1))
+    (ok_is (first.0 ∷ rest.0) xs rest.2) (cut, (head.1, tail.1))
 
 pub items_again : {A P : Type 0} (t : Items A P) (Good : ℕ → A → Type 0) (text : ℕ → A → List ℕ) (is : AreSpelled t Good text)
     (xs : List A) (n : ℕ) → AllGood Good n xs → items t n (pieces_of (lines text n xs)) ≡ Ok xs

@@ -14,10 +14,10 @@ use Rattle.script_text.specs.Records.{event_line, event_lines, record_text}
 use Rattle.script_text.specs.Lines.{◌>>=◌, pieces_of}
 use Rattle.script_text.specs.Events.{events_of, record_by, record_of}
 use Rattle.script_text.proofs.Reading.ReadOn.{record_items}
-use Rattle.script_text.proofs.BothWays.StepsRead.{result_bind}
+use Rattle.script_text.proofs.BothWays.StepsRead.{result_bind, ok_is}
 use Rattle.script_text.proofs.BothWays.EventsRead.{event_text, event_line_is}
 use Rattle.script_text.proofs.BothWays.EventsSpelled.{IsGood, event_line_again, event_no_feed}
-use Rattle.script_text.proofs.BothWays.ItemTexts.{lines, AllGood, all_are, AreSpelled, same_found, items_read, items_again}
+use Rattle.script_text.proofs.BothWays.ItemTexts.{lines, AllGood, all_are, AreSpelled, items_read, items_again}
 use Rattle.script_text.proofs.BothWays.ItemTexts.{is_headed, headed_again}
 
 abbrev pub Good : Config → ℕ → Event → Type 0
@@ -65,7 +65,7 @@ record_read text r e =
     let read = result_bind (events_of 1 c (is.next ∷ is.others)) (λ es. Ok (made c es)) r is.read in
     let all = items_read (record_items c) (Good c) event_text (are_spelled c is.fits.mutators) is.others 1 is.next read.0 read.1 in
     let few : 1 + length read.0 ≤ large + 1 = all_counted c read.0 1 (omega arith) all.1 in
-    subst (λ (q : EventList). (text ≡ record_text q) × IsRecord q) (same_found (made c read.0) r read.2) (
+    subst (λ (q : EventList). (text ≡ record_text q) × IsRecord q) (ok_is (made c read.0) r read.2) (
       is.spelled ∙ ap (λ (l : List ℕ). line (heap_words c) ++ l) (all.0 ∙ sym (same_lines read.0 1)),
       record {
         config = is.fits;

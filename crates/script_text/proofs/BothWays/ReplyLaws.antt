@@ -16,27 +16,15 @@ use Rattle.script_text.specs.Fits.{ReplyFits}
 use Rattle.script_text.specs.Reading.{◌>>=◌, number_of, small, large}
 use Rattle.script_text.specs.EventWords.{numbered, refusal_of, name_or_word, lone_reply_of, pair_reply_of, long_reply_of, reply_of}
 use Rattle.script_text.proofs.Parts.Numbers.{number_of_some, number_of_is, first_is_digit}
-use Rattle.script_text.proofs.BothWays.Grammars.{option_bind}
+use Rattle.script_text.proofs.BothWays.Grammars.{option_bind, some_is, none_is, joined}
 
 -- a reply, and its words
 pub record IsReply (words : List (List ℕ)) (r : Reply) : Type 0 where
   pub spelled : words ≡ reply_words r
   pub fits : ReplyFits r
 
-reply_some : (q r : Reply) → Some q ≡ Some r → q ≡ r
-reply_some q r e = cc
-
-refusal_some : (x y : Refusal) → Some x ≡ Some y → x ≡ y
-refusal_some x y e = cc
-
-no_reply : (r : Reply) → None ≡ Some r → ⊥
-no_reply r e = cc
-
-no_refusal : (x : Refusal) → None ≡ Some x → ⊥
-no_refusal x e = cc
-
 same_reply : (ws : List (List ℕ)) (q r : Reply) → ws ≡ reply_words q → ReplyFits q → Some q ≡ Some r → IsReply ws r
-same_reply ws q r spelled fits e = subst (IsReply ws) (reply_some q r e) (record { spelled = spelled; fits = fits })
+same_reply ws q r spelled fits e = subst (IsReply ws) (some_is q r e) (record { spelled = spelled; fits = fits })
 
 is_word : (a w : List ℕ) → bytes_eq a w ≡ true → a ≡ w
 is_word a w e = (bytes_eq-Decides a w).0 e
@@ -62,8 +50,8 @@ unfolding numbered
 numbered_is number digit name verb x y named e words =
     pick (bytes_eq number digit) (Some x) None y e
     (λ same some.
-    two number name digit verb (is_word number digit same) (is_word name verb named) ∙ sym words ∙ ap refusal_words (refusal_some x y some))
-    (λ other none. absurd (no_refusal y none))
+    two number name digit verb (is_word number digit same) (is_word name verb named) ∙ sym words ∙ ap refusal_words (some_is x y some))
+    (λ other none. absurd (none_is y none))
 
 refusal_is : (number name : List ℕ) (y : Refusal) → refusal_of number name ≡ Some y → number ∷ name ∷ [] ≡ refusal_words y
 unfolding refusal_of
@@ -81,14 +69,14 @@ refusal_is number name y e =
     (λ h f. numbered_is number (codes "6") name (codes "MarkRunning") refusals.MarkRunning y h f refl) (λ h6 e6.
     pick (bytes_eq name (codes "NotMarking")) _ _ y e6
     (λ h f. numbered_is number (codes "7") name (codes "NotMarking") refusals.NotMarking y h f refl)
-    (λ h7 e7. absurd (no_refusal y e7))))))))
+    (λ h7 e7. absurd (none_is y e7))))))))
 
 name_word : (b : ℕ) (digits : List ℕ) (n : ℕ) → b ≡ 35 → digits ≡ decimal n → (b ∷ digits) ∷ [] ≡ (35 ∷ decimal n) ∷ []
 name_word b digits n e f = cc
 
 name_or_word_is : (a : List ℕ) (r : Reply) → name_or_word a ≡ Some r → IsReply (a ∷ []) r
 unfolding name_or_word
-name_or_word_is [] r e = absurd (no_reply r e)
+name_or_word_is [] r e = absurd (none_is r e)
 name_or_word_is (b ∷ digits) r e =
     pick (eqb b 35) (number_of large digits >>= λ n. Some (replies.Named (Some n)))
     (number_of large (b ∷ digits) >>= λ w. Some (replies.Word w)) r e
@@ -149,22 +137,19 @@ moved_is a b c r same e =
     same_reply (a ∷ b ∷ c ∷ []) (replies.Moved first.0 second.0) r
     (three a b c (codes "moved") (decimal first.0) (decimal second.0) (is_word a (codes "moved") same) n.0 w.0) (n.1, w.1) second.2
 
-onto : (a w : List ℕ) (xs ys : List (List ℕ)) → a ≡ w → xs ≡ ys → a ∷ xs ≡ w ∷ ys
-onto a w xs ys e f = cc
-
 refused_is : (a b c : List ℕ) (r : Reply) → bytes_eq a (codes "refused") ≡ true
     → (refusal_of b c >>= λ why. Some (replies.Refused why)) ≡ Some r → IsReply (a ∷ b ∷ c ∷ []) r
 refused_is a b c r same e =
     let read = option_bind (refusal_of b c) (λ why. Some (replies.Refused why)) r e in
     same_reply (a ∷ b ∷ c ∷ []) (replies.Refused read.0) r
-    (onto a (codes "refused") (b ∷ c ∷ []) (refusal_words read.0) (is_word a (codes "refused") same) (refusal_is b c read.0 read.1))
+    (joined a (codes "refused") (b ∷ c ∷ []) (refusal_words read.0) (is_word a (codes "refused") same) (refusal_is b c read.0 read.1))
     tt read.2
 
 long_is : (a b c : List ℕ) (r : Reply) → long_reply_of a b c ≡ Some r → IsReply (a ∷ b ∷ c ∷ []) r
 unfolding long_reply_of
 long_is a b c r e =
     pick (bytes_eq a (codes "moved")) _ _ r e (λ h f. moved_is a b c r h f) (λ h1 e1.
-    pick (bytes_eq a (codes "refused")) _ _ r e1 (λ h f. refused_is a b c r h f) (λ h2 e2. absurd (no_reply r e2)))
+    pick (bytes_eq a (codes "refused")) _ _ r e1 (λ h f. refused_is a b c r h f) (λ h2 e2. absurd (none_is r e2)))
 
 -- what is read is spelled so
 pub reply_is : (ws : List (List ℕ)) (r : Reply) → reply_of ws ≡ Some r → IsReply ws r
@@ -172,7 +157,7 @@ unfolding reply_of
 reply_is (a ∷ []) r e = lone_is a r e
 reply_is (a ∷ b ∷ []) r e = pair_is a b r e
 reply_is (a ∷ b ∷ c ∷ []) r e = long_is a b c r e
-reply_is _ r e = absurd (no_reply r e)
+reply_is _ r e = absurd (none_is r e)
 
 pub no_long_reply : (ws : List (List ℕ)) → 4 ≤ length ws → reply_of ws ≡ None
 unfolding reply_of

@@ -20,6 +20,7 @@ use Rattle.script_text.specs.Fits.{StepFits, ConfigFits}
 use Rattle.script_text.specs.Spelling.{action_words, collection_words, step_words, heap_words, spaced}
 use Rattle.script_text.specs.Lines.{◌>>=◌, or_fault, words_of, mutator_of, step_of, step_line_of, heap_line_of}
 use Rattle.script_text.proofs.Parts.Numbers.{number_of_is}
+use Rattle.script_text.proofs.BothWays.Grammars as grammars
 use Rattle.script_text.proofs.BothWays.Allowed.{allowed_is}
 use Rattle.script_text.proofs.BothWays.Collections.{collection_is, heap_is}
 
@@ -41,11 +42,11 @@ pub guarded : {A E : Type 0} (b : Bool) (x y : A) (f : E) → cond b (Ok x) (Err
 guarded true x y f e = (refl, cc)
 guarded false x y f e = absurd cc
 
-abbrev found : Step → Result Step Kind
-found s = Ok s
+abbrev pub found : {A E : Type 0} → A → Result A E
+found x = Ok x
 
-step_ok : (s t : Step) → found s ≡ found t → s ≡ t
-step_ok s t e = cc
+pub ok_is : {A E : Type 0} (x y : A) → found {E = E} x ≡ found y → x ≡ y
+ok_is x y e = cc
 
 -- a number of a mutator
 pub mutator_is : (c : Config) (word : List ℕ) (m : ℕ) → mutator_of c word ≡ Ok m → (word ≡ decimal m) × (m < c.mutators)
@@ -63,16 +64,13 @@ pub record IsRead (c : Config) (words : List (List ℕ)) (s : Step) : Type 0 whe
   pub owned : IsStep c s
   pub fits : StepFits s
 
-join_words : (a b : List ℕ) (ws vs : List (List ℕ)) → a ≡ b → ws ≡ vs → a ∷ ws ≡ b ∷ vs
-join_words a b ws vs p q = cc
-
 collector_read : (c : Config) (actor : List ℕ) (rest : List (List ℕ)) (s : Step) → bytes_eq actor (codes "gc") ≡ true
     → (or_fault (collection_of c.format rest) kinds.BadStep >>= λ k. Ok (steps.Collector k)) ≡ Ok s → IsRead c (actor ∷ rest) s
 collector_read c actor rest s gc e =
     let read = result_bind (or_fault (collection_of c.format rest) kinds.BadStep) (λ k. Ok (steps.Collector k)) s e in
     let step = collection_is c.format rest read.0 (or_fault_is (collection_of c.format rest) kinds.BadStep read.0 read.1) in
-    subst (IsRead c (actor ∷ rest)) (step_ok (steps.Collector read.0) s read.2) (record {
-      spelled = join_words actor (codes "gc") rest (collection_words read.0) ((bytes_eq-Decides actor (codes "gc")).0 gc) step.spelled;
+    subst (IsRead c (actor ∷ rest)) (ok_is (steps.Collector read.0) s read.2) (record {
+      spelled = grammars.joined actor (codes "gc") rest (collection_words read.0) ((bytes_eq-Decides actor (codes "gc")).0 gc) step.spelled;
       owned = step.known;
       fits = step.fits;
     })
@@ -88,8 +86,8 @@ mutator_read c actor rest s e =
     let what = result_bind (or_fault (allowed_of c rest) kinds.BadStep) (λ a. Ok (mutator_step who.0 a)) s who.2 in
     let mutator = mutator_is c actor who.0 who.1 in
     let action = allowed_is c who.0 rest what.0 mutator.1 (or_fault_is (allowed_of c rest) kinds.BadStep what.0 what.1) in
-    subst (IsRead c (actor ∷ rest)) (step_ok (mutator_step who.0 what.0) s what.2) (record {
-      spelled = join_words actor (decimal who.0) rest (action_words what.0) mutator.0 action.spelled;
+    subst (IsRead c (actor ∷ rest)) (ok_is (mutator_step who.0 what.0) s what.2) (record {
+      spelled = grammars.joined actor (decimal who.0) rest (action_words what.0) mutator.0 action.spelled;
       owned = action.owned;
       fits = action.fits;
     })

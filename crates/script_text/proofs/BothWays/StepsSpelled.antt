@@ -27,22 +27,15 @@ use Rattle.script_text.proofs.BothWays.Grammars.{words_are, words_long}
 use Rattle.script_text.proofs.BothWays.Actions.{actions_are, collections_are}
 use Rattle.script_text.proofs.BothWays.Allowed.{allowed_again}
 use Rattle.script_text.proofs.BothWays.Collections.{collection_again}
+use Rattle.script_text.proofs.BothWays.ReplyLaws.{number_not}
 use Rattle.script_text.proofs.BothWays.Lengths.{spaced_next, spaced_behind, four_long}
 use Rattle.script_text.proofs.Parts.Rows.{small_long}
 use Rattle.script_text.proofs.Parts.Spelled.{IsWord, AreWords, literal, number_word, small_word}
 use Rattle.script_text.proofs.Parts.Spelled.{word1, word3, word4, words_again, no_feed}
 
-false_by : (b : Bool) → (b ≡ true → ⊥) → b ≡ false
-false_by true never = absurd (never refl)
-false_by false never = refl
-
 -- a number is no collector
 pub not_gc : (m : ℕ) → m < 2 ^ 64 → bytes_eq (decimal m) (codes "gc") ≡ false
-not_gc m fits = false_by (bytes_eq (decimal m) (codes "gc")) (λ e.
-    let same : decimal m ≡ codes "gc" = (bytes_eq-Decides (decimal m) (codes "gc")).0 e in
-    let digit = first_is_digit (decimal m) m fits refl in
-    let first : get_or (decimal m) 0 0 ≡ 103 = ap (λ (w : List ℕ). get_or w 0 0) same in
-    omega arith)
+not_gc m fits = number_not m (codes "gc") (omega (arith, fits)) (omega arith)
 
 pub mutator_again : (c : Config) (m : ℕ) → m < c.mutators → m ≤ small → mutator_of c (decimal m) ≡ Ok m
 unfolding mutator_of

@@ -12,9 +12,9 @@ use Rattle.script_text.specs.Fits.{StepFits, IsScript}
 use Rattle.script_text.specs.Spelling.{step_words, heap_words, spaced, line, script_text}
 use Rattle.script_text.specs.Lines.{◌>>=◌, pieces_of, steps_of, script_by, script_of}
 use Rattle.script_text.proofs.Reading.ReadOn.{script_items}
-use Rattle.script_text.proofs.BothWays.StepsRead.{result_bind, step_line_is}
+use Rattle.script_text.proofs.BothWays.StepsRead.{result_bind, ok_is, step_line_is}
 use Rattle.script_text.proofs.BothWays.StepsSpelled.{step_line_again, step_no_feed}
-use Rattle.script_text.proofs.BothWays.ItemTexts.{lines, AllGood, all_are, AreSpelled, same_found, items_read, items_again}
+use Rattle.script_text.proofs.BothWays.ItemTexts.{lines, AllGood, all_are, AreSpelled, items_read, items_again}
 use Rattle.script_text.proofs.BothWays.ItemTexts.{is_headed, headed_again}
 
 abbrev Good : Config → ℕ → Step → Type 0
@@ -49,7 +49,7 @@ text_read t p e =
     let c = is.config in
     let read = result_bind (steps_of 2 c (is.next ∷ is.others)) (λ ss. Ok (plan c ss)) p is.read in
     let all = items_read (script_items c) (Good c) text (are_spelled c is.fits.mutators) is.others 2 is.next read.0 read.1 in
-    subst (λ (q : StepList). (t ≡ script_text q) × IsScript q) (same_found (plan c read.0) p read.2) (
+    subst (λ (q : StepList). (t ≡ script_text q) × IsScript q) (ok_is (plan c read.0) p read.2) (
       is.spelled ∙ ap (λ (l : List ℕ). line (heap_words c) ++ l) (all.0 ∙ sym (same_lines read.0 2)),
       record {
         config = is.fits;

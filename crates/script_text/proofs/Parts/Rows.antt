@@ -14,7 +14,7 @@ use Rattle.heap_steps.specs.declared.form.Operand.TheVariants as operands
 use Rattle.script_text.specs.Reading.{small}
 use Rattle.script_text.specs.Fits.{OperandFits, OperandsFit}
 use Rattle.script_text.specs.Spelling.{operand_word, operand_words, spaced}
-use Rattle.script_text.proofs.Parts.Spelled.{IsWord, AreWords, is_clear, literal, lettered, number_word, number_short, small_word}
+use Rattle.script_text.proofs.Parts.Spelled.{both_true, IsWord, AreWords, is_clear, literal, lettered, number_word, number_short, small_word}
 
 -- at most so many bytes are in the word of an operand, and in those of operands with the spaces before them
 abbrev pub most_bytes : Operand → ℕ
@@ -37,10 +37,6 @@ pub record IsGood (r : Row) : Type 0 where
   pub plain : bytes_eq r.word (codes "=") ≡ false
   pub short : length r.word + room r.operands ≤ 49
   pub few : length r.operands ≤ 4
-
-both_true : (b d : Bool) → (b && d) ≡ true → (b ≡ true) × (d ≡ true)
-both_true true d e = (refl, e)
-both_true false d e = absurd cc
 
 not_true : (b : Bool) → not b ≡ true → b ≡ false
 not_true true e = absurd cc

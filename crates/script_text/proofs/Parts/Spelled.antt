@@ -26,7 +26,7 @@ abbrev pub is_clear : List ℕ → Bool
 is_clear [] = true
 is_clear (b ∷ w) = nat_lt 32 b && is_clear w
 
-both_true : (b d : Bool) → (b && d) ≡ true → (b ≡ true) × (d ≡ true)
+pub both_true : (b d : Bool) → (b && d) ≡ true → (b ≡ true) × (d ≡ true)
 both_true true d e = (refl, e)
 both_true false d e = absurd cc
 
