@@ -1,10 +1,10 @@
 -- Actions that the sizes of a heap allow: there is each root that they name, and the format has them.
-use Rattle.std.proofs.Common.{◌≡◌, ℕ, zero, suc, ◌<◌, Bool, true, false, cond, List, [], ◌∷◌, Some, None, refl, subst}
+use Rattle.std.proofs.Common.{◌≡◌, ℕ, suc, ◌<◌, Bool, true, false, cond, List, [], ◌∷◌, Some, None, refl, subst}
 use Rattle.std.specs.Prelude.{◌&&◌}
 use Rattle.std.proofs.lemmas.Bool.{lt-ltb, ltb-true}
 use Rattle.heap_words.specs.declared.config.Config.{Config}
 use Rattle.heap_words.specs.declared.config.Format.{Format}
-use Rattle.heap_words.specs.declared.config.Format.TheVariants.{V1, V2, V3}
+use Rattle.heap_words.specs.declared.config.Format.TheVariants.{V3}
 use Rattle.heap_model.specs.Graph.{Places}
 use Rattle.root_table.specs.Roots.{places_of}
 use Rattle.heap_steps.specs.declared.form.Operand.{Operand}

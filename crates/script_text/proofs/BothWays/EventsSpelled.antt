@@ -1,6 +1,6 @@
 -- The words of an event, and that the event is read from them.
 use Rattle.std.proofs.Common.{◌≡◌, ◌<◌, ◌≤◌, ◌∷◌, ◌++◌, ◌∙◌}
-use Rattle.std.proofs.Common.{ℕ, zero, suc, true, false, eqb, List, [], length, Some, None, Ok, refl, sym, ap, subst, arith}
+use Rattle.std.proofs.Common.{ℕ, zero, true, false, eqb, List, [], length, Some, None, Ok, refl, sym, ap, subst, arith}
 use Rattle.std.specs.Prelude.{codes, nat_le}
 use Rattle.std.specs.Fmt.{decimal}
 use Rattle.std.specs.List.{All}

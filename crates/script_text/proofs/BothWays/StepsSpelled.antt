@@ -1,11 +1,10 @@
 -- The words of a step, and that the step is read from them.
 use Rattle.std.proofs.Common.{◌≡◌, ◌^◌, ◌+◌, ◌<◌, ◌≤◌, ◌∷◌, ◌++◌, ◌∙◌}
-use Rattle.std.proofs.Common.{ℕ, Bool, true, false, eqb, List, [], length, get_or, Option, Some, Ok, refl, ap, arith}
+use Rattle.std.proofs.Common.{ℕ, false, eqb, List, [], length, Option, Some, Ok, refl, ap, arith}
 use Rattle.std.specs.Prelude.{codes}
 use Rattle.std.specs.Fmt.{decimal}
 use Rattle.std.specs.Str.{bytes_eq}
 use Rattle.std.proofs.lemmas.Bool.{lt-ltb, le-ltb}
-use Rattle.std.proofs.lemmas.Slice.Eq.{bytes_eq-Decides}
 use Rattle.std.specs.List.{All}
 use Rattle.std.proofs.lemmas.List.Elements.{All-nil, All-cons, All-append}
 use Rattle.heap_words.specs.declared.config.Config.{Config}
@@ -22,7 +21,7 @@ use Rattle.script_text.specs.Reading.{small, large, sizes_in, third_of, sizes_of
 use Rattle.script_text.specs.Fits.{Fits, CollectionFits, StepFits, FormatFits, ConfigFits}
 use Rattle.script_text.specs.Spelling.{action_words, collection_words, step_words, verb_of, size_words, format_words, heap_words, spaced}
 use Rattle.script_text.specs.Lines.{or_fault, words_of, mutator_of, step_of, step_line_of, heap_line_of}
-use Rattle.script_text.proofs.Parts.Numbers.{number_of_some, first_is_digit}
+use Rattle.script_text.proofs.Parts.Numbers.{number_of_some}
 use Rattle.script_text.proofs.BothWays.Grammars.{words_are, words_long}
 use Rattle.script_text.proofs.BothWays.Actions.{actions_are, collections_are}
 use Rattle.script_text.proofs.BothWays.Allowed.{allowed_again}

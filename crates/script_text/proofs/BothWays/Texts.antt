@@ -32,8 +32,10 @@ are_spelled c few = record {
 
 all_good : (c : Config) (ss : List Step) (n : ℕ) → All (IsStep c) ss → All StepFits ss → AllGood (Good c) n ss
 all_good c [] n owned fits = tt
-all_good c (s ∷ ss) n owned fits = ((All-head (IsStep c) s ss owned, All-head StepFits s ss fits),
-  all_good c ss (n + 1) (All-tail (IsStep c) s ss owned) (All-tail StepFits s ss fits))
+all_good c (s ∷ ss) n owned fits = (
+  (All-head (IsStep c) s ss owned, All-head StepFits s ss fits),
+  all_good c ss (n + 1) (All-tail (IsStep c) s ss owned) (All-tail StepFits s ss fits),
+)
 
 same_lines : (ss : List Step) (n : ℕ) → flat_map (λ s. line (step_words s)) ss ≡ lines text n ss
 same_lines [] n = refl

@@ -24,6 +24,7 @@ pub inside : (ks : List Operand) (ws : List (List ℕ)) (i : ℕ) (k : Operand) 
 inside (x ∷ ks) (y ∷ ws) zero k w le lt = refl
 inside (x ∷ ks) (y ∷ ws) (suc i) k w le lt = inside ks ws i k w (omega (arith, le)) (omega (arith, lt))
 inside _ _ i k w le lt = absurd (omega (arith, le, lt))
+
 abbrev texts : List (Bor (List ℕ)) → List (List ℕ)
 texts ws = map (λ w. w.now) ws
 

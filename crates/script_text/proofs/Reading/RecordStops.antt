@@ -1,7 +1,7 @@
 -- The fault of an event's line is never want of memory.
-use Rattle.std.proofs.Common.{◌≡◌, ◌+◌, ◌≤◌, ◌∷◌, ◌∙◌}
-use Rattle.std.proofs.Common.{ℕ, Bool, true, false, cond, eqb, List, [], length, Option, Some, None, Result, Ok, Err, refl, sym, ap, arith}
-use Rattle.std.specs.Prelude.{◌==◌, nat_lt, codes}
+use Rattle.std.proofs.Common.{◌≡◌, ◌∷◌, ◌∙◌}
+use Rattle.std.proofs.Common.{ℕ, eqb, List, [], length, Option, Some, None, Ok, Err, ap}
+use Rattle.std.specs.Prelude.{nat_lt, codes}
 use Rattle.std.specs.Str.{bytes_eq}
 use Rattle.heap_words.specs.declared.config.Config.{Config}
 use Rattle.heap_steps.specs.declared.step.Actor.{Actor}
@@ -10,7 +10,7 @@ use Rattle.script_text.specs.declared.fault.Kind.{Kind}
 use Rattle.script_text.specs.declared.fault.Kind.TheVariants as kinds
 use Rattle.script_text.specs.Reading.{number_of, large}
 use Rattle.script_text.specs.EventWords.{background_of, taken_of, step_part, answer_of}
-use Rattle.script_text.specs.Lines.{◌>>=◌, or_fault, words_of, mutator_of}
+use Rattle.script_text.specs.Lines.{or_fault, words_of, mutator_of}
 use Rattle.script_text.specs.Events.{foreground_of, actor_of, counted_of, event_of, event_line_of}
 use Rattle.script_text.proofs.Reading.Stops.{Never, never_or, never_cond, never_bind, never_ok, never_err, mutator_never}
 
