@@ -16,7 +16,8 @@ use Rattle.script_text.specs.Lines.{pieces_of, heap_line_of}
 use Rattle.script_text.specs.Events.{event_line_of, events_of, record_by, record_of}
 use Rattle.script_text.proofs.Parts.FirstLines.{first_clear, begins_is, pieces_at, ends_longer}
 use Rattle.script_text.proofs.Parts.WholeLines.{no_whole, whole_at, whole_front}
-use Rattle.script_text.proofs.Reading.ReadOn.{record_items, fault, no_events, read_on, record_begins, begins_wrong, no_line, goes_on, goes_wrong, is_done}
+use Rattle.script_text.proofs.Reading.ReadOn.{record_items, fault, no_events, read_on, record_begins, begins_wrong, no_line}
+use Rattle.script_text.proofs.Reading.ReadOn.{goes_on, goes_wrong, is_done}
 use Rattle.script_text.proofs.BothWays.StepsSpelled.{heap_line_again, heap_no_feed}
 use Rattle.script_text.proofs.BothWays.EventsRead.{event_text}
 use Rattle.script_text.proofs.BothWays.EventsSpelled.{event_line_again, event_no_feed}
@@ -40,11 +41,13 @@ events_extend (e ∷ es) n c p t good =
     ∙ append_assoc (event_text n e) (10 ∷ event_lines (n + 1) es) t in
     let pieces : pieces_of (event_lines n (e ∷ es) ++ t) ≡ event_text n e ∷ pieces_of rest =
     ap pieces_of cut ∙ pieces_at (event_text n e) rest (event_no_feed n c e head) in
-    let on = goes_on (record_items c) p n (event_lines n (e ∷ es) ++ t) (event_text n e) rest e _ pieces (event_line_again n c e head) refl in
+    let on =
+    goes_on (record_items c) p n (event_lines n (e ∷ es) ++ t) (event_text n e) rest e _ pieces (event_line_again n c e head) refl in
     let more = events_extend es (n + 1) c ((record_items c).more p (e ∷ [])) t good.1 in
     let same : (p.events ++ e ∷ []) ++ es ≡ p.events ++ e ∷ es = append_assoc p.events (e ∷ []) es in
     let count : (n + 1) + length es ≡ n + length (e ∷ es) = omega arith in
-    sym on ∙ more ∙ ap (λ (xs : List Event). read_on (record_items c) (record p { events = xs }) (events_of ((n + 1) + length es) c (pieces_of t))) same
+    sym on ∙ more ∙ ap (λ (xs : List Event).
+    read_on (record_items c) (record p { events = xs }) (events_of ((n + 1) + length es) c (pieces_of t))) same
     ∙ ap (λ (k : ℕ). read_on (record_items c) (record p { events = p.events ++ e ∷ es }) (events_of k c (pieces_of t))) count
 
 -- a text after the text of a record is read from its next event on
@@ -84,8 +87,10 @@ event_taken lines text line rest r e read at ok =
     ap (λ (t : List ℕ). lines ++ t) (begins_is text line rest at ∙ sym (append_assoc line (10 ∷ []) rest))
     ∙ sym (append_assoc lines (line ++ 10 ∷ []) rest) in
     let all = extends lines r (line ++ 10 ∷ []) read in
-    let on = goes_on (record_items r.config) r (length r.events + 1) (line ++ 10 ∷ []) line [] e (record_of more) (pieces_at line [] clear) ok (sym all) in
-    (more, cut, is_done (record_items r.config) ((record_items r.config).more r (e ∷ [])) (length r.events + 1 + 1) [] (record_of more) refl refl on)
+    let t = record_items r.config in
+    let on =
+    goes_on t r (length r.events + 1) (line ++ 10 ∷ []) line [] e (record_of more) (pieces_at line [] clear) ok (sym all) in
+    (more, cut, is_done t (t.more r (e ∷ [])) (length r.events + 1 + 1) [] (record_of more) refl refl on)
 
 -- a line with more than 120 bytes has that fault
 event_long : (n : ℕ) (c : Config) (line : List ℕ) → 120 < length line → event_line_of n c line ≡ Err kinds.LongLine

@@ -14,7 +14,8 @@ use Rattle.heap_steps.specs.declared.form.Operand.TheVariants as operands
 use Rattle.script_text.specs.Reading.{small}
 use Rattle.script_text.specs.Fits.{OperandFits, OperandsFit}
 use Rattle.script_text.specs.Spelling.{operand_word, operand_words, spaced}
-use Rattle.script_text.proofs.Parts.Spelled.{both_true, IsWord, AreWords, is_clear, literal, lettered, number_word, number_short, small_word}
+use Rattle.script_text.proofs.Parts.Spelled.{both_true, IsWord, AreWords, is_clear}
+use Rattle.script_text.proofs.Parts.Spelled.{literal, lettered, number_word, number_short, small_word}
 
 -- at most so many bytes are in the word of an operand, and in those of operands with the spaces before them
 abbrev pub most_bytes : Operand → ℕ

@@ -116,7 +116,8 @@ few_left c lines =
 -- some steps of the lines were read, and these lines are left, from line n on
 abbrev pub IsReadTo : Config → ℕ → List ℕ → List ℕ → Type 0
 IsReadTo c n rest lines = (before : List Step)
-    × (read_on (script_items c) (record { config = c; steps = before }) (steps_of n c (pieces_of rest)) ≡ read_on (script_items c) (no_steps c) (steps_of 2 c (pieces_of lines)))
+    × (read_on (script_items c) (record { config = c; steps = before }) (steps_of n c (pieces_of rest))
+    ≡ read_on (script_items c) (no_steps c) (steps_of 2 c (pieces_of lines)))
 
 pub one_read : (c : Config) (n : ℕ) (rest line after lines : List ℕ) (s : Step) → pieces_of rest ≡ line ∷ pieces_of after
     → step_line_of c line ≡ Ok s → IsReadTo c n rest lines → IsReadTo c (n + 1) after lines
@@ -129,7 +130,8 @@ fails_at c n rest line after lines k e bad (before, so_far) =
     rest_fails (script_items c) (no_steps c) (steps_of 2 c (pieces_of lines)) (fault n k)
     (goes_wrong (script_items c) (record { config = c; steps = before }) n rest line after k _ e bad so_far)
 
-all_read : (c : Config) (r : Result (List Step) LineFault) (p : StepList) → read_on (script_items c) (no_steps c) r ≡ Ok p → r ≡ Ok (steps_read r)
+all_read : (c : Config) (r : Result (List Step) LineFault) (p : StepList) → read_on (script_items c) (no_steps c) r ≡ Ok p
+    → r ≡ Ok (steps_read r)
 all_read c (Ok ss) p e = refl
 all_read c (Err f) p e = absurd cc
 

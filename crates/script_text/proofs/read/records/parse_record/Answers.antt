@@ -22,7 +22,8 @@ lines-init c =
     let config = c.in-Ok.line.config in
     record {
       so_far = read_same (record_items config) _ (no_events config) _ _ c.new-history.ensures
-          (record_begins text (take k text) (behind (k + 1) text) config (pieces_behind text k c.in-Ok.ensures.line) c.in-Ok.ensures.config);
+          (record_begins text (take k text) (behind (k + 1) text) config (pieces_behind text k c.in-Ok.ensures.line)
+          c.in-Ok.ensures.config);
       config = search rules;
       bound = omega (arith, ap length (behind_is (k + 1) text), length-drop (k + 1) text);
       from = omega arith;

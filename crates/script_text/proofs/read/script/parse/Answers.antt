@@ -21,7 +21,8 @@ lines-init c =
     record {
       room = refl;
       so_far = read_same (script_items config) _ (no_steps config) _ _ c.new-plan.ensures
-          (script_begins text (take k text) (behind (k + 1) text) config (pieces_behind text k c.in-Ok.ensures.line) c.in-Ok.ensures.config);
+          (script_begins text (take k text) (behind (k + 1) text) config (pieces_behind text k c.in-Ok.ensures.line)
+          c.in-Ok.ensures.config);
       config = search rules;
       number = omega (arith, ap length (behind_is (k + 1) text), length-drop (k + 1) text);
       from = omega arith;
