@@ -79,7 +79,7 @@ head_taken text line rest c at ok =
 -- the line of the next event was taken
 pub event_taken : (lines text line rest : List ℕ) (r : EventList) (e : Event) → record_of lines ≡ Ok r → EndsLine text line rest
     → event_line_of (length r.events + 1) r.config line ≡ Ok e →
-    (more : List ℕ) × (lines ++ text ≡ more ++ rest) × (record_of more ≡ Ok ((record_items r.config).more r (e ∷ [])))
+    (more : List ℕ) × (lines ++ text ≡ more ++ rest) × (record_of more ≡ Ok (record r { events = r.events ++ e ∷ [] }))
 event_taken lines text line rest r e read at ok =
     let clear = first_clear text line (pieces_of rest) at in
     let more = lines ++ (line ++ 10 ∷ []) in
