@@ -1,7 +1,7 @@
 -- The rounds of a schedule.
 use Rattle.std.proofs.Common.{◌≡◌, ◌+◌, ◌<◌, ◌≤◌, ◌∷◌, ◌++◌, ◌∙◌, ◌==◌, ◌%◌}
 use Rattle.std.proofs.Common.{ℕ, zero, suc, Bool, true, false, cond, List, [], Some, None, length, map, refl, ap, sym, subst}
-use Rattle.std.proofs.Common.{arith, get_or, take, drop, add-one, append_assoc, inl, inr}
+use Rattle.std.proofs.Common.{arith, get_or, take, drop, add-one, append_assoc}
 use Rattle.std.proofs.lemmas.Bool.{lt-ltb}
 use Rattle.std.specs.Prelude.{slice_set, slice_index, slice_get, filter, All}
 use Rattle.std.proofs.lemmas.List.{map-append}
@@ -56,9 +56,11 @@ only : (P : Event → Type 0) (e : Event) → P e → All P (e ∷ [])
 only P e h zero d below = h
 only P e h (suc k) d below = absurd (omega arith)
 
+-- a scripted actor with a line left does it in its turn
 pub takes_row : (d e : JournalState) (t : Turn) (a : Actor) (k : ℕ) → Keeps d → TurnIs t d e a → a ≡ scripted (mutators_of d) k
     → 0 < get_or (lefts_of d) k 0 → SamePlan d e
-    → Picks d e k × ((markers refiners : ℕ) → AreAsked markers refiners d.events → AreAsked markers refiners e.events)
+    → Picks d e k × TakesTurn d e (scripted (mutators_of d) k)
+    × ((markers refiners : ℕ) → AreAsked markers refiners d.events → AreAsked markers refiners e.events)
 takes_row d e Done a k keeps takes actor some same =
     let h = next_row d k in
     let m = mutators_of d in
@@ -75,6 +77,7 @@ takes_row d e Done a k keeps takes actor some same =
             ap (λ (p : List (List Step) × List ℕ). lefts p.0 p.1) (λ i. (same.1 i, places i)) ∙ lefts_moved d.scripts d.places k row spot;
         some = some;
       },
+      subst (λ (y : Actor). TakesTurn d e y) actor takes,
       λ markers refiners was.
           let P : Event → Type 0 = λ y. IsAsked markers refiners y.actor in
           subst (λ (l : List Event). All P l) (sym events) (All-append P d.events (x ∷ []) was (only P x (asked_row markers refiners m k))),
@@ -82,18 +85,6 @@ takes_row d e Done a k keeps takes actor some same =
 takes_row d e Idle a k keeps turn actor some same =
     let h = next_row d k in absurd (cc (turn.0, actor, h.2, ap is_scripted actor))
 takes_row d e End a k keeps turn actor some same =
-    let h = next_row d k in
-    let row' : k < length (lefts_of d) = row_is (lefts_of d) k some in
-    let row : k < length d.scripts = omega (arith, length-lefts d.scripts d.places) in
-    absurd (line_is d k row some (sym h.0 ∙ ap (λ (y : Actor). next_step d y) (sym actor) ∙ turn.1))
-
--- a scripted actor with a line left does it in its turn
-pub takes_line : (d e : JournalState) (t : Turn) (a : Actor) (k : ℕ) → TurnIs t d e a → a ≡ scripted (mutators_of d) k
-    → 0 < get_or (lefts_of d) k 0 → TakesTurn d e (scripted (mutators_of d) k)
-takes_line d e Done a k takes actor some = subst (λ (y : Actor). TakesTurn d e y) actor takes
-takes_line d e Idle a k turn actor some =
-    let h = next_row d k in absurd (cc (turn.0, actor, h.2, ap is_scripted actor))
-takes_line d e End a k turn actor some =
     let h = next_row d k in
     let row' : k < length (lefts_of d) = row_is (lefts_of d) k some in
     let row : k < length d.scripts = omega (arith, length-lefts d.scripts d.places) in
@@ -178,13 +169,27 @@ few_open d items keeps is =
     let h = open_few 0 (lefts_of d) in
     omega (arith, h, ap (λ (l : List ℕ). length l) is, length-lefts d.scripts d.places, keeps.each_script, keeps.few)
 
--- the code reads the place that the word picks
-pub picked : (d : JournalState) (word len p : ℕ) (items : List ℕ) → items ≡ open_places (lefts_of d) → 0 < length items → len ≡ length items
-    → p ≡ get_or items (word % len) p → p ≡ pick word (lefts_of d)
-picked d word len p items is some count here =
+-- the code reads the place that the word picks, which has a line left
+pub picked : (d : JournalState) (word len p : ℕ) (items : List ℕ) → Keeps d → items ≡ open_places (lefts_of d) → 0 < length items
+    → len ≡ length items → p ≡ get_or items (word % len) p
+    → (p ≡ pick word (lefts_of d)) × (p ≤ mutators_of d) × (0 < get_or (lefts_of d) p 0)
+picked d word len p items keeps is some count here =
     let within : word % len < length items = omega (arith, count, some) in
+    let place : p ≡ pick word (lefts_of d) =
     sym (place_is items (word % len) p within here)
-    ∙ ap (λ (x : List ℕ × ℕ). get_or x.0 (word % x.1) 0) (λ i. (is i, (count ∙ ap (λ (l : List ℕ). length l) is) i))
+    ∙ ap (λ (x : List ℕ × ℕ). get_or x.0 (word % x.1) 0) (λ i. (is i, (count ∙ ap (λ (l : List ℕ). length l) is) i)) in
+    let some_left = picks_open d word keeps (subst (λ (l : List ℕ). 0 < length l) is some) in
+    (place, omega (arith, some_left.0, place), subst (λ (k : ℕ). 0 < get_or (lefts_of d) k 0) (sym place) some_left.1)
+
+-- the turn of the actor there
+pub picked_turn : (d e : JournalState) (t : Turn) (a : Actor) (word p mutators : ℕ) → Keeps d → mutators ≡ mutators_of d
+    → (p ≡ pick word (lefts_of d)) × (p ≤ mutators_of d) × (0 < get_or (lefts_of d) p 0) → a ≡ scripted mutators p → TurnIs t d e a
+    → SamePlan d e → Picks d e (pick word (lefts_of d)) × TakesTurn d e (scripted (mutators_of d) (pick word (lefts_of d)))
+    × ((markers refiners : ℕ) → AreAsked markers refiners d.events → AreAsked markers refiners e.events)
+picked_turn d e t a word p mutators keeps m at actor turn same =
+    let k = pick word (lefts_of d) in
+    takes_row d e t a k keeps turn (actor ∙ ap (λ (x : ℕ × ℕ). scripted x.0 x.1) (λ i. (m i, at.0 i)))
+    (subst (λ (j : ℕ). 0 < get_or (lefts_of d) j 0) at.0 at.2) same
 
 -- the places that are kept after the turn are the open ones
 pub kept : (ns ns' items : List ℕ) (n p : ℕ) (left : Bool) (after : List ℕ) → items ≡ open_places ns → n < length items

@@ -12,21 +12,10 @@ use Rattle.step_core.specs.Passages.{actor_of}
 
 abbrev pub same_actor : Actor → Actor → Bool
 same_actor (Mutator i) (Mutator j) = i == j
-same_actor (Mutator i) Collector = false
-same_actor (Mutator i) (Marker j) = false
-same_actor (Mutator i) (Refiner j) = false
-same_actor Collector (Mutator j) = false
 same_actor Collector Collector = true
-same_actor Collector (Marker j) = false
-same_actor Collector (Refiner j) = false
-same_actor (Marker i) (Mutator j) = false
-same_actor (Marker i) Collector = false
 same_actor (Marker i) (Marker j) = i == j
-same_actor (Marker i) (Refiner j) = false
-same_actor (Refiner i) (Mutator j) = false
-same_actor (Refiner i) Collector = false
-same_actor (Refiner i) (Marker j) = false
 same_actor (Refiner i) (Refiner j) = i == j
+same_actor _ _ = false
 
 -- the others work in the background
 abbrev pub is_scripted : Actor → Bool
