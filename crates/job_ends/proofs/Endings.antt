@@ -10,7 +10,7 @@ use Rattle.heap_steps.specs.declared.fault.RunFault.{RunFault}
 use Rattle.heap_steps.specs.declared.fault.RunFault.TheVariants as runs
 use Rattle.heap_steps.specs.Faults.{IsRunFault}
 use Rattle.job_ends.specs.declared.faults.JobFault.{JobFault}
-use Rattle.job_ends.specs.declared.faults.JobFault.TheVariants.{Read, Line, Run, Judge, Write, Differs}
+use Rattle.job_ends.specs.declared.faults.JobFault.TheVariants.{Run, Write}
 use Rattle.job_ends.specs.Runs.{ReadsPlan, Answers, Ends}
 
 -- a run's record is one that such a run makes, and its fault one that may come
@@ -26,19 +26,9 @@ ends Makes Fails plan given left old new (Ok r) (Ok done) (input, gives, read) m
     (input, gives, (r, record { plan = plan; read = read; made = made }, written))
 ends Makes Fails plan given left old new (Ok r) (Err (Write fault)) (input, gives, read) made fails =
     (input, gives, (r, record { plan = plan; read = read; made = made }, fails))
-ends Makes Fails plan given left old new (Ok r) (Err (Read fault)) read made written = absurd written
-ends Makes Fails plan given left old new (Ok r) (Err (Line fault)) read made written = absurd written
-ends Makes Fails plan given left old new (Ok r) (Err (Run fault)) read made written = absurd written
-ends Makes Fails plan given left old new (Ok r) (Err (Judge fault)) read made written = absurd written
-ends Makes Fails plan given left old new (Ok r) (Err (Differs event)) read made written = absurd written
-ends Makes Fails plan given left old new (Err fault) (Ok done) read made written = absurd written
-ends Makes Fails plan given left old new (Err fault) (Err (Read other)) read made written = absurd written
-ends Makes Fails plan given left old new (Err fault) (Err (Line other)) read made written = absurd written
-ends Makes Fails plan given left old new (Err fault) (Err (Write other)) read made written = absurd written
-ends Makes Fails plan given left old new (Err fault) (Err (Judge other)) read made written = absurd written
-ends Makes Fails plan given left old new (Err fault) (Err (Differs event)) read made written = absurd written
 ends Makes Fails plan given left old new (Err fault) (Err (Run told)) (input, gives, read) may (same, keeps) =
     (input, gives, (plan, read, subst (Fails plan.config) (sym same) may), keeps)
+ends Makes Fails plan given left old new _ _ read may written = absurd written
 
 pub comes : (Makes : StepList → EventList → Type 0) (Fails : Config → RunFault → Type 0) (plan : StepList)
     (outcome : Result EventList RunFault) →
