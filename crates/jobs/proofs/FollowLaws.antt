@@ -1,6 +1,6 @@
 -- What following tells is the verdict on the text without its cut last line.
 use Rattle.std.proofs.Common.{◌≡◌, ◌-◌, ◌<◌, ◌↔◌, ◌∷◌, ◌++◌, ◌∙◌}
-use Rattle.std.proofs.Common.{ℕ, zero, suc, Bool, true, false, List, [], length, take, slice_get, Some, Result, Ok, Err, refl, sym, ap}
+use Rattle.std.proofs.Common.{ℕ, zero, suc, Bool, true, false, List, [], length, take, slice_get, Some, Result, Ok, refl, sym, ap}
 use Rattle.std.proofs.Common.{append_assoc, arith, subst}
 use Rattle.std.specs.Io.KnownBytes.{IsAtEnd}
 use Rattle.std.proofs.lemmas.List.{take-append-le, length-append}
@@ -97,8 +97,7 @@ yes_by : YesLaw → (outcome : Result Finding JobFault) (explained : Bool) (give
 yes_by law (Ok (Allowed n)) explained given left old new err told f t =
     let run = (followed_yes law f.0.0 left n).0 f.0.2 in
     (f.0.0, n, (f.0.1, run.0), run.1, subst (λ (l : List ℕ). TookBytes old new l) (told_yes_text explained n) f.1, t.1)
-yes_by law (Ok (Refused n e g)) explained given left old new err told f t = absurd (let bad = t.0 in omega arith)
-yes_by law (Err fault) explained given left old new err told f t = absurd (let bad = t.0 in omega arith)
+yes_by law _ explained given left old new err told f t = absurd (let bad = t.0 in omega arith)
 
 pub status_yes : YesLaw → (explained : Bool) (given left : Reader) (old new err told : Writer)
     → PerformsFollow explained given left old new err told 0 → FollowedYes given left old new err told
@@ -107,7 +106,6 @@ status_yes law explained given left old new err told p = yes_by law p.outcome ex
 no_by : NoLaw → (outcome : Result Finding JobFault) (explained : Bool) (given left : Reader) (old new err told : Writer)
     → EndsFollowed explained given left old new outcome → TellsVerdict err told (judged_by outcome) 3
     → FollowedNo explained given left old new err told
-no_by law (Ok (Allowed n)) explained given left old new err told f t = absurd (let bad = t.0 in omega arith)
 no_by law (Ok (Refused n e g)) explained given left old new err told f t =
     let breaks = f.0.2 in
     let found = breaks.2.0 in
@@ -119,7 +117,7 @@ no_by law (Ok (Refused n e g)) explained given left old new err told f t =
       judged = found_judged (first_state found.history.config) found.history.events (Refused n e g) found.finds;
     } in
     (f.0.0, breaks.0, Refused n e g, n, f.0.1, breaks.1, (law breaks.0 n).0 judged, refl, f.1, t.1)
-no_by law (Err fault) explained given left old new err told f t = absurd (let bad = t.0 in omega arith)
+no_by law _ explained given left old new err told f t = absurd (let bad = t.0 in omega arith)
 
 pub status_no : NoLaw → (explained : Bool) (given left : Reader) (old new err told : Writer)
     → PerformsFollow explained given left old new err told 3 → FollowedNo explained given left old new err told

@@ -1,5 +1,5 @@
 -- What a status tells of the judge.
-use Rattle.std.proofs.Common.{ℕ, ◌↔◌, List, Result, Ok, Err, arith}
+use Rattle.std.proofs.Common.{ℕ, ◌↔◌, List, Result, Ok, arith}
 use Rattle.object_graph.specs.declared.judge.Verdict.{Verdict}
 use Rattle.object_graph.specs.declared.judge.Verdict.TheVariants.{Yes, No}
 use Rattle.script_text.specs.Watched.{Reader, Writer}
@@ -16,8 +16,7 @@ NoLaw = (input : List ℕ) (n : ℕ) → IsJudged input (No n) ↔ IsTextBrokenA
 yes_by : YesLaw → (outcome : Result Verdict JobFault) (given left : Reader) (old new err told : Writer) → Judges given left old new outcome
     → TellsVerdict err told outcome 0 → ToldYes given left old new err told
 yes_by law (Ok (Yes n)) given left old new err told j t = (j.0, n, j.1, (law j.0 n).0 j.2.0, j.2.1, t.1)
-yes_by law (Ok (No n)) given left old new err told j t = absurd (let bad = t.0 in omega arith)
-yes_by law (Err fault) given left old new err told j t = absurd (let bad = t.0 in omega arith)
+yes_by law _ given left old new err told j t = absurd (let bad = t.0 in omega arith)
 
 pub told_yes : YesLaw → (given left : Reader) (old new err told : Writer) → PerformsCheck given left old new err told 0
     → ToldYes given left old new err told
@@ -25,9 +24,8 @@ told_yes law given left old new err told p = yes_by law p.outcome given left old
 
 no_by : NoLaw → (outcome : Result Verdict JobFault) (given left : Reader) (old new err told : Writer) → Judges given left old new outcome
     → TellsVerdict err told outcome 3 → ToldNo given left old new err told
-no_by law (Ok (Yes n)) given left old new err told j t = absurd (let bad = t.0 in omega arith)
 no_by law (Ok (No n)) given left old new err told j t = (j.0, n, j.1, (law j.0 n).0 j.2.0, j.2.1, t.1)
-no_by law (Err fault) given left old new err told j t = absurd (let bad = t.0 in omega arith)
+no_by law _ given left old new err told j t = absurd (let bad = t.0 in omega arith)
 
 pub told_no : NoLaw → (given left : Reader) (old new err told : Writer) → PerformsCheck given left old new err told 3
     → ToldNo given left old new err told

@@ -11,11 +11,7 @@ use Rattle.jobs.proofs.explain.tell_unjudged.Goals as goal
 other : (name : List ℕ) (old new : Writer) (fault : JobFault) (status : ℕ) → ((f : ReadFault) → fault ≡ faults.Read f → ⊥)
     → TellsVerdict old new (Err fault) status → TellsFinding name old new (Err fault) status
 other name old new (faults.Read f) status not tells = absurd (not f refl)
-other name old new (faults.Line f) status not tells = tells
-other name old new (faults.Run f) status not tells = tells
-other name old new (faults.Judge f) status not tells = tells
-other name old new (faults.Write f) status not tells = tells
-other name old new (faults.Differs f) status not tells = tells
+other name old new _ status not tells = tells
 
 pub returns-in_default : goal.returns-in_default
 returns-in_default g c = other c.args.name.now c.args.err.now c.conclude_verdict.new.err c.args.fault c.conclude_verdict.result
