@@ -1,5 +1,5 @@
 -- It can be told whether numbers name steps of a heap.
-use Rattle.std.proofs.Common.{◌≡◌, ◌⊎◌, ◌<◌, ◌^◌, ℕ, zero, suc, List, length, Option, Some, None, inl, inr, subst, arith}
+use Rattle.std.proofs.Common.{◌≡◌, ◌⊎◌, ◌<◌, ◌^◌, ℕ, Bool, true, false, zero, suc, List, length, Option, Some, None, inl, inr, subst, arith}
 use Rattle.std.specs.Prelude.{◌≢◌, slice_index}
 use Rattle.std.proofs.lemmas.Bool.{cases_eq, cases_lt}
 use Rattle.heap_words.specs.Configs.{registers_of}
@@ -8,12 +8,11 @@ use Rattle.heap_words.specs.declared.config.Format.{Format}
 use Rattle.heap_words.specs.declared.config.Format.TheVariants.{V1, V2, V3}
 use Rattle.heap_model.specs.Graph.{Places}
 use Rattle.graph_runs.specs.State.{places_of}
-use Rattle.heap_steps.specs.Actors.{HasAction, HasCollection, IsOp, IsStep, IsThird}
+use Rattle.heap_steps.specs.Actors.{HasRow, IsOp, IsStep, IsThird}
+use Rattle.heap_steps.specs.Forms.{action_row, action_verb, collection_row, collection_verb}
 use Rattle.heap_steps.specs.Roots.{IsValue, NamesRoots}
 use Rattle.heap_steps.specs.declared.step.Action.{Action}
 use Rattle.heap_steps.specs.declared.step.Action.TheVariants as actions
-use Rattle.heap_steps.specs.declared.step.CollectorStep.{CollectorStep}
-use Rattle.heap_steps.specs.declared.step.CollectorStep.TheVariants as collector
 use Rattle.heap_steps.specs.declared.step.Op.{Op}
 use Rattle.heap_steps.specs.declared.step.Register.{Register}
 use Rattle.heap_steps.specs.declared.step.Step.{Step}
@@ -82,23 +81,20 @@ third V1 = inr (λ h. h)
 third (V2 card) = inr (λ h. h)
 third (V3 card globals registers) = inl tt
 
-action : (f : Format) (a : Action) → OrNot (HasAction f a)
-action f (actions.Scope from) = third f
-action f _ = inl tt
-
-collection : (f : Format) (k : CollectorStep) → OrNot (HasCollection f k)
-collection f (collector.Compact n) = third f
-collection f _ = inl tt
+row : (f : Format) (t : Bool) → OrNot (HasRow f t)
+row f true = third f
+row f false = inl tt
 
 pub is_op : (c : Config) (o : Op) → OrNot (IsOp c o)
-is_op c o = elim (both _ _ (less o.mutator c.mutators) (both _ _ (roots (places_of c) o.action) (action c.format o.action))) [
+is_op c o = elim (both _ _ (less o.mutator c.mutators) (both _ _ (roots (places_of c) o.action)
+    (row c.format (action_row (action_verb o.action)).third))) [
   | inl h ↦ inl (record { at = record { mutator = h.0; roots = h.1.0 }; known = h.1.1 })
   | inr nay ↦ inr (λ h. nay (h.at.mutator, (h.at.roots, h.known)))
 ]
 
 pub is_step : (c : Config) (step : Step) → OrNot (IsStep c step)
 is_step c (steps.Mutator o) = is_op c o
-is_step c (steps.Collector k) = collection c.format k
+is_step c (steps.Collector k) = row c.format (collection_row (collection_verb k)).third
 
 pub is_register : (c : CoreState) (m r : ℕ) → OrNot (HasRegister c m r)
 is_register c m r = elim (both _ _ (less m c.config.mutators) (less r (registers_of c.config))) [

@@ -49,15 +49,9 @@ in_counted step n (replies.Refused why) = in_refused step why
 in_counted step n _ = refl
 
 in_telling : (step : Step) (c d : CoreState) (r : Reply) → events_in step (telling step c d r) ≡ event_of step r ∷ []
-in_telling (steps.Mutator o) c d r = in_numbers (steps.Mutator o) r
-in_telling (steps.Collector collector.Begin) c d r = in_numbers (steps.Collector collector.Begin) r
 in_telling (steps.Collector (collector.Mark k)) c d r =
     in_counted (steps.Collector (collector.Mark k)) (d.marker.scans.since - c.marker.scans.since) r
-in_telling (steps.Collector collector.Remark) c d r = in_numbers (steps.Collector collector.Remark) r
-in_telling (steps.Collector collector.Cleanup) c d r = in_numbers (steps.Collector collector.Cleanup) r
-in_telling (steps.Collector (collector.Refine k)) c d r = in_numbers (steps.Collector (collector.Refine k)) r
-in_telling (steps.Collector (collector.Pause k)) c d r = in_numbers (steps.Collector (collector.Pause k)) r
-in_telling (steps.Collector (collector.Compact k)) c d r = in_numbers (steps.Collector (collector.Compact k)) r
+in_telling step c d r = in_numbers step r
 
 module _ (step : Step) (answer : Answer) where
   events_are : (c d : CoreState) (es : List Event) → HasEvents c es (StepCall step) answer d → es ≡ events_in step answer

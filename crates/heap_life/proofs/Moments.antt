@@ -185,19 +185,10 @@ due_whole p xs c end copied ms ms' notes is earlier n le due_here =
 
 pub is_step : (config : Config) (actor : Actor) (step : Step) → IsStepOf config actor step → IsStep config step
 is_step config (actors.Mutator m) (steps.Mutator o) h = h.1
-is_step config actors.Collector (steps.Mutator o) h = absurd h
-is_step config (actors.Marker i) (steps.Mutator o) h = absurd h
-is_step config (actors.Refiner i) (steps.Mutator o) h = absurd h
-is_step config actor (steps.Collector collector.Begin) h = tt
-is_step config actor (steps.Collector (collector.Mark k)) h = tt
-is_step config actor (steps.Collector collector.Remark) h = tt
-is_step config actor (steps.Collector collector.Cleanup) h = tt
-is_step config actor (steps.Collector (collector.Refine k)) h = tt
-is_step config actor (steps.Collector (collector.Pause k)) h = tt
-is_step config (actors.Mutator m) (steps.Collector (collector.Compact k)) h = absurd h
-is_step config actors.Collector (steps.Collector (collector.Compact k)) h = h
-is_step config (actors.Marker i) (steps.Collector (collector.Compact k)) h = absurd h
-is_step config (actors.Refiner i) (steps.Collector (collector.Compact k)) h = absurd h
+is_step config actors.Collector (steps.Collector k) h = h
+is_step config (actors.Marker i) (steps.Collector (collector.Mark k)) h = tt
+is_step config (actors.Refiner i) (steps.Collector (collector.Refine k)) h = tt
+is_step config _ _ h = absurd h
 
 pub grown_at : {A : Type 0} (f : Event → A) (es : List Event) (new : Event) (xs : List Event) (i : ℕ) (e : Event)
     → map f es ≡ take i (map f xs) → i < length xs → slice_get xs i ≡ Some e → f new ≡ f e

@@ -14,19 +14,10 @@ use Rattle.heap_view.proofs.review.steps_of.Goals as goal
 
 is_step : (config : Config) (actor : Actor) (step : Step) → IsStepOf config actor step → IsStep config step
 is_step config (actors.Mutator m) (steps.Mutator o) h = h.1
-is_step config actors.Collector (steps.Mutator o) h = absurd h
-is_step config (actors.Marker i) (steps.Mutator o) h = absurd h
-is_step config (actors.Refiner i) (steps.Mutator o) h = absurd h
-is_step config actor (steps.Collector collector.Begin) h = tt
-is_step config actor (steps.Collector (collector.Mark k)) h = tt
-is_step config actor (steps.Collector collector.Remark) h = tt
-is_step config actor (steps.Collector collector.Cleanup) h = tt
-is_step config actor (steps.Collector (collector.Refine k)) h = tt
-is_step config actor (steps.Collector (collector.Pause k)) h = tt
-is_step config (actors.Mutator m) (steps.Collector (collector.Compact k)) h = absurd h
-is_step config actors.Collector (steps.Collector (collector.Compact k)) h = h
-is_step config (actors.Marker i) (steps.Collector (collector.Compact k)) h = absurd h
-is_step config (actors.Refiner i) (steps.Collector (collector.Compact k)) h = absurd h
+is_step config actors.Collector (steps.Collector k) h = h
+is_step config (actors.Marker i) (steps.Collector (collector.Mark k)) h = tt
+is_step config (actors.Refiner i) (steps.Collector (collector.Refine k)) h = tt
+is_step config _ _ h = absurd h
 
 are_steps : (config : Config) (events : List Event) → AreEvents config events → All (IsStep config) (map step_in events)
 are_steps config events known =
