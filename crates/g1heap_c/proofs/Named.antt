@@ -88,9 +88,9 @@ row f false = inl tt
 pub is_op : (c : Config) (o : Op) → OrNot (IsOp c o)
 is_op c o = elim (both _ _ (less o.mutator c.mutators) (both _ _ (roots (places_of c) o.action)
     (row c.format (action_row (action_verb o.action)).third))) [
-  | inl h ↦ inl (record { at = record { mutator = h.0; roots = h.1.0 }; known = h.1.1 })
-  | inr nay ↦ inr (λ h. nay (h.at.mutator, (h.at.roots, h.known)))
-]
+      | inl h ↦ inl (record { at = record { mutator = h.0; roots = h.1.0 }; known = h.1.1 })
+      | inr nay ↦ inr (λ h. nay (h.at.mutator, (h.at.roots, h.known)))
+    ]
 
 pub is_step : (c : Config) (step : Step) → OrNot (IsStep c step)
 is_step c (steps.Mutator o) = is_op c o

@@ -43,7 +43,8 @@ fn is_lowest_alone(marks: &Marks, other: &Marks, at: u32) -> bool {
         return false;
     }
     let (bits, others) = (marks.bits(), other.bits());
-    bits.next_without(others, 0, 200) == Some(at) && bits.lowest_without(others, at / 64) == Some(at)
+    bits.next_without(others, 0, 200) == Some(at)
+        && bits.lowest_without(others, at / 64) == Some(at)
 }
 
 /// Each call once: three addresses are marked, found in the set and beside another one, counted, and cleared.

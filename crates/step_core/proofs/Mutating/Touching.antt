@@ -141,7 +141,7 @@ module _ (k c : CoreState) (e : k ≡ c) (core : IsCore k) (m : ℕ) (to : Regis
     does = record {
       shows = register_shows c (with_touch k place w m2) m to.number w (subst (λ (d : CoreState).
           (g : Graph) (v : Option ℕ) → ShowsGraph g d → IsShown (heap_of d) w v → ShowsGraph (with_root g place v)
-              (with_touch k place w m2))
+          (with_touch k place w m2))
           e (shows_by k core place w m2 same));
       keeps = subst (λ (d : CoreState).
           (s g : Graph) (v : Option ℕ) → ShowsGraph g d → KeepsUnreached s g → IsShown (heap_of d) w v → KeepsFrom s d

@@ -10,7 +10,7 @@ use Rattle.step_core.proofs.heap.Core.put_near.Goals as goal
 pub is_near-requires-clause-rooted : goal.is_near-requires-clause-rooted
 is_near-requires-clause-rooted c =
     (names_at _ c.args.mutator c.args.object c.args.at c.law_remembers.ensures.core c.requires.mutator c.requires.object
-        c.requires.held).rooted
+    c.requires.held).rooted
 
 pub is_near-requires-clause-field : goal.is_near-requires-clause-field
 is_near-requires-clause-field c = pointer_within c.args.self.now.table c.args.at c.args.field c.requires.field
