@@ -12,6 +12,7 @@
 #include <fstream>
 #include <set>
 #include <sstream>
+#include <stdexcept>
 #include <string>
 #include <vector>
 
@@ -203,7 +204,8 @@ Word collect(Heap& heap, const std::vector<std::string>& words) {
     else if (verb == "cleanup") heap.cleanup();
     else if (verb == "refine") heap.refine(Number(number(words[2])));
     else if (verb == "pause") return heap.pause(Number(number(words[2]))).second;
-    else return heap.compact(Number(number(words[2]))).second;
+    else if (verb == "compact") return heap.compact(Number(number(words[2]))).second;
+    else throw std::invalid_argument(verb);
     return 0;
 }
 

@@ -234,12 +234,16 @@ g1_answer g1_write_words(g1_heap *heap, uint32_t mutator, uint32_t object, uint3
     return wrote;
 }
 
+/* The number of an entry that is the mutator's own step, which comes after those of the collector's steps. */
+enum { OWN_STEP = 7 };
+_Static_assert(sizeof collector_forms / sizeof *collector_forms == OWN_STEP, "the heap numbers as many steps of the collector");
+
 /* Notes the steps of the collector that a call of the policy took. Answers whether the mutator's own step was the last. */
 static int note_all(box *in, uint32_t count)
 {
     for (uint32_t i = 0; i < count && i < in->room; i++) {
         const entry *of = &in->entries[i];
-        if (of->step >= sizeof collector_forms / sizeof *collector_forms) return 1;
+        if (of->step >= OWN_STEP) return 1;
         note(in, of->answer, collector_forms[of->step], (uint64_t[]){of->number});
     }
     return 0;
