@@ -20,10 +20,10 @@ use Rattle.regions.proofs.Tiles.Twice.{replaced_twice, filler_fitting}
 use Rattle.regions.proofs.LongRuns.Blocks.{void_object}
 use Rattle.alloc_buffers.proofs.Above.{above_same, above_buffers, above_pushed, above_filler}
 use Rattle.alloc_buffers.specs.declared.buffers.Buffer.{Buffer}
-use Rattle.alloc_buffers.specs.declared.placement.Place.TheVariants as places
-use Rattle.alloc_buffers.specs.Placement.{Buffers, BuffersStand, HasFiller, IsPlaced, HasRoom, with_buffer, IsAbove, AreAbove}
+use Rattle.alloc_buffers.specs.declared.placement.Allocation.TheVariants as allocations
+use Rattle.alloc_buffers.specs.Placement.{Buffers, BuffersStand, HasFiller, IsAllocated, HasRoom, with_buffer, IsAbove, AreAbove}
 use Rattle.alloc_buffers.specs.OpenBuffers.{buffer_of}
-use Rattle.alloc_buffers.specs.Placement.{alone, room_for, in_new_buffer, closed, in_buffer, place_of, CanPlace, IsMadeAt}
+use Rattle.alloc_buffers.specs.Placement.{alone, room_for, in_new_buffer, closed, in_buffer, allocation_of, CanAllocate, IsMadeAt}
 
 -- an open buffer is at its address
 buffer_at : (next rest : ℕ) (x : Buffer) → buffer_of next rest ≡ Some x → (x.next ≡ next) × (x.rest ≡ rest) × (0 < rest)
@@ -69,7 +69,7 @@ set_cases xs i j v w e = elim (cases_eq j i) [
 
 -- a filler at a region's top
 top_placed : (t t1 t2 : Table) (b : Buffers) (k size a : ℕ) → BuffersStand t b → HasNoForwarded t → HasRoom t t1 k size
-    → Pushed t1 t2 k a (Filler size) → IsPlaced t t2 b (record b { current = Some k }) size a
+    → Pushed t1 t2 k a (Filler size) → IsAllocated t t2 b (record b { current = Some k }) size a
 top_placed t t1 t2 b k size a s none r p =
     let apart : (m : ℕ) (x : Buffer) → slice_get b.open_buffers m ≡ Some (Some x) → x.next ≢ a = λ m x e h.
     let f = s.fillers m x e in
@@ -137,7 +137,7 @@ fresh_is t t' k n w first is small same =
 pub split_placed : (t t' : Table) (b : Buffers) (m size : ℕ) (x : Buffer) → BuffersStand t b → HasNoForwarded t → 0 < t.words_per_region
     → AreFitting t → slice_get b.open_buffers m ≡ Some (Some x) → 0 < size → size ≤ x.rest
     → t' ≡ replace_tile t x.next (Filler size ∷ remainder (x.rest - size))
-    → IsPlaced t t' b (with_buffer b b.current m (buffer_of (x.next + size) (x.rest - size))) size x.next
+    → IsAllocated t t' b (with_buffer b b.current m (buffer_of (x.next + size) (x.rest - size))) size x.next
 split_placed t t' b m size x s none z fitting here p le is =
     let n : ℕ = x.rest in
     let r : ℕ = x.rest - size in
@@ -252,7 +252,7 @@ split_placed t t' b m size x s none z fitting here p le is =
 pub alone_placed : (t t1 t2 : Table) (c b : Buffers) (n k size a : ℕ) → c ≡ b → BuffersStand t b → HasNoForwarded t → HasRoom t t1 k size
     → n ≡ k → 0 < t1.words_per_region → AreFitting t1 → 0 < size → a ≡ n * t1.words_per_region + used_of t1 n
     → t2 ≡ push_tile t1 n (Filler size)
-    → IsPlaced t t2 b (record { words = c.words; current = Some k; open_buffers = c.open_buffers }) size a
+    → IsAllocated t t2 b (record { words = c.words; current = Some k; open_buffers = c.open_buffers }) size a
 alone_placed t t1 t2 c b n k size a e s none r same z fitting p at is =
     let push = filler_push t1 k (Filler size) z fitting r.known r.ordinary p r.room tt in
     let at' : k * t1.words_per_region + used_of t1 k ≡ a = ap (λ (j : ℕ). j * t1.words_per_region + used_of t1 j) (sym same) ∙ sym at in
@@ -260,7 +260,7 @@ alone_placed t t1 t2 c b n k size a e s none r same z fitting p at is =
     let pushed : Pushed t1 t2 k a (Filler size) =
     subst (λ (j : ℕ). Pushed t1 t2 k j (Filler size)) at'
     (subst (λ (u : Table). Pushed t1 u k (k * t1.words_per_region + used_of t1 k) (Filler size)) is' push) in
-    subst (λ (d : Buffers). IsPlaced t t2 b (record { words = d.words; current = Some k; open_buffers = d.open_buffers }) size a) (sym e)
+    subst (λ (d : Buffers). IsAllocated t t2 b (record { words = d.words; current = Some k; open_buffers = d.open_buffers }) size a) (sym e)
     (top_placed t t1 t2 b k size a s none r pushed)
 
 pub alone_is : (t t1 t2 : Table) (c b : Buffers) (n k size a : ℕ) → c ≡ b → n ≡ k
@@ -268,7 +268,7 @@ pub alone_is : (t t1 t2 : Table) (c b : Buffers) (n k size a : ℕ) → c ≡ b 
     → t2 ≡ push_tile t1 n (Filler size)
     → alone b size (room_for t b.current size) ≡ Some
     (record {
-      place = places.Filler a;
+      place = allocations.Filler a;
       table = t2;
       buffers = record { words = c.words; current = Some k; open_buffers = c.open_buffers };
     })
@@ -279,18 +279,18 @@ pub inside_placed : (t t' : Table) (c b : Buffers) (m size at next a : ℕ) (x :
     → HasNoForwarded t → 0 < t.words_per_region → AreFitting t → slice_get b.open_buffers m ≡ Some (Some x) → 0 < size → size ≤ x.rest
     → at ≡ x.next → t' ≡ replace_tile t at (Filler size ∷ remainder (x.rest - size)) → next ≡ at + size
     → v ≡ buffer_of next (x.rest - size) → a ≡ x.next
-    → IsPlaced t t' b (record { words = c.words; current = c.current; open_buffers = slice_set c.open_buffers m v }) size a
+    → IsAllocated t t' b (record { words = c.words; current = c.current; open_buffers = slice_set c.open_buffers m v }) size a
 inside_placed t t' c b m size at next a x v e s none z fitting here p le at_is is next_is v_is a_is =
     let is' : t' ≡ replace_tile t x.next (Filler size ∷ remainder (x.rest - size)) =
     is ∙ ap (λ (j : ℕ). replace_tile t j (Filler size ∷ remainder (x.rest - size))) at_is in
     let v' : v ≡ buffer_of (x.next + size) (x.rest - size) =
     v_is ∙ ap (λ (j : ℕ). buffer_of j (x.rest - size)) (next_is ∙ ap (λ (j : ℕ). j + size) at_is) in
     let w = split_placed t t' b m size x s none z fitting here p le is' in
-    let w1 : IsPlaced t t' b (with_buffer b b.current m v) size x.next =
-    subst (λ (u : Option Buffer). IsPlaced t t' b (with_buffer b b.current m u) size x.next) (sym v') w in
-    let w2 : IsPlaced t t' b (with_buffer c c.current m v) size x.next =
-    subst (λ (d : Buffers). IsPlaced t t' b (with_buffer d d.current m v) size x.next) (sym e) w1 in
-    subst (λ (j : ℕ). IsPlaced t t' b (with_buffer c c.current m v) size j) (sym a_is) w2
+    let w1 : IsAllocated t t' b (with_buffer b b.current m v) size x.next =
+    subst (λ (u : Option Buffer). IsAllocated t t' b (with_buffer b b.current m u) size x.next) (sym v') w in
+    let w2 : IsAllocated t t' b (with_buffer c c.current m v) size x.next =
+    subst (λ (d : Buffers). IsAllocated t t' b (with_buffer d d.current m v) size x.next) (sym e) w1 in
+    subst (λ (j : ℕ). IsAllocated t t' b (with_buffer c c.current m v) size j) (sym a_is) w2
 
 -- a filler that is no buffer's becomes one
 module _ (u : Table) (b : Buffers) (m a rest : ℕ) (some : 0 < rest) (filler : tile_in u a ≡ Some (Filler rest))
@@ -336,10 +336,10 @@ module _ (u : Table) (b : Buffers) (m a rest : ℕ) (some : 0 < rest) (filler : 
   ]) above
 
 -- an object's filler at the start of a new buffer, which was placed as one filler
-pub new_placed : (t u t' : Table) (b b1 : Buffers) (m w size a next : ℕ) (v : Option Buffer) → IsPlaced t u b b1 w a
+pub new_placed : (t u t' : Table) (b b1 : Buffers) (m w size a next : ℕ) (v : Option Buffer) → IsAllocated t u b b1 w a
     → m < length b1.open_buffers → 0 < u.words_per_region → AreFitting u → 0 < size → size ≤ w
     → t' ≡ replace_tile u a (Filler size ∷ remainder (w - size)) → next ≡ a + size → v ≡ buffer_of next (w - size)
-    → IsPlaced t t' b (with_buffer b1 b1.current m v) size a
+    → IsAllocated t t' b (with_buffer b1 b1.current m v) size a
 new_placed t u t' b b1 m w size a next v first known z fitting p le is next_is v_is =
     let some : 0 < w = omega arith in
     let x : Buffer = record { next = a; rest = w } in
@@ -349,7 +349,7 @@ new_placed t u t' b b1 m w size a next v first known z fitting p le is next_is v
     let v' : buffer_of (a + size) (w - size) ≡ v = sym (v_is ∙ ap (λ (j : ℕ). buffer_of j (w - size)) next_is) in
     let s = split_placed u t' b2 m size x (opened_stand u b1 m a w some first.filler first.spare first.stand) first.unmoved z fitting here p
     le is in
-    let all : IsPlaced t t' b (with_buffer b2 b2.current m (buffer_of (a + size) (w - size))) size a = record {
+    let all : IsAllocated t t' b (with_buffer b2 b2.current m (buffer_of (a + size) (w - size))) size a = record {
       filler = s.filler;
       spare = s.spare;
       objects = λ y. s.objects y ∙ first.objects y;
@@ -367,7 +367,7 @@ new_placed t u t' b b1 m w size a next v first known z fitting p le is next_is v
           (old.0, (s.above limit (opened_above u b1 m a w some first.filler first.spare limit at old.1)).1);
     } in
     subst (λ (opens : List (Option Buffer)).
-    IsPlaced t t' b (record { words = b1.words; current = b1.current; open_buffers = opens }) size a)
+    IsAllocated t t' b (record { words = b1.words; current = b1.current; open_buffers = opens }) size a)
     (set-set b1.open_buffers m (Some x) (buffer_of (a + size) (w - size)) ∙ ap (slice_set b1.open_buffers m) v') all
 
 pub in_new_is : (t t1 u t' : Table) (c b : Buffers) (m n k size a next : ℕ) (v : Option Buffer) → c ≡ b → n ≡ k
@@ -376,7 +376,7 @@ pub in_new_is : (t t1 u t' : Table) (c b : Buffers) (m n k size a next : ℕ) (v
     → v ≡ buffer_of next (c.words - size)
     → in_new_buffer b m size (room_for t b.current b.words) ≡ Some
     (record {
-      place = places.Filler a;
+      place = allocations.Filler a;
       table = t';
       buffers = record { words = c.words; current = Some k; open_buffers = slice_set c.open_buffers m v };
     })
@@ -412,12 +412,12 @@ get_or-get (y ∷ xs) zero d x e = cc
 get_or-get (y ∷ xs) (suc i) d x e = get_or-get xs i d x e
 
 placed_open : (t : Table) (b : Buffers) (m size : ℕ) (x : Buffer) → 2 * size ≤ t.words_per_region
-    → slice_index_or b.open_buffers m None ≡ Some x → size ≤ x.rest → place_of t b m size ≡ Some (in_buffer t b m size x)
+    → slice_index_or b.open_buffers m None ≡ Some x → size ≤ x.rest → allocation_of t b m size ≡ Some (in_buffer t b m size x)
 placed_open t b m size x half here room = rw (le-leb (2 * size) t.words_per_region half, here, le-leb size x.rest room) refl
 
 -- an object made over the start of an open buffer's filler is made in its place
 pub inside_made : (t t' : Table) (b b' : Buffers) (m size name p weak d a n : ℕ) (x : Buffer) → 0 < t.words_per_region → AreFitting t
-    → CanPlace t b size → slice_get b.open_buffers m ≡ Some (Some x) → size ≤ x.rest → 2 * size ≤ t.words_per_region
+    → CanAllocate t b size → slice_get b.open_buffers m ≡ Some (Some x) → size ≤ x.rest → 2 * size ≤ t.words_per_region
     → size ≡ 2 + p + weak + d → a ≡ x.next → n ≡ x.rest
     → t' ≡ replace_tile t a (Object (new_object name p weak d) ∷ remainder (n - (2 + p + weak + d)))
     → b' ≡ with_buffer b b.current m (buffer_of (x.next + size) (x.rest - size))

@@ -9,8 +9,8 @@ use Rattle.regions.specs.Table.{HasNoForwarded, first_run, is_free, with_regions
 use Rattle.regions.specs.Walks.{AreFitting}
 use Rattle.alloc_buffers.specs.declared.buffers.Buffer.{Buffer}
 use Rattle.alloc_buffers.specs.OpenBuffers.{buffer_of}
-use Rattle.alloc_buffers.specs.declared.placement.Place.{Place}
-use Rattle.alloc_buffers.specs.declared.placement.Place.TheVariants as places
+use Rattle.alloc_buffers.specs.declared.placement.Allocation.{Allocation}
+use Rattle.alloc_buffers.specs.declared.placement.Allocation.TheVariants as allocations
 
 pub record Buffers : Type 0 where
   -- how many words a new buffer gets
@@ -22,7 +22,7 @@ pub record Buffers : Type 0 where
 
 -- an object's place, and what stands then
 pub record Placement : Type 0 where
-  pub place : Place
+  pub place : Allocation
   pub table : Table
   pub buffers : Buffers
 
@@ -46,7 +46,7 @@ with_buffer b current m buffer = record { words = b.words; current = current; op
 -- at the start of an open buffer, which is a filler
 abbrev pub in_buffer : Table → Buffers → ℕ → ℕ → Buffer → Placement
 in_buffer t b m size x = record {
-  place = places.Filler x.next;
+  place = allocations.Filler x.next;
   table = replace_tile t x.next (Filler size ∷ remainder (x.rest - size));
   buffers = with_buffer b b.current m (buffer_of (x.next + size) (x.rest - size));
 }
@@ -61,7 +61,7 @@ in_new_buffer b m size (Some r) = Some (in_buffer (push_tile r.table r.region (F
 abbrev pub alone : Buffers → ℕ → Option Room → Option Placement
 alone b size None = None
 alone b size (Some r) = Some (record {
-  place = places.Filler (top_of r.table r.region);
+  place = allocations.Filler (top_of r.table r.region);
   table = push_tile r.table r.region (Filler size);
   buffers = record { words = b.words; current = Some r.region; open_buffers = b.open_buffers };
 })
@@ -70,13 +70,13 @@ abbrev pub outside : Table → Buffers → ℕ → ℕ → Option Placement
 outside t b m size = if nat_le size b.words then in_new_buffer b m size (room_for t b.current b.words) else alone b size
     (room_for t b.current size)
 
-abbrev pub place_by : Table → Buffers → ℕ → ℕ → Option Buffer → Option Placement
-place_by t b m size None = outside t b m size
-place_by t b m size (Some x) = if nat_le size x.rest then Some (in_buffer t b m size x) else outside t b m size
+abbrev pub allocation_by : Table → Buffers → ℕ → ℕ → Option Buffer → Option Placement
+allocation_by t b m size None = outside t b m size
+allocation_by t b m size (Some x) = if nat_le size x.rest then Some (in_buffer t b m size x) else outside t b m size
 
 -- the place of an object of at most half a region
-abbrev pub small_place_of : Table → Buffers → ℕ → ℕ → Option Placement
-small_place_of t b m size = place_by t b m size (slice_index_or b.open_buffers m None)
+abbrev pub small_allocation_of : Table → Buffers → ℕ → ℕ → Option Placement
+small_allocation_of t b m size = allocation_by t b m size (slice_index_or b.open_buffers m None)
 
 -- how many regions of `words` words an object of a size takes, if it has them to itself
 abbrev pub run_count : ℕ → ℕ → ℕ
@@ -85,19 +85,19 @@ run_count words size = (size + words - 1) / words
 -- a run of so many regions from region k on, if there is one; nothing changes
 abbrev pub in_run : Table → Buffers → ℕ → Option ℕ → Option Placement
 in_run t b count None = None
-in_run t b count (Some k) = Some (record { place = places.Run k count; table = t; buffers = b })
+in_run t b count (Some k) = Some (record { place = allocations.Run k count; table = t; buffers = b })
 
 -- the lowest run of so many free regions
 abbrev pub lowest_run : Table → Buffers → ℕ → Option Placement
 lowest_run t b count = in_run t b count (first_run is_free count t.regions)
 
 -- the place of a humongous object
-abbrev pub run_place_of : Table → Buffers → ℕ → Option Placement
-run_place_of t b size = lowest_run t b (run_count t.words_per_region size)
+abbrev pub run_allocation_of : Table → Buffers → ℕ → Option Placement
+run_allocation_of t b size = lowest_run t b (run_count t.words_per_region size)
 
 -- the place of an object of a size for a mutator, None where there is no room
-abbrev pub place_of : Table → Buffers → ℕ → ℕ → Option Placement
-place_of t b m size = if nat_le (2 * size) t.words_per_region then small_place_of t b m size else run_place_of t b size
+abbrev pub allocation_of : Table → Buffers → ℕ → ℕ → Option Placement
+allocation_of t b m size = if nat_le (2 * size) t.words_per_region then small_allocation_of t b m size else run_allocation_of t b size
 
 pub record HasFiller (t : Table) (x : Buffer) : Type 0 where
   pub positive : 0 < x.rest
@@ -112,7 +112,7 @@ pub record BuffersStand (t : Table) (b : Buffers) : Type 0 where
       → x.next ≡ y.next → m ≡ n
 
 -- what placing an object of a size asks for: it has words, a buffer is no larger than a region, nothing was moved, and buffers stand
-pub record CanPlace (t : Table) (b : Buffers) (size : ℕ) : Type 0 where
+pub record CanAllocate (t : Table) (b : Buffers) (size : ℕ) : Type 0 where
   pub positive : 0 < size
   pub buffers : b.words ≤ t.words_per_region
   pub unmoved : HasNoForwarded t
@@ -128,7 +128,7 @@ pub record AreAbove (t : Table) (b : Buffers) (limit : ℕ → ℕ) : Type 0 whe
   pub buffers : (m : ℕ) (x : Buffer) → slice_get b.open_buffers m ≡ Some (Some x) → IsAbove t.words_per_region limit x.next
 
 -- a filler of the size is at the place, which belongs to no buffer, and no object changed
-pub record IsPlaced (t t' : Table) (b b' : Buffers) (size a : ℕ) : Type 0 where
+pub record IsAllocated (t t' : Table) (b b' : Buffers) (size a : ℕ) : Type 0 where
   pub filler : tile_in t' a ≡ Some (Filler size)
   pub spare : (m : ℕ) (x : Buffer) → slice_get b'.open_buffers m ≡ Some (Some x) → x.next ≢ a
   pub objects : (y : ℕ) → object_at t' y ≡ object_at t y
@@ -152,38 +152,38 @@ pub record IsRunFor (t : Table) (size k count : ℕ) : Type 0 where
   pub tight : count * t.words_per_region < size + t.words_per_region
 
 -- a run is the place, and nothing changed
-pub record IsRunPlace (t t' : Table) (b b' : Buffers) (size k count : ℕ) : Type 0 where
+pub record IsRunAllocation (t t' : Table) (b b' : Buffers) (size k count : ℕ) : Type 0 where
   pub run : IsRunFor t size k count
   pub table : t' ≡ t
   pub buffers : b' ≡ b
 
 -- the address of a place
-abbrev pub address_of : Table → Place → ℕ
-address_of t (places.Filler a) = a
-address_of t (places.Run k count) = k * t.words_per_region
+abbrev pub address_of : Table → Allocation → ℕ
+address_of t (allocations.Filler a) = a
+address_of t (allocations.Run k count) = k * t.words_per_region
 
 -- what a place is: a filler for an object of at most half a region, a run for a larger one
-abbrev pub IsPlace : Table → Table → Buffers → Buffers → ℕ → Place → Type 0
-IsPlace t t' b b' size (places.Filler a) = (2 * size ≤ t.words_per_region) × IsPlaced t t' b b' size a
-IsPlace t t' b b' size (places.Run k count) = (t.words_per_region < 2 * size) × IsRunPlace t t' b b' size k count
+abbrev pub IsAllocation : Table → Table → Buffers → Buffers → ℕ → Allocation → Type 0
+IsAllocation t t' b b' size (allocations.Filler a) = (2 * size ≤ t.words_per_region) × IsAllocated t t' b b' size a
+IsAllocation t t' b b' size (allocations.Run k count) = (t.words_per_region < 2 * size) × IsRunAllocation t t' b b' size k count
 
 -- an object of the size can be made in the place
-abbrev pub CanHold : Table → Place → ℕ → Type 0
-CanHold t (places.Filler a) size = tile_in t a ≡ Some (Filler size)
-CanHold t (places.Run k count) size = IsRunFor t size k count
+abbrev pub CanHold : Table → Allocation → ℕ → Type 0
+CanHold t (allocations.Filler a) size = tile_in t a ≡ Some (Filler size)
+CanHold t (allocations.Run k count) size = IsRunFor t size k count
 
 -- the table once an object is made in its place
-abbrev pub made_at : Table → Place → Stored → Table
-made_at t (places.Filler a) s = replace_tile t a (Object s ∷ [])
-made_at t (places.Run k count) s = with_regions t k count (run_regions t.words_per_region s count)
+abbrev pub made_at : Table → Allocation → Stored → Table
+made_at t (allocations.Filler a) s = replace_tile t a (Object s ∷ [])
+made_at t (allocations.Run k count) s = with_regions t k count (run_regions t.words_per_region s count)
 
 -- an object is made in its place, of which p says what it is and what stood before the object did
 pub record IsMadeAt (t t' : Table) (b b' : Buffers) (m size : ℕ) (x : Stored) (a : ℕ) (p : Placement) : Type 0 where
-  pub place : place_of t b m size ≡ Some p
+  pub place : allocation_of t b m size ≡ Some p
   pub at : a ≡ address_of p.table p.place
   pub made : t' ≡ made_at p.table p.place x
   pub buffers : b' ≡ p.buffers
-  pub placed : IsPlace t p.table b p.buffers size p.place
+  pub placed : IsAllocation t p.table b p.buffers size p.place
   pub positive : 0 < p.table.words_per_region
   pub fitting : AreFitting p.table
 

@@ -6,7 +6,7 @@ ghost use Rattle.heap_words.specs.Configs.{max_object_words};
 ghost use Rattle.regions.specs.Table.{used_of, kind_of, tile_in, push_tile, replace_tile, remainder};
 ghost use Rattle.regions.specs.Tiles.{Filler};
 ghost use Rattle.regions.specs.declared.row.Kind.TheVariants as kinds;
-ghost use Rattle.alloc_buffers.specs.Placement.{room_for, place_of, small_place_of, run_count, CanPlace, IsPlaced, IsPlace, HasRoom};
+ghost use Rattle.alloc_buffers.specs.Placement.{room_for, allocation_of, small_allocation_of, run_count, CanAllocate, IsAllocated, IsAllocation, HasRoom};
 ghost use Rattle.alloc_buffers.specs.Placement.{in_buffer, alone, in_new_buffer, with_buffer};
 ghost use Rattle.alloc_buffers.specs.OpenBuffers.{buffer_of};
 
@@ -23,7 +23,7 @@ pub struct Full;
 
 /// Where an object is to be made.
 #[derive(Clone, Copy, Debug, PartialEq, Eq)]
-pub enum Place {
+pub enum Allocation {
     /// Over a filler of the object's size, which starts at an address.
     Filler(Addr),
     /// In the lowest run of so many free regions, from the bottom of the first one on.
@@ -89,29 +89,29 @@ impl AllocBuffers {
     /// buffer, and no object changed. A humongous one's is the lowest run of free regions that it needs, and nothing
     /// changed: buffers stay open.
     #[inline(always)]
-    pub fn place(&mut self, table: &mut RegionTable, mutator: u32, size: u32) -> Result<Place, Full>
+    pub fn allocate(&mut self, table: &mut RegionTable, mutator: u32, size: u32) -> Result<Allocation, Full>
         requires mutator { mutator < length self.old.open_buffers }
         requires within { size ≤ length table.old.regions * table.old.words_per_region }
         requires small { size ≤ max_object_words }
-        requires ready { CanPlace table.old self.old size }
-        ensures place { IfOk result (λ p. place_of table.old self.old mutator size ≡ Some
+        requires ready { CanAllocate table.old self.old size }
+        ensures place { IfOk result (λ p. allocation_of table.old self.old mutator size ≡ Some
             (record { place = p; table = table.new; buffers = self.new })) }
-        ensures full { IsErr result ↔ (place_of table.old self.old mutator size ≡ None) }
+        ensures full { IsErr result ↔ (allocation_of table.old self.old mutator size ≡ None) }
         ensures table_same { OnErr result (table.new ≡ table.old) }
         ensures buffers_same { OnErr result (self.new ≡ self.old) }
-        ensures placed { IfOk result (λ p. IsPlace table.old table.new self.old self.new size p) }
+        ensures placed { IfOk result (λ p. IsAllocation table.old table.new self.old self.new size p) }
     {
         table.law();
         let words = table.words_per_region();
         if 2 * size <= words {
             return match self.find(table, mutator, size) {
-                Some(at) => Ok(Place::Filler(at)),
+                Some(at) => Ok(Allocation::Filler(at)),
                 None => Err(Full),
             };
         }
         let count = count_regions(words, size);
         match table.free_run(count) {
-            Some(first) => Ok(Place::Run { first, count }),
+            Some(first) => Ok(Allocation::Run { first, count }),
             None => Err(Full),
         }
     }
@@ -121,7 +121,7 @@ impl AllocBuffers {
     #[inline(always)]
     pub fn cut(&mut self, table: &RegionTable, mutator: u32, size: u32) -> Option<Buffer>
         requires mutator { mutator < length self.old.open_buffers }
-        requires ready { CanPlace table.now self.old size }
+        requires ready { CanAllocate table.now self.old size }
         ensures opened { IfSome result (λ x. slice_get self.old.open_buffers mutator ≡ Some (Some x)) }
         ensures room { IfSome result (λ x. size ≤ x.rest) }
         ensures cut { IfSome result (λ x. self.new
@@ -144,29 +144,29 @@ impl AllocBuffers {
     fn find(&mut self, table: &mut RegionTable, mutator: u32, size: u32) -> Option<Addr>
         requires mutator { mutator < length self.old.open_buffers }
         requires small { size ≤ table.old.words_per_region }
-        requires ready { CanPlace table.old self.old size }
-        ensures some { IfSome result (λ a. small_place_of table.old self.old mutator size
-            ≡ Some (record { place = Place.Filler a; table = table.new; buffers = self.new })) }
-        ensures none { IfNone result (small_place_of table.old self.old mutator size ≡ None) }
+        requires ready { CanAllocate table.old self.old size }
+        ensures some { IfSome result (λ a. small_allocation_of table.old self.old mutator size
+            ≡ Some (record { place = Allocation.Filler a; table = table.new; buffers = self.new })) }
+        ensures none { IfNone result (small_allocation_of table.old self.old mutator size ≡ None) }
         ensures table_same { IfNone result (table.new ≡ table.old) }
         ensures buffers_same { IfNone result (self.new ≡ self.old) }
-        ensures placed { IfSome result (λ a. IsPlaced table.old table.new self.old self.new size a) }
+        ensures placed { IfSome result (λ a. IsAllocated table.old table.new self.old self.new size a) }
     {
         if let Some(open) = self.open_buffer(mutator) {
             if size <= open.rest {
-                return Some(self.place_inside(table, mutator, size, open));
+                return Some(self.allocate_inside(table, mutator, size, open));
             }
         }
         if size <= self.words {
-            self.place_in_new(table, mutator, size)
+            self.allocate_in_new(table, mutator, size)
         } else {
-            self.place_alone(table, size)
+            self.allocate_alone(table, size)
         }
     }
 
     /// At the start of the mutator's buffer.
     #[inline(always)]
-    fn place_inside(
+    fn allocate_inside(
         &mut self,
         table: &mut RegionTable,
         mutator: u32,
@@ -174,12 +174,12 @@ impl AllocBuffers {
         buffer: Buffer,
     ) -> Addr
         requires mutator { mutator < length self.old.open_buffers }
-        requires ready { CanPlace table.old self.old size }
+        requires ready { CanAllocate table.old self.old size }
         requires opened { slice_get self.old.open_buffers mutator ≡ Some (Some buffer) }
         requires room { size ≤ buffer.rest }
         ensures some { in_buffer table.old self.old mutator size buffer
-            ≡ record { place = Place.Filler result; table = table.new; buffers = self.new } }
-        ensures placed { IsPlaced table.old table.new self.old self.new size result }
+            ≡ record { place = Allocation.Filler result; table = table.new; buffers = self.new } }
+        ensures placed { IsAllocated table.old table.new self.old self.new size result }
     {
         table.law();
         let next = split_filler(table, Addr::new(buffer.next), buffer.rest, size);
@@ -189,15 +189,15 @@ impl AllocBuffers {
 
     /// Words of its own.
     #[inline(never)]
-    fn place_alone(&mut self, table: &mut RegionTable, size: u32) -> Option<Addr>
+    fn allocate_alone(&mut self, table: &mut RegionTable, size: u32) -> Option<Addr>
         requires small { size ≤ table.old.words_per_region }
-        requires ready { CanPlace table.old self.old size }
+        requires ready { CanAllocate table.old self.old size }
         ensures some { IfSome result (λ a. alone self.old size (room_for table.old self.old.current size)
-            ≡ Some (record { place = Place.Filler a; table = table.new; buffers = self.new })) }
+            ≡ Some (record { place = Allocation.Filler a; table = table.new; buffers = self.new })) }
         ensures none { IfNone result (alone self.old size (room_for table.old self.old.current size) ≡ None) }
         ensures table_same { IfNone result (table.new ≡ table.old) }
         ensures buffers_same { IfNone result (self.new ≡ self.old) }
-        ensures placed { IfSome result (λ a. IsPlaced table.old table.new self.old self.new size a) }
+        ensures placed { IfSome result (λ a. IsAllocated table.old table.new self.old self.new size a) }
     {
         let region = room(table, self.current, size)?;
         table.law();
@@ -208,16 +208,16 @@ impl AllocBuffers {
 
     /// At the start of a new buffer, which is pushed as one filler.
     #[inline(never)]
-    fn place_in_new(&mut self, table: &mut RegionTable, mutator: u32, size: u32) -> Option<Addr>
+    fn allocate_in_new(&mut self, table: &mut RegionTable, mutator: u32, size: u32) -> Option<Addr>
         requires mutator { mutator < length self.old.open_buffers }
-        requires ready { CanPlace table.old self.old size }
+        requires ready { CanAllocate table.old self.old size }
         requires fits { size ≤ self.old.words }
         ensures some { IfSome result (λ a. in_new_buffer self.old mutator size (room_for table.old self.old.current self.old.words)
-            ≡ Some (record { place = Place.Filler a; table = table.new; buffers = self.new })) }
+            ≡ Some (record { place = Allocation.Filler a; table = table.new; buffers = self.new })) }
         ensures none { IfNone result (in_new_buffer self.old mutator size (room_for table.old self.old.current self.old.words) ≡ None) }
         ensures table_same { IfNone result (table.new ≡ table.old) }
         ensures buffers_same { IfNone result (self.new ≡ self.old) }
-        ensures placed { IfSome result (λ a. IsPlaced table.old table.new self.old self.new size a) }
+        ensures placed { IfSome result (λ a. IsAllocated table.old table.new self.old self.new size a) }
     {
         let region = room(table, self.current, self.words)?;
         table.law();

@@ -129,7 +129,7 @@ fn take_page(places: &mut Vec<u32>, pool: &mut Vec<u64>, len: u32, page: u32) ->
 
 /// Where a group's word is in the pool. Its page is taken if it wasn't.
 #[inline(always)]
-fn reach(places: &mut Vec<u32>, pool: &mut Vec<u64>, len: u32, group: u32) -> usize
+fn find_or_take(places: &mut Vec<u32>, pool: &mut Vec<u64>, len: u32, group: u32) -> usize
     requires pages { ArePages places.old.items pool.old.items len }
     requires room { len ≤ vec_capacity pool.old }
     requires known { group < len }
@@ -166,7 +166,7 @@ fn fill_page(places: &mut Vec<u32>, pool: &mut Vec<u64>, len: u32, from: u32, to
             return;
         }
     }
-    let start = reach(places, pool, len, from);
+    let start = find_or_take(places, pool, len, from);
     fill_words(pool, start, start + (to - from) as usize, value);
 }
 
@@ -269,7 +269,7 @@ impl PagedWords {
         ensures same { result ≡ false → self.new ≡ self.old }
         ensures set { result ≡ true → self.new ≡ slice_set self.old group (bit_or (slice_index self.old group) (1 * 2 ^ bit % 2 ^ 64)) }
     {
-        let place = reach(&mut self.places, &mut self.pool, self.len, group);
+        let place = find_or_take(&mut self.places, &mut self.pool, self.len, group);
         let word = self.pool[place];
         if word >> bit & 1 == 1 {
             return false;
@@ -284,7 +284,7 @@ impl PagedWords {
         requires { group < length self.old }
         ensures { self.new ≡ slice_set self.old group (bit_or (slice_index self.old group) more) }
     {
-        let place = reach(&mut self.places, &mut self.pool, self.len, group);
+        let place = find_or_take(&mut self.places, &mut self.pool, self.len, group);
         self.pool[place] |= more;
     }
 

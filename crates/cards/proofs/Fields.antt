@@ -6,7 +6,7 @@ use Rattle.std.proofs.lemmas.List.{get_or_default}
 use Rattle.std.proofs.lemmas.List.Sums.{get_or-le-sum_by}
 use Rattle.cards.specs.declared.table.CardTable.TheInside.{Inside}
 use Rattle.cards.specs.Cards.{Cards, is_dirty, log_of, dirtied, sent, flushed}
-use Rattle.cards.specs.Inside.{cards_of, listed_count, IsCounted, IsSound}
+use Rattle.cards.specs.Inside.{cards_of, listed_count, IsCounted, IsCardTable}
 use Rattle.cards.proofs.Listed.{room_for_clean, room_for_listed, no_log_is_full}
 use Rattle.cards.proofs.Flushed.{flushed_up_to, length-flushed_up_to}
 use Rattle.cards.proofs.Dirtied.{dirtied_full, dirtied_short, IsCounted-dirtied, IsShort-dirtied, length-dirtied}
@@ -16,7 +16,7 @@ pub is_pushed : (old now : List ℕ) {c n : ℕ} → n ≡ c → now ≡ old ++ 
 is_pushed old now is e = e ∙ ap (λ k. old ++ k ∷ []) is
 
 -- where a card is clean the queue has room for one more than are listed
-pub clean_room : (s : Inside) (v : Cards) (c : ℕ) → cards_of s ≡ v → IsSound s → c < length v.dirty → is_dirty v c ≡ false
+pub clean_room : (s : Inside) (v : Cards) (c : ℕ) → cards_of s ≡ v → IsCardTable s → c < length v.dirty → is_dirty v c ≡ false
     → listed_count (cards_of s) < deque_capacity s.queue
 clean_room s v c view sound h clean =
     let all : IsCounted v = subst IsCounted view sound.cards in
@@ -33,7 +33,7 @@ pub log_room : (s : Inside) (m : ℕ) (old : List ℕ) → IsCounted (cards_of s
     → m < length s.logs.items → old ≡ get_or s.logs.items m old → length s.queue.items + length old ≤ deque_capacity s.queue
 log_room s m old all room known e = omega (arith, log_count (cards_of s) m old known e, room_for_listed (cards_of s) all)
 
-pub longer_log_room : (s : Inside) (v : Cards) (m c : ℕ) (old now : List ℕ) → cards_of s ≡ v → IsSound s → m < length v.logs
+pub longer_log_room : (s : Inside) (v : Cards) (m c : ℕ) (old now : List ℕ) → cards_of s ≡ v → IsCardTable s → m < length v.logs
     → c < length v.dirty → is_dirty v c ≡ false → old ≡ get_or s.logs.items m old → now ≡ old ++ c ∷ []
     → length s.queue.items + length now ≤ deque_capacity s.queue
 longer_log_room s v m c old now view sound known h clean e is =
@@ -68,9 +68,9 @@ stays_view s t v m c now view clean known is short flags logs queue =
     rw (flags, logs, queue, dirtied_short v m c now clean known is short)
     (ap (λ (u : Cards). record { dirty = set u.dirty c true; logs = set u.logs m now; queue = u.queue }) view)
 
-pub IsSound-dirtied : (s t : Inside) (v : Cards) (m c : ℕ) → cards_of s ≡ v → IsSound s → cards_of t ≡ dirtied v m c → m < length v.logs
-    → c < length v.dirty → deque_capacity t.queue ≡ deque_capacity s.queue → IsSound t
-IsSound-dirtied s t v m c view sound after known h queue =
+pub IsCardTable-dirtied : (s t : Inside) (v : Cards) (m c : ℕ) → cards_of s ≡ v → IsCardTable s → cards_of t ≡ dirtied v m c → m < length v.logs
+    → c < length v.dirty → deque_capacity t.queue ≡ deque_capacity s.queue → IsCardTable t
+IsCardTable-dirtied s t v m c view sound after known h queue =
     let all : IsCounted v = subst IsCounted view sound.cards in
     let short : All (λ log. length log < 4) v.logs = subst (λ (u : Cards). All (λ log. length log < 4) u.logs) view sound.short in
     let same : length t.dirty ≡ length s.dirty =
@@ -97,9 +97,9 @@ logs_stay s t i view h = ap (λ (u : Cards). length u.logs) view ∙ length-flus
 pub dirty_stays : (s t : Inside) (i : ℕ) → cards_of t ≡ flushed_up_to i (cards_of s) → length t.dirty ≡ length s.dirty
 dirty_stays s t i view = ap (λ (u : Cards). length u.dirty) view
 
-pub IsSound-flushed : (s t : Inside) → IsSound s → cards_of t ≡ flushed (cards_of s) → IsCounted (cards_of t)
-    → deque_capacity t.queue ≡ deque_capacity s.queue → IsSound t
-IsSound-flushed s t sound view all queue =
+pub IsCardTable-flushed : (s t : Inside) → IsCardTable s → cards_of t ≡ flushed (cards_of s) → IsCounted (cards_of t)
+    → deque_capacity t.queue ≡ deque_capacity s.queue → IsCardTable t
+IsCardTable-flushed s t sound view all queue =
     let same : length t.dirty ≡ length s.dirty = ap (λ (u : Cards). length u.dirty) view in
     record {
       cards = all;

@@ -18,7 +18,7 @@ pub record IsCounted (t : Cards) : Type 0 where
   pub counted : listed_count t ≡ count_by (λ b. b) t.dirty
 
 -- besides no log is full, the queue has room for all cards, and they can be counted
-pub record IsSound (s : Inside) : Type 0 where
+pub record IsCardTable (s : Inside) : Type 0 where
   pub cards : IsCounted (cards_of s)
   pub short : All (λ log. length log < 4) s.logs.items
   pub room : length s.dirty ≤ deque_capacity s.queue

@@ -52,7 +52,7 @@ fn write_clear(items: &mut Vec<bool>, past: u32, count: u32)
 
 /// So many flags are written, clear where they weren't.
 #[inline(always)]
-fn reach(items: &mut Vec<bool>, past: u32, count: u32)
+fn clear_below(items: &mut Vec<bool>, past: u32, count: u32)
     requires short { vec_len items.old ≤ count }
     requires within { past ≤ count }
     requires room { count ≤ vec_capacity items.old }
@@ -96,7 +96,7 @@ impl Flags {
         requires { card < length self.old }
         ensures { self.new ≡ slice_set self.old card flag }
     {
-        reach(&mut self.items, card + 1, self.count);
+        clear_below(&mut self.items, card + 1, self.count);
         self.items[card as usize] = flag;
     }
 

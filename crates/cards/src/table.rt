@@ -30,11 +30,11 @@ impl Model for CardTable {
 
     ghost Value = { Cards };
 
-    ghost use Rattle.cards.specs.Inside.{cards_of, IsSound};
+    ghost use Rattle.cards.specs.Inside.{cards_of, IsCardTable};
 
     ghost view = { cards_of };
 
-    ghost invariant = { IsSound };
+    ghost invariant = { IsCardTable };
 }
 
 /// Where it is dropped there is one call, and not a drop for each of its parts.

@@ -14,14 +14,14 @@ use Rattle.regions.specs.Table.{free_count}
 use Rattle.step_core.specs.Stands.{CoreState, Stands}
 use Rattle.step_core.specs.Mutators.{ActsOn}
 use Rattle.collection.specs.Space.{IsCollected}
-use Rattle.collection.specs.Steps.{Collects, HasRoom, LeavesTwo, Makes, TakesOwn, asked_words}
+use Rattle.collection.specs.Steps.{CollectsWithin, FitsLeavingTwo, LeavesTwo, Makes, TakesOwn, asked_words}
 use Rattle.collection.specs.Rooms.{IsCreatable, IsFilled, IsLastResort, IsSpared}
 use Rattle.collection.proofs.Created.{by_creates, creates_by, full_creates}
 use Rattle.collection.proofs.Spared.{spared_made, spared_two}
 use Rattle.collection.proofs.Took.{more, none, reached}
 
 module _ {W : Type 0} (sees : W → Event → W → Type 0) (most : ℕ) (op : Op) (c d : CoreState) (x y : W)
-    (before : Collects sees most c x d y) where
+    (before : CollectsWithin sees most c x d y) where
   -- the object's own step
   module _ (reply : Reply) (c' : CoreState) (x' : W) (own : TakesOwn sees op reply d y c' x') where
     pub own_makes : Makes sees most op reply c x c' x'
@@ -58,7 +58,7 @@ module _ {W : Type 0} (sees : W → Event → W → Type 0) (most : ℕ) (op : O
         absurd (not (by_creates mid.graph d there.shows op (full_creates mid.graph op d ((own.passes mid there).full.0 e))))
 
   -- no step of its own
-  pub held_makes : IsNew op.action → IsCreatable c op.action → LeavesTwo c.config op.action → (HasRoom d op → ⊥)
+  pub held_makes : IsNew op.action → IsCreatable c op.action → LeavesTwo c.config op.action → (FitsLeavingTwo d op → ⊥)
       → Makes sees most op (replies.Refused refusals.Full) c x d y
   held_makes new h leaves none = record {
     core = d;

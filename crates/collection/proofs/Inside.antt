@@ -8,7 +8,7 @@ use Rattle.heap_model.specs.Heap.{Stored}
 use Rattle.regions.specs.Table.{Table, free_count, first_free}
 use Rattle.alloc_buffers.specs.declared.buffers.Buffer.{Buffer}
 use Rattle.alloc_buffers.specs.Placement.{Buffers, Placement, Room, room_for, fresh_room, in_new_buffer, in_buffer, alone, outside}
-use Rattle.alloc_buffers.specs.Placement.{made_at, place_by, place_of, small_place_of, run_place_of}
+use Rattle.alloc_buffers.specs.Placement.{made_at, allocation_by, allocation_of, small_allocation_of, run_allocation_of}
 use Rattle.step_core.specs.Stands.{CoreState}
 use Rattle.collection.specs.Rooms.{FitsOpen, TakesRegion, has_rest}
 use Rattle.collection.proofs.Made.{IsInside, IsOutside, new_as, alone_as, next_room, inside_buffer}
@@ -87,13 +87,13 @@ module _ (c : CoreState) (m size : ℕ) (small : 2 * size ≤ c.table.words_per_
   abbrev b : Buffers
   b = c.buffers
 
-  placed : place_of t b m size ≡ place_by t b m size (slice_index_or b.open_buffers m None)
-  placed = ap (λ (q : Bool). if q then small_place_of t b m size else run_place_of t b size) (le-leb (2 * size) t.words_per_region small)
+  placed : allocation_of t b m size ≡ allocation_by t b m size (slice_index_or b.open_buffers m None)
+  placed = ap (λ (q : Bool). if q then small_allocation_of t b m size else run_allocation_of t b size) (le-leb (2 * size) t.words_per_region small)
 
-  fits_by : (o : Option Placement) → place_of t b m size ≡ o → IsFitting t o → FitsOpen c m size
+  fits_by : (o : Option Placement) → allocation_of t b m size ≡ o → IsFitting t o → FitsOpen c m size
   fits_by o e f = record { place = f.place; is = e ∙ f.is; free = f.free }
 
-  by_fits : (o : Option Placement) → place_of t b m size ≡ o → FitsOpen c m size → IsFitting t o
+  by_fits : (o : Option Placement) → allocation_of t b m size ≡ o → FitsOpen c m size → IsFitting t o
   by_fits o e f = record { place = f.place; is = sym e ∙ f.is; free = f.free }
 
   -- the mutator's buffer, as it is read
@@ -105,30 +105,30 @@ module _ (c : CoreState) (m size : ℕ) (small : 2 * size ≤ c.table.words_per_
   pub in_open : (y : Buffer) → slice_index_or b.open_buffers m None ≡ Some y → size ≤ y.rest → FitsOpen c m size
   in_open y is h =
       fits_by (Some (in_buffer t b m size y))
-      (placed ∙ ap (place_by t b m size) is ∙ ap (λ (q : Bool). if q then Some (in_buffer t b m size y) else outside t b m size)
+      (placed ∙ ap (allocation_by t b m size) is ∙ ap (λ (q : Bool). if q then Some (in_buffer t b m size y) else outside t b m size)
       (le-leb size y.rest h))
       (record { place = in_buffer t b m size y; is = refl; free = inside_buffer t b m size y })
 
   -- or it hasn't, and the object goes outside
   pub IsOut : Type 0
-  IsOut = place_of t b m size ≡ outside t b m size
+  IsOut = allocation_of t b m size ≡ outside t b m size
 
   pub none_open : slice_index_or b.open_buffers m None ≡ None → IsOut
   unfolding IsOut
-  none_open is = placed ∙ ap (place_by t b m size) is
+  none_open is = placed ∙ ap (allocation_by t b m size) is
 
   pub full_open : (y : Buffer) → slice_index_or b.open_buffers m None ≡ Some y → y.rest < size → IsOut
   unfolding IsOut
   full_open y is h =
-      placed ∙ ap (place_by t b m size) is
+      placed ∙ ap (allocation_by t b m size) is
       ∙ ap (λ (q : Bool). if q then Some (in_buffer t b m size y) else outside t b m size) (lt-leb size y.rest h)
 
-  placed_new : IsOut → size ≤ b.words → place_of t b m size ≡ in_new_buffer b m size (room_for t b.current b.words)
+  placed_new : IsOut → size ≤ b.words → allocation_of t b m size ≡ in_new_buffer b m size (room_for t b.current b.words)
   unfolding IsOut
   placed_new out h = out ∙ ap (λ (q : Bool). if q then in_new_buffer b m size (room_for t b.current b.words) else alone b size
       (room_for t b.current size)) (le-leb size b.words h)
 
-  placed_alone : IsOut → b.words < size → place_of t b m size ≡ alone b size (room_for t b.current size)
+  placed_alone : IsOut → b.words < size → allocation_of t b m size ≡ alone b size (room_for t b.current size)
   unfolding IsOut
   placed_alone out h = out ∙ ap (λ (q : Bool). if q then in_new_buffer b m size (room_for t b.current b.words) else alone b size
       (room_for t b.current size)) (lt-leb size b.words h)

@@ -11,7 +11,7 @@ use Rattle.graph_runs.specs.State.{State}
 use Rattle.step_core.specs.Stands.{CoreState, Stands}
 use Rattle.heap_steps.specs.declared.step.Event.{Event}
 use Rattle.alloc_buffers.specs.Placement.{run_count}
-use Rattle.collection.specs.Steps.{Collects, LeavesTwo, asked_words, regions_for}
+use Rattle.collection.specs.Steps.{CollectsWithin, LeavesTwo, asked_words, regions_for}
 use Rattle.collection.specs.Rooms.{IsFilled, IsLastResort, IsSpared}
 use Rattle.collection.proofs.Reached.{packed_at_before, packed_before, then_cleared}
 use Rattle.collection.proofs.Took.{collected_after, reached}
@@ -36,7 +36,7 @@ leaves_four k a small leaves =
     omega (arith, one, leaves)
 
 -- what a last part of the work came to, after other steps
-module _ {W : Type 0} (sees : W → Event → W → Type 0) (m : ℕ) (c d : CoreState) (x y : W) (before : Collects sees m c x d y) where
+module _ {W : Type 0} (sees : W → Event → W → Type 0) (m : ℕ) (c d : CoreState) (x y : W) (before : CollectsWithin sees m c x d y) where
   pub last_after : (op : Op) (c' : CoreState) → IsSpared c' op ⊎ IsLastResort d op c' → IsSpared c' op ⊎ IsLastResort c op c'
   last_after op c' (inl s) = inl s
   last_after op c' (inr l) = inr (record {

@@ -15,7 +15,7 @@ use Rattle.regions.specs.Table.{push_tile, replace_tile, region_with_tile, regio
 use Rattle.object_copy.proofs.Frees.{fewer_free}
 use Rattle.alloc_buffers.specs.declared.buffers.Buffer.{Buffer}
 use Rattle.alloc_buffers.specs.Placement.{Buffers, Placement, Room, room_for, fresh_room, in_new_buffer, in_buffer, alone, outside}
-use Rattle.alloc_buffers.specs.Placement.{place_by, place_of, small_place_of, run_place_of, made_at}
+use Rattle.alloc_buffers.specs.Placement.{allocation_by, allocation_of, small_allocation_of, run_allocation_of, made_at}
 
 set_free : (rs : List Region) (k : ℕ) (r : Region) → is_free r ≡ is_free (get_or rs k Free)
     → sum_by (λ (x : Region). cond (is_free x) 1 0) (set rs k r) ≡ sum_by (λ (x : Region). cond (is_free x) 1 0) rs
@@ -109,16 +109,16 @@ module _ (t : Table) where
   outside_near b m size = if_near t (nat_le size b.words) _ _ (new_near b m size (room_for t b.current b.words) (room b.current b.words))
       (alone_near b size (room_for t b.current size) (room b.current size))
 
-  by_near : (b : Buffers) (m size : ℕ) (o : Option Buffer) → IsNear t (place_by t b m size o)
+  by_near : (b : Buffers) (m size : ℕ) (o : Option Buffer) → IsNear t (allocation_by t b m size o)
   by_near b m size None = outside_near b m size
   by_near b m size (Some y) = if_near t (nat_le size y.rest) _ _ (λ x f s.
       subst (λ (q : Placement). free_count t ≤ free_count (made_at q.table q.place s) + 1) (some_is _ x f)
       (let a = twice_free t y.next (Filler size ∷ remainder (y.rest - size)) (Object s ∷ []) in omega (arith, a)))
       (outside_near b m size)
 
-  pub place_near : (b : Buffers) (m size : ℕ) → 2 * size ≤ t.words_per_region → IsNear t (place_of t b m size)
+  pub place_near : (b : Buffers) (m size : ℕ) → 2 * size ≤ t.words_per_region → IsNear t (allocation_of t b m size)
   place_near b m size small =
-      subst (λ (q : Bool). IsNear t (if q then small_place_of t b m size else run_place_of t b size))
+      subst (λ (q : Bool). IsNear t (if q then small_allocation_of t b m size else run_allocation_of t b size))
       (sym (le-leb (2 * size) t.words_per_region small)) (by_near b m size (slice_index_or b.open_buffers m None))
 
 -- ---- no region is taken

@@ -14,7 +14,7 @@ use Rattle.heap_steps.specs.declared.step.Reply.{Reply}
 use Rattle.step_core.specs.Stands.{CoreState}
 use Rattle.collection.specs.Asked.{MakesByPolicy, MakesRoom, due_steps}
 use Rattle.collection.specs.Rooms.{IsCreatable}
-use Rattle.collection.specs.Steps.{Collects, asked_words}
+use Rattle.collection.specs.Steps.{CollectsWithin, asked_words}
 use Rattle.collection.proofs.Leaving.{clash}
 use Rattle.collection.proofs.Took.{more, none}
 
@@ -23,8 +23,8 @@ due_most config true = omega arith
 due_most config false = omega arith
 
 module _ {W : Type 0} (sees : W → Event → W → Type 0) where
-  pub look_most : (due : Bool) (c d : CoreState) (x y : W) → Collects sees (due_steps c.config due) c x d y
-      → Collects sees (c.config.regions + 5) c x d y
+  pub look_most : (due : Bool) (c d : CoreState) (x y : W) → CollectsWithin sees (due_steps c.config due) c x d y
+      → CollectsWithin sees (c.config.regions + 5) c x d y
   look_most due c d x y h = more sees (due_steps c.config due) (c.config.regions + 5) c d x y (due_most c.config due) h
 
   -- nothing is due, and there is room

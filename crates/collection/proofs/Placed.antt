@@ -6,8 +6,8 @@ use Rattle.std.proofs.lemmas.Bool.{le-leb}
 use Rattle.regions.specs.Table.{Table, free_count, first_free, used_of}
 use Rattle.object_copy.proofs.Frees.{some_free}
 use Rattle.alloc_buffers.specs.declared.buffers.Buffer.{Buffer}
-use Rattle.alloc_buffers.specs.Placement.{Buffers, Room, room_for, fresh_room, in_new_buffer, alone, outside, place_by, place_of}
-use Rattle.alloc_buffers.specs.Placement.{small_place_of, run_place_of}
+use Rattle.alloc_buffers.specs.Placement.{Buffers, Room, room_for, fresh_room, in_new_buffer, alone, outside, allocation_by, allocation_of}
+use Rattle.alloc_buffers.specs.Placement.{small_allocation_of, run_allocation_of}
 
 some_none : {A : Type 0} (x : A) → Some x ≡ None → ⊥
 some_none x e = cc
@@ -39,12 +39,12 @@ module _ (t : Table) (some : 0 < free_count t) where
       (λ f. new_found b m size (room_for t b.current b.words) (room_found b.current b.words) f)
       (λ f. alone_found b size (room_for t b.current size) (room_found b.current size) f)
 
-  by_found : (b : Buffers) (m size : ℕ) (o : Option Buffer) → place_by t b m size o ≡ None → ⊥
+  by_found : (b : Buffers) (m size : ℕ) (o : Option Buffer) → allocation_by t b m size o ≡ None → ⊥
   by_found b m size None e = outside_found b m size e
   by_found b m size (Some x) e = if_none (nat_le size x.rest) _ _ e (λ f. some_none _ f) (λ f. outside_found b m size f)
 
-  pub place_found : (b : Buffers) (m size : ℕ) → 2 * size ≤ t.words_per_region → place_of t b m size ≡ None → ⊥
+  pub place_found : (b : Buffers) (m size : ℕ) → 2 * size ≤ t.words_per_region → allocation_of t b m size ≡ None → ⊥
   place_found b m size small e =
       by_found b m size (slice_index_or b.open_buffers m None)
-      (sym (ap (λ (q : Bool). if q then small_place_of t b m size else run_place_of t b size) (le-leb
+      (sym (ap (λ (q : Bool). if q then small_allocation_of t b m size else run_allocation_of t b size) (le-leb
       (2 * size) t.words_per_region small)) ∙ e)

@@ -6,8 +6,8 @@ use Rattle.std.proofs.lemmas.Bool.{lt-leb}
 use Rattle.heap_model.specs.Graph.{Graph}
 use Rattle.heap_model.specs.Heap.{Stored}
 use Rattle.regions.specs.Table.{first_run, free_count, is_free, new_object, run_regions}
-use Rattle.alloc_buffers.specs.declared.placement.Place.TheVariants as places
-use Rattle.alloc_buffers.specs.Placement.{Placement, in_run, made_at, place_of, run_count, run_place_of, small_place_of}
+use Rattle.alloc_buffers.specs.declared.placement.Allocation.TheVariants as allocations
+use Rattle.alloc_buffers.specs.Placement.{Placement, in_run, made_at, allocation_of, run_count, run_allocation_of, small_allocation_of}
 use Rattle.heap_steps.specs.declared.step.Action.{Action}
 use Rattle.heap_steps.specs.declared.step.Action.TheVariants as actions
 use Rattle.heap_steps.specs.declared.step.Counts.{Counts}
@@ -19,7 +19,7 @@ use Rattle.step_core.specs.Stands.{CoreState}
 use Rattle.step_core.specs.Answers.{IsFull}
 use Rattle.step_core.specs.Mutators.{ActsOn, HasActed, core_after, with_made}
 use Rattle.collection.specs.Rooms.{HasRun, IsSpared, TakesRegion}
-use Rattle.collection.specs.Steps.{HasRoom, asked_words}
+use Rattle.collection.specs.Steps.{FitsLeavingTwo, asked_words}
 use Rattle.collection.proofs.Made.{place_near, run_free, run_taken}
 use Rattle.collection.proofs.Placed.{place_found}
 
@@ -36,13 +36,13 @@ module _ (c : CoreState) where
   made_two p counts weaks o x e h =
       subst (λ (q : Option Placement). 2 ≤ free_count (with_made c p counts weaks q).table) (sym e) (h _)
 
-  after_two : (m : ℕ) (a : Action) → IsNew a → (x : Placement) → place_of c.table c.buffers m (asked_words a) ≡ Some x
+  after_two : (m : ℕ) (a : Action) → IsNew a → (x : Placement) → allocation_of c.table c.buffers m (asked_words a) ≡ Some x
       → ((s : Stored) → 2 ≤ free_count (made_at x.table x.place s)) → 2 ≤ free_count (core_after c m a).table
   after_two m (actions.New to counts) new x e h = made_two _ counts 0 _ x e h
   after_two m (actions.NewWeak to counts weaks) new x e h = made_two _ counts weaks _ x e h
   after_two m _ new x e h = absurd new
 
-  by_place : (op : Op) → IsNew op.action → (x : Placement) → place_of c.table c.buffers op.mutator (asked_words op.action) ≡ Some x
+  by_place : (op : Op) → IsNew op.action → (x : Placement) → allocation_of c.table c.buffers op.mutator (asked_words op.action) ≡ Some x
       → (2 ≤ free_count c.table → (s : Stored) → 2 ≤ free_count (made_at x.table x.place s)) → IsSpared c op
   by_place op new x e h = record {
     place = none_some x _ e;
@@ -53,7 +53,7 @@ module _ (c : CoreState) where
   pub small_spared : (op : Op) → IsNew op.action → 2 * asked_words op.action ≤ c.table.words_per_region → 2 < free_count c.table
       → IsSpared c op
   small_spared op new small more =
-      let (x, e) = some_of (place_of c.table c.buffers op.mutator (asked_words op.action))
+      let (x, e) = some_of (allocation_of c.table c.buffers op.mutator (asked_words op.action))
       (place_found c.table (omega arith) c.buffers op.mutator (asked_words op.action) small) in
       by_place op new x e (λ two s.
       (let n = place_near c.table c.buffers op.mutator (asked_words op.action) small x e s in omega (arith, n, more)))
@@ -65,8 +65,8 @@ module _ (c : CoreState) where
       let size = asked_words op.action in
       let count = run_count c.table.words_per_region size in
       let (k, e) = some_of (first_run is_free count c.table.regions) r.run in
-      by_place op new (record { place = places.Run k count; table = c.table; buffers = c.buffers })
-      (ap (λ (q : Bool). if q then small_place_of c.table c.buffers op.mutator size else run_place_of c.table c.buffers size)
+      by_place op new (record { place = allocations.Run k count; table = c.table; buffers = c.buffers })
+      (ap (λ (q : Bool). if q then small_allocation_of c.table c.buffers op.mutator size else run_allocation_of c.table c.buffers size)
       (lt-leb (2 * size) c.table.words_per_region large) ∙ ap (in_run c.table c.buffers count) e)
       (λ two s.
       (let f = run_free c.table k count (run_regions c.table.words_per_region s count) in let g = r.two in omega (arith, f, g)))
@@ -80,7 +80,7 @@ module _ (c : CoreState) where
     subst (λ (q : Option Placement). 2 ≤ free_count (with_made c p counts weaks q).table) e two,
   )
 
-  after_few : (m : ℕ) (a : Action) → IsNew a → (x : Placement) → place_of c.table c.buffers m (asked_words a) ≡ Some x
+  after_few : (m : ℕ) (a : Action) → IsNew a → (x : Placement) → allocation_of c.table c.buffers m (asked_words a) ≡ Some x
       → 2 ≤ free_count (core_after c m a).table → (s : Stored) × (2 ≤ free_count (made_at x.table x.place s))
   after_few m (actions.New to counts) new x e two = made_few _ counts 0 _ x e two
   after_few m (actions.NewWeak to counts weaks) new x e two = made_few _ counts weaks _ x e two
@@ -88,16 +88,16 @@ module _ (c : CoreState) where
 
   -- it takes one of two free regions
   pub small_full : (op : Op) → IsNew op.action → free_count c.table ≤ 2 → TakesRegion c op.mutator (asked_words op.action)
-      → HasRoom c op → ⊥
+      → FitsLeavingTwo c op → ⊥
   small_full op new few takes room =
-      let (x, e) = some_of (place_of c.table c.buffers op.mutator (asked_words op.action)) room.place in
+      let (x, e) = some_of (allocation_of c.table c.buffers op.mutator (asked_words op.action)) room.place in
       let (s, two) = after_few op.mutator op.action new x e room.two in
       let less = takes.less x s e in
       absurd (omega (arith, less, two, few))
 
   -- it has no run, or not two regions beside it
   pub run_full : (op : Op) → IsNew op.action → c.table.words_per_region < 2 * asked_words op.action
-      → (HasRun c (asked_words op.action) → ⊥) → HasRoom c op → ⊥
+      → (HasRun c (asked_words op.action) → ⊥) → FitsLeavingTwo c op → ⊥
   run_full op new large none room = go (first_run is_free count c.table.regions) refl
     where
       size : ℕ
@@ -106,8 +106,8 @@ module _ (c : CoreState) where
       count : ℕ
       count = run_count c.table.words_per_region size
 
-      placed : place_of c.table c.buffers op.mutator size ≡ in_run c.table c.buffers count (first_run is_free count c.table.regions)
-      placed = ap (λ (q : Bool). if q then small_place_of c.table c.buffers op.mutator size else run_place_of c.table c.buffers size)
+      placed : allocation_of c.table c.buffers op.mutator size ≡ in_run c.table c.buffers count (first_run is_free count c.table.regions)
+      placed = ap (λ (q : Bool). if q then small_allocation_of c.table c.buffers op.mutator size else run_allocation_of c.table c.buffers size)
           (lt-leb (2 * size) c.table.words_per_region large)
 
       go : (o : Option ℕ) → first_run is_free count c.table.regions ≡ o → ⊥
@@ -131,7 +131,7 @@ pub spared_two : (r : Reply) (c d : CoreState) (op : Op) → IsSpared c op → A
 spared_two (replies.Refused why) c d op s h two = let e = ap (λ (x : CoreState). free_count x.table) h in omega (arith, e, two)
 spared_two _ c d op s h two = acted_two c d op s h two
 
-full_place : (g : Graph) (m : ℕ) (a : Action) (c : CoreState) → IsFull g m a c → place_of c.table c.buffers m (asked_words a) ≡ None
+full_place : (g : Graph) (m : ℕ) (a : Action) (c : CoreState) → IsFull g m a c → allocation_of c.table c.buffers m (asked_words a) ≡ None
 full_place g m (actions.New to counts) c f = f.1
 full_place g m (actions.NewWeak to counts weaks) c f = f.1
 full_place g m _ c f = absurd f

@@ -24,7 +24,7 @@ use Rattle.step_core.specs.Answers.{Follows, IsFullStep}
 use Rattle.step_core.specs.Cycle.{Does}
 use Rattle.step_core.specs.Passages.{IsPassage, Passes, Runs}
 use Rattle.collection.specs.Space.{HasReached, IsCollected}
-use Rattle.collection.specs.Steps.{Collects, CollectsSome, HoldsBack, IsCollectors, Makes, Sees, TakesOwn}
+use Rattle.collection.specs.Steps.{CollectsWithin, CollectsSome, HoldsBack, IsCollectors, Makes, Sees, TakesOwn}
 use Rattle.collection.proofs.Reached.{by_reached, none_cleared, then_cleared}
 
 -- ---- one step
@@ -79,7 +79,7 @@ module _ {W : Type 0} (sees : W → Event → W → Type 0) where
   sees_then x y z [] fs h k = subst (λ (v : W). Sees sees v fs z) h k
   sees_then x y z (e ∷ es) fs h k = (h.0, h.1, sees_then h.0 y z es fs h.2 k)
 
-  pub none : (c : CoreState) (x : W) → Collects sees 0 c x c x
+  pub none : (c : CoreState) (x : W) → CollectsWithin sees 0 c x c x
   none c x = record {
     events = [];
     few = omega arith;
@@ -93,7 +93,7 @@ module _ {W : Type 0} (sees : W → Event → W → Type 0) where
 
   pub one : (c c' : CoreState) (x x' : W) (e : Event) (k : CollectorStep) → e.step ≡ steps.Collector k → e.actor ≡ actors.Collector
       → sees x e x' → ((s : State) → Stands s c → Passes s c e c') → (2 ≤ free_count c.table → 2 ≤ free_count c'.table)
-      → c'.config ≡ c.config → c'.next ≡ c.next → Collects sees 1 c x c' x'
+      → c'.config ≡ c.config → c'.next ≡ c.next → CollectsWithin sees 1 c x c' x'
   one c c' x x' e k is actor seen passes two config next = record {
     events = e ∷ [];
     few = omega arith;
@@ -105,7 +105,7 @@ module _ {W : Type 0} (sees : W → Event → W → Type 0) where
     next = next;
   }
 
-  pub more : (m n : ℕ) (c c' : CoreState) (x x' : W) → m ≤ n → Collects sees m c x c' x' → Collects sees n c x c' x'
+  pub more : (m n : ℕ) (c c' : CoreState) (x x' : W) → m ≤ n → CollectsWithin sees m c x c' x' → CollectsWithin sees n c x c' x'
   more m n c c' x x' h a = record {
     events = a.events;
     few = let few = a.few in omega (arith, few, h);
@@ -117,8 +117,8 @@ module _ {W : Type 0} (sees : W → Event → W → Type 0) where
     next = a.next;
   }
 
-  pub chain : (m n o : ℕ) (c d c' : CoreState) (x y x' : W) → m + n ≤ o → Collects sees m c x d y → Collects sees n d y c' x'
-      → Collects sees o c x c' x'
+  pub chain : (m n o : ℕ) (c d c' : CoreState) (x y x' : W) → m + n ≤ o → CollectsWithin sees m c x d y → CollectsWithin sees n d y c' x'
+      → CollectsWithin sees o c x c' x'
   chain m n o c d c' x y x' h a b = record {
     events = a.events ++ b.events;
     few = let p = a.few in let q = b.few in let e = length-append a.events b.events in omega (arith, p, q, e, h);
@@ -149,7 +149,7 @@ module _ {W : Type 0} (sees : W → Event → W → Type 0) where
   unfolding more
   some_more m n c c' x x' h a = record { collects = more m n c c' x x' h a.collects; some = a.some }
 
-  pub some_then : (m n o : ℕ) (c d c' : CoreState) (x y x' : W) → m + n ≤ o → CollectsSome sees m c x d y → Collects sees n d y c' x'
+  pub some_then : (m n o : ℕ) (c d c' : CoreState) (x y x' : W) → m + n ≤ o → CollectsSome sees m c x d y → CollectsWithin sees n d y c' x'
       → CollectsSome sees o c x c' x'
   unfolding chain
   some_then m n o c d c' x y x' h a b = record {
@@ -157,7 +157,7 @@ module _ {W : Type 0} (sees : W → Event → W → Type 0) where
     some = (let e = length-append a.collects.events b.events in let f = a.some in omega (arith, e, f));
   }
 
-  pub then_some : (m n o : ℕ) (c d c' : CoreState) (x y x' : W) → m + n ≤ o → Collects sees m c x d y → CollectsSome sees n d y c' x'
+  pub then_some : (m n o : ℕ) (c d c' : CoreState) (x y x' : W) → m + n ≤ o → CollectsWithin sees m c x d y → CollectsSome sees n d y c' x'
       → CollectsSome sees o c x c' x'
   unfolding chain
   then_some m n o c d c' x y x' h a b = record {
@@ -166,14 +166,14 @@ module _ {W : Type 0} (sees : W → Event → W → Type 0) where
   }
 
   -- the state after the steps, and what was reachable before them
-  pub reached : (m : ℕ) (c c' : CoreState) (x x' : W) (s : State) → Collects sees m c x c' x' → Stands s c
+  pub reached : (m : ℕ) (c c' : CoreState) (x x' : W) (s : State) → CollectsWithin sees m c x c' x' → Stands s c
       → (after : State) × Stands after c' × HasReached s.graph after.graph
   reached m c c' x x' s a stands =
       let r = a.runs s stands in
       (r.last, r.stands, passage_reached s r.last c c' a.events a.collectors r.passage)
 
   -- a whole collection after other steps
-  pub collected_after : (m : ℕ) (c c' d : CoreState) (x x' : W) (s : State) → Collects sees m c x c' x' → Stands s c
+  pub collected_after : (m : ℕ) (c c' d : CoreState) (x x' : W) (s : State) → CollectsWithin sees m c x c' x' → Stands s c
       → ((r : State) → Stands r c' → IsCollected r.graph d) → IsCollected s.graph d
   collected_after m c c' d x x' s a stands f =
       let (mid, there, before) = reached m c c' x x' s a stands in
@@ -188,8 +188,8 @@ sees_none : (es : List Event) → Sees {W = Unit {0}} (λ x e y. Unit {0}) nobod
 sees_none [] = refl
 sees_none (e ∷ es) = (nobody, tt, sees_none es)
 
-pub unseen : {W : Type 0} (sees : W → Event → W → Type 0) (most : ℕ) (c c' : CoreState) (x x' : W) → Collects sees most c x c' x'
-    → Collects {W = Unit {0}} (λ x e y. Unit {0}) most c nobody c' nobody
+pub unseen : {W : Type 0} (sees : W → Event → W → Type 0) (most : ℕ) (c c' : CoreState) (x x' : W) → CollectsWithin sees most c x c' x'
+    → CollectsWithin {W = Unit {0}} (λ x e y. Unit {0}) most c nobody c' nobody
 unseen sees most c c' x x' a = record {
   events = a.events;
   few = a.few;

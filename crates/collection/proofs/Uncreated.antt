@@ -5,7 +5,7 @@ use Rattle.std.proofs.lemmas.Bool.Decides.{eqb_tells}
 use Rattle.heap_words.specs.declared.config.Config.{Config}
 use Rattle.heap_words.specs.Configs.{object_limit}
 use Rattle.regions.specs.Table.{free_count}
-use Rattle.alloc_buffers.specs.Placement.{Placement, place_of}
+use Rattle.alloc_buffers.specs.Placement.{Placement, allocation_of}
 use Rattle.heap_steps.specs.declared.step.Action.{Action}
 use Rattle.heap_steps.specs.declared.step.Action.TheVariants as actions
 use Rattle.heap_steps.specs.declared.step.Counts.{Counts}
@@ -30,8 +30,8 @@ after_next c m a new = go a new
     made p counts weaks (Some x) = inl refl
 
     go : (a : Action) → IsNew a → ((core_after c m a).next ≡ c.next + 1) ⊎ ((core_after c m a).table ≡ c.table)
-    go (actions.New to counts) new = made _ counts 0 (place_of c.table c.buffers m (asked_words (actions.New to counts)))
-    go (actions.NewWeak to counts weaks) new = made _ counts weaks (place_of c.table c.buffers m (asked_words
+    go (actions.New to counts) new = made _ counts 0 (allocation_of c.table c.buffers m (asked_words (actions.New to counts)))
+    go (actions.NewWeak to counts weaks) new = made _ counts weaks (allocation_of c.table c.buffers m (asked_words
         (actions.NewWeak to counts weaks)))
     go _ new = absurd new
 

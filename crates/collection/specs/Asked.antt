@@ -11,7 +11,7 @@ use Rattle.graph_runs.specs.State.{State}
 use Rattle.step_core.specs.Making.{HasMade}
 use Rattle.step_core.specs.Stands.{CoreState, Stands}
 use Rattle.collection.specs.Rooms.{IsCreatable, IsFilled}
-use Rattle.collection.specs.Steps.{Collects, CollectsSome, HasRoom, IsDue, LeavesTwo, Makes}
+use Rattle.collection.specs.Steps.{CollectsWithin, CollectsSome, FitsLeavingTwo, IsDue, LeavesTwo, Makes}
 
 -- so many steps are due at most: none while words are left to ask for, else what a look takes
 abbrev pub due_steps : Config → Bool → ℕ
@@ -22,12 +22,12 @@ pub record MakesRoom {W : Type 0} (sees : W → Event → W → Type 0) (due : B
     (c' : CoreState) (x' : W) : Type 0 where
   pub looked : CoreState
   pub seen : W
-  pub look : Collects sees (due_steps c.config due) c x looked seen
+  pub look : CollectsWithin sees (due_steps c.config due) c x looked seen
   pub some : due ≡ true → IsDue c begin_at → CollectsSome sees (c.config.regions + 5) c x looked seen
   pub rest : ℕ
   pub few : rest ≤ 3 * c.config.regions + 7
-  pub none : HasRoom looked op → rest ≡ 0
-  pub more : Collects sees rest looked seen c' x'
+  pub none : FitsLeavingTwo looked op → rest ≡ 0
+  pub more : CollectsWithin sees rest looked seen c' x'
 
 -- The same, and then the mutator's own step, or none
 pub record IsPaced {W : Type 0} (sees : W → Event → W → Type 0) (due : Bool) (begin_at : ℕ) (op : Op) (reply : Reply)

@@ -4,7 +4,7 @@ use Rattle.heap_words.specs.Configs.{object_limit}
 use Rattle.heap_model.specs.Graph.{Graph}
 use Rattle.heap_model.specs.Heap.{Stored}
 use Rattle.regions.specs.Table.{Table, first_run, free_count, is_free, used_of}
-use Rattle.alloc_buffers.specs.Placement.{Placement, made_at, place_of, run_count}
+use Rattle.alloc_buffers.specs.Placement.{Placement, made_at, allocation_of, run_count}
 use Rattle.heap_steps.specs.Actors.{IsThird}
 use Rattle.heap_steps.specs.declared.step.Action.{Action}
 use Rattle.heap_steps.specs.declared.step.Op.{Op}
@@ -27,12 +27,12 @@ has_rest t (Some k) words = nat_le (used_of t k + words) t.words_per_region
 -- the object has a place, and as many regions are free once it is made there as before
 pub record FitsOpen (c : CoreState) (m size : ℕ) : Type 0 where
   pub place : Placement
-  pub is : place_of c.table c.buffers m size ≡ Some place
+  pub is : allocation_of c.table c.buffers m size ≡ Some place
   pub free : (object : Stored) → free_count (made_at place.table place.place object) ≡ free_count c.table
 
 -- wherever the object has a place, a region less is free once it is made there
 pub record TakesRegion (c : CoreState) (m size : ℕ) : Type 0 where
-  pub less : (p : Placement) (object : Stored) → place_of c.table c.buffers m size ≡ Some p
+  pub less : (p : Placement) (object : Stored) → allocation_of c.table c.buffers m size ≡ Some p
       → free_count (made_at p.table p.place object) + 1 ≡ free_count c.table
 
 -- there is a run of free regions for the object, and two are free beside it
@@ -42,7 +42,7 @@ pub record HasRun (c : CoreState) (size : ℕ) : Type 0 where
 
 -- the object has a place, and two free regions stay two where it is made
 pub record IsSpared (c : CoreState) (op : Op) : Type 0 where
-  pub place : place_of c.table c.buffers op.mutator (asked_words op.action) ≢ None
+  pub place : allocation_of c.table c.buffers op.mutator (asked_words op.action) ≢ None
   pub two : 2 ≤ free_count c.table → 2 ≤ free_count (core_after c op.mutator op.action).table
 
 -- the heap has too few regions to leave two beside the object, and a whole collection was just done

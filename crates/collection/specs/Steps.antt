@@ -3,7 +3,7 @@ use Rattle.std.specs.Prelude.{◌≡◌, ◌≢◌, ◌⊎◌, ◌+◌, ◌*◌,
 use Rattle.heap_words.specs.declared.config.Config.{Config}
 use Rattle.heap_words.specs.Sizes.{size_of}
 use Rattle.regions.specs.Table.{free_count}
-use Rattle.alloc_buffers.specs.Placement.{place_of, run_count}
+use Rattle.alloc_buffers.specs.Placement.{allocation_of, run_count}
 use Rattle.heap_steps.specs.declared.step.Action.{Action}
 use Rattle.heap_steps.specs.declared.step.Action.TheVariants as actions
 use Rattle.heap_steps.specs.declared.step.Actor.TheVariants as actors
@@ -29,7 +29,7 @@ asked_words (actions.NewWeak to counts weaks) = size_of counts.pointers weaks co
 asked_words _ = 0
 
 -- an object of so many words is asked for in a heap of these sizes
-pub record IsAsked (config : Config) (o : Op) (words : ℕ) : Type 0 where
+pub record AsksFor (config : Config) (o : Op) (words : ℕ) : Type 0 where
   pub op : IsOp config o
   pub new : IsNew o.action
   pub size : words ≡ asked_words o.action
@@ -43,8 +43,8 @@ abbrev pub LeavesTwo : Config → Action → Type 0
 LeavesTwo config a = regions_for config.words (asked_words a) + 2 < config.regions
 
 -- the object has a place, and two regions are free once it is made there
-pub record HasRoom (c : CoreState) (op : Op) : Type 0 where
-  pub place : place_of c.table c.buffers op.mutator (asked_words op.action) ≢ None
+pub record FitsLeavingTwo (c : CoreState) (op : Op) : Type 0 where
+  pub place : allocation_of c.table c.buffers op.mutator (asked_words op.action) ≢ None
   pub two : 2 ≤ free_count (core_after c op.mutator op.action).table
 
 -- ---- steps, and who watches them
@@ -61,7 +61,7 @@ pub record IsCollectors (e : Event) : Type 0 where
 
 -- The collector took steps, so many at most, and the watch saw them. From each state that the core stood for they lead on to one
 -- that it stands for, through states and cores between. Where two regions were free, two are; the sizes stay, and no name is given
-pub record Collects {W : Type 0} (sees : W → Event → W → Type 0) (most : ℕ) (c : CoreState) (x : W) (c' : CoreState) (x' : W) : Type 0 where
+pub record CollectsWithin {W : Type 0} (sees : W → Event → W → Type 0) (most : ℕ) (c : CoreState) (x : W) (c' : CoreState) (x' : W) : Type 0 where
   pub events : List Event
   pub few : length events ≤ most
   pub collectors : All IsCollectors events
@@ -74,7 +74,7 @@ pub record Collects {W : Type 0} (sees : W → Event → W → Type 0) (most : �
 -- at least one of these
 pub record CollectsSome {W : Type 0} (sees : W → Event → W → Type 0) (most : ℕ) (c : CoreState) (x : W) (c' : CoreState) (x' : W)
     : Type 0 where
-  pub collects : Collects sees most c x c' x'
+  pub collects : CollectsWithin sees most c x c' x'
   pub some : 0 < length collects.events
 
 -- a step is due at a look: marking runs, or no more regions are free than where a cycle begins
@@ -99,12 +99,12 @@ pub record HoldsBack {W : Type 0} (op : Op) (reply : Reply) (c : CoreState) (x :
   pub core : c' ≡ c
   pub watch : x' ≡ x
   pub leaves : LeavesTwo c.config op.action
-  pub no_room : HasRoom c op → ⊥
+  pub no_room : FitsLeavingTwo c op → ⊥
 
 -- The collector took steps, so many at most, and after them the mutator its own, or none
 pub record Makes {W : Type 0} (sees : W → Event → W → Type 0) (most : ℕ) (op : Op) (reply : Reply)
     (c : CoreState) (x : W) (c' : CoreState) (x' : W) : Type 0 where
   pub core : CoreState
   pub watch : W
-  pub collects : Collects sees most c x core watch
+  pub collects : CollectsWithin sees most c x core watch
   pub own : TakesOwn sees op reply core watch c' x' ⊎ HoldsBack op reply core watch c' x'

@@ -8,7 +8,7 @@ ghost use Rattle.regions.specs.Table.{free_count};
 ghost use Rattle.graph_runs.specs.State.{State};
 ghost use Rattle.graph_runs.specs.Run.{IsNew};
 ghost use Rattle.collection.specs.Space.{IsPacked, IsQuiet, LieBelowFree, ordinary_end};
-ghost use Rattle.collection.specs.Steps.{Collects, HasRoom, IsAsked};
+ghost use Rattle.collection.specs.Steps.{CollectsWithin, FitsLeavingTwo, AsksFor};
 ghost use Rattle.collection.specs.Rooms.{HasRun, IsSpared};
 
 use crate::numbers::Policy;
@@ -32,7 +32,7 @@ fn took_some(reply: Reply) -> bool
 /// as high as the highest was, else each is below each free one.
 fn compact_once<W: Watch>(core: &mut Core, policy: &mut Policy, watch: &mut W) -> bool
     requires third { IsThird core.old.config.format }
-    ensures collects { Collects W.sees 1 core.old watch.old core.new watch.new }
+    ensures collects { CollectsWithin W.sees 1 core.old watch.old core.new watch.new }
     ensures quiet { (s : State) → IsQuiet s core.old → IsQuiet s core.new }
     ensures packed { (g : Graph) → IsPacked g core.old → IsPacked g core.new }
     ensures lower { result ≡ true → ordinary_end core.new.table < ordinary_end core.old.table }
@@ -52,14 +52,14 @@ pub(crate) fn compact_for<W: Watch>(
     watch: &mut W,
 ) -> bool
     requires third { IsThird core.old.config.format }
-    requires asked { IsAsked core.old.config op.now size }
+    requires asked { AsksFor core.old.config op.now size }
     requires large { core.old.config.words < 2 * size }
     requires within { size ≤ core.old.config.regions * core.old.config.words }
-    ensures collects { Collects W.sees (core.old.config.regions + 1) core.old watch.old core.new watch.new }
+    ensures collects { CollectsWithin W.sees (core.old.config.regions + 1) core.old watch.old core.new watch.new }
     ensures quiet { (s : State) → IsQuiet s core.old → IsQuiet s core.new }
     ensures packed { (g : Graph) → IsPacked g core.old → IsPacked g core.new }
     ensures spared { result ≡ true → IsSpared core.new op.now }
-    ensures full { result ≡ false → HasRoom core.new op.now → ⊥ }
+    ensures full { result ≡ false → FitsLeavingTwo core.new op.now → ⊥ }
     ensures none { result ≡ false → HasRun core.new size → ⊥ }
     ensures below { result ≡ false → (s : State) → IsQuiet s core.old → 2 ≤ free_count core.old.table → LieBelowFree core.new.table }
 {

@@ -3,7 +3,7 @@
 
 ghost use Rattle.std.specs.Prelude.{◌≡◌, ◌⊎◌, ◌+◌, ◌<◌, ◌≤◌, true};
 ghost use Rattle.regions.specs.Table.{free_count};
-ghost use Rattle.collection.specs.Steps.{Collects, CollectsSome, IsDue};
+ghost use Rattle.collection.specs.Steps.{CollectsWithin, CollectsSome, IsDue};
 
 use crate::numbers::{Policy, moved};
 use crate::steps::{Watch, take};
@@ -24,7 +24,7 @@ fn pause_young<W: Watch>(core: &mut Core, policy: &mut Policy, watch: &mut W)
 
 /// Ends a cycle: remark and cleanup. Evacuation is due then.
 fn end_cycle<W: Watch>(core: &mut Core, policy: &mut Policy, watch: &mut W)
-    ensures { Collects W.sees 2 core.old watch.old core.new watch.new }
+    ensures { CollectsWithin W.sees 2 core.old watch.old core.new watch.new }
 {
     take(core, policy, CollectorStep::Remark, watch);
     take(core, policy, CollectorStep::Cleanup, watch);
@@ -50,7 +50,7 @@ fn evacuate_some<W: Watch>(
     left: &mut u32,
     watch: &mut W,
 ) -> bool
-    ensures collects { Collects W.sees 1 core.old watch.old core.new watch.new }
+    ensures collects { CollectsWithin W.sees 1 core.old watch.old core.new watch.new }
     ensures more { result ≡ true → free_count core.old.table < free_count core.new.table }
 {
     if policy.wanted == 0 || *left == 0 {
@@ -79,7 +79,7 @@ fn evacuate_some<W: Watch>(
 
 /// Evacuates regions in which little is live for as long as that pays, within the budget of words for a look.
 fn evacuate<W: Watch>(core: &mut Core, policy: &mut Policy, watch: &mut W)
-    ensures { Collects W.sees (core.old.config.regions + 1) core.old watch.old core.new watch.new }
+    ensures { CollectsWithin W.sees (core.old.config.regions + 1) core.old watch.old core.new watch.new }
 {
     let mut left = policy.pause_words;
     'pauses: loop {
@@ -93,7 +93,7 @@ fn evacuate<W: Watch>(core: &mut Core, policy: &mut Policy, watch: &mut W)
 
 /// Begins a cycle where few regions are free, or many words were asked for since the last one began.
 fn begin_cycle<W: Watch>(core: &mut Core, policy: &mut Policy, watch: &mut W)
-    ensures collects { Collects W.sees 3 core.old watch.old core.new watch.new }
+    ensures collects { CollectsWithin W.sees 3 core.old watch.old core.new watch.new }
     ensures some { free_count core.old.table ≤ policy.old.begin_at → CollectsSome W.sees 3 core.old watch.old core.new watch.new }
 {
     let free = core.free_regions();
@@ -114,7 +114,7 @@ fn begin_cycle<W: Watch>(core: &mut Core, policy: &mut Policy, watch: &mut W)
 
 /// Goes on with a cycle, or begins one where it is due.
 fn mark_or_begin<W: Watch>(core: &mut Core, policy: &mut Policy, watch: &mut W)
-    ensures collects { Collects W.sees 3 core.old watch.old core.new watch.new }
+    ensures collects { CollectsWithin W.sees 3 core.old watch.old core.new watch.new }
     ensures some { IsDue core.old policy.old.begin_at → CollectsSome W.sees 3 core.old watch.old core.new watch.new }
 {
     if core.marking() {
@@ -126,7 +126,7 @@ fn mark_or_begin<W: Watch>(core: &mut Core, policy: &mut Policy, watch: &mut W)
 
 /// The same, and the evacuation after a cycle.
 fn cycle_on<W: Watch>(core: &mut Core, policy: &mut Policy, watch: &mut W)
-    ensures collects { Collects W.sees (core.old.config.regions + 4) core.old watch.old core.new watch.new }
+    ensures collects { CollectsWithin W.sees (core.old.config.regions + 4) core.old watch.old core.new watch.new }
     ensures some { IsDue core.old policy.old.begin_at
         → CollectsSome W.sees (core.old.config.regions + 4) core.old watch.old core.new watch.new }
 {
@@ -144,7 +144,7 @@ fn young_on<W: Watch>(core: &mut Core, policy: &mut Policy, watch: &mut W)
 
 /// Refines what is queued beyond the cards that may be left, so that no more are left for a pause.
 fn refine_on<W: Watch>(core: &mut Core, policy: &mut Policy, watch: &mut W)
-    ensures collects { Collects W.sees 1 core.old watch.old core.new watch.new }
+    ensures collects { CollectsWithin W.sees 1 core.old watch.old core.new watch.new }
     ensures some { CollectsSome W.sees 1 core.old watch.old core.new watch.new ⊎ (core.new ≡ core.old) × (policy.new ≡ policy.old) }
 {
     let queued = core.queued();
@@ -161,7 +161,7 @@ fn refine_on<W: Watch>(core: &mut Core, policy: &mut Policy, watch: &mut W)
 /// collect_due(&mut core, &mut policy, &mut Unwatched);
 /// ```
 pub fn collect_due<W: Watch>(core: &mut Core, policy: &mut Policy, watch: &mut W)
-    ensures collects { Collects W.sees (core.old.config.regions + 5) core.old watch.old core.new watch.new }
+    ensures collects { CollectsWithin W.sees (core.old.config.regions + 5) core.old watch.old core.new watch.new }
     ensures some { IsDue core.old policy.old.begin_at
         → CollectsSome W.sees (core.old.config.regions + 5) core.old watch.old core.new watch.new }
 {
@@ -175,7 +175,7 @@ pub fn collect_due<W: Watch>(core: &mut Core, policy: &mut Policy, watch: &mut W
 
 /// Ends a cycle, if one runs.
 fn end_running<W: Watch>(core: &mut Core, policy: &mut Policy, watch: &mut W)
-    ensures { Collects W.sees 2 core.old watch.old core.new watch.new }
+    ensures { CollectsWithin W.sees 2 core.old watch.old core.new watch.new }
 {
     if core.marking() {
         end_cycle(core, policy, watch);
@@ -184,7 +184,7 @@ fn end_running<W: Watch>(core: &mut Core, policy: &mut Policy, watch: &mut W)
 
 /// Does all pauses that are left after a cycle.
 fn evacuate_all<W: Watch>(core: &mut Core, policy: &mut Policy, watch: &mut W)
-    ensures { Collects W.sees core.old.config.regions core.old watch.old core.new watch.new }
+    ensures { CollectsWithin W.sees core.old.config.regions core.old watch.old core.new watch.new }
 {
     if policy.wanted == 0 {
         return;
@@ -195,7 +195,7 @@ fn evacuate_all<W: Watch>(core: &mut Core, policy: &mut Policy, watch: &mut W)
 
 /// Brings a cycle to its end, if one runs, and what is left of the evacuation after it.
 pub(crate) fn finish_cycle<W: Watch>(core: &mut Core, policy: &mut Policy, watch: &mut W)
-    ensures { Collects W.sees (2 + core.old.config.regions) core.old watch.old core.new watch.new }
+    ensures { CollectsWithin W.sees (2 + core.old.config.regions) core.old watch.old core.new watch.new }
 {
     end_running(core, policy, watch);
     evacuate_all(core, policy, watch);

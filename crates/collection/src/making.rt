@@ -11,7 +11,7 @@ ghost use Rattle.heap_steps.specs.Actors.{IsOp, IsThird};
 ghost use Rattle.heap_steps.specs.declared.step.Reply.TheVariants as replies;
 ghost use Rattle.heap_steps.specs.declared.step.Refusal.TheVariants as refusals;
 ghost use Rattle.collection.specs.Asked.{MakesByPolicy, MakesRoom, due_steps};
-ghost use Rattle.collection.specs.Steps.{Collects, CollectsSome, HasRoom, IsAsked, IsDue, LeavesTwo, asked_words};
+ghost use Rattle.collection.specs.Steps.{CollectsWithin, CollectsSome, FitsLeavingTwo, AsksFor, IsDue, LeavesTwo, asked_words};
 ghost use Rattle.collection.specs.Space.{IsPacked, IsQuiet, LieBelowFree};
 ghost use Rattle.collection.specs.Rooms.{HasRun, IsCreatable, IsFilled, IsLastResort, IsSpared};
 
@@ -26,7 +26,7 @@ use step_core::Core;
 
 /// Takes what is due, if a look is.
 fn look<W: Watch>(core: &mut Core, policy: &mut Policy, size: u32, due: bool, watch: &mut W)
-    ensures collects { Collects W.sees (due_steps core.old.config due) core.old watch.old core.new watch.new }
+    ensures collects { CollectsWithin W.sees (due_steps core.old.config due) core.old watch.old core.new watch.new }
     ensures some { due ≡ true → IsDue core.old policy.old.begin_at
         → CollectsSome W.sees (core.old.config.regions + 5) core.old watch.old core.new watch.new }
 {
@@ -45,15 +45,15 @@ fn compact_all<W: Watch>(
     watch: &mut W,
 ) -> bool
     requires third { IsThird core.old.config.format }
-    requires asked { IsAsked core.old.config op.now size }
+    requires asked { AsksFor core.old.config op.now size }
     requires large { core.old.config.words < 2 * size }
     requires within { size ≤ core.old.config.regions * core.old.config.words }
-    ensures collects { Collects W.sees (core.old.config.regions + 1) core.old watch.old core.new watch.new }
+    ensures collects { CollectsWithin W.sees (core.old.config.regions + 1) core.old watch.old core.new watch.new }
     ensures quiet { (s : State) → IsQuiet s core.old → IsQuiet s core.new }
     ensures packed { (g : Graph) → IsPacked g core.old → IsPacked g core.new }
     ensures room { result ≡ true → IsSpared core.new op.now ⊎ (LeavesTwo core.old.config op.now.action → ⊥) }
     ensures leaves { result ≡ false → LeavesTwo core.old.config op.now.action }
-    ensures full { result ≡ false → HasRoom core.new op.now → ⊥ }
+    ensures full { result ≡ false → FitsLeavingTwo core.new op.now → ⊥ }
     ensures none { result ≡ false → HasRun core.new size → ⊥ }
     ensures below { result ≡ false → (s : State) → IsQuiet s core.old → 2 ≤ free_count core.old.table → LieBelowFree core.new.table }
 {
@@ -74,12 +74,12 @@ fn collect_all<W: Watch>(
     size: u32,
     watch: &mut W,
 ) -> bool
-    requires asked { IsAsked core.old.config op.now size }
+    requires asked { AsksFor core.old.config op.now size }
     requires within { size ≤ core.old.config.regions * core.old.config.words }
-    ensures collects { Collects W.sees (5 + 2 * core.old.config.regions) core.old watch.old core.new watch.new }
+    ensures collects { CollectsWithin W.sees (5 + 2 * core.old.config.regions) core.old watch.old core.new watch.new }
     ensures room { result ≡ true → IsSpared core.new op.now ⊎ IsLastResort core.old op.now core.new }
     ensures leaves { result ≡ false → LeavesTwo core.old.config op.now.action }
-    ensures full { result ≡ false → HasRoom core.new op.now → ⊥ }
+    ensures full { result ≡ false → FitsLeavingTwo core.new op.now → ⊥ }
     ensures filled { result ≡ false → (s : State) → Stands s core.old → IsFilled s.graph core.old op.now.action core.new }
 {
     collect(core, policy, watch);
@@ -105,13 +105,13 @@ fn make_room<W: Watch>(
     due: bool,
     watch: &mut W,
 ) -> bool
-    requires asked { IsAsked core.old.config op.now size }
+    requires asked { AsksFor core.old.config op.now size }
     requires within { size ≤ core.old.config.regions * core.old.config.words }
-    ensures collects { Collects W.sees (4 * core.old.config.regions + 12) core.old watch.old core.new watch.new }
+    ensures collects { CollectsWithin W.sees (4 * core.old.config.regions + 12) core.old watch.old core.new watch.new }
     ensures paced { MakesRoom W.sees due policy.old.begin_at op.now core.old watch.old core.new watch.new }
     ensures room { result ≡ true → IsSpared core.new op.now ⊎ IsLastResort core.old op.now core.new }
     ensures leaves { result ≡ false → LeavesTwo core.old.config op.now.action }
-    ensures full { result ≡ false → HasRoom core.new op.now → ⊥ }
+    ensures full { result ≡ false → FitsLeavingTwo core.new op.now → ⊥ }
     ensures filled { result ≡ false → (s : State) → Stands s core.old → IsFilled s.graph core.old op.now.action core.new }
 {
     look(core, policy, size, due, watch);
@@ -135,7 +135,7 @@ fn make_creatable<W: Watch>(
     due: bool,
     watch: &mut W,
 ) -> Reply
-    requires asked { IsAsked core.old.config op size }
+    requires asked { AsksFor core.old.config op size }
     requires creatable { IsCreatable core.old op.action }
     ensures { MakesByPolicy W.sees due policy.old.left policy.new.left policy.old.begin_at op result core.old watch.old core.new watch.new }
 {
@@ -158,7 +158,7 @@ fn make_looking<W: Watch>(
     due: bool,
     watch: &mut W,
 ) -> Reply
-    requires { IsAsked core.old.config op size }
+    requires { AsksFor core.old.config op size }
     ensures { MakesByPolicy W.sees due policy.old.left policy.new.left policy.old.begin_at op result core.old watch.old core.new watch.new }
 {
     core.law_remembers();
@@ -179,7 +179,7 @@ fn make_apart<W: Watch>(
     due: bool,
     watch: &mut W,
 ) -> Reply
-    requires { IsAsked core.old.config op size }
+    requires { AsksFor core.old.config op size }
     ensures { MakesByPolicy W.sees due policy.old.left policy.new.left policy.old.begin_at op result core.old watch.old core.new watch.new }
 {
     make_looking(core, policy, op, size, due, watch)

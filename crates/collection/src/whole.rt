@@ -5,7 +5,7 @@ ghost use Rattle.regions.specs.Table.{free_count};
 ghost use Rattle.graph_runs.specs.State.{State};
 ghost use Rattle.step_core.specs.Stands.{Stands};
 ghost use Rattle.collection.specs.Space.{IsCollected, IsQuiet, IsPacked};
-ghost use Rattle.collection.specs.Steps.{Collects};
+ghost use Rattle.collection.specs.Steps.{CollectsWithin};
 
 use crate::density::is_packed;
 use crate::numbers::Policy;
@@ -15,7 +15,7 @@ use step_core::Core;
 
 /// Ends marking, if it runs.
 fn end_marking<W: Watch>(core: &mut Core, policy: &mut Policy, watch: &mut W)
-    ensures collects { Collects W.sees 1 core.old watch.old core.new watch.new }
+    ensures collects { CollectsWithin W.sees 1 core.old watch.old core.new watch.new }
     ensures idle { core.new.marker.running ≡ false }
     ensures free { free_count core.old.table ≤ free_count core.new.table }
 {
@@ -27,7 +27,7 @@ fn end_marking<W: Watch>(core: &mut Core, policy: &mut Policy, watch: &mut W)
 /// A cycle of marking, in which no mutator takes a step, and the cleanup after it: what is kept then is what roots reach.
 fn mark_all<W: Watch>(core: &mut Core, policy: &mut Policy, watch: &mut W)
     requires idle { core.old.marker.running ≡ false }
-    ensures collects { Collects W.sees 3 core.old watch.old core.new watch.new }
+    ensures collects { CollectsWithin W.sees 3 core.old watch.old core.new watch.new }
     ensures quiet { (s : State) → Stands s core.old → IsCollected s.graph core.new }
     ensures free { free_count core.old.table ≤ free_count core.new.table }
 {
@@ -38,7 +38,7 @@ fn mark_all<W: Watch>(core: &mut Core, policy: &mut Policy, watch: &mut W)
 
 /// A pause of what is least live, with no budget. Answers whether more regions are free.
 fn pause_once<W: Watch>(core: &mut Core, policy: &mut Policy, watch: &mut W) -> bool
-    ensures collects { Collects W.sees 1 core.old watch.old core.new watch.new }
+    ensures collects { CollectsWithin W.sees 1 core.old watch.old core.new watch.new }
     ensures quiet { (s : State) → IsQuiet s core.old → IsQuiet s core.new }
     ensures more { result ≡ true → free_count core.old.table < free_count core.new.table }
     ensures packed { result ≡ false → (s : State) → IsQuiet s core.old → 2 ≤ free_count core.old.table → IsPacked s.graph core.new }
@@ -52,7 +52,7 @@ fn pause_once<W: Watch>(core: &mut Core, policy: &mut Policy, watch: &mut W) -> 
 /// Pauses for as long as each frees a region and one is in use: at most so many pauses as regions are in use. None where there is nothing
 /// to gain.
 pub(crate) fn pause_all<W: Watch>(core: &mut Core, policy: &mut Policy, watch: &mut W)
-    ensures collects { Collects W.sees (core.old.config.regions - free_count core.old.table) core.old watch.old core.new watch.new }
+    ensures collects { CollectsWithin W.sees (core.old.config.regions - free_count core.old.table) core.old watch.old core.new watch.new }
     ensures quiet { (s : State) → IsQuiet s core.old → IsQuiet s core.new }
     ensures packed { (s : State) → IsQuiet s core.old → 2 ≤ free_count core.old.table → IsPacked s.graph core.new }
 {
@@ -79,7 +79,7 @@ pub(crate) fn pause_all<W: Watch>(core: &mut Core, policy: &mut Policy, watch: &
 /// assert_eq!(rt; core.free_regions(), 4);
 /// ```
 pub fn collect<W: Watch>(core: &mut Core, policy: &mut Policy, watch: &mut W)
-    ensures collects { Collects W.sees (4 + (core.old.config.regions - free_count core.old.table)) core.old watch.old core.new watch.new }
+    ensures collects { CollectsWithin W.sees (4 + (core.old.config.regions - free_count core.old.table)) core.old watch.old core.new watch.new }
     ensures quiet { (s : State) → Stands s core.old → IsCollected s.graph core.new }
     ensures packed { (s : State) → Stands s core.old → 2 ≤ free_count core.old.table → IsPacked s.graph core.new }
 {

@@ -65,7 +65,7 @@ abbrev pub set_by : Layers → List LiveRow → ℕ → Bool
 set_by h rows = set_in h.table.words_per_region rows
 
 -- a region that may be evacuated, with its live bound
-pub record IsRow (h : Layers) (row : LiveRow) : Type 0 where
+pub record IsLiveRow (h : Layers) (row : LiveRow) : Type 0 where
   pub known : row.region < length h.table.regions
   pub ordinary : kind_of h.table row.region ≡ kinds.Ordinary
   pub live_bound : row.live_bound ≡ live_bound_of h.table h.tams.previous h.previous row.region
@@ -87,7 +87,7 @@ pub record CanEvacuate (h : Layers) (rows : List LiveRow) (card_words : ℕ) : T
   pub each_card : length h.cards.dirty ≡ card_count h.sets
   pub clean : (card : ℕ) → is_dirty h.cards card ≡ false
   pub remembers : Remembers h.table.words_per_region (kept_of h) card_words (is_dirty h.cards) (may_lead h.sets)
-  pub each_row : All (IsRow h) rows
+  pub each_row : All (IsLiveRow h) rows
   pub distinct : AreDistinct rows
   pub room : 2 * live_sum rows ≤ free_count h.table * h.table.words_per_region
 

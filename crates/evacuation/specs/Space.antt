@@ -5,7 +5,7 @@ use Rattle.heap_model.specs.Heap.{Heap, Stored, IsClosed, fields, with_field}
 use Rattle.heap_model.specs.Relocation.{IsMoved}
 use Rattle.heap_model.specs.Evacuation.{IsEvacuating, IsReached, place_after}
 use Rattle.regions.specs.Tiles.{Object, tile_size}
-use Rattle.object_copy.specs.Copies.{Places}
+use Rattle.object_copy.specs.CopiesAndForwards.{Destinations}
 use Rattle.refinement.specs.Remembering.{field_word}
 use Rattle.evacuation.specs.Evacuates.{words_at}
 
@@ -39,8 +39,8 @@ flag flags k = slice_index_or flags k false
 abbrev pub words_of : Stored → ℕ
 words_of x = tile_size (Object x)
 
-abbrev pub IsObject : Space → ℕ → Type 0
-IsObject s a = (x : Stored) × (s.object a ≡ Some x)
+abbrev pub IsSpaceObject : Space → ℕ → Type 0
+IsSpaceObject s a = (x : Stored) × (s.object a ≡ Some x)
 
 pub record IsField (s : Space) (a i : ℕ) : Type 0 where
   pub object : Stored
@@ -53,9 +53,9 @@ filled s (Some k) = Some (s.used k)
 
 -- ---- room: each object has at most half of a region's words, so a destination that is closed for want of room is more
 -- than half full
-abbrev pub HasRoom : ℕ → ℕ → Option ℕ → ℕ → Type 0
-HasRoom words free None left = 2 * left ≤ free * words
-HasRoom words free (Some fill) left = 2 * (left + fill) ≤ (free + 1) * words
+abbrev pub HasCopyRoom : ℕ → ℕ → Option ℕ → ℕ → Type 0
+HasCopyRoom words free None left = 2 * left ≤ free * words
+HasCopyRoom words free (Some fill) left = 2 * (left + fill) ≤ (free + 1) * words
 
 -- n destinations have so many copied words, the open one `fill` of them: those that are closed are more than half full, and where there are
 -- two or more in all, they are so all together
@@ -83,7 +83,7 @@ pub record IsPlan (l : Layout) (p : Plan) : Type 0 where
   pub small : (a : ℕ) (x : Stored) → p.heap.kept a ≡ Some x → set_of l a ≡ true → 2 * words_of x ≤ l.words
   pub limit : p.limit < 2 ^ 32
 
-pub record IsTaken (d : Places) (k : ℕ) : Type 0 where
+pub record IsDestination (d : Destinations) (k : ℕ) : Type 0 where
   pub at : ℕ
   pub is : slice_get d.regions at ≡ Some k
 
@@ -91,15 +91,15 @@ abbrev pub seen_as : Space → Heap → Heap
 seen_as s h = record { kept = s.object; roots = h.roots }
 
 -- between two copies. The roots are left aside
-pub record IsCopying (l : Layout) (p : Plan) (s : Space) (d : Places) : Type 0 where
+pub record IsCopying (l : Layout) (p : Plan) (s : Space) (d : Destinations) : Type 0 where
   pub heap : IsEvacuating (set_of l) p.heap s.forward (seen_as s p.heap)
   pub free : (k : ℕ) → s.free k ≡ true → l.chosen k ≡ false
-  pub taken : (k : ℕ) → IsTaken d k → l.chosen k ≡ false
-  pub last : (k : ℕ) → d.last ≡ Some k → IsTaken d k
+  pub taken : (k : ℕ) → IsDestination d k → l.chosen k ≡ false
+  pub last : (k : ℕ) → d.last ≡ Some k → IsDestination d k
   pub last_at : (k i : ℕ) → d.last ≡ Some k → slice_get d.regions i ≡ Some k → i + 1 ≡ length d.regions
-  pub apart : (k : ℕ) → IsTaken d k → s.free k ≡ false
-  pub placed : (a b : ℕ) → set_of l a ≡ true → s.forward a ≡ Some b → IsTaken d (b / l.words)
-  pub room : HasRoom l.words s.free_count (filled s d.last) s.left
+  pub apart : (k : ℕ) → IsDestination d k → s.free k ≡ false
+  pub placed : (a b : ℕ) → set_of l a ≡ true → s.forward a ≡ Some b → IsDestination d (b / l.words)
+  pub room : HasCopyRoom l.words s.free_count (filled s d.last) s.left
   pub list : s.free_count ≤ d.room
   pub limit : d.words + s.left ≤ p.limit
   pub tally : IsTally (set_of l) p.heap s.forward d.words
@@ -116,21 +116,21 @@ pub record IsNamed (l : Layout) (p : Plan) (a : ℕ) : Type 0 where
 
 -- ---- fields
 -- the word names nothing of the set
-abbrev pub IsClean : Layout → Option ℕ → Type 0
-IsClean l None = ⊤
-IsClean l (Some c) = set_of l c ≡ false
+abbrev pub IsOutsideSet : Layout → Option ℕ → Type 0
+IsOutsideSet l None = ⊤
+IsOutsideSet l (Some c) = set_of l c ≡ false
 
 -- where the word's target lies in another region, the word's card is noted
-abbrev pub IsNoted : Layout → List Bool → ℕ → Option ℕ → Type 0
-IsNoted l noted at None = ⊤
-IsNoted l noted at (Some c) = (c / l.words ≡ at / l.words) ⊎ (flag noted (at / l.card_words) ≡ true)
+abbrev pub IsCardNoted : Layout → List Bool → ℕ → Option ℕ → Type 0
+IsCardNoted l noted at None = ⊤
+IsCardNoted l noted at (Some c) = (c / l.words ≡ at / l.words) ⊎ (flag noted (at / l.card_words) ≡ true)
 
 abbrev pub IsSettled : Layout → List Bool → ℕ → Option ℕ → Type 0
-IsSettled l noted at w = IsClean l w × IsNoted l noted at w
+IsSettled l noted at w = IsOutsideSet l w × IsCardNoted l noted at w
 
 -- the word's card is noted where the word's target lies in another region, and no other card is that wasn't
 pub record NotesWord (l : Layout) (noted noted' : List Bool) (word target : ℕ) : Type 0 where
-  pub is_noted : IsNoted l noted' word (Some target)
+  pub is_noted : IsCardNoted l noted' word (Some target)
   pub grows : (c : ℕ) → flag noted c ≡ true → flag noted' c ≡ true
   pub count : length noted' ≡ length noted
   pub only : (c : ℕ) → flag noted' c ≡ true
@@ -148,7 +148,7 @@ abbrev pub IsStill : Space → ℕ → ℕ → Type 0
 IsStill s b n = (y : Stored) × (s.object b ≡ Some y) × (length (fields y) ≡ n)
 
 -- a field outside the set that leads to another region: a copy's, or one that named the set
-pub record NewCrossing (l : Layout) (s s' : Space) (d' : Places) (card : ℕ) : Type 0 where
+pub record NewCrossing (l : Layout) (s s' : Space) (d' : Destinations) (card : ℕ) : Type 0 where
   pub at : ℕ
   pub index : ℕ
   pub target : ℕ
@@ -159,12 +159,12 @@ pub record NewCrossing (l : Layout) (s s' : Space) (d' : Places) (card : ℕ) : 
   pub clean : set_of l target ≡ false
   pub in_card : field_word at index / l.card_words ≡ card
   pub leaves : target / l.words ≢ field_word at index / l.words
-  pub is_new : IsTaken d' (at / l.words)
+  pub is_new : IsDestination d' (at / l.words)
       ⊎ ((y : Stored) → s.object at ≡ Some y → (v : ℕ) × (slice_get (fields y) index ≡ Some (Some v)) × (set_of l v ≡ true))
 
 -- Objects outside the set stay, and each of their fields is as it was or was updated. New ones stand above what was handed out
 -- before, and none in a closed destination
-pub record IsAfter (l : Layout) (noted noted' : List Bool) (s s' : Space) (d d' : Places) : Type 0 where
+pub record IsAfter (l : Layout) (noted noted' : List Bool) (s s' : Space) (d d' : Destinations) : Type 0 where
   pub noted_grows : (c : ℕ) → flag noted c ≡ true → flag noted' c ≡ true
   pub noted_length : length noted' ≡ length noted
   pub noted_for : (c : ℕ) → flag noted' c ≡ true → (flag noted c ≡ true) ⊎ NewCrossing l s s' d' c
@@ -173,15 +173,15 @@ pub record IsAfter (l : Layout) (noted noted' : List Bool) (s s' : Space) (d d' 
   pub used_grows : (k : ℕ) → s.used k ≤ s'.used k
   pub stays : (b : ℕ) (y : Stored) → set_of l b ≡ false → s.object b ≡ Some y → IsStill s' b (length (fields y))
   pub new_above : (b : ℕ) (y : Stored) → set_of l b ≡ false → s'.object b ≡ Some y
-      → IsObject s b ⊎ (b / l.words * l.words + s.used (b / l.words) ≤ b)
-  pub closed : (k : ℕ) → IsTaken d k → d.last ≢ Some k
-      → ((b : ℕ) (y : Stored) → b / l.words ≡ k → s'.object b ≡ Some y → IsObject s b) × (d'.last ≢ Some k)
+      → IsSpaceObject s b ⊎ (b / l.words * l.words + s.used (b / l.words) ≤ b)
+  pub closed : (k : ℕ) → IsDestination d k → d.last ≢ Some k
+      → ((b : ℕ) (y : Stored) → b / l.words ≡ k → s'.object b ≡ Some y → IsSpaceObject s b) × (d'.last ≢ Some k)
   pub fields : (b : ℕ) (y y' : Stored) (i : ℕ) (w : Option ℕ) → set_of l b ≡ false → s.object b ≡ Some y
       → s'.object b ≡ Some y' → slice_get (fields y') i ≡ Some w
       → (slice_get (fields y) i ≡ Some w) ⊎ ((v : Option ℕ) × (slice_get (fields y) i ≡ Some v) × IsUpdated l noted' (field_word b i) v w)
 
 abbrev pub IsFieldClean : Layout → Space → ℕ → ℕ → Type 0
-IsFieldClean l s b i = (y : Stored) (w : Option ℕ) → s.object b ≡ Some y → slice_get (fields y) i ≡ Some w → IsClean l w
+IsFieldClean l s b i = (y : Stored) (w : Option ℕ) → s.object b ≡ Some y → slice_get (fields y) i ≡ Some w → IsOutsideSet l w
 
 abbrev pub IsFieldSettled : Layout → List Bool → Space → ℕ → ℕ → Type 0
 IsFieldSettled l noted s b i =
@@ -215,7 +215,7 @@ AllVisited l p visited = (b i a : ℕ) (x : Stored) → p.heap.kept b ≡ Some x
 -- the word's target is where it is now
 pub record IsNewWord (l : Layout) (s : Space) (w w' : Option ℕ) : Type 0 where
   pub moved : IsMoved (place_after (set_of l) s.forward) w w'
-  pub outside : IsClean l w'
+  pub outside : IsOutsideSet l w'
 
 -- the roots up to here are updated
 pub record AreRootsMoved (place : ℕ → Option ℕ) (before now : List (Option ℕ)) (i : ℕ) : Type 0 where
@@ -225,14 +225,14 @@ pub record AreRootsMoved (place : ℕ → Option ℕ) (before now : List (Option
 
 -- ---- one copy
 -- copies go to the open destination, or to a free region where the object doesn't fit there
-pub record GoesOn (l : Layout) (s s' : Space) (d d' : Places) (k : ℕ) : Type 0 where
+pub record GoesOn (l : Layout) (s s' : Space) (d d' : Destinations) (k : ℕ) : Type 0 where
   pub last : d.last ≡ Some k
   pub regions : d'.regions ≡ d.regions
   pub room : d'.room ≡ d.room
   pub free_count : s'.free_count ≡ s.free_count
   pub free : (j : ℕ) → s'.free j ≡ s.free j
 
-pub record TakesNext (l : Layout) (s s' : Space) (d d' : Places) (k size : ℕ) : Type 0 where
+pub record TakesNext (l : Layout) (s s' : Space) (d d' : Destinations) (k size : ℕ) : Type 0 where
   pub was_free : s.free k ≡ true
   pub empty : s.used k ≡ 0
   pub regions : d'.regions ≡ d.regions ++ k ∷ []
@@ -242,7 +242,7 @@ pub record TakesNext (l : Layout) (s s' : Space) (d d' : Places) (k size : ℕ) 
   pub free : (j : ℕ) → j ≢ k → s'.free j ≡ s.free j
   pub full : (f : ℕ) → filled s d.last ≡ Some f → l.words < f + size
 
-pub record CopiesTo (l : Layout) (s s' : Space) (d d' : Places) (from to : ℕ) (x : Stored) : Type 0 where
+pub record CopiesTo (l : Layout) (s s' : Space) (d d' : Destinations) (from to : ℕ) (x : Stored) : Type 0 where
   pub region : ℕ
   pub last : d'.last ≡ Some region
   pub words : d'.words ≡ d.words + words_of x
@@ -260,7 +260,7 @@ pub record CopiesTo (l : Layout) (s s' : Space) (d d' : Places) (from to : ℕ) 
   pub how : GoesOn l s s' d d' region ⊎ TakesNext l s s' d d' region (words_of x)
 
 -- a field of the object is another one
-pub record SetsField (s s' : Space) (a i : ℕ) (w : Option ℕ) (x : Stored) : Type 0 where
+pub record WritesField (s s' : Space) (a i : ℕ) (w : Option ℕ) (x : Stored) : Type 0 where
   pub object : s'.object a ≡ Some (with_field x i w)
   pub others : (c : ℕ) → (c ≡ a → ⊥) → s'.object c ≡ s.object c
   pub forward : (c : ℕ) → s'.forward c ≡ s.forward c

@@ -11,10 +11,10 @@ use Rattle.regions.specs.Shaped.{IsShaped}
 use Rattle.regions.specs.declared.row.Kind.TheVariants as kinds
 use Rattle.mark_bitmap.specs.Tops.{Tops}
 use Rattle.mark_bitmap.specs.Kept.{MarksObjects, heap_in, kept_in}
-use Rattle.object_copy.specs.Copies.{Places}
+use Rattle.object_copy.specs.CopiesAndForwards.{Destinations}
 use Rattle.evacuation.specs.Evacuates.{AreReachedWords, IsSameBut, stored_words}
 use Rattle.refinement.specs.Remembering.{field_word}
-use Rattle.evacuation.specs.Space.{Layout, Plan, Space, AllVisited, IsAfter, IsCopying, IsPlan, IsSettled, IsTaken, flag, set_of}
+use Rattle.evacuation.specs.Space.{Layout, Plan, Space, AllVisited, IsAfter, IsCopying, IsPlan, IsSettled, IsDestination, flag, set_of}
 use Rattle.evacuation.specs.declared.room.Context.{Context}
 use Rattle.evacuation.specs.declared.outside.Kept.{Kept}
 use Rattle.evacuation.specs.declared.fields.CardPlace.{CardPlace}
@@ -104,12 +104,12 @@ pub record TableStays (p : Pause) (t : Table) : Type 0 where
       → tile_in t a ≡ Some u → (x : Stored) × (u ≡ Object x)
   pub targets : EachForwardedIn (λ to. in_set p to ≡ false) t.regions
 
-pub record IsTurn (p : Pause) (t : Table) (d : Places) : Type 0 where
+pub record IsTurn (p : Pause) (t : Table) (d : Destinations) : Type 0 where
   pub copying : IsCopying (layout p) (plan p) (space p t) d
   pub table : TableStays p t
-  pub taken : (k : ℕ) → IsTaken d k → (kind_of p.start k ≡ kinds.Free) × (kind_of t k ≡ kinds.Ordinary) × (k < length p.start.regions)
+  pub taken : (k : ℕ) → IsDestination d k → (kind_of p.start k ≡ kinds.Free) × (kind_of t k ≡ kinds.Ordinary) × (k < length p.start.regions)
 
-abbrev pub After : Pause → List Bool → List Bool → Table → Table → Places → Places → Type 0
+abbrev pub After : Pause → List Bool → List Bool → Table → Table → Destinations → Destinations → Type 0
 After p noted noted' t t' d d' = IsAfter (layout p) noted noted' (space p t) (space p t') d d'
 
 -- a flag for each card

@@ -1,7 +1,7 @@
 //! The copies, breadth first: each destination in turn, and in it each copy, those too that come meanwhile.
 
 ghost use Rattle.std.specs.Prelude.{◌≡◌, ◌/◌, ℕ, false};
-ghost use Rattle.evacuation.specs.Space.{IsObject, IsObjectSettled, IsRegionSettled, IsTaken};
+ghost use Rattle.evacuation.specs.Space.{IsSpaceObject, IsObjectSettled, IsRegionSettled, IsDestination};
 ghost use Rattle.evacuation.specs.Turns.{Pause, PauseStands, PauseGoesOn, in_set, layout, space};
 
 use crate::fields::settle_field;
@@ -14,8 +14,8 @@ fn settle_object(table: &mut RegionTable, context: &mut Context, at: Addr)
     ghost pause: { Pause }
     requires stands { PauseStands pause table.old context.old }
     requires outside { in_set pause at ≡ false }
-    requires object { IsObject (space pause table.old) at }
-    requires taken { IsTaken context.old.destinations (at / pause.start.words_per_region) }
+    requires object { IsSpaceObject (space pause table.old) at }
+    requires taken { IsDestination context.old.destinations (at / pause.start.words_per_region) }
     ensures goes_on { PauseGoesOn pause table.old table.new context.old context.new }
     ensures settled { IsObjectSettled (layout pause) context.new.noted (space pause table.new) at }
 {
@@ -29,7 +29,7 @@ fn settle_object(table: &mut RegionTable, context: &mut Context, at: Addr)
 fn settle_region(table: &mut RegionTable, context: &mut Context, region: RegionNo)
     ghost pause: { Pause }
     requires stands { PauseStands pause table.old context.old }
-    requires destination { IsTaken context.old.destinations region }
+    requires destination { IsDestination context.old.destinations region }
     ensures goes_on { PauseGoesOn pause table.old table.new context.old context.new }
     ensures settled { IsRegionSettled (layout pause) context.new.noted (space pause table.new) region }
 {
@@ -54,7 +54,7 @@ pub(crate) fn settle_copies(table: &mut RegionTable, context: &mut Context)
     ghost pause: { Pause }
     requires stands { PauseStands pause table.old context.old }
     ensures goes_on { PauseGoesOn pause table.old table.new context.old context.new }
-    ensures settled { (k : ℕ) → IsTaken context.new.destinations k
+    ensures settled { (k : ℕ) → IsDestination context.new.destinations k
         → IsRegionSettled (layout pause) context.new.noted (space pause table.new) k }
 {
     let mut n = 0;

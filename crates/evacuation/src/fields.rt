@@ -4,7 +4,7 @@ ghost use Rattle.std.specs.Prelude.{◌≡◌, ◌*◌, ◌/◌, ◌<◌, ℕ, B
 ghost use Rattle.heap_model.specs.Heap.{Stored};
 ghost use Rattle.regions.specs.Table.{fields_at, tile_in, moved_to};
 ghost use Rattle.refinement.specs.Remembering.{field_word};
-ghost use Rattle.evacuation.specs.Space.{IsField, IsNamed, IsNewWord, IsFieldClean, IsFieldSettled, IsTaken, NotesWord};
+ghost use Rattle.evacuation.specs.Space.{IsField, IsNamed, IsNewWord, IsFieldClean, IsFieldSettled, IsDestination, NotesWord};
 ghost use Rattle.evacuation.specs.Turns.{Pause, IsPause, IsTurn, PauseStands, After, PauseGoesOn, EachCard, IsCardPlace};
 ghost use Rattle.evacuation.specs.Turns.{in_set, layout, plan, space, kept_now};
 
@@ -179,7 +179,7 @@ pub(crate) fn settle_field(table: &mut RegionTable, context: &mut Context, at: A
     requires stands { PauseStands pause table.old context.old }
     requires outside { in_set pause at ≡ false }
     requires field { IsField (space pause table.old) at field }
-    requires taken { IsTaken context.old.destinations (at / pause.start.words_per_region) }
+    requires taken { IsDestination context.old.destinations (at / pause.start.words_per_region) }
     ensures goes_on { PauseGoesOn pause table.old table.new context.old context.new }
     ensures settled { IsFieldSettled (layout pause) context.new.noted (space pause table.new) at field }
 {

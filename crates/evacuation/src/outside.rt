@@ -8,7 +8,7 @@ ghost use Rattle.std.specs.Prelude.{◌≡◌, ◌<◌, ◌+◌, ◌*◌, ◌/�
 ghost use Rattle.regions.specs.Table.{tile_in};
 ghost use Rattle.regions.specs.Walks.{IsHolder, IsPlacedTile};
 ghost use Rattle.refinement.specs.Remembering.{field_word};
-ghost use Rattle.evacuation.specs.Space.{IsFieldClean, IsObject, IsVisited, AreClean};
+ghost use Rattle.evacuation.specs.Space.{IsFieldClean, IsSpaceObject, IsVisited, AreClean};
 ghost use Rattle.evacuation.specs.Turns.{Pause, PauseStands, PauseGoesOn, AreKept, EachCard, IsCardPlace, in_set, layout, plan, space};
 ghost use Rattle.evacuation.specs.Cursors.{AreCardsFieldsClean, IsCardClean};
 
@@ -34,7 +34,7 @@ fn update_object(table: &mut RegionTable, context: &mut Context, place: CardPlac
     requires stands { PauseStands pause table.old context.old }
     requires place { IsCardPlace pause place }
     requires outside { in_set pause at ≡ false }
-    requires object { IsObject (space pause table.old) at }
+    requires object { IsSpaceObject (space pause table.old) at }
     ensures goes_on { PauseGoesOn pause table.old table.new context.old context.new }
     ensures clean { AreCardsFieldsClean pause table.new place.card at }
 {

@@ -44,13 +44,13 @@ pub struct PauseRoom {
 }
 
 impl Model for PauseRoom {
-    ghost use Rattle.evacuation.specs.Rooms.{RoomSizes, sizes_of, IsSound};
+    ghost use Rattle.evacuation.specs.Rooms.{RoomSizes, sizes_of, IsPauseRoom};
 
     ghost Value = { RoomSizes };
 
     ghost view = { sizes_of };
 
-    ghost invariant = { IsSound };
+    ghost invariant = { IsPauseRoom };
 }
 
 /// Where it is let go there is one call, and not a drop for each of its parts.

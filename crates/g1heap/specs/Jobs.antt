@@ -2,8 +2,8 @@
 use Rattle.std.specs.Prelude.{◌≡◌, ◌⊎◌, ℕ, ⊤, Bool, List, [], Option, None, Some, Result, true, false, codes, if◌then◌else◌}
 use Rattle.script_text.specs.Watched.{Reader, Writer, FailsToGive, WritesNothing}
 use Rattle.script_text.specs.declared.fault.ReadFault.{ReadFault}
-use Rattle.script_text.specs.declared.places.TextKind.{TextKind}
-use Rattle.script_text.specs.declared.places.TextKind.TheVariants as texts
+use Rattle.script_text.specs.declared.expected.TextKind.{TextKind}
+use Rattle.script_text.specs.declared.expected.TextKind.TheVariants as texts
 use Rattle.g1heap.specs.Runs.{EndsIn, MakesRecord, MayFail}
 use Rattle.jobs.specs.Reasons.{IsReadReason, TellsExplained, TellsMore}
 use Rattle.job_ends.specs.Runs.{GivesAll, Performs}

@@ -6,7 +6,7 @@ use Rattle.heap_words.specs.Configs.{registers_of}
 use Rattle.heap_words.specs.declared.config.Config.{Config}
 use Rattle.heap_words.specs.declared.config.Format.{Format}
 use Rattle.heap_words.specs.declared.config.Format.TheVariants.{V1, V2, V3}
-use Rattle.heap_model.specs.Graph.{Places}
+use Rattle.heap_model.specs.Graph.{RootCounts}
 use Rattle.graph_runs.specs.State.{places_of}
 use Rattle.heap_steps.specs.Actors.{HasRow, IsOp, IsStep, IsThird}
 use Rattle.heap_steps.specs.Forms.{action_row, action_verb, collection_row, collection_verb}
@@ -55,11 +55,11 @@ all_below P each (suc n) = elim (all_below P each n) [
       | inr above ↦ let e : n ≡ i = omega (arith, lt, above) in subst P e one
     ]
 
-a_value : (p : Places) (v : Option Register) → OrNot (IsValue p v)
+a_value : (p : RootCounts) (v : Option Register) → OrNot (IsValue p v)
 a_value p None = inl tt
 a_value p (Some r) = less r.number p.registers
 
-roots : (p : Places) (a : Action) → OrNot (NamesRoots p a)
+roots : (p : RootCounts) (a : Action) → OrNot (NamesRoots p a)
 roots p (actions.New to counts) = less to.number p.registers
 roots p (actions.Get to object i) = both _ _ (less to.number p.registers) (less object.number p.registers)
 roots p (actions.Put object i value) = both _ _ (less object.number p.registers) (a_value p value)

@@ -10,7 +10,7 @@ use Rattle.heap_steps.specs.declared.step.Refusal.TheVariants as refusals
 use Rattle.graph_runs.specs.State.{State}
 use Rattle.step_core.specs.Stands.{CoreState, Stands}
 use Rattle.collection.specs.Space.{IsCollected, IsPacked}
-use Rattle.collection.specs.Steps.{Collects, CollectsSome, IsDue, LeavesTwo, Makes}
+use Rattle.collection.specs.Steps.{CollectsWithin, CollectsSome, IsDue, LeavesTwo, Makes}
 use Rattle.collection.specs.Rooms.{IsFilled}
 use Rattle.heap_calls.specs.Numbers.{counts, no_heap, no_step, numbers, register, told}
 use Rattle.heap_calls.specs.Steps.{StaysSame}
@@ -29,7 +29,7 @@ nobody = tt
 
 -- steps that nobody is said to watch: of the collector, and for an object
 abbrev pub CollectsIn : ℕ → CoreState → CoreState → Type 0
-CollectsIn most c c' = Collects {W = Unit {0}} (λ x e y. Unit {0}) most c nobody c' nobody
+CollectsIn most c c' = CollectsWithin {W = Unit {0}} (λ x e y. Unit {0}) most c nobody c' nobody
 
 abbrev pub CollectsSomeIn : ℕ → CoreState → CoreState → Type 0
 CollectsSomeIn most c c' = CollectsSome {W = Unit {0}} (λ x e y. Unit {0}) most c nobody c' nobody

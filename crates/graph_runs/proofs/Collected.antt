@@ -2,7 +2,7 @@
 -- it is in the judge's states, where the snapshot that is taken may be none.
 use Rattle.std.proofs.Common.{◌≡◌, ◌⊎◌, Some, None, inl, inr}
 use Rattle.graph_runs.specs.State.{State}
-use Rattle.graph_runs.specs.Run.{ClearsBy, Collects}
+use Rattle.graph_runs.specs.Run.{ClearsBy, ChangesState}
 use Rattle.graph_runs.specs.Sparing.{SparingCollects, kept_snapshot}
 use Rattle.heap_steps.specs.declared.step.CollectorStep.{CollectorStep}
 use Rattle.heap_steps.specs.declared.step.CollectorStep.TheVariants as collector
@@ -26,13 +26,13 @@ abbrev pub Idle : State → State → Type 0
 Idle old new = new ≡ old
 
 abbrev pub Takes : CollectorStep → Reply → Type 0
-Takes k r = Both (λ old new. Collects old k r new) Taken × Both (λ old new. SparingCollects old k r new) TakenSparing
+Takes k r = Both (λ old new. ChangesState old k r new) Taken × Both (λ old new. SparingCollects old k r new) TakenSparing
 
 abbrev pub GivesUp : CollectorStep → Reply → Type 0
-GivesUp k r = Both (λ old new. Collects old k r new) GivenUp × Both (λ old new. SparingCollects old k r new) GivenUp
+GivesUp k r = Both (λ old new. ChangesState old k r new) GivenUp × Both (λ old new. SparingCollects old k r new) GivenUp
 
 abbrev pub Stays : CollectorStep → Reply → Type 0
-Stays k r = Both (λ old new. Collects old k r new) Idle × Both (λ old new. SparingCollects old k r new) Idle
+Stays k r = Both (λ old new. ChangesState old k r new) Idle × Both (λ old new. SparingCollects old k r new) Idle
 
 same : (P : State → State → Type 0) → Both P P
 same P old new = (λ c. c, λ c. c)

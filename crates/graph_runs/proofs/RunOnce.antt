@@ -5,7 +5,7 @@ use Rattle.heap_model.specs.Graph.{Graph}
 use Rattle.heap_model.proofs.Cleared.{clears_once}
 use Rattle.graph_runs.specs.State.{State}
 use Rattle.graph_runs.specs.Machine.{Outcome, outcome_of}
-use Rattle.graph_runs.specs.Run.{Collects, ClearsBy, Happens, EventHappens, IsRun, BreaksAt, Creates}
+use Rattle.graph_runs.specs.Run.{ChangesState, ClearsBy, Happens, EventHappens, IsRun, BreaksAt, Creates}
 use Rattle.heap_steps.specs.declared.step.Op.{Op}
 use Rattle.heap_steps.specs.declared.step.CollectorStep.{CollectorStep}
 use Rattle.heap_steps.specs.declared.step.Step.{Step}
@@ -34,7 +34,7 @@ cleared_once : (s : Option Graph) (g a b : Graph) → ClearsBy s g a → ClearsB
 cleared_once None g a b p q = p ∙ sym q
 cleared_once (Some s) g a b p q = clears_once s g a b p q
 
-collected_once : (old a b : State) (k : CollectorStep) (reply : Reply) → Collects old k reply a → Collects old k reply b → a ≡ b
+collected_once : (old a b : State) (k : CollectorStep) (reply : Reply) → ChangesState old k reply a → ChangesState old k reply b → a ≡ b
 collected_once old a b k reply p q = elim (kind k reply) [
   | inl t ↦ (t.0 old a).0 p ∙ sym ((t.0 old b).0 q)
   | inr u ↦ elim u [

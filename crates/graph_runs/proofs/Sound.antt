@@ -12,7 +12,7 @@ use Rattle.heap_model.proofs.Unreached.{touched_cases}
 use Rattle.graph_runs.specs.State.{State, root_places, places_of, register_place, with_nil_roots, root_at, Occurs, AtRoot, AtField}
 use Rattle.graph_runs.specs.State.{IsNameOf, HoldsNames, IsEarlier, ForSnapshot, IsSoundState, first_graph, first_state}
 use Rattle.graph_runs.specs.Machine.{Outcome, refused, on_contents, on_name, on_field, stored, made, act, outcome_of}
-use Rattle.graph_runs.specs.Run.{snapshot_after, ClearsBy, Collects, Happens, IsRun}
+use Rattle.graph_runs.specs.Run.{snapshot_after, ClearsBy, ChangesState, Happens, IsRun}
 use Rattle.heap_steps.specs.declared.step.Action.{Action}
 use Rattle.heap_steps.specs.declared.step.Action.TheVariants as actions
 use Rattle.heap_steps.specs.declared.step.Counts.{Counts}
@@ -321,7 +321,7 @@ clears_sound : (s : Option Graph) (g h : Graph) → ClearsBy s g h → HoldsName
 clears_sound None g h c k = subst HoldsNames (sym c) k
 clears_sound (Some s) g h c k = cleared_holds s g h c k
 
-collects_sound : (old new : State) (k : CollectorStep) (r : Reply) → IsSoundState old → Collects old k r new → IsSoundState new
+collects_sound : (old new : State) (k : CollectorStep) (r : Reply) → IsSoundState old → ChangesState old k r new → IsSoundState new
 collects_sound old new k r sound c = elim (kind k r) [
   | inl t ↦ subst IsSoundState (sym ((t.0 old new).0 c))
       (record { graph = sound.graph; snapshot = record { holds = sound.graph; first_name = refl; next_name = omega arith } })
@@ -358,7 +358,7 @@ cleared_places : (s : Option Graph) (g h : Graph) → ClearsBy s g h → h.place
 cleared_places None g h c = ap (λ (t : Graph). t.places) c
 cleared_places (Some s) g h c = c.places
 
-collects_places : (old new : State) (k : CollectorStep) (r : Reply) → Collects old k r new → new.graph.places ≡ old.graph.places
+collects_places : (old new : State) (k : CollectorStep) (r : Reply) → ChangesState old k r new → new.graph.places ≡ old.graph.places
 collects_places old new k r c = elim (kind k r) [
   | inl t ↦ ap (λ (t : State). t.graph.places) ((t.0 old new).0 c)
   | inr u ↦ elim u [

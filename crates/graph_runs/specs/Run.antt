@@ -53,10 +53,10 @@ ClearsBy (Some s) old new = Clears s old new
 
 -- what a step of the collector changes: a begin that was done takes the snapshot, a remark that marked clears weak slots by it
 -- and gives it up
-abbrev pub Collects : State → CollectorStep → Reply → State → Type 0
-Collects old collector.Begin replies.Done new = new ≡ record { graph = old.graph; snapshot = Some old.graph }
-Collects old collector.Remark (replies.Marked n) new = (new.snapshot ≡ None) × ClearsBy old.snapshot old.graph new.graph
-Collects old _ _ new = new ≡ old
+abbrev pub ChangesState : State → CollectorStep → Reply → State → Type 0
+ChangesState old collector.Begin replies.Done new = new ≡ record { graph = old.graph; snapshot = Some old.graph }
+ChangesState old collector.Remark (replies.Marked n) new = (new.snapshot ≡ None) × ClearsBy old.snapshot old.graph new.graph
+ChangesState old _ _ new = new ≡ old
 
 -- From old the step may have the reply, and new is the state after it. A mutator's reply is the graph's; where an
 -- object would be created, the heap may be full instead, and then nothing changes.
@@ -64,7 +64,7 @@ abbrev pub Happens : State → Step → Reply → State → Type 0
 Happens old (steps.Mutator o) reply new =
     (((reply, new.graph) ≡ outcome_of old.graph o) × (new.snapshot ≡ snapshot_after old.snapshot o.action reply))
     ⊎ (Creates old.graph o × (reply ≡ replies.Refused refusals.Full) × (new ≡ old))
-Happens old (steps.Collector k) reply new = IsCollectorReply k reply × Collects old k reply new
+Happens old (steps.Collector k) reply new = IsCollectorReply k reply × ChangesState old k reply new
 
 -- the same of an event
 abbrev pub EventHappens : State → Event → State → Type 0

@@ -4,7 +4,7 @@ use Rattle.std.specs.Prelude.{◌≡◌, ℕ, ⊤, List, [], ◌∷◌, Bool, tr
 use Rattle.heap_model.specs.Graph.{Graph, Object}
 use Rattle.graph_runs.specs.State.{State}
 use Rattle.graph_runs.specs.Since.{IsKnown}
-use Rattle.graph_runs.specs.Run.{IsCollectorReply, Collects, Happens}
+use Rattle.graph_runs.specs.Run.{IsCollectorReply, ChangesState, Happens}
 use Rattle.heap_steps.specs.declared.step.CollectorStep.{CollectorStep}
 use Rattle.heap_steps.specs.declared.step.CollectorStep.TheVariants as collector
 use Rattle.heap_steps.specs.declared.step.Step.{Step}
@@ -25,7 +25,7 @@ kept_snapshot g = if have_weaks g.objects then Some g else None
 -- what a step of the collector changes in the judge's state
 abbrev pub SparingCollects : State → CollectorStep → Reply → State → Type 0
 SparingCollects old collector.Begin replies.Done new = new ≡ record { graph = old.graph; snapshot = kept_snapshot old.graph }
-SparingCollects old k reply new = Collects old k reply new
+SparingCollects old k reply new = ChangesState old k reply new
 
 -- the judge's state after a step
 abbrev pub SparingHappens : State → Step → Reply → State → Type 0

@@ -6,7 +6,7 @@ use Rattle.heap_words.specs.Configs.{object_limit}
 use Rattle.heap_model.specs.Graph.{Graph, Object, next_name, object_fields}
 use Rattle.root_table.specs.Bounds.{AreBounded}
 pub use Rattle.heap_model.specs.Graph.{root_places, register_place, with_root, with_nil_roots}
-pub use Rattle.root_table.specs.Roots.{places_of}
+pub use Rattle.root_table.specs.Roots.{root_counts_of}
 
 -- what a root place holds
 abbrev pub root_at : Graph → ℕ → Option ℕ
@@ -42,9 +42,9 @@ abbrev pub first_graph : Config → Graph
 first_graph c = record {
   room = object_limit c;
   first_name = c.first_name;
-  places = places_of c;
+  places = root_counts_of c;
   objects = [];
-  roots = replicate (root_places (places_of c)) None;
+  roots = replicate (root_places (root_counts_of c)) None;
 }
 
 -- the state of a new heap

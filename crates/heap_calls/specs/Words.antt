@@ -2,7 +2,7 @@
 use Rattle.std.specs.Prelude.{◌≡◌, ◌⊎◌, ℕ, List, length, Option, Some, None}
 use Rattle.heap_steps.specs.declared.step.Refusal.{Refusal}
 use Rattle.step_core.specs.Stands.{CoreState}
-use Rattle.step_core.specs.Words.{AreRead, AreWritten, HasWords, IsUnread, IsUnwritten}
+use Rattle.step_core.specs.Words.{AreRead, AreWritten, HasDataWords, IsUnread, IsUnwritten}
 use Rattle.heap_calls.specs.Numbers.{no_heap, no_step, refused, register, told}
 use Rattle.heap_calls.specs.Steps.{HasRegister, StaysSame}
 use Rattle.heap_calls.specs.declared.answer.Answer.{Answer}
@@ -10,7 +10,7 @@ use Rattle.heap_calls.specs.declared.answer.Answer.{Answer}
 -- the object has so many words from one on, and each is what a step of its own would read
 pub record ReadsAll (c : CoreState) (m object from : ℕ) (before after : List ℕ) (answer : Answer) : Type 0 where
   pub done : answer ≡ told 0 0 0
-  pub has : HasWords c m (register object) from (length before)
+  pub has : HasDataWords c m (register object) from (length before)
   pub room : length after ≡ length before
   pub read : AreRead c m (register object) from after
 
@@ -19,7 +19,7 @@ pub record ReadsNone (c : CoreState) (m object from : ℕ) (before after : List 
   pub why : Refusal
   pub tells : answer ≡ refused why
   pub unread : IsUnread c m (register object) from (length before) why
-  pub not : HasWords c m (register object) from (length before) → ⊥
+  pub not : HasDataWords c m (register object) from (length before) → ⊥
   pub same : after ≡ before
 
 -- a mutator has the register, or there is no such step
@@ -37,7 +37,7 @@ ReadsWords (Some c) m object from before after answer left = ReadsIn m object fr
 pub record WritesAll (c : CoreState) (m object from : ℕ) (words : List ℕ) (answer : Answer) (after : Option CoreState) : Type 0 where
   pub core : CoreState
   pub done : answer ≡ told 0 0 0
-  pub has : HasWords c m (register object) from (length words)
+  pub has : HasDataWords c m (register object) from (length words)
   pub written : AreWritten c m (register object) from words core
   pub held : after ≡ Some core
 
@@ -46,7 +46,7 @@ pub record WritesNone (c : CoreState) (m object from : ℕ) (words : List ℕ) (
   pub why : Refusal
   pub tells : answer ≡ refused why
   pub unwritten : IsUnwritten c m (register object) from words why
-  pub not : HasWords c m (register object) from (length words) → ⊥
+  pub not : HasDataWords c m (register object) from (length words) → ⊥
   pub same : after ≡ Some c
 
 pub record WritesIn (c : CoreState) (m object from : ℕ) (words : List ℕ) (answer : Answer) (after : Option CoreState) : Type 0 where

@@ -14,18 +14,18 @@ abbrev pub object_fields : Object → List (Option ℕ)
 object_fields o = o.pointers ++ o.weaks
 
 -- how many globals a heap has, how many mutators, and how many registers each of them
-pub record Places : Type 0 where
+pub record RootCounts : Type 0 where
   pub globals : ℕ
   pub mutators : ℕ
   pub registers : ℕ
 
 -- Where roots are: the globals first, and after them the registers of one mutator after another.
 -- The place of a mutator's register
-abbrev pub register_place : Places → ℕ → ℕ → ℕ
+abbrev pub register_place : RootCounts → ℕ → ℕ → ℕ
 register_place p mutator register = p.globals + p.registers * mutator + register
 
 -- how many root places there are
-abbrev pub root_places : Places → ℕ
+abbrev pub root_places : RootCounts → ℕ
 root_places p = p.globals + p.registers * p.mutators
 
 -- the same roots, of which so many from one on hold nil
@@ -38,7 +38,7 @@ pub record Graph : Type 0 where
   pub room : ℕ
   pub first_name : ℕ
   -- how many globals, mutators and registers there are
-  pub places : Places
+  pub places : RootCounts
   pub objects : List Object
   -- nil or a name in each root place: the globals, then each mutator's registers
   pub roots : List (Option ℕ)

@@ -3,7 +3,7 @@ use Rattle.std.specs.Prelude.{◌≡◌, ◌<◌, ℕ, List, All, Bool, true, fa
 use Rattle.heap_words.specs.declared.config.Config.{Config}
 use Rattle.heap_words.specs.declared.config.Format.{Format}
 use Rattle.heap_words.specs.declared.config.Format.TheVariants.{V3}
-use Rattle.root_table.specs.Roots.{places_of}
+use Rattle.root_table.specs.Roots.{root_counts_of}
 use Rattle.heap_steps.specs.declared.form.Operand.{Operand}
 use Rattle.heap_steps.specs.Forms.{action_row, action_verb, collection_row, collection_verb}
 use Rattle.heap_steps.specs.Roots.{IsOpAt, is_there, names_roots}
@@ -62,15 +62,15 @@ has_action f a = has_row f (action_row (action_verb a)).third
 
 -- whether a heap of these sizes has the root of an operand's number, if it names one
 abbrev pub has_root : Config → Operand → ℕ → Bool
-has_root c k n = is_there (places_of c) k n
+has_root c k n = is_there (root_counts_of c) k n
 
 -- whether a heap of these sizes has each root that the action names, and their format the action
 abbrev pub allows : Config → Action → Bool
-allows c a = names_roots (places_of c) a && has_action c.format a
+allows c a = names_roots (root_counts_of c) a && has_action c.format a
 
 -- a mutator's step in a heap of these sizes: there are its mutator and each root that it names, and the format has it
 pub record IsOp (c : Config) (o : Op) : Type 0 where
-  pub at : IsOpAt (places_of c) o
+  pub at : IsOpAt (root_counts_of c) o
   pub known : HasAction c.format o.action
 
 -- a step of a plan: such a one of a mutator, or one of the collector's that the format has

@@ -1,6 +1,6 @@
 -- Which roots a step may name.
 use Rattle.std.specs.Prelude.{◌<◌, ℕ, suc, List, [], ◌∷◌, Option, Bool, true, false, nat_lt, ◌&&◌, if◌then◌else◌}
-use Rattle.heap_model.specs.Graph.{Places}
+use Rattle.heap_model.specs.Graph.{RootCounts}
 use Rattle.heap_steps.specs.declared.form.Operand.{Operand}
 use Rattle.heap_steps.specs.declared.form.Operand.TheVariants as operands
 use Rattle.heap_steps.specs.declared.step.Register.{Register}
@@ -30,55 +30,55 @@ abbrev pub action_roots : Action → List Root
 action_roots a = roots_in (action_row (action_verb a)).operands (action_numbers a)
 
 -- a register that mutators have, a global that there is, or nil
-abbrev pub IsThere : Places → Operand → ℕ → Type 0
+abbrev pub IsThere : RootCounts → Operand → ℕ → Type 0
 IsThere p operands.Register n = n < p.registers
 IsThere p operands.Global n = n < p.globals
 IsThere p operands.Value (suc n) = n < p.registers
 IsThere p _ n = Unit {0}
 
-abbrev pub IsRegister : Places → Register → Type 0
+abbrev pub IsRegister : RootCounts → Register → Type 0
 IsRegister p r = IsThere p operands.Register r.number
 
-abbrev pub IsGlobal : Places → GlobalRoot → Type 0
+abbrev pub IsGlobal : RootCounts → GlobalRoot → Type 0
 IsGlobal p g = IsThere p operands.Global g.number
 
-abbrev pub IsValue : Places → Option Register → Type 0
+abbrev pub IsValue : RootCounts → Option Register → Type 0
 IsValue p v = IsThere p operands.Value (value_number v)
 
-abbrev pub AreThere : Places → List Root → Type 0
+abbrev pub AreThere : RootCounts → List Root → Type 0
 AreThere p [] = Unit {0}
 AreThere p (r ∷ []) = IsThere p r.operand r.number
 AreThere p (r ∷ s ∷ rs) = IsThere p r.operand r.number × AreThere p (s ∷ rs)
 
 -- there is each register and global that the action names
-abbrev pub NamesRoots : Places → Action → Type 0
+abbrev pub NamesRoots : RootCounts → Action → Type 0
 NamesRoots p a = AreThere p (action_roots a)
 
 -- the same as tests
-abbrev pub is_there : Places → Operand → ℕ → Bool
+abbrev pub is_there : RootCounts → Operand → ℕ → Bool
 is_there p operands.Register n = nat_lt n p.registers
 is_there p operands.Global n = nat_lt n p.globals
 is_there p operands.Value (suc n) = nat_lt n p.registers
 is_there p _ n = true
 
-abbrev pub has_register : Places → Register → Bool
+abbrev pub has_register : RootCounts → Register → Bool
 has_register p r = is_there p operands.Register r.number
 
-abbrev pub has_global : Places → GlobalRoot → Bool
+abbrev pub has_global : RootCounts → GlobalRoot → Bool
 has_global p g = is_there p operands.Global g.number
 
-abbrev pub has_value : Places → Option Register → Bool
+abbrev pub has_value : RootCounts → Option Register → Bool
 has_value p v = is_there p operands.Value (value_number v)
 
-abbrev pub are_there : Places → List Root → Bool
+abbrev pub are_there : RootCounts → List Root → Bool
 are_there p [] = true
 are_there p (r ∷ []) = is_there p r.operand r.number
 are_there p (r ∷ s ∷ rs) = is_there p r.operand r.number && are_there p (s ∷ rs)
 
-abbrev pub names_roots : Places → Action → Bool
+abbrev pub names_roots : RootCounts → Action → Bool
 names_roots p a = are_there p (action_roots a)
 
 -- a mutator's step where roots are in these places: the mutator is one of theirs, and so is each root that it names
-pub record IsOpAt (p : Places) (o : Op) : Type 0 where
+pub record IsOpAt (p : RootCounts) (o : Op) : Type 0 where
   pub mutator : o.mutator < p.mutators
   pub roots : NamesRoots p o.action

@@ -7,11 +7,11 @@ ghost use Rattle.heap_steps.specs.Actors.{has_action, has_row, has_root, is_thir
 use crate::form::{Operand, Row};
 use crate::step::{Action, Actor, CollectorStep, Event, GlobalRoot, Op, Register, Step};
 use heap_words::config::{Config, Format};
-use root_table::Places;
+use root_table::RootCounts;
 
 impl Register {
     /// Whether mutators have the register.
-    fn is_in(self, places: &Places) -> bool
+    fn is_in(self, places: &RootCounts) -> bool
         ensures { result ≡ has_register places.now self }
     {
         self.number < places.registers()
@@ -20,7 +20,7 @@ impl Register {
 
 /// Whether mutators have both registers: one test, of the larger number.
 #[inline(always)]
-fn are_in(one: Register, other: Register, places: &Places) -> bool
+fn are_in(one: Register, other: Register, places: &RootCounts) -> bool
     ensures { result ≡ (has_register places.now one && has_register places.now other) }
 {
     one.number.max(other.number) < places.registers()
@@ -28,7 +28,7 @@ fn are_in(one: Register, other: Register, places: &Places) -> bool
 
 impl GlobalRoot {
     /// Whether there is the global.
-    fn is_in(self, places: &Places) -> bool
+    fn is_in(self, places: &RootCounts) -> bool
         ensures { result ≡ has_global places.now self }
     {
         self.number < places.globals()
@@ -37,7 +37,7 @@ impl GlobalRoot {
 
 /// Whether a value is nil or a register that mutators have.
 #[inline(always)]
-fn is_value(value: Option<Register>, places: &Places) -> bool
+fn is_value(value: Option<Register>, places: &RootCounts) -> bool
     ensures { result ≡ has_value places.now value }
 {
     match value {
@@ -111,7 +111,7 @@ impl CollectorStep {
 impl Action {
     /// Whether there is each register and global that the action names.
     #[inline(always)]
-    fn names_roots(self, places: &Places) -> bool
+    fn names_roots(self, places: &RootCounts) -> bool
         ensures { result ≡ names_roots places.now self }
     {
         match self {
@@ -157,7 +157,7 @@ impl Action {
         ensures op { (mutator : ℕ) → mutator < config.now.mutators
             → IsTrue result ↔ IsOp config.now (record { mutator = mutator; action = self }) }
     {
-        self.names_roots(&Places::of(config)) && self.is_known(config.format)
+        self.names_roots(&RootCounts::of(config)) && self.is_known(config.format)
     }
 }
 
@@ -165,10 +165,10 @@ impl Op {
     /// Whether the mutator is one of those, and each root that the step names is there.
     ///
     /// ```rust
-    /// assert!(rt; op.is_at(&Places::of(&config)));
-    /// assert!(rt; !Op { mutator: 1, action: op.action }.is_at(&Places::of(&config)));
+    /// assert!(rt; op.is_at(&RootCounts::of(&config)));
+    /// assert!(rt; !Op { mutator: 1, action: op.action }.is_at(&RootCounts::of(&config)));
     /// ```
-    pub fn is_at(self, places: &Places) -> bool
+    pub fn is_at(self, places: &RootCounts) -> bool
         ensures { IsTrue result ↔ IsOpAt places.now self }
     {
         self.mutator < places.mutators() && self.action.names_roots(places)

@@ -16,7 +16,7 @@
 //! ```rust
 //! use heap_steps::*;
 //! use heap_words::config::{Config, Format};
-//! use root_table::Places;
+//! use root_table::RootCounts;
 //!
 //! let config = Config { format: Format::V1, regions: 4, words: 16, buffer: 8, mutators: 1, first_name: 0 };
 //! let r0 = Register { number: 0 };

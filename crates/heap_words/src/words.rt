@@ -168,7 +168,7 @@ impl Words {
 
     /// The words below an address are written: 0 where they weren't.
     #[inline(always)]
-    pub fn reach(&mut self, end: u32)
+    pub fn zero_below(&mut self, end: u32)
         requires { end ≤ length self.old.all }
         ensures all { self.new.all ≡ self.old.all }
         ensures written { self.new.written ≡ max self.old.written end }

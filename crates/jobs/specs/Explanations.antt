@@ -20,7 +20,7 @@ use Rattle.script_text.specs.Records.{reply_words, event_text}
 use Rattle.script_text.specs.Spelling.{spaced}
 use Rattle.script_text.specs.Watched.{Reader, Writer, FailsToGive, TookBytes, TakesPart, WritesNothing}
 use Rattle.script_text.specs.declared.fault.LineFault.{LineFault}
-use Rattle.script_text.specs.declared.places.TextKind.TheVariants.{Record}
+use Rattle.script_text.specs.declared.expected.TextKind.TheVariants.{Record}
 use Rattle.script_text.specs.declared.fault.WriteFault.TheVariants as writes
 use Rattle.jobs.specs.Reasons.{TellsMore, IsReadReason}
 use Rattle.job_ends.specs.Runs.{GivesAll}

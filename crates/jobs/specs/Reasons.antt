@@ -10,7 +10,7 @@ use Rattle.heap_words.specs.declared.config.NewFault.TheVariants as sizes
 use Rattle.heap_steps.specs.declared.fault.RunFault.TheVariants as runs
 use Rattle.script_text.specs.declared.fault.ReadFault.TheVariants as reads
 use Rattle.script_text.specs.declared.fault.WriteFault.TheVariants as writes
-use Rattle.script_text.specs.declared.places.TextKind.{TextKind}
+use Rattle.script_text.specs.declared.expected.TextKind.{TextKind}
 use Rattle.script_text.specs.Faults.{shown}
 use Rattle.script_text.specs.Lines.{heap_line_of}
 use Rattle.script_text.specs.Hints.{line_reason, IsLine, IsFaultReason, IsLineReason}

@@ -25,7 +25,7 @@ use Rattle.marker.specs.Views.{heap_of, marking_of}
 use Rattle.marker.specs.Stands.{IsKept, MarkerStands}
 use Rattle.marker.specs.Counts.{ScanTotals, restarted}
 use Rattle.marker.specs.Live.{CountsWords}
-use Rattle.marker.specs.Steps.{IsAmong}
+use Rattle.marker.specs.Steps.{IsInFirst}
 use Rattle.marker.specs.declared.marker.Marker.{Marker}
 use Rattle.marker.proofs.Views.{kept_object, previous_heap}
 use Rattle.marker.proofs.LiveCounts.{counts_none}
@@ -64,7 +64,7 @@ pub all_begun : (t : Table) (roots : List (Option ℕ)) (m m' : Marker) (n : ℕ
     → ((k : ℕ) → k < length t.regions → get_or m.tams.next k 0 ≡ top_of t k)
     → ((a : ℕ) → is_marked m.bitmaps.next a ≡ false) → ((a : ℕ) → is_marked m.grey.scanned a ≡ false) → logged m.logs ≡ []
     → ((j a : ℕ) → slice_get roots j ≡ Some (Some a) → IsKept t m a)
-    → Reached t (IsAmong roots n) m m' → Begins (heap_of t roots m') (marking_of t m')
+    → Reached t (IsInFirst roots n) m m' → Begins (heap_of t roots m') (marking_of t m')
 all_begun t roots m m' n z all run tops unmarked unscanned none kept p =
     let tops' : (k : ℕ) → k < length t.regions → get_or m'.tams.next k 0 ≡ top_of t k =
     λ k h. ap (λ x. get_or x.next k 0) p.same.tams ∙ tops k h in
@@ -90,7 +90,7 @@ pub rest_begun : (t : Table) (roots : List (Option ℕ)) (m m' : Marker) (n : �
     → AreNil roots n (length roots) → m.running ≡ true → ((k : ℕ) → k < length t.regions → get_or m.tams.next k 0 ≡ top_of t k)
     → ((a : ℕ) → is_marked m.bitmaps.next a ≡ false) → ((a : ℕ) → is_marked m.grey.scanned a ≡ false) → logged m.logs ≡ []
     → ((j a : ℕ) → slice_get roots j ≡ Some (Some a) → IsKept t m a)
-    → Reached t (IsAmong roots n) m m' → Begins (heap_of t roots m') (marking_of t m')
+    → Reached t (IsInFirst roots n) m m' → Begins (heap_of t roots m') (marking_of t m')
 rest_begun t roots m m' n z nil run tops unmarked unscanned none kept p = elim (cases_lt n (length roots)) [
   | inl less ↦ all_begun t roots m m' (length roots) z (omega arith) run tops unmarked unscanned none kept
       (among_past t roots n (length roots) m m' (omega (arith, less)) nil p)

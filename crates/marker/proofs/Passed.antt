@@ -7,7 +7,7 @@ use Rattle.regions.specs.Table.{Table}
 use Rattle.regions.specs.Shaped.{IsShaped}
 use Rattle.mark_bitmap.specs.Marks.{is_marked}
 use Rattle.marker.specs.Stands.{MarkerStands, IsKept}
-use Rattle.marker.specs.Steps.{IsAmong}
+use Rattle.marker.specs.Steps.{IsInFirst}
 use Rattle.marker.specs.Roots.{AreNamedBelow, IsFirstUnmarked}
 use Rattle.marker.specs.declared.marker.Marker.{Marker}
 use Rattle.marker.proofs.Views.{kept_within}
@@ -21,7 +21,7 @@ named_below t words from m shape st kept =
 
 -- all up to a place were reached, and the roots after it, up to another one, name what is marked: so all up to there were
 passed : (t : Table) (words : List (Option ℕ)) (place end : ℕ) (m m' : Marker) → IsFirstUnmarked m'.bitmaps.next words place end
-    → Reached t (IsAmong words place) m m' → Reached t (IsAmong words end) m m'
+    → Reached t (IsInFirst words place) m m' → Reached t (IsInFirst words end) m m'
 passed t words place end m m' first r = record {
   stands = r.stands;
   marks = record {
@@ -44,6 +44,6 @@ passed t words place end m m' first r = record {
 
 -- the same from the next place on that is named, of which only nil stands in front
 pub among_passed : (t : Table) (words : List (Option ℕ)) (from place end : ℕ) (m m' : Marker) → IsNextNamed words from place
-    → IsFirstUnmarked m'.bitmaps.next words place end → Reached t (IsAmong words from) m m' → Reached t (IsAmong words end) m m'
+    → IsFirstUnmarked m'.bitmaps.next words place end → Reached t (IsInFirst words from) m m' → Reached t (IsInFirst words end) m m'
 among_passed t words from place end m m' n first r =
     passed t words place end m m' first (among_past t words from place m m' n.from_on n.nil_before r)

@@ -19,7 +19,7 @@ use Rattle.mark_bitmap.proofs.Ranges.{div_is, lies_below}
 use Rattle.satb_log.specs.Logs.{logged}
 use Rattle.marker.specs.Stands.{MarkerStands, IsKept}
 use Rattle.marker.specs.Live.{LiveCounts, CountsWords, with_more}
-use Rattle.marker.specs.Steps.{SameRoles, IsAmong, MarksWanted}
+use Rattle.marker.specs.Steps.{SameRoles, IsInFirst, MarksWanted}
 use Rattle.marker.specs.declared.marker.Marker.{Marker}
 use Rattle.marker.proofs.Views.{same_heap, kept_object, same_kept}
 use Rattle.marker.proofs.LiveCounts.{counts_added, region_small}
@@ -199,23 +199,23 @@ more_reached t first then both m m' m'' split left right p q = record {
 
 -- one word more
 pub among_split : (words : List (Option ℕ)) (n a : ℕ) (w : Option ℕ) → slice_get words n ≡ Some w
-    → IsAmong words (n + 1) a → IsAmong words n a ⊎ (w ≡ Some a)
+    → IsInFirst words (n + 1) a → IsInFirst words n a ⊎ (w ≡ Some a)
 among_split words n a w e i =
     elim (cases_eq i.place n) [
       | inl same ↦ inr (let f : slice_get words n ≡ Some (Some a) = ap (slice_get words) (sym same) ∙ i.is in cc)
       | inr other ↦ inl (record { place = i.place; front = omega (arith, i.front, other); is = i.is })
     ]
 
-pub among_left : (words : List (Option ℕ)) (n a : ℕ) → IsAmong words n a → IsAmong words (n + 1) a
+pub among_left : (words : List (Option ℕ)) (n a : ℕ) → IsInFirst words n a → IsInFirst words (n + 1) a
 among_left words n a i = record { place = i.place; front = omega (arith, i.front); is = i.is }
 
-pub among_right : (words : List (Option ℕ)) (n a : ℕ) (w : Option ℕ) → slice_get words n ≡ Some w → w ≡ Some a → IsAmong words (n + 1) a
+pub among_right : (words : List (Option ℕ)) (n a : ℕ) (w : Option ℕ) → slice_get words n ≡ Some w → w ≡ Some a → IsInFirst words (n + 1) a
 among_right words n a w e f = record { place = n; front = omega arith; is = e ∙ ap Some f }
 
 pub among_more : (t : Table) (words : List (Option ℕ)) (n : ℕ) (w : Option ℕ) (m m' m'' : Marker) → slice_get words n ≡ Some w
-    → Reached t (IsAmong words n) m m' → Reached t (λ a. w ≡ Some a) m' m'' → Reached t (IsAmong words (n + 1)) m m''
+    → Reached t (IsInFirst words n) m m' → Reached t (λ a. w ≡ Some a) m' m'' → Reached t (IsInFirst words (n + 1)) m m''
 among_more t words n w m m' m'' e p q =
-    more_reached t (IsAmong words n) (λ a. w ≡ Some a) (IsAmong words (n + 1)) m m' m''
+    more_reached t (IsInFirst words n) (λ a. w ≡ Some a) (IsInFirst words (n + 1)) m m' m''
     (λ a i. among_split words n a w e i) (λ a i. among_left words n a i) (λ a f. among_right words n a w e f) p q
 
 -- ---- roots, of which those that hold nil are passed over
@@ -235,10 +235,10 @@ reached_as t wanted other m m' to from r = record {
   logs = r.logs;
 }
 
-pub among_wider : (words : List (Option ℕ)) (n k a : ℕ) → n ≤ k → IsAmong words n a → IsAmong words k a
+pub among_wider : (words : List (Option ℕ)) (n k a : ℕ) → n ≤ k → IsInFirst words n a → IsInFirst words k a
 among_wider words n k a le i = record { place = i.place; front = omega (arith, le, i.front); is = i.is }
 
-among_same : (words : List (Option ℕ)) (n k a : ℕ) → AreNil words n k → IsAmong words k a → IsAmong words n a
+among_same : (words : List (Option ℕ)) (n k a : ℕ) → AreNil words n k → IsInFirst words k a → IsInFirst words n a
 among_same words n k a nil i = elim (cases_lt i.place n) [
   | inl less ↦ record { place = i.place; front = less; is = i.is }
   | inr more ↦ absurd (let none = nil i.place more i.front in let some = get_or_from_slice_get words i.place (Some a) None i.is in cc)
@@ -246,9 +246,9 @@ among_same words n k a nil i = elim (cases_lt i.place n) [
 
 -- up to a place further on, where only nil stands between
 pub among_past : (t : Table) (words : List (Option ℕ)) (n k : ℕ) (m m' : Marker) → n ≤ k → AreNil words n k
-    → Reached t (IsAmong words n) m m' → Reached t (IsAmong words k) m m'
+    → Reached t (IsInFirst words n) m m' → Reached t (IsInFirst words k) m m'
 among_past t words n k m m' le nil r =
-    reached_as t (IsAmong words n) (IsAmong words k) m m' (λ a. among_wider words n k a le) (λ a. among_same words n k a nil) r
+    reached_as t (IsInFirst words n) (IsInFirst words k) m m' (λ a. among_wider words n k a le) (λ a. among_same words n k a nil) r
 
 -- the word that stands in the next place that is named
 pub named_word : (words : List (Option ℕ)) (from place : ℕ) (w : Option ℕ) → IsNextNamed words from place
@@ -261,7 +261,7 @@ named_word words from place w n e = elim (cases_lt place (length words)) [
 -- all up to the next place that is named were reached, and then what it names
 pub among_next : (t : Table) (words : List (Option ℕ)) (from place : ℕ) (w : Option ℕ) (m m' m'' : Marker)
     → IsNextNamed words from place → w ≡ get_or words place None
-    → Reached t (IsAmong words from) m m' → Reached t (λ a. w ≡ Some a) m' m'' → Reached t (IsAmong words (place + 1)) m m''
+    → Reached t (IsInFirst words from) m m' → Reached t (λ a. w ≡ Some a) m' m'' → Reached t (IsInFirst words (place + 1)) m m''
 among_next t words from place w m m' m'' n e p q =
     among_more t words place w m m' m'' (named_word words from place w n e) (among_past t words from place m m' n.from_on n.nil_before p) q
 

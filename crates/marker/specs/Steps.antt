@@ -24,7 +24,7 @@ pub record SameRoles (m m' : Marker) : Type 0 where
   pub running : m'.running ≡ m.running
 
 -- one of the first n words holds the address
-pub record IsAmong (words : List (Option ℕ)) (n a : ℕ) : Type 0 where
+pub record IsInFirst (words : List (Option ℕ)) (n a : ℕ) : Type 0 where
   pub place : ℕ
   pub front : place < n
   pub is : slice_get words place ≡ Some (Some a)

@@ -11,7 +11,7 @@ ghost use Rattle.mark_bitmap.specs.Marks.{is_marked, marked_count, HasNone};
 ghost use Rattle.mark_bitmap.specs.Tops.{below_next};
 ghost use Rattle.mark_bitmap.specs.Grey.{is_grey};
 ghost use Rattle.marker.specs.Stands.{MarkerStands, IsKept};
-ghost use Rattle.marker.specs.Steps.{KeepsSnapshots, SameRoles, IsAmong, MarksWanted, Grows};
+ghost use Rattle.marker.specs.Steps.{KeepsSnapshots, SameRoles, IsInFirst, MarksWanted, Grows};
 ghost use Rattle.marker.specs.Counts.{added, IsMore};
 
 use crate::marker::Marker;
@@ -92,7 +92,7 @@ impl Marker {
         requires held { self.old.grey.held ≡ Some object }
         ensures stands { MarkerStands table.now self.new }
         ensures snapshots { KeepsSnapshots table.now self.old self.new }
-        ensures marks { MarksWanted table.now (IsAmong (pointers_at table.now object) (length (pointers_at table.now object))) self.old
+        ensures marks { MarksWanted table.now (IsInFirst (pointers_at table.now object) (length (pointers_at table.now object))) self.old
             self.new }
         ensures scanned { self.new.grey.scanned ≡ slice_set self.old.grey.scanned object true }
         ensures counted { self.new.scans ≡ added self.old.scans }

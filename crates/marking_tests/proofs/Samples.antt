@@ -22,7 +22,7 @@ use Rattle.regions.proofs.Tiles.Placing.{region_taken, Pushed, filler_push, Repl
 use Rattle.mark_bitmap.specs.Tops.{is_below, below_previous}
 use Rattle.marker.specs.Views.{heap_of}
 use Rattle.marker.specs.Stands.{IsKept, CanFollow, MarkerStands}
-use Rattle.marking_tests.specs.Samples.{IsLinked, LeadToObjects, Keeps}
+use Rattle.marking_tests.specs.Samples.{IsLinked, LeadToObjects, KeepsTable}
 use Rattle.marker.specs.declared.marker.Marker.{Marker}
 use Rattle.marker.proofs.Forgotten.{table_stands}
 
@@ -43,10 +43,10 @@ pub free_size : (t : Table) (count size : ℕ) → t ≡ free_table count size �
 unfolding free_table
 free_size t count size e = (ap (λ (u : Table). length u.regions) e ∙ length-replicate count Free, ap (λ (u : Table). u.words_per_region) e)
 
-pub keeps_refl : (t : Table) → Keeps t t
+pub keeps_refl : (t : Table) → KeepsTable t t
 keeps_refl t = record { count = refl; size = refl; linked = λ l. l; tops = λ k. omega arith; stays = λ a o. o; words = λ a o. refl }
 
-pub keeps_trans : (t u v : Table) → Keeps t u → Keeps u v → Keeps t v
+pub keeps_trans : (t u v : Table) → KeepsTable t u → KeepsTable u v → KeepsTable t v
 keeps_trans t u v p q = record {
   count = q.count ∙ p.count;
   size = q.size ∙ p.size;
@@ -67,7 +67,7 @@ unfolding object_words
 same_size t t' a b e = ap stored_size e
 
 same_objects : (t t' : Table) → length t'.regions ≡ length t.regions → t'.words_per_region ≡ t.words_per_region
-    → ((k : ℕ) → used_of t' k ≡ used_of t k) → ((a : ℕ) → object_at t' a ≡ object_at t a) → Keeps t t'
+    → ((k : ℕ) → used_of t' k ≡ used_of t k) → ((a : ℕ) → object_at t' a ≡ object_at t a) → KeepsTable t t'
 same_objects t t' count size used same = record {
   count = count;
   size = size;
@@ -77,11 +77,11 @@ same_objects t t' count size used same = record {
   words = λ a h. same_size t t' a a (same a);
 }
 
-pub take_keeps : (t t' : Table) (o : Option ℕ) → first_free t ≡ o → t' ≡ taken t o → Keeps t t'
-take_keeps t t' None f e = subst (λ (u : Table). Keeps t u) (sym e) (keeps_refl t)
+pub take_keeps : (t t' : Table) (o : Option ℕ) → first_free t ≡ o → t' ≡ taken t o → KeepsTable t t'
+take_keeps t t' None f e = subst (λ (u : Table). KeepsTable t u) (sym e) (keeps_refl t)
 take_keeps t t' (Some k) f e =
     let p = region_taken t k f in
-    subst (λ (u : Table). Keeps t u) (sym e)
+    subst (λ (u : Table). KeepsTable t u) (sym e)
     (same_objects t (taken t (Some k)) p.count p.size p.used (λ a. object_same t (taken t (Some k)) a (p.others a)))
 
 module _ (t : Table) (x i b : ℕ) (z : 0 < t.words_per_region) (from : HasObject t x) (to : HasObject t b) where
@@ -121,8 +121,8 @@ module _ (t : Table) (x i b : ℕ) (z : 0 < t.words_per_region) (from : HasObjec
     | inr other ↦ link_stays c (l a j c y (sym (object_same t u a (w.others a other)) ∙ o) f)
   ]
 
-  pub link_keeps : (t' : Table) → t' ≡ set_field t x i (Some b) → Keeps t t'
-  link_keeps t' e = subst (λ (v : Table). Keeps t v) (sym e)
+  pub link_keeps : (t' : Table) → t' ≡ set_field t x i (Some b) → KeepsTable t t'
+  link_keeps t' e = subst (λ (v : Table). KeepsTable t v) (sym e)
       (record {
         count = w.count;
         size = w.size;
@@ -237,7 +237,7 @@ module _ (t t' t'' : Table) (k a n p weak name : ℕ) (shape : IsShaped t) (shap
     | inr apart ↦ record { object = h.object; is = other y apart ∙ h.is }
   ]
 
-  pub add_keeps : Keeps t t''
+  pub add_keeps : KeepsTable t t''
   add_keeps = record {
     count = replaced.count ∙ push.count;
     size = replaced.size ∙ push.size;
@@ -278,7 +278,7 @@ each_push P [] b all p (suc i) a e = cc
 each_push P (x ∷ xs) b all p zero a e = all zero a e
 each_push P (x ∷ xs) b all p (suc i) a e = each_push P xs b (λ j c. all (suc j) c) p i a e
 
-pub objects_push : (t t' : Table) (items now : List ℕ) (b : ℕ) → Keeps t t' → HasObject t' b → now ≡ items ++ b ∷ []
+pub objects_push : (t t' : Table) (items now : List ℕ) (b : ℕ) → KeepsTable t t' → HasObject t' b → now ≡ items ++ b ∷ []
     → ((i a : ℕ) → slice_get items i ≡ Some a → HasObject t a) → (i a : ℕ) → slice_get now i ≡ Some a → HasObject t' a
 objects_push t t' items now b k h e all i a f =
     each_push (HasObject t') items b (λ j c g. k.stays c (all j c g)) h i a (ap (λ (l : List ℕ). slice_get l i) (sym e) ∙ f)
@@ -303,7 +303,7 @@ kept_back t m a none k = let below = none a in record { object = k.object; is = 
 
 -- a marker that marks a table of which it keeps every object can go on over a larger one
 pub grown_stands : (t t' : Table) (m : Marker) → MarkerStands t m → IsLinked t
-    → ((a : ℕ) → below_previous t m.tams a ≡ false) → Keeps t t' → MarkerStands t' m
+    → ((a : ℕ) → below_previous t m.tams a ≡ false) → KeepsTable t t' → MarkerStands t' m
 grown_stands t t' m st linked none k =
     table_stands t t' m st k.count k.size (λ j h. let top = st.previous.top j h in omega (arith, top, k.tops j))
     (λ j h. let top = st.next.top j h in omega (arith, top, k.tops j))

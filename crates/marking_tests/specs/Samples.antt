@@ -12,7 +12,7 @@ abbrev pub LeadToObjects : Table → List (Option ℕ) → Type 0
 LeadToObjects t words = (i a : ℕ) → slice_get words i ≡ Some (Some a) → HasObject t a
 
 -- the table is as large as before, still linked, its objects stay with their words, and no top falls
-pub record Keeps (t t' : Table) : Type 0 where
+pub record KeepsTable (t t' : Table) : Type 0 where
   pub count : length t'.regions ≡ length t.regions
   pub size : t'.words_per_region ≡ t.words_per_region
   pub linked : IsLinked t → IsLinked t'

@@ -6,14 +6,14 @@ ghost use Rattle.regions.specs.Table.{HasObject};
 ghost use Rattle.mark_bitmap.specs.Tops.{below_previous};
 ghost use Rattle.satb_log.specs.Logs.{logged};
 ghost use Rattle.marker.specs.Stands.{MarkerStands, IsKept};
-ghost use Rattle.marking_tests.specs.Samples.{IsLinked, LeadToObjects, Keeps};
+ghost use Rattle.marking_tests.specs.Samples.{IsLinked, LeadToObjects, KeepsTable};
 
 use heap_words::addr::{Addr, Ptr, RegionNo};
 use heap_words::config::{Config, Format};
 use heap_words::header::{Count, FillerSize, HeaderCounts};
 use marker::Marker;
 use regions::{Kind, RegionTable, Shape};
-use root_table::{Places, Roots};
+use root_table::{RootCounts, Roots};
 use std::alloc::Global;
 use std::test::Fail;
 
@@ -25,7 +25,7 @@ fn add(
     pointers: u8,
     weaks: u8,
 ) -> Option<Addr>
-    ensures keeps { Keeps table.old table.new }
+    ensures keeps { KeepsTable table.old table.new }
     ensures object { IfSome result (HasObject table.new) }
 {
     table.law();
@@ -55,7 +55,7 @@ fn add(
 fn link(table: &mut RegionTable, from: Addr, field: u32, to: Addr)
     requires from { HasObject table.old from }
     requires to { HasObject table.old to }
-    ensures keeps { Keeps table.old table.new }
+    ensures keeps { KeepsTable table.old table.new }
 {
     table.law();
     if field < table.field_count(from) {
@@ -65,7 +65,7 @@ fn link(table: &mut RegionTable, from: Addr, field: u32, to: Addr)
 
 /// Takes the lowest free region.
 fn take_free(table: &mut RegionTable) -> Option<RegionNo>
-    ensures keeps { Keeps table.old table.new }
+    ensures keeps { KeepsTable table.old table.new }
 {
     table.take_free()
 }
@@ -105,7 +105,7 @@ fn sizes() -> Config
 /// Stores an object's address in a field of another one, both by their place in the list, if all are there.
 fn link_listed(table: &mut RegionTable, objects: &[Addr], from: usize, field: u32, to: usize)
     requires objects { (i a : ℕ) → slice_get objects.now i ≡ Some a → HasObject table.old a }
-    ensures keeps { Keeps table.old table.new }
+    ensures keeps { KeepsTable table.old table.new }
 {
     if from >= objects.len() || to >= objects.len() {
         return;
@@ -148,7 +148,7 @@ fn roots_of(alloc: Global, made: &Made, held: &[(u32, usize)]) -> Result<Roots, 
     requires { (i a : ℕ) → slice_get made.now.objects.items i ≡ Some a → HasObject made.now.table a }
     ensures { IfOk result (λ roots. LeadToObjects made.now.table roots.words) }
 {
-    let mut roots = Roots::new(alloc, Places::new(32, 0, 0))?;
+    let mut roots = Roots::new(alloc, RootCounts::new(32, 0, 0))?;
     for (place, object) in held {
         if *place < 32 && *object < made.objects.len() {
             roots.set_global(*place, Some(made.objects[*object]));

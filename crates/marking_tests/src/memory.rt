@@ -93,7 +93,7 @@ fn sixteen_words(alloc: Global) -> Result<Words, AllocError>
     ensures { IfOk result (λ words. words.written ≡ 16) }
 {
     let mut words = Words::new(alloc, 20)?;
-    words.reach(16);
+    words.zero_below(16);
     Ok(words)
 }
 

@@ -1,7 +1,7 @@
 //! Where roots are, and which are found.
 
 use heap_words::addr::{Addr, Ptr};
-use root_table::{Places, Roots};
+use root_table::{RootCounts, Roots};
 use std::process::Abort;
 use std::test::Fail;
 
@@ -22,7 +22,7 @@ fn assert_named(rt: &impl Abort, roots: &Roots, expected: &[usize]) {
 /// Globals come first, and then each mutator's registers.
 #[test]
 fn places_roots(rt: HostRuntime) {
-    let places = Places::new(2, 2, 3);
+    let places = RootCounts::new(2, 2, 3);
     assert!(rt; places.globals() == 2 && places.mutators() == 2 && places.registers() == 3);
     assert_eq!(rt; places.count(), 8);
     assert_eq!(rt; places.register(0, 0), 2);
@@ -33,7 +33,7 @@ fn places_roots(rt: HostRuntime) {
 /// What isn't nil is found in order, in whichever row it is; a frame that is left takes its registers with it, and no other's.
 #[test]
 fn finds_what_is_named(rt: HostRuntime) -> Result<(), Fail> {
-    let places = Places::new(2, 2, 3);
+    let places = RootCounts::new(2, 2, 3);
     let mut roots = Roots::new(rt.alloc(), places)?;
     assert_named(&rt, &roots, &[]);
     roots.set_global(1, at(16));

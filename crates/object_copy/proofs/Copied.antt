@@ -15,7 +15,7 @@ use Rattle.regions.proofs.Tiles.Placing.{Pushed, filler_push, ordinary_at}
 use Rattle.regions.proofs.Words.Sizes.{EachForwardedIn-set, EachForwardedIn-at, EachForwarded-append, EachForwarded-replace}
 use Rattle.regions.proofs.Tiles.TileLaws.{Forwards, object_forwarded}
 use Rattle.regions.proofs.Tiles.Totals.{used_same, total-replace}
-use Rattle.object_copy.specs.Copies.{Places, Opens, Copies, CopiesObject}
+use Rattle.object_copy.specs.CopiesAndForwards.{Destinations, Opens, CopiesAndForwards, CopiesObject}
 use Rattle.object_copy.proofs.Frees.{same_free}
 use Rattle.object_copy.proofs.Opened.{Opened, opened, opened_moved}
 
@@ -159,7 +159,7 @@ pub record CanForward (u : Table) (from to : ℕ) : Type 0 where
 is_some : (o : Option Stored) (x : Stored) → o ≡ Some x → IsSome o
 is_some o x e = rw e refl
 
-module _ (t o : Table) (d e : Places) (k from size : ℕ) (known : IfSome d.last (λ j. j < length t.regions))
+module _ (t o : Table) (d e : Destinations) (k from size : ℕ) (known : IfSome d.last (λ j. j < length t.regions))
     (last : IfSome d.last (λ j. kind_of t j ≡ kinds.Ordinary)) (opens : Opens t o d e size k)
     (shaped : IsShaped o) (size_is : size ≡ object_words t from) (some : IsSome (object_at t from))
     (ordinary : kind_of t (from / t.words_per_region) ≡ kinds.Ordinary) where
@@ -198,7 +198,7 @@ module _ (t o : Table) (d e : Places) (k from size : ℕ) (known : IfSome d.last
           untargeted = pushed_moved (λ a. a ≢ from) o k x (opened_moved (λ a. a ≢ from) t o d e size k opens m);
         }))
 
-    module _ (v : Table) (f : Places) (forward_is : v ≡ replace_tile u from (Forwarded to (object_words u from) ∷ []))
+    module _ (v : Table) (f : Destinations) (forward_is : v ≡ replace_tile u from (Forwarded to (object_words u from) ∷ []))
         (places_are : f ≡ record { regions = e.regions; last = e.last; room = e.room; words = e.words + size }) where
       table_is : (x : Stored) → object_at t from ≡ Some x
           → v ≡ replace_tile (push_tile o k (Object x)) from (Forwarded to (tile_size (Object x)) ∷ [])
@@ -211,7 +211,7 @@ module _ (t o : Table) (d e : Places) (k from size : ℕ) (known : IfSome d.last
           forward_is ∙ ap (λ (y : Table). replace_tile y from (Forwarded to (object_words y from) ∷ [])) same
           ∙ ap (λ (n : ℕ). replace_tile (push_tile o k (Object x)) from (Forwarded to n ∷ [])) q
 
-      pub copied : (x : Stored) → object_at t from ≡ Some x → Copies t v d f from to x
+      pub copied : (x : Stored) → object_at t from ≡ Some x → CopiesAndForwards t v d f from to x
       copied x at = let n : size ≡ tile_size (Object x) = size_is ∙ words_of t from x at in record {
         region = k;
         table = o;
@@ -225,7 +225,7 @@ module _ (t o : Table) (d e : Places) (k from size : ℕ) (known : IfSome d.last
       pub changed : (x : Stored) (j : ℕ) → object_at t from ≡ Some x → f.last ≡ Some j → CopiesObject t v j from to x
       changed x j at l =
           let r = room_for x at in
-          let same : k ≡ j = (let a = opens.last in let b = ap (λ (y : Places). y.last) places_are in cc) in
+          let same : k ≡ j = (let a = opens.last in let b = ap (λ (y : Destinations). y.last) places_are in cc) in
           subst (λ (n : ℕ). CopiesObject t v n from to x) same
           (subst (λ (y : Table). CopiesObject t y k from to x)
           (sym (table_is x at
@@ -250,7 +250,7 @@ replaced_moved P t a to n h m =
     one (Rest k) q = tt
 
 -- what holds of each moved tile still does, where it holds of the new place
-pub copied_moved : (P : ℕ → Type 0) (t t' : Table) (d d' : Places) (from to : ℕ) (x : Stored) → Copies t t' d d' from to x → P to
+pub copied_moved : (P : ℕ → Type 0) (t t' : Table) (d d' : Destinations) (from to : ℕ) (x : Stored) → CopiesAndForwards t t' d d' from to x → P to
     → EachForwardedIn P t.regions → EachForwardedIn P t'.regions
 copied_moved P t t' d d' from to x c h m =
     subst (λ (u : Table). EachForwardedIn P u.regions) (sym c.table_is)

@@ -7,7 +7,7 @@ use Rattle.regions.specs.Table.{used_of, EachForwardedIn, with_region, free_coun
 use Rattle.regions.specs.declared.row.Kind.TheVariants as kinds
 use Rattle.regions.proofs.Tiles.Placing.{region_taken}
 use Rattle.regions.proofs.Words.Sizes.{EachForwardedIn-set}
-use Rattle.object_copy.specs.Copies.{Places, Opens, Takes, fill_of}
+use Rattle.object_copy.specs.CopiesAndForwards.{Destinations, Opens, OpensLowest, fill_of}
 use Rattle.object_copy.proofs.Frees.{fewer_free}
 
 -- what that changes: a free region may be ordinary now
@@ -60,11 +60,11 @@ taken_opened t k e =
       free_less = λ o. fewer_free t k e;
     }
 
-pub opened : (t t' : Table) (d d' : Places) (size k : ℕ) → IfSome d.last (λ j. j < length t.regions)
+pub opened : (t t' : Table) (d d' : Destinations) (size k : ℕ) → IfSome d.last (λ j. j < length t.regions)
     → IfSome d.last (λ j. kind_of t j ≡ kinds.Ordinary) → Opens t t' d d' size k → Opened t t' k
 opened t t' d d' size k known o w = elim w.how [
   | inl q ↦
-      let e : d.last ≡ Some k = ap (λ (u : Places). u.last) (sym q.1) ∙ w.last in
+      let e : d.last ≡ Some k = ap (λ (u : Destinations). u.last) (sym q.1) ∙ w.last in
       let known' : k < length t.regions = rw e at known in
       let o' : kind_of t k ≡ kinds.Ordinary = rw e at o in
       subst (λ (u : Table). Opened t u k) (sym q.0) (same_opened t k known' o')
@@ -72,14 +72,14 @@ opened t t' d d' size k known o w = elim w.how [
 ]
 
 -- what holds of each moved tile still does
-pub opened_moved : (P : ℕ → Type 0) (t t' : Table) (d d' : Places) (size k : ℕ) → Opens t t' d d' size k
+pub opened_moved : (P : ℕ → Type 0) (t t' : Table) (d d' : Destinations) (size k : ℕ) → Opens t t' d d' size k
     → EachForwardedIn P t.regions → EachForwardedIn P t'.regions
 opened_moved P t t' d d' size k w m = elim w.how [
   | inl q ↦ subst (λ (u : Table). EachForwardedIn P u.regions) (sym q.0) m
   | inr q ↦ subst (λ (u : Table). EachForwardedIn P u.regions) (sym q.0.table) (EachForwardedIn-set P t.regions k (Ordinary []) (tt, tt) m)
 ]
 
-pub taken_opens : (t t' : Table) (d d' : Places) (size k : ℕ) → Takes t t' d d' k → size ≤ t.words_per_region
+pub taken_opens : (t t' : Table) (d d' : Destinations) (size k : ℕ) → OpensLowest t t' d d' k → size ≤ t.words_per_region
     → ((f : ℕ) → fill_of t d.last ≡ Some f → t.words_per_region < f + size) → Opens t t' d d' size k
 taken_opens t t' d d' size k w small full =
     let r = region_taken t k w.lowest in

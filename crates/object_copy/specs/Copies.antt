@@ -6,7 +6,7 @@ use Rattle.regions.specs.Table.{Table, first_free, free_count, kind_of, taken, t
 use Rattle.regions.specs.declared.row.Kind.TheVariants as kinds
 
 -- the destinations
-pub record Places : Type 0 where
+pub record Destinations : Type 0 where
   -- the regions that were taken, in that order
   pub regions : List ℕ
   -- the one of them that copies go to now
@@ -17,8 +17,8 @@ pub record Places : Type 0 where
   pub words : ℕ
 
 -- no region is a destination, and there is room for so many
-abbrev pub no_places : ℕ → Places
-no_places room = record { regions = []; last = None; room = room; words = 0 }
+abbrev pub no_destinations : ℕ → Destinations
+no_destinations room = record { regions = []; last = None; room = room; words = 0 }
 
 -- how many words of the open destination are handed out
 abbrev pub fill_of : Table → Option ℕ → Option ℕ
@@ -26,12 +26,12 @@ fill_of t None = None
 fill_of t (Some k) = Some (used_of t k)
 
 -- so many words fit in the open destination, or one of so many regions is free
-abbrev pub CanPlace : ℕ → ℕ → Option ℕ → ℕ → Type 0
-CanPlace words free None size = 0 < free
-CanPlace words free (Some fill) size = (fill + size ≤ words) ⊎ (0 < free)
+abbrev pub CanTake : ℕ → ℕ → Option ℕ → ℕ → Type 0
+CanTake words free None size = 0 < free
+CanTake words free (Some fill) size = (fill + size ≤ words) ⊎ (0 < free)
 
 -- the lowest free region becomes the open destination
-pub record Takes (t t' : Table) (d d' : Places) (k : ℕ) : Type 0 where
+pub record OpensLowest (t t' : Table) (d d' : Destinations) (k : ℕ) : Type 0 where
   pub lowest : first_free t ≡ Some k
   pub table : t' ≡ taken t (Some k)
   pub regions : d'.regions ≡ d.regions ++ k ∷ []
@@ -40,16 +40,16 @@ pub record Takes (t t' : Table) (d d' : Places) (k : ℕ) : Type 0 where
   pub words : d'.words ≡ d.words
 
 -- a destination for so many words: the open one if they fit there, and then nothing changes, else the lowest free region
-pub record Opens (t t' : Table) (d d' : Places) (size k : ℕ) : Type 0 where
+pub record Opens (t t' : Table) (d d' : Destinations) (size k : ℕ) : Type 0 where
   pub last : d'.last ≡ Some k
   pub fits : used_of t' k + size ≤ t'.words_per_region
-  pub how : ((t' ≡ t) × (d' ≡ d)) ⊎ (Takes t t' d d' k × ((f : ℕ) → fill_of t d.last ≡ Some f → t.words_per_region < f + size))
+  pub how : ((t' ≡ t) × (d' ≡ d)) ⊎ (OpensLowest t t' d d' k × ((f : ℕ) → fill_of t d.last ≡ Some f → t.words_per_region < f + size))
 
 -- the object at `from` is copied to the top of a destination, and forwarded to its copy
-pub record Copies (t t' : Table) (d d' : Places) (from to : ℕ) (object : Stored) : Type 0 where
+pub record CopiesAndForwards (t t' : Table) (d d' : Destinations) (from to : ℕ) (object : Stored) : Type 0 where
   pub region : ℕ
   pub table : Table
-  pub places : Places
+  pub places : Destinations
   pub opens : Opens t table d places (tile_size (Object object)) region
   pub at : to ≡ top_of table region
   pub table_is : t' ≡ replace_tile (push_tile table region (Object object)) from (Forwarded to (tile_size (Object object)) ∷ [])

@@ -4,7 +4,7 @@ ghost use Rattle.std.specs.Prelude.{◌≡◌, ◌≢◌, ℕ, ◌≤◌, ◌<�
 ghost use Rattle.heap_model.specs.Heap.{Stored};
 ghost use Rattle.regions.specs.Table.{kind_of, object_at, object_words, EachForwardedIn, free_count};
 ghost use Rattle.regions.specs.declared.row.Kind.TheVariants as kinds;
-ghost use Rattle.object_copy.specs.Copies.{fill_of, CanPlace, Takes, Opens, Copies, CopiesObject};
+ghost use Rattle.object_copy.specs.CopiesAndForwards.{fill_of, CanTake, OpensLowest, Opens, CopiesAndForwards, CopiesObject};
 
 use crate::destinations::Destinations;
 use heap_words::addr::{Addr, RegionNo};
@@ -15,7 +15,7 @@ fn destination_for(table: &mut RegionTable, destinations: &mut Destinations, siz
     requires known { IfSome destinations.old.last (λ k. k < length table.old.regions) }
     requires ordinary { IfSome destinations.old.last (λ k. kind_of table.old k ≡ kinds.Ordinary) }
     requires small { size ≤ table.old.words_per_region }
-    requires room { CanPlace table.old.words_per_region (free_count table.old) (fill_of table.old destinations.old.last) size }
+    requires room { CanTake table.old.words_per_region (free_count table.old) (fill_of table.old destinations.old.last) size }
     requires list { free_count table.old ≤ destinations.old.room }
     ensures { Opens table.old table.new destinations.old destinations.new size result }
 {
@@ -31,7 +31,7 @@ fn destination_for(table: &mut RegionTable, destinations: &mut Destinations, siz
 fn open_next(table: &mut RegionTable, destinations: &mut Destinations) -> RegionNo
     requires some { 0 < free_count table.old }
     requires list { free_count table.old ≤ destinations.old.room }
-    ensures { Takes table.old table.new destinations.old destinations.new result }
+    ensures { OpensLowest table.old table.new destinations.old destinations.new result }
 {
     match table.take_free() {
         Some(region) => {
@@ -50,12 +50,12 @@ pub fn copy(table: &mut RegionTable, destinations: &mut Destinations, from: Addr
     requires known { IfSome destinations.old.last (λ k. k < length table.old.regions) }
     requires last { IfSome destinations.old.last (λ k. kind_of table.old k ≡ kinds.Ordinary) }
     requires small { object_words table.old from ≤ table.old.words_per_region }
-    requires room { CanPlace table.old.words_per_region (free_count table.old) (fill_of table.old destinations.old.last)
+    requires room { CanTake table.old.words_per_region (free_count table.old) (fill_of table.old destinations.old.last)
         (object_words table.old from) }
     requires list { free_count table.old ≤ destinations.old.room }
     requires count { destinations.old.words + object_words table.old from < 2 ^ 32 }
     ensures copies { (x : Stored) → object_at table.old from ≡ Some x
-        → Copies table.old table.new destinations.old destinations.new from result x }
+        → CopiesAndForwards table.old table.new destinations.old destinations.new from result x }
     ensures changes { (x : Stored) (k : ℕ) → object_at table.old from ≡ Some x → destinations.new.last ≡ Some k
         → CopiesObject table.old table.new k from result x }
 {

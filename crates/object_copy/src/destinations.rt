@@ -1,7 +1,7 @@
 //! The regions that copies go to.
 
 ghost use Rattle.std.specs.Prelude.{◌≡◌, ◌<◌, ◌+◌, ◌^◌, ◌∷◌, [], ◌++◌, IfOk, Some, length, slice_get};
-ghost use Rattle.object_copy.specs.Copies.{no_places};
+ghost use Rattle.object_copy.specs.CopiesAndForwards.{no_destinations};
 
 use heap_words::addr::RegionNo;
 use std::alloc::{AllocError, Global};
@@ -19,9 +19,9 @@ pub struct Destinations {
 
 impl Model for Destinations {
     ghost use Rattle.std.specs.Prelude.{◌≤◌, ◌-◌, take, vec_len};
-    ghost use Rattle.object_copy.specs.Copies.{Places};
+    ghost use Rattle.object_copy.specs.CopiesAndForwards.{Destinations};
 
-    ghost Value = { Places };
+    ghost Value = { Destinations };
 
     ghost view = { λ d. record {
       regions = take d.count d.regions.items;
@@ -36,7 +36,7 @@ impl Model for Destinations {
 impl Destinations {
     /// No destination yet, and room for each of so many regions. No call takes memory afterwards.
     pub fn new(alloc: Global, regions: u32) -> Result<Destinations, AllocError>
-        ensures { IfOk result (λ d. d ≡ no_places regions) }
+        ensures { IfOk result (λ d. d ≡ no_destinations regions) }
     {
         Ok(Destinations {
             regions: vec![in alloc; 0; regions as usize]?,
@@ -103,7 +103,7 @@ impl Destinations {
 
     /// Copying is over: no region is a destination, and there is room for all again.
     pub fn close(&mut self)
-        ensures { self.new ≡ no_places (length self.old.regions + self.old.room) }
+        ensures { self.new ≡ no_destinations (length self.old.regions + self.old.room) }
     {
         self.count = 0;
         self.last = None;

@@ -6,14 +6,14 @@ use Rattle.std.specs.Prelude.{IfOk}
 use Rattle.std.proofs.lemmas.List.{take_all, take_more}
 use Rattle.std.proofs.lemmas.Option.{slice_get-get_or}
 use Rattle.heap_words.specs.declared.config.Config.{Config}
-use Rattle.heap_model.specs.Graph.{Graph, Places, next_name}
+use Rattle.heap_model.specs.Graph.{Graph, RootCounts, next_name}
 use Rattle.heap_model.specs.Weak.{cleared_graph}
 use Rattle.heap_steps.specs.Actors.{IsStepOf, IsEvent}
 use Rattle.heap_steps.specs.Roots.{IsOpAt}
 use Rattle.graph_runs.specs.State.{State, IsSoundState, ForSnapshot, IsEarlier, first_state, places_of}
 use Rattle.object_graph.specs.Reached.{started, all_found, searched, flag_of}
 use Rattle.graph_runs.specs.Machine.{Outcome, outcome_of, reply_of}
-use Rattle.graph_runs.specs.Run.{ForMutator, ClearsBy, Collects, Happens, EventHappens, IsRun, snapshot_after}
+use Rattle.graph_runs.specs.Run.{ForMutator, ClearsBy, ChangesState, Happens, EventHappens, IsRun, snapshot_after}
 use Rattle.object_graph.specs.Judged.{Judged}
 use Rattle.object_graph.specs.Reasons.{IsGiven, MayStand, Refuses, Finds, verdict_of, Judging, HasJudged, JudgesNext, SparingJudges}
 use Rattle.heap_steps.specs.declared.step.Actor.{Actor}
@@ -93,7 +93,7 @@ cleared_there st (Some s) is sound =
     )
 
 -- some state follows a step of the collector
-collected : (old : State) (k : CollectorStep) (r : Reply) → IsSoundState old → (new : State) × Collects old k r new
+collected : (old : State) (k : CollectorStep) (r : Reply) → IsSoundState old → (new : State) × ChangesState old k r new
 collected old k r sound = elim (kind k r) [
   | inl t ↦ (
     record { graph = old.graph; snapshot = Some old.graph },
@@ -149,7 +149,7 @@ pub op_judged : (j : Judging) (es : List Event) (e : Event) → HasJudged j es �
 op_judged j es e taken known =
     let same : j.state.graph.places ≡ places_of j.config =
     ap (λ (g : Graph). g.places) taken.2.graph ∙ run_places es (first_state j.config) taken.0 taken.1 in
-    subst (λ (p : Places). ForMutator e.step (IsOpAt p)) (sym same) (op_of j.config e.actor e.step known)
+    subst (λ (p : RootCounts). ForMutator e.step (IsOpAt p)) (sym same) (op_of j.config e.actor e.step known)
 
 -- a judge that took the first i events and one more took the first i + 1
 pub judged_more : (j : Judging) (es seen : List Event) (i : ℕ) (e : Event) → seen ≡ es → i < length seen → e ≡ get_or seen i e

@@ -9,7 +9,7 @@ use crate::roots::fill_nil;
 use crate::search::Search;
 use heap_steps::{Action, Counts, GlobalRoot, Op, Refusal, Register, Reply};
 use heap_words::config::Config;
-use root_table::Places;
+use root_table::RootCounts;
 use std::alloc::{AllocError, Global};
 use std::marker::Model;
 
@@ -17,7 +17,7 @@ use std::marker::Model;
 pub struct Graph {
     room: u64,
     first_name: u64,
-    places: Places,
+    places: RootCounts,
     objects: Objects,
     roots: Vec<Pointer>,
     /// For the globals and for each mutator's registers a number from which on they are nil.
@@ -406,7 +406,7 @@ impl Graph {
     /// let graph = Graph::new(alloc, &config)?;
     /// assert_eq!(rt; graph.places().globals(), 16);
     /// ```
-    pub fn places(&self) -> Places
+    pub fn places(&self) -> RootCounts
         ensures { result ≡ self.now.places }
     {
         self.places
@@ -469,7 +469,7 @@ impl Graph {
     pub fn new(alloc: Global, config: &Config) -> Result<Graph, AllocError>
         ensures { IfOk result (λ g. g ≡ first_graph config.now) }
     {
-        let places = Places::of(config);
+        let places = RootCounts::of(config);
         let first_name = config.first_name;
         Ok(Graph {
             room: config.object_limit(),

@@ -20,7 +20,7 @@ use Rattle.region_choice.specs.Choice.{live_sum}
 use Rattle.region_choice.specs.declared.LiveRow.{LiveRow}
 use Rattle.refinement.specs.Remembering.{Remembers, field_card, field_word}
 use Rattle.refinement.proofs.Holders.{kept_object}
-use Rattle.evacuation.specs.Evacuates.{Layers, CanEvacuate, IsRow, kept_of}
+use Rattle.evacuation.specs.Evacuates.{Layers, CanEvacuate, IsLiveRow, kept_of}
 use Rattle.region_tests.specs.Evacuated.{IsFresh, by_weak_slot, held, holder, itself, selfish, two_cards}
 
 the_row : (row : LiveRow) (P : LiveRow → Type 0) → P row → All P (row ∷ [])
@@ -104,7 +104,7 @@ module _ (t : Table) (s : Sets) (row : LiveRow) (u : IsSuited t s row) (h : Laye
         | inr c ↦ inr (ap (λ (v : Sets). may_lead v (b / 16) (field_card 8 a i)) f.sets_are ∙ c)
       ];
     });
-    each_row = the_row row (IsRow h) (record {
+    each_row = the_row row (IsLiveRow h) (record {
       known = let c = count in let k = u.known in omega arith;
       ordinary = ap (λ (v : Table). kind_of v row.region) f.table_is ∙ u.ordinary;
       live_bound = u.bound h.previous ∙ ap (λ (l : List ℕ). live_bound_of t l h.previous row.region) (sym f.previous_tops)

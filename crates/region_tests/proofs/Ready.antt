@@ -3,9 +3,9 @@ use Rattle.std.proofs.Common.{◌≡◌, ℕ, Result, Ok, Err, length, sym, ◌�
 use Rattle.std.specs.Prelude.{IfOk, OnErr}
 use Rattle.std.proofs.lemmas.List.{length-replicate}
 use Rattle.regions.specs.Table.{Table, HasNoForwarded, free_table}
-use Rattle.alloc_buffers.specs.Placement.{Buffers, BuffersStand, IsPlace, closed}
-use Rattle.alloc_buffers.specs.declared.placement.Place.{Place}
-use Rattle.alloc_buffers.specs.declared.placement.Place.TheVariants as places
+use Rattle.alloc_buffers.specs.Placement.{Buffers, BuffersStand, IsAllocation, closed}
+use Rattle.alloc_buffers.specs.declared.placement.Allocation.{Allocation}
+use Rattle.alloc_buffers.specs.declared.placement.Allocation.TheVariants as allocations
 
 -- a table of regions of so many words, and the buffers of so many mutators
 pub record IsReady (regions region words mutators : ℕ) (t : Table) (b : Buffers) : Type 0 where
@@ -34,10 +34,10 @@ same_ready regions region words mutators t t' b b' table buffers ready =
     subst (λ (u : Table). IsReady regions region words mutators u b') (sym table)
     (subst (λ (d : Buffers). IsReady regions region words mutators t d) (sym buffers) ready)
 
-pub ready_after : {E : Type 0} (r : Result Place E) (regions region words mutators size : ℕ) (t t' : Table) (b b' : Buffers)
+pub ready_after : {E : Type 0} (r : Result Allocation E) (regions region words mutators size : ℕ) (t t' : Table) (b b' : Buffers)
     → IsReady regions region words mutators t b
-    → IfOk r (λ p. IsPlace t t' b b' size p) → OnErr r (t' ≡ t) → OnErr r (b' ≡ b) → IsReady regions region words mutators t' b'
-ready_after (Ok (places.Filler a)) regions region words mutators size t t' b b' ready place table buffers =
+    → IfOk r (λ p. IsAllocation t t' b b' size p) → OnErr r (t' ≡ t) → OnErr r (b' ≡ b) → IsReady regions region words mutators t' b'
+ready_after (Ok (allocations.Filler a)) regions region words mutators size t t' b b' ready place table buffers =
     let placed = place.1 in
     record {
       count = placed.open_count ∙ ready.count;
@@ -47,7 +47,7 @@ ready_after (Ok (places.Filler a)) regions region words mutators size t t' b b' 
       unmoved = placed.unmoved;
       stand = placed.stand;
     }
-ready_after (Ok (places.Run k count)) regions region words mutators size t t' b b' ready place table buffers =
+ready_after (Ok (allocations.Run k count)) regions region words mutators size t t' b b' ready place table buffers =
     same_ready regions region words mutators t t' b b' place.1.table place.1.buffers ready
 ready_after (Err e) regions region words mutators size t t' b b' ready place table buffers =
     same_ready regions region words mutators t t' b b' table buffers ready

@@ -9,8 +9,8 @@ abbrev pub filled : Stored
 filled = record { name = 7; pointers = Some 5 ∷ []; weaks = []; values = 9 ∷ [] }
 
 -- an object of four words at 0, fillers of one word and of five, and three free regions
-abbrev pub IsFilled : Table → Type 0
-IsFilled t =
+abbrev pub IsFilledTable : Table → Type 0
+IsFilledTable t =
     t ≡ record { words_per_region = 16; regions = Ordinary (Object filled ∷ Filler 1 ∷ Filler 5 ∷ []) ∷ Free ∷ Free ∷ Free ∷ [] }
 
 -- an object of four words at 0 with that pointer, a filler of two words, and three free regions

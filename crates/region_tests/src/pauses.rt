@@ -15,7 +15,7 @@ use mark_bitmap::tams::Tams;
 use region_choice::LiveRow;
 use regions::{RegionTable, Shape};
 use remembered_sets::RememberedSets;
-use root_table::{Places, Roots};
+use root_table::{RootCounts, Roots};
 use std::alloc::Global;
 use std::test::Fail;
 
@@ -87,7 +87,7 @@ impl Drop for Paused {
 fn one_root(alloc: Global, word: u32) -> Result<Roots, Fail>
     ensures { IfOk result (λ roots. roots.words ≡ Some word ∷ []) }
 {
-    let mut roots = Roots::new(alloc, Places::new(1, 0, 0))?;
+    let mut roots = Roots::new(alloc, RootCounts::new(1, 0, 0))?;
     roots.set_global(0, Some(Addr::new(word)));
     Ok(roots)
 }

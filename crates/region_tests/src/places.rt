@@ -1,16 +1,16 @@
 //! Placements in a small heap.
 
-use alloc_buffers::{AllocBuffers, Full, Place};
+use alloc_buffers::{AllocBuffers, Full, Allocation};
 use heap_words::addr::RegionNo;
 use heap_words::config::{Config, Format};
 use regions::RegionTable;
 use std::test::Fail;
 
 /// Where a place for an object starts, regions having 16 words; a run's regions are as many as the object needs.
-fn address(place: Place, size: u32) -> u32 {
+fn address(place: Allocation, size: u32) -> u32 {
     match place {
-        Place::Filler(at) => at.word(),
-        Place::Run { first, count } => {
+        Allocation::Filler(at) => at.word(),
+        Allocation::Run { first, count } => {
             if count == size.div_ceil(16) {
                 first.number().wrapping_mul(16)
             } else {
@@ -53,7 +53,7 @@ fn places(rt: HostRuntime) -> Result<(), Fail> {
     assert!(rt; !buffers.is_current(RegionNo::new(0)));
     for (mutator, size, address_wanted) in rows {
         assert!(rt; mutator < 2 && size > 0 && size <= 32);
-        match buffers.place(&mut table, mutator, size) {
+        match buffers.allocate(&mut table, mutator, size) {
             Ok(place) => assert_eq!(rt; Some(address(place, size)), address_wanted),
             Err(Full) => assert_eq!(rt; None, address_wanted),
         }

@@ -2,7 +2,7 @@
 
 ghost use Rattle.std.specs.Prelude.{◌≡◌, ◌*◌, ◌<◌, ◌^◌, length, IfOk, IsSome, Some};
 ghost use Rattle.regions.specs.Table.{free_table, object_at, pointers_at, weaks_at, fields_at, values_at};
-ghost use Rattle.region_tests.specs.Filled.{IsFilled, slotted, stepped, twice};
+ghost use Rattle.region_tests.specs.Filled.{IsFilledTable, slotted, stepped, twice};
 ghost use Rattle.region_tests.specs.Samples.{one_object};
 
 use crate::refining::{add, free_regions, one_object, take_free};
@@ -146,7 +146,7 @@ fn makes_what_suits(rt: HostRuntime) {
 
 /// A region is taken, a filler cut and split, and an object made in it.
 fn filled(rt: &impl Abort, alloc: Global) -> Result<RegionTable, Fail>
-    ensures { IfOk result IsFilled }
+    ensures { IfOk result IsFilledTable }
 {
     let Ok(mut table) = small_table(alloc) else {
         return Err(Fail::from("a table is made"));

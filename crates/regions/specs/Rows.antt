@@ -63,18 +63,18 @@ regions_of sizes size ws [] = []
 regions_of sizes size ws (row ∷ rows) = region_of sizes ws row ∷ regions_of sizes size (drop size ws) rows
 
 -- the header is an object's
-abbrev pub IsObject : Option Header → Type 0
-IsObject None = ⊥
-IsObject (Some (headers.Object p weak d)) = Unit {0}
-IsObject (Some (headers.Filler n)) = ⊥
-IsObject (Some (headers.Forwarded to)) = ⊥
+abbrev pub IsObjectHeader : Option Header → Type 0
+IsObjectHeader None = ⊥
+IsObjectHeader (Some (headers.Object p weak d)) = Unit {0}
+IsObjectHeader (Some (headers.Filler n)) = ⊥
+IsObjectHeader (Some (headers.Forwarded to)) = ⊥
 
 -- a row that is no later one of a run says what the words of its region are
 abbrev pub IsRow : (ℕ → ℕ) → ℕ → List ℕ → ℕ → Kind → Type 0
 IsRow sizes size ws used kinds.Free = used ≡ 0
 IsRow sizes size ws used kinds.Ordinary = (used ≤ size) × IsTiled sizes 0 (take used ws)
 IsRow sizes size ws used kinds.First =
-    IsObject (header_of (slice_index ws 0)) × (used ≡ min size (object_size (header_of (slice_index ws 0))))
+    IsObjectHeader (header_of (slice_index ws 0)) × (used ≡ min size (object_size (header_of (slice_index ws 0))))
 IsRow sizes size ws used kinds.Rest = ⊥
 
 -- the row of a later region of a run, from whose start on `left` words are the object's
@@ -148,7 +148,7 @@ pub record AreTilesWritten (t : Table) (n : ℕ) : Type 0 where
 -- words and rows are a table's, with 2 ^ shift words a region, which are whole cards; each tile stands in the words that are
 -- written; no row below `lowest` is free; `free` rows are; each card has its entry; and `weaks` tells where objects with weak slots
 -- start
-pub record IsSound (size shift lowest free : ℕ) (entries : Entries) (weaks : Starts) (memory : Memory) (rows : List Row) : Type 0 where
+pub record IsRegionTable (size shift lowest free : ℕ) (entries : Entries) (weaks : Starts) (memory : Memory) (rows : List Row) : Type 0 where
   pub table : IsTable size memory.all rows
   pub written : AreTilesWritten (table_of size memory.all rows) memory.written
   pub power : size ≡ 2 ^ shift

@@ -106,12 +106,12 @@ pub record StartsIn (t : Table) (k a : ℕ) : Type 0 where
   pub region : a / t.words_per_region ≡ k
 
 -- the lowest address of region k at which a tile starts, none where there is none
-abbrev pub IsLowest : Table → ℕ → Option ℕ → Type 0
-IsLowest t k None = (b : ℕ) → StartsIn t k b → ⊥
-IsLowest t k (Some a) = StartsIn t k a × ((b : ℕ) → StartsIn t k b → a ≤ b)
+abbrev pub IsLowestTile : Table → ℕ → Option ℕ → Type 0
+IsLowestTile t k None = (b : ℕ) → StartsIn t k b → ⊥
+IsLowestTile t k (Some a) = StartsIn t k a × ((b : ℕ) → StartsIn t k b → a ≤ b)
 
 -- the tile behind the one at an address
-pub record IsNext (t : Table) (at next : ℕ) : Type 0 where
+pub record IsNextTile (t : Table) (at next : ℕ) : Type 0 where
   pub tile : IsSome (tile_in t next)
   pub above : at < next
   pub region : next / t.words_per_region ≡ at / t.words_per_region

@@ -26,9 +26,9 @@ pub record AreStarts (t : Table) (flags : List Bool) : Type 0 where
   pub only : (a : ℕ) → has flags a ≡ true → HasWeaks t a
 
 -- the starts once an object with so many weak slots starts at a
-abbrev pub noted : Starts → ℕ → ℕ → Starts
-noted starts a zero = starts
-noted starts a (suc n) = record { region_words = starts.region_words; flags = slice_set starts.flags a true }
+abbrev pub start_added : Starts → ℕ → ℕ → Starts
+start_added starts a zero = starts
+start_added starts a (suc n) = record { region_words = starts.region_words; flags = slice_set starts.flags a true }
 
 -- the starts once an object with so many weak slots is gone from a
 abbrev pub forgotten : Starts → ℕ → ℕ → Starts

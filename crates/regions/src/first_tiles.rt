@@ -71,7 +71,7 @@ fn write_zeros(entries: &mut Vec<u32>, past: u32, cards: u32)
 
 /// The entries of the first cards are written, of so many of those that there are: as 0 where they weren't.
 #[inline(always)]
-fn reach(entries: &mut Vec<u32>, past: u32, cards: u32)
+fn zero_below(entries: &mut Vec<u32>, past: u32, cards: u32)
     requires short { vec_len entries.old ≤ cards }
     requires within { past ≤ cards }
     requires room { cards ≤ vec_capacity entries.old }
@@ -263,7 +263,7 @@ impl FirstTiles {
             ≡ (if is_between at (at + size) (c * self.old.card_words) then at else slice_index self.old.starts c) }
     {
         let shift = self.shift;
-        reach(&mut self.starts, card_from(shift, at + size), self.cards);
+        zero_below(&mut self.starts, card_from(shift, at + size), self.cards);
         write_entries(&mut self.starts, shift, at, at + size, at);
     }
 
@@ -334,7 +334,7 @@ impl FirstTiles {
             else (if is_between at (at + size) (c * self.old.card_words) then at else slice_index self.old.starts c)) }
     {
         let shift = self.shift;
-        reach(&mut self.starts, card_from(shift, at + filler), self.cards);
+        zero_below(&mut self.starts, card_from(shift, at + filler), self.cards);
         write_front(&mut self.starts, shift, at, at + size, at + filler);
     }
 
@@ -351,7 +351,7 @@ impl FirstTiles {
             then entry_of self.old.card_words at (Filler size) (c * self.old.card_words) else slice_index self.old.starts c) }
     {
         let shift = self.shift;
-        reach(&mut self.starts, card_from(shift, at + size), self.cards);
+        zero_below(&mut self.starts, card_from(shift, at + size), self.cards);
         write_filler(&mut self.starts, shift, at, size);
     }
 
@@ -368,7 +368,7 @@ impl FirstTiles {
             else slice_index self.old.starts c) }
     {
         let shift = self.shift;
-        reach(&mut self.starts, card_from(shift, end), self.cards);
+        zero_below(&mut self.starts, card_from(shift, end), self.cards);
         write_start(&mut self.starts, shift, at, end);
     }
 

@@ -83,7 +83,7 @@ impl RegionTable {
         let size = counts.size();
         let bottom = number * self.words_per_region;
         let end = bottom + size;
-        self.words.reach(end);
+        self.words.zero_below(end);
         self.words.write_object(Addr::new(bottom), name, counts);
         self.first_tiles.put_object(bottom, size);
         write_run(
@@ -94,7 +94,7 @@ impl RegionTable {
             size,
         );
         self.free -= count;
-        self.weak_starts.note(bottom, weaks);
+        self.weak_starts.add(bottom, weaks);
     }
 
     /// Makes a humongous object in the lowest run of `count` free regions, and answers its first region;

@@ -40,11 +40,11 @@ impl Model for RegionTable {
 
     ghost Value = { Table };
 
-    ghost use Rattle.regions.specs.Rows.{table_of, IsSound};
+    ghost use Rattle.regions.specs.Rows.{table_of, IsRegionTable};
 
     ghost view = { λ a. table_of a.words_per_region a.words.all a.rows.items };
 
-    ghost invariant = { λ a. IsSound a.words_per_region a.shift a.lowest a.free a.first_tiles a.weak_starts a.words a.rows.items };
+    ghost invariant = { λ a. IsRegionTable a.words_per_region a.shift a.lowest a.free a.first_tiles a.weak_starts a.words a.rows.items };
 }
 
 /// Where it is let go there is one call, and not a drop for each of its parts.

@@ -111,7 +111,7 @@ impl RegionTable {
         let more = size.get();
         let at = self.top(region);
         let end = at.word() + more;
-        self.words.reach(end);
+        self.words.zero_below(end);
         self.words.write_filler(at, size);
         self.first_tiles.put_filler(at.word(), more);
         let number = region.number() as usize;
@@ -157,7 +157,7 @@ impl RegionTable {
         self.words.write_object(at, name, counts);
         write_remainder(&mut self.words, at.word() + size, filler.get() - size);
         self.first_tiles.cut_front(at.word(), size, filler.get());
-        self.weak_starts.note(at.word(), weaks);
+        self.weak_starts.add(at.word(), weaks);
     }
 
     /// The object at `from` becomes forwarded to its copy at `to`.
@@ -187,7 +187,7 @@ impl RegionTable {
         let size = self.object_size(from);
         let weaks = self.weak_count(from);
         let end = to.word() + size;
-        self.words.reach(end);
+        self.words.zero_below(end);
         self.words.copy_apart(from, to, size);
         self.first_tiles.put_object(to.word(), size);
         let number = region.number() as usize;
@@ -196,7 +196,7 @@ impl RegionTable {
             kind: Kind::Ordinary,
             used: used + size,
         };
-        self.weak_starts.note(to.word(), weaks);
+        self.weak_starts.add(to.word(), weaks);
         to
     }
 }

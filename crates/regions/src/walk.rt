@@ -4,7 +4,7 @@ ghost use Rattle.std.specs.Iterator.{YieldsFirst, item_count};
 ghost use Rattle.regions.specs.Tiles.{total_size};
 ghost use Rattle.regions.specs.Table.{kind_of, object_at, tile_in, top_of};
 ghost use Rattle.regions.specs.declared.row.Kind.TheVariants as kinds;
-ghost use Rattle.regions.specs.Walks.{tiles_of, placed, walk_rest, IsCut, IsWalk, IsTileBehind, IsHolder, IsLowest, IsNext, IsLast};
+ghost use Rattle.regions.specs.Walks.{tiles_of, placed, walk_rest, IsCut, IsWalk, IsTileBehind, IsHolder, IsLowestTile, IsNextTile, IsLast};
 
 use crate::row::{Kind, Shape};
 use crate::table::{RegionTable, shape_at, size_at};
@@ -85,7 +85,7 @@ impl RegionTable {
     /// meanwhile.
     pub fn lowest_tile(&self, region: RegionNo) -> Option<Addr>
         requires { region < length self.now.regions }
-        ensures { IsLowest self.now region result }
+        ensures { IsLowestTile self.now region result }
     {
         self.law();
         let bottom = region.number() * self.words_per_region();
@@ -99,7 +99,7 @@ impl RegionTable {
     /// run is. With it a region is gone through while its tiles change and more come.
     pub fn next_tile(&self, at: Addr) -> Option<Addr>
         requires { IsSome (tile_in self.now at) }
-        ensures next { IfSome result (IsNext self.now at) }
+        ensures next { IfSome result (IsNextTile self.now at) }
         ensures last { IfNone result (IsLast self.now at) }
     {
         self.law();
@@ -121,7 +121,7 @@ impl RegionTable {
     pub fn next_behind(&self, object: Addr) -> Option<Addr>
         requires object { IsSome (object_at self.now object) }
         requires ordinary { kind_of self.now (object / self.now.words_per_region) ≡ kinds.Ordinary }
-        ensures next { IfSome result (IsNext self.now object) }
+        ensures next { IfSome result (IsNextTile self.now object) }
         ensures last { IfNone result (IsLast self.now object) }
     {
         self.law();

@@ -14,7 +14,7 @@
 
 ghost use Rattle.std.specs.Prelude.{◌≡◌, ◌+◌, ◌*◌, ◌^◌, ◌<◌, ◌≤◌, if◌then◌else◌, ℕ, IfOk, MatchOption, false, length, replicate};
 ghost use Rattle.bit_sets.specs.Bits.{has, is_between, HasNone, IsLowest};
-ghost use Rattle.regions.specs.WeakStarts.{noted, forgotten, IsNextWithWeaks};
+ghost use Rattle.regions.specs.WeakStarts.{start_added, forgotten, IsNextWithWeaks};
 
 use crate::table::RegionTable;
 use bit_sets::bits::Bits;
@@ -66,9 +66,9 @@ impl WeakStarts {
 
     /// An object with so many weak slots starts at an address.
     #[inline(always)]
-    pub(crate) fn note(&mut self, at: u32, weaks: u32)
+    pub(crate) fn add(&mut self, at: u32, weaks: u32)
         requires { at < length self.old.flags }
-        ensures { self.new ≡ noted self.old at weaks }
+        ensures { self.new ≡ start_added self.old at weaks }
     {
         if weaks > 0 {
             self.addresses.set(at);

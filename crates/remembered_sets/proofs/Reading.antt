@@ -8,7 +8,7 @@ use Rattle.remembered_sets.specs.Sets.{CardFilter, CardSet, Sets, AreSets, IsFil
 use Rattle.remembered_sets.specs.Sets.{set_of, set_with, set_after, set_covers, set_leads, lets_through, may_lead}
 use Rattle.remembered_sets.specs.Sets.{added, cleared, without_region}
 use Rattle.remembered_sets.specs.Sharing.{filter_at, filter_of, with_filter, with_filters}
-use Rattle.remembered_sets.specs.Inside.{sets_of, IsSound}
+use Rattle.remembered_sets.specs.Inside.{sets_of, IsSetTable}
 use Rattle.remembered_sets.specs.declared.sets.RememberedSets.TheInside.{Inside}
 use Rattle.remembered_sets.proofs.Kept.{length-with, with_at, with_card, with_put}
 
@@ -23,7 +23,7 @@ module _ (k : Inside) (v : Sets) (view : sets_of k ≡ v) where
   pub known_set : (region : ℕ) → region < length v.sets → region < length k.sets.items
   known_set region h = omega (arith, h, count_is)
 
-  pub known_table : IsSound k → (region : ℕ) → region < length v.sets → region / 4 < length k.filters.items
+  pub known_table : IsSetTable k → (region : ℕ) → region < length v.sets → region / 4 < length k.filters.items
   known_table sound region h = let enough = sound.tables in omega (arith, h, count_is, enough)
 
   -- a set that was read
@@ -36,7 +36,7 @@ module _ (k : Inside) (v : Sets) (view : sets_of k ≡ v) where
       ∙ ap (λ (x : CardSet). with_filter x (filter_of k.filters.items region)) (sym (get_or_read k.sets.items region s known read' no_set))
 
   -- the filter of a table that was read
-  pub table_is : IsSound k → (region number : ℕ) (t : List CardFilter) → region < length v.sets → number ≡ region
+  pub table_is : IsSetTable k → (region number : ℕ) (t : List CardFilter) → region < length v.sets → number ≡ region
       → t ≡ get_or k.filters.items (number / 4) t → filter_at t (number % 4) ≡ filter_of k.filters.items region
   table_is sound region number t h e read =
       let read' : t ≡ get_or k.filters.items (region / 4) t = read ∙ ap (λ (i : ℕ). get_or k.filters.items (i / 4) t) e in
@@ -44,7 +44,7 @@ module _ (k : Inside) (v : Sets) (view : sets_of k ≡ v) where
       ∙ ap (λ (l : List CardFilter). filter_at l (region % 4))
       (get_or_read k.filters.items (region / 4) t (known_table sound region h) read' [])
 
-  pub filter_stands : IsSound k → (region : ℕ) → region < length v.sets → IsFilter k.cards_per_region (filter_of k.filters.items region)
+  pub filter_stands : IsSetTable k → (region : ℕ) → region < length v.sets → IsFilter k.cards_per_region (filter_of k.filters.items region)
   filter_stands sound region h =
       let known : region < length k.sets.items = known_set region h in
       let n : ℕ = length (with_filters k.filters.items k.sets.items) in
@@ -56,7 +56,7 @@ module _ (k : Inside) (v : Sets) (view : sets_of k ≡ v) where
 -- a set that was read
 pub record IsRead (k : Inside) (v : Sets) (region number : ℕ) (s : CardSet) : Type 0 where
   pub view : sets_of k ≡ v
-  pub sound : IsSound k
+  pub sound : IsSetTable k
   pub known : region < length v.sets
   pub number_is : number ≡ region
   pub read : s ≡ get_or k.sets.items number s

@@ -26,7 +26,7 @@ sets_of s = record {
 }
 
 -- there is a table for each four regions, and it is known whether the filters have rows
-pub record IsSound (s : Inside) : Type 0 where
+pub record IsSetTable (s : Inside) : Type 0 where
   pub all : AreSets (sets_of s)
   pub tables : length s.sets.items ≤ 4 * length s.filters.items
   pub none : s.have_rows ≡ false → (region : ℕ) → (filter_of s.filters.items region).rows ≡ 0

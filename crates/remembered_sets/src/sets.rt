@@ -47,11 +47,11 @@ impl Model for RememberedSets {
 
     ghost Value = { Sets };
 
-    ghost use Rattle.remembered_sets.specs.Inside.{sets_of, IsSound};
+    ghost use Rattle.remembered_sets.specs.Inside.{sets_of, IsSetTable};
 
     ghost view = { sets_of };
 
-    ghost invariant = { IsSound };
+    ghost invariant = { IsSetTable };
 }
 
 /// Where it is let go there is one call, and not a drop for each of its parts.

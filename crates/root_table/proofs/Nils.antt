@@ -3,7 +3,7 @@ use Rattle.std.proofs.Common.{◌≡◌, ◌≢◌, ◌⊎◌, ◌+◌, ◌-◌,
 use Rattle.std.proofs.Common.{subst, arith, inl, inr, get_or-set_same, get_or-set_other, length-set}
 use Rattle.std.proofs.lemmas.Bool.{cases_lt, cases_eq}
 use Rattle.std.proofs.lemmas.List.{set-get_or, get_or_past}
-use Rattle.heap_model.specs.Graph.{Places, register_place, with_nils}
+use Rattle.heap_model.specs.Graph.{RootCounts, register_place, with_nils}
 use Rattle.root_table.specs.Roots.{RootTable, row_start, row_length, AreNil}
 use Rattle.root_table.specs.Bounds.{AreBounded}
 use Rattle.root_table.proofs.Rows.{bound_read, one_more}
@@ -63,7 +63,7 @@ nils_more words first count (suc more) nil =
 
 -- ---- a frame that is left
 -- the row's places from k up to its bound are nil, and k is its bound
-pub left_bounded : (p : Places) (words : List (Option ℕ)) (used : List ℕ) (row k : ℕ) → AreBounded p words used → row ≤ p.mutators
+pub left_bounded : (p : RootCounts) (words : List (Option ℕ)) (used : List ℕ) (row k : ℕ) → AreBounded p words used → row ≤ p.mutators
     → k < get_or used row 0
     → AreBounded p (with_nils words (row_start p row + k) (get_or used row 0 - k)) (set used row k)
 left_bounded p words used row k b known less =
@@ -94,7 +94,7 @@ left_bounded p words used row k b known less =
     }
 
 -- the whole rest of the row may be counted
-pub left_rest : (p : Places) (words : List (Option ℕ)) (used : List ℕ) (row k : ℕ) → AreBounded p words used → row ≤ p.mutators
+pub left_rest : (p : RootCounts) (words : List (Option ℕ)) (used : List ℕ) (row k : ℕ) → AreBounded p words used → row ≤ p.mutators
     → k ≤ get_or used row 0
     → with_nils words (row_start p row + k) (row_length p row - k) ≡ with_nils words (row_start p row + k) (get_or used row 0 - k)
 left_rest p words used row k b known less =
@@ -106,7 +106,7 @@ left_rest p words used row k b known less =
     ∙ more
 
 -- nothing is left to be done where the bound is no higher
-pub left_none : (p : Places) (words : List (Option ℕ)) (used : List ℕ) (row k : ℕ) → AreBounded p words used → row ≤ p.mutators
+pub left_none : (p : RootCounts) (words : List (Option ℕ)) (used : List ℕ) (row k : ℕ) → AreBounded p words used → row ≤ p.mutators
     → get_or used row 0 ≤ k → k ≤ row_length p row
     → with_nils words (row_start p row + k) (row_length p row - k) ≡ words
 left_none p words used row k b known less most =
@@ -119,7 +119,7 @@ abbrev pub left_from : RootTable → ℕ → ℕ → RootTable
 left_from t m k = record { places = t.places; words = with_nils t.words (register_place t.places m k) (t.places.registers - k) }
 
 -- ---- as the code does it: n is the bound that was read
-pub left_in : (p : Places) (words words' : List (Option ℕ)) (used : List ℕ) (m k n first : ℕ) → AreBounded p words used → m < p.mutators
+pub left_in : (p : RootCounts) (words words' : List (Option ℕ)) (used : List ℕ) (m k n first : ℕ) → AreBounded p words used → m < p.mutators
     → k < n
     → first ≡ register_place p m k → words' ≡ with_nils words first (n - k) → n ≡ get_or used (m + 1) n
     → AreBounded p words' (set used (m + 1) k)

@@ -5,17 +5,17 @@ use Rattle.std.specs.Prelude.{IsSome}
 use Rattle.std.proofs.lemmas.Bool.{cases_lt, cases_eq}
 use Rattle.std.proofs.lemmas.Grind.{get_or_default_zero}
 use Rattle.std.proofs.lemmas.List.{get_or-replicate, length-replicate}
-use Rattle.heap_model.specs.Graph.{Places, root_places, register_place}
+use Rattle.heap_model.specs.Graph.{RootCounts, root_places, register_place}
 use Rattle.root_table.specs.Roots.{row_start, row_length, AreNil}
 use Rattle.root_table.specs.Bounds.{AreBounded}
 
 -- a row ends where the next one starts
-pub row_end : (p : Places) (row : ℕ) → row_start p row + row_length p row ≡ row_start p (suc row)
+pub row_end : (p : RootCounts) (row : ℕ) → row_start p row + row_length p row ≡ row_start p (suc row)
 row_end p zero = omega arith
 row_end p (suc m) = omega arith
 
 -- a row ends before a later one starts
-pub rows_apart : (p : Places) (row other : ℕ) → row < other → row_start p row + row_length p row ≤ row_start p other
+pub rows_apart : (p : RootCounts) (row other : ℕ) → row < other → row_start p row + row_length p row ≤ row_start p other
 rows_apart p row zero less = absurd (omega (arith, less))
 rows_apart p row (suc m) less = elim (cases_eq row m) [
   | inl e ↦ let at = row_end p row in subst (λ (k : ℕ). row_start p row + row_length p row ≤ row_start p (suc k)) e (omega (arith, at))
@@ -27,14 +27,14 @@ rows_apart p row (suc m) less = elim (cases_eq row m) [
 ]
 
 -- the last row ends with the last place
-pub all_rows : (p : Places) → row_start p (suc p.mutators) ≡ root_places p
+pub all_rows : (p : RootCounts) → row_start p (suc p.mutators) ≡ root_places p
 all_rows p = omega arith
 
-pub row_within : (p : Places) (row : ℕ) → row ≤ p.mutators → row_start p row + row_length p row ≤ root_places p
+pub row_within : (p : RootCounts) (row : ℕ) → row ≤ p.mutators → row_start p row + row_length p row ≤ root_places p
 row_within p row known = let at = rows_apart p row (suc p.mutators) (omega arith) in let end = all_rows p in omega (arith, at, end)
 
 -- a store into a row, whose bound is above its place
-pub stored_bounded : (p : Places) (words : List (Option ℕ)) (used used' : List ℕ) (row k : ℕ) (v : Option ℕ) → AreBounded p words used
+pub stored_bounded : (p : RootCounts) (words : List (Option ℕ)) (used used' : List ℕ) (row k : ℕ) (v : Option ℕ) → AreBounded p words used
     → row ≤ p.mutators → k < row_length p row
     → length used' ≡ length used → ((other : ℕ) → other ≢ row → get_or used' other 0 ≡ get_or used other 0)
     → get_or used row 0 ≤ get_or used' row 0 → k < get_or used' row 0 → get_or used' row 0 ≤ row_length p row
@@ -64,7 +64,7 @@ stored_bounded p words used used' row k v b known inside len others more above m
 }
 
 -- the same where the bound is raised to the place, or was above it
-pub raised : (p : Places) (words : List (Option ℕ)) (used : List ℕ) (row k : ℕ) (v : Option ℕ) → AreBounded p words used → row ≤ p.mutators
+pub raised : (p : RootCounts) (words : List (Option ℕ)) (used : List ℕ) (row k : ℕ) (v : Option ℕ) → AreBounded p words used → row ≤ p.mutators
     → k < row_length p row
     → get_or used row 0 ≤ k → AreBounded p (set words (row_start p row + k) v) (set used row (k + 1))
 raised p words used row k v b known inside below =
@@ -73,14 +73,14 @@ raised p words used row k v b known inside below =
     (λ other ne. get_or-set_other used row other (k + 1) 0 ne)
     (omega (arith, at, below)) (omega (arith, at)) (omega (arith, at, inside))
 
-pub kept : (p : Places) (words : List (Option ℕ)) (used : List ℕ) (row k : ℕ) (v : Option ℕ) → AreBounded p words used → row ≤ p.mutators
+pub kept : (p : RootCounts) (words : List (Option ℕ)) (used : List ℕ) (row k : ℕ) (v : Option ℕ) → AreBounded p words used → row ≤ p.mutators
     → k < row_length p row
     → k < get_or used row 0 → AreBounded p (set words (row_start p row + k) v) used
 kept p words used row k v b known inside above =
     stored_bounded p words used used row k v b known inside refl (λ other ne. refl) (omega arith) above (b.within row known)
 
 -- a place that isn't nil takes a value
-pub updated : (p : Places) (words : List (Option ℕ)) (used : List ℕ) (place a : ℕ) (v : Option ℕ) → AreBounded p words used
+pub updated : (p : RootCounts) (words : List (Option ℕ)) (used : List ℕ) (place a : ℕ) (v : Option ℕ) → AreBounded p words used
     → get_or words place None ≡ Some a → AreBounded p (set words place v) used
 updated p words used place a v b named = record {
   places = length-set words place v ∙ b.places;
@@ -97,7 +97,7 @@ some_address (Some a) some = (a, refl)
 some_address None some = absurd (cc)
 
 -- all roots are nil, and each bound 0
-pub new_bounded : (p : Places) (used : List ℕ) → p.mutators < length used → ((row : ℕ) → row ≤ p.mutators → get_or used row 0 ≡ 0)
+pub new_bounded : (p : RootCounts) (used : List ℕ) → p.mutators < length used → ((row : ℕ) → row ≤ p.mutators → get_or used row 0 ≡ 0)
     → AreBounded p (replicate {A = Option ℕ} (root_places p) None) used
 new_bounded p used rows none = record {
   places = length-replicate {A = Option ℕ} (root_places p) None;
@@ -109,7 +109,7 @@ new_bounded p used rows none = record {
 
 -- ---- the look for the next root
 -- nothing is named from one place on up to a row's bound, and before the row: so nothing is before the next row
-pub past_row : (p : Places) (words : List (Option ℕ)) (used : List ℕ) (from row : ℕ) → AreBounded p words used → row ≤ p.mutators
+pub past_row : (p : RootCounts) (words : List (Option ℕ)) (used : List ℕ) (from row : ℕ) → AreBounded p words used → row ≤ p.mutators
     → AreNil words from (row_start p row)
     → ((place : ℕ) → from ≤ place → row_start p row ≤ place → place < row_start p row + get_or used row 0 → get_or words place None ≡ None)
     → AreNil words from (row_start p (suc row))
@@ -128,7 +128,7 @@ pub bound_read : (used : List ℕ) (row x : ℕ) → row < length used → x ≡
 bound_read used row x inside e = e ∙ get_or_default_zero used row x inside
 
 -- a row's bound lies among the places
-pub bound_within : (p : Places) (words : List (Option ℕ)) (used : List ℕ) (row x : ℕ) → AreBounded p words used → row ≤ p.mutators
+pub bound_within : (p : RootCounts) (words : List (Option ℕ)) (used : List ℕ) (row x : ℕ) → AreBounded p words used → row ≤ p.mutators
     → x ≡ get_or used row x → row_start p row + x ≤ length words
 bound_within p words used row x b known e =
     let bound = bound_read used row x (omega (arith, known, b.rows)) e in
@@ -137,7 +137,7 @@ bound_within p words used row x b known e =
     omega (arith, most, end, bound, b.places)
 
 -- the same as `past_row`, as the code finds it
-pub past_read : (p : Places) (words : List (Option ℕ)) (used : List ℕ) (from row x from' : ℕ) → AreBounded p words used → row ≤ p.mutators
+pub past_read : (p : RootCounts) (words : List (Option ℕ)) (used : List ℕ) (from row x from' : ℕ) → AreBounded p words used → row ≤ p.mutators
     → x ≡ get_or used row x → (from' ≤ from) ⊎ (from' ≤ row_start p row)
     → AreNil words from (row_start p row) → AreNil words from' (row_start p row + x) → AreNil words from (row_start p (row + 1))
 past_read p words used from row x from' b known e which before here =
@@ -148,14 +148,14 @@ past_read p words used from row x from' b known e which before here =
     (omega (arith, high, bound))))
 
 -- a row of which nothing is in use
-pub past_unused : (p : Places) (words : List (Option ℕ)) (used : List ℕ) (from row x : ℕ) → AreBounded p words used → row ≤ p.mutators
+pub past_unused : (p : RootCounts) (words : List (Option ℕ)) (used : List ℕ) (from row x : ℕ) → AreBounded p words used → row ≤ p.mutators
     → x ≡ get_or used row x → x ≡ 0 → AreNil words from (row_start p row) → AreNil words from (row_start p (row + 1))
 past_unused p words used from row x b known e none before =
     past_read p words used from row x (row_start p row) b known e (inr (omega arith)) before
     (λ place low high. absurd (omega (arith, low, high, none)))
 
 -- what the code stores: a place of a row, whose bound n was read
-pub stored_in : (p : Places) (words : List (Option ℕ)) (used : List ℕ) (row k place n : ℕ) (v : Option ℕ) → AreBounded p words used
+pub stored_in : (p : RootCounts) (words : List (Option ℕ)) (used : List ℕ) (row k place n : ℕ) (v : Option ℕ) → AreBounded p words used
     → row ≤ p.mutators → k < row_length p row
     → place ≡ row_start p row + k → n ≡ get_or used row n → n ≤ k → AreBounded p (set words place v) (set used row (k + 1))
 stored_in p words used row k place n v b known inside at e below =
@@ -163,7 +163,7 @@ stored_in p words used row k place n v b known inside at e below =
     subst (λ (q : ℕ). AreBounded p (set words q v) (set used row (k + 1))) (sym at)
     (raised p words used row k v b known inside (omega (arith, bound, below)))
 
-pub kept_in : (p : Places) (words : List (Option ℕ)) (used : List ℕ) (row k place n : ℕ) (v : Option ℕ) → AreBounded p words used
+pub kept_in : (p : RootCounts) (words : List (Option ℕ)) (used : List ℕ) (row k place n : ℕ) (v : Option ℕ) → AreBounded p words used
     → row ≤ p.mutators → k < row_length p row
     → place ≡ row_start p row + k → n ≡ get_or used row n → k < n → AreBounded p (set words place v) used
 kept_in p words used row k place n v b known inside at e above =
@@ -174,14 +174,14 @@ kept_in p words used row k place n v b known inside at e above =
 pub one_more : (m : ℕ) → suc m ≡ m + 1
 one_more m = omega arith
 
-pub register_stored : (p : Places) (words : List (Option ℕ)) (used : List ℕ) (m k place n : ℕ) (v : Option ℕ) → AreBounded p words used
+pub register_stored : (p : RootCounts) (words : List (Option ℕ)) (used : List ℕ) (m k place n : ℕ) (v : Option ℕ) → AreBounded p words used
     → m < p.mutators → k < p.registers
     → place ≡ register_place p m k → n ≡ get_or used (m + 1) n → n ≤ k → AreBounded p (set words place v) (set used (m + 1) (k + 1))
 register_stored p words used m k place n v b known inside at =
     subst (λ (row : ℕ). n ≡ get_or used row n → n ≤ k → AreBounded p (set words place v) (set used row (k + 1))) (one_more m)
     (λ e below. stored_in p words used (suc m) k place n v b (omega (arith, known)) inside (omega (arith, at)) e below)
 
-pub register_kept : (p : Places) (words : List (Option ℕ)) (used : List ℕ) (m k place n : ℕ) (v : Option ℕ) → AreBounded p words used
+pub register_kept : (p : RootCounts) (words : List (Option ℕ)) (used : List ℕ) (m k place n : ℕ) (v : Option ℕ) → AreBounded p words used
     → m < p.mutators → k < p.registers
     → place ≡ register_place p m k → n ≡ get_or used (m + 1) n → k < n → AreBounded p (set words place v) used
 register_kept p words used m k place n v b known inside at =
@@ -189,5 +189,5 @@ register_kept p words used m k place n v b known inside at =
     (λ e above. kept_in p words used (suc m) k place n v b (omega (arith, known)) inside (omega (arith, at)) e above)
 
 -- a register's place is among the places
-pub register_within : (p : Places) (m k : ℕ) → m < p.mutators → k < p.registers → register_place p m k < root_places p
+pub register_within : (p : RootCounts) (m k : ℕ) → m < p.mutators → k < p.registers → register_place p m k < root_places p
 register_within p m k known inside = let end = row_within p (suc m) (omega (arith, known)) in omega (arith, end, inside)

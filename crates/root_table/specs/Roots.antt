@@ -2,24 +2,24 @@
 use Rattle.std.specs.Prelude.{◌≡◌, ℕ, zero, suc, ◌≤◌, ◌<◌, List, Option, Some, None, slice_index_or}
 use Rattle.heap_words.specs.declared.config.Config.{Config}
 use Rattle.heap_words.specs.Configs.{globals_of, registers_of}
-use Rattle.heap_model.specs.Graph.{Places, register_place}
+use Rattle.heap_model.specs.Graph.{RootCounts, register_place}
 
 -- how many globals, mutators and registers sizes ask for
-abbrev pub places_of : Config → Places
-places_of c = record { globals = globals_of c; mutators = c.mutators; registers = registers_of c }
+abbrev pub root_counts_of : Config → RootCounts
+root_counts_of c = record { globals = globals_of c; mutators = c.mutators; registers = registers_of c }
 
 -- what each root place holds
 pub record RootTable : Type 0 where
-  pub places : Places
+  pub places : RootCounts
   pub words : List (Option ℕ)
 
 -- where a row starts: row 0 is the globals, and the row of a mutator's registers is its number and one
-abbrev pub row_start : Places → ℕ → ℕ
+abbrev pub row_start : RootCounts → ℕ → ℕ
 row_start p zero = 0
 row_start p (suc mutator) = register_place p mutator 0
 
 -- how many places a row has
-abbrev pub row_length : Places → ℕ → ℕ
+abbrev pub row_length : RootCounts → ℕ → ℕ
 row_length p zero = p.globals
 row_length p (suc mutator) = p.registers
 

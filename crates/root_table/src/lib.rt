@@ -18,8 +18,8 @@
 #![tactic(auto)]
 
 mod held;
-pub mod places;
+pub mod root_counts;
 pub mod table;
 
-pub use places::Places;
+pub use root_counts::RootCounts;
 pub use table::Roots;

@@ -6,7 +6,7 @@ ghost use Rattle.heap_model.specs.Graph.{register_place, root_places, with_nils}
 ghost use Rattle.root_table.specs.Roots.{AreNil, IsNextNamed};
 
 use crate::held::Held;
-use crate::places::Places;
+use crate::root_counts::RootCounts;
 use heap_words::addr::Ptr;
 use std::alloc::{AllocError, Global};
 use std::marker::Model;
@@ -15,7 +15,7 @@ use std::marker::Model;
 /// among the registers is its number. There is a bound for the globals and one for each of 64 mutators, in the table itself, so that no
 /// pointer is followed to one.
 pub struct Roots {
-    places: Places,
+    places: RootCounts,
     globals: Vec<Held>,
     registers: Vec<Held>,
     /// From this number on a row's roots are nil: row 0 is the globals, and the row of a mutator's registers is its number and one.
@@ -25,13 +25,13 @@ pub struct Roots {
 impl Model for Roots {
     ghost use Rattle.std.specs.Prelude.{◌++◌};
     ghost use Rattle.root_table.specs.Roots.{RootTable};
-    ghost use Rattle.root_table.specs.Bounds.{IsTable};
+    ghost use Rattle.root_table.specs.Bounds.{IsRootTable};
 
     ghost Value = { RootTable };
 
     ghost view = { λ r. record { places = r.places; words = r.globals.items ++ r.registers.items } };
 
-    ghost invariant = { λ r. IsTable r.places r.globals.items r.registers.items r.used };
+    ghost invariant = { λ r. IsRootTable r.places r.globals.items r.registers.items r.used };
 }
 
 /// Where it is let go there is one call, and not a drop for each of its parts.
@@ -65,7 +65,7 @@ fn none_used() -> [u32; 65]
 
 impl Roots {
     /// All roots nil. There is no memory for 2 to the 32nd places or more, nor for more than 64 mutators.
-    pub fn new(alloc: Global, places: Places) -> Result<Roots, AllocError>
+    pub fn new(alloc: Global, places: RootCounts) -> Result<Roots, AllocError>
         ensures { IfOk result (λ r. r ≡ record { places = places; words = replicate (root_places places) None }) }
     {
         let count = places.count();
@@ -82,7 +82,7 @@ impl Roots {
     }
 
     /// Where the roots stand: there is a place for each.
-    pub fn places(&self) -> Places
+    pub fn places(&self) -> RootCounts
         ensures places { result ≡ self.now.places }
         ensures count { length self.now.words ≡ root_places self.now.places }
     {

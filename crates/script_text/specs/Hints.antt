@@ -9,13 +9,13 @@ use Rattle.heap_steps.specs.declared.form.Operand.TheVariants as operands
 use Rattle.script_text.specs.declared.fault.Kind.{Kind}
 use Rattle.script_text.specs.declared.fault.Kind.TheVariants as kinds
 use Rattle.script_text.specs.declared.fault.LineFault.{LineFault}
-use Rattle.script_text.specs.declared.places.Place.{Place}
-use Rattle.script_text.specs.declared.places.Place.TheVariants as places
-use Rattle.script_text.specs.declared.places.Stop.{Stop}
-use Rattle.script_text.specs.declared.places.TextKind.{TextKind}
+use Rattle.script_text.specs.declared.expected.Expected.{Expected}
+use Rattle.script_text.specs.declared.expected.Expected.TheVariants as expected
+use Rattle.script_text.specs.declared.expected.Stop.{Stop}
+use Rattle.script_text.specs.declared.expected.TextKind.{TextKind}
 use Rattle.script_text.specs.Faults.{shown}
 use Rattle.script_text.specs.Lines.{pieces_of, words_of, heap_line_of}
-use Rattle.script_text.specs.Places.{stop_in, heap_stop_in, no_sizes}
+use Rattle.script_text.specs.Expected.{stop_in, heap_stop_in, no_sizes}
 
 -- the words for an operand, before the limit that a heap's sizes set
 abbrev pub operand_text : Operand → List ℕ
@@ -27,48 +27,48 @@ operand_text operands.Byte = codes "a number up to 255"
 operand_text operands.Large = codes "a number up to 18446744073709551615"
 
 -- the words for a place, before the limit that a heap's sizes set
-abbrev pub place_words : Place → Bool → List ℕ
-place_words (places.Count n) third = codes "the count "
-place_words places.ScriptActor third = codes "gc, or a mutator below "
-place_words places.RecordActor third = codes "gc, m0 to m7, f0 to f7, or a mutator below "
-place_words places.Action true = codes
+abbrev pub expected_words : Expected → Bool → List ℕ
+expected_words (expected.Count n) third = codes "the count "
+expected_words expected.ScriptActor third = codes "gc, or a mutator below "
+expected_words expected.RecordActor third = codes "gc, m0 to m7, f0 to f7, or a mutator below "
+expected_words expected.Action true = codes
     "new, newweak, get, getweak, put, putweak, read, write, move, drop, load, save, scope, shape or weaks"
-place_words places.Action false = codes "new, newweak, get, getweak, put, putweak, read, write, move, drop, load, save, shape or weaks"
-place_words places.Collection true = codes "begin, mark, remark, cleanup, refine, pause or compact"
-place_words places.Collection false = codes "begin, mark, remark, cleanup, refine or pause"
-place_words places.Marking third = codes "mark"
-place_words places.Refining third = codes "refine"
-place_words (places.Operand k) third = operand_text k
-place_words places.Equals third = codes "= and a reply"
-place_words places.Reply third = codes "a reply, such as ok, nil, #3, 7, 1 2 or refused 1 Nil"
-place_words places.End third = codes "the line's end"
-place_words places.Heap third = codes "heap, heap2 or heap3"
-place_words places.Regions third = codes "REGIONS, a number up to 4294967295"
-place_words places.RegionWords third = codes "WORDS, a number up to 4294967295"
-place_words places.Buffer third = codes "BUFFER, a number up to 4294967295"
-place_words places.Mutators third = codes "MUTATORS, a number up to 4294967295"
-place_words places.FirstName third = codes "FIRST, a number up to 18446744073709551615"
-place_words places.Card third = codes "CARD, a number up to 4294967295"
-place_words places.Globals third = codes "GLOBALS, a number up to 4294967295"
-place_words places.Registers third = codes "REGISTERS, a number up to 4294967295"
+expected_words expected.Action false = codes "new, newweak, get, getweak, put, putweak, read, write, move, drop, load, save, shape or weaks"
+expected_words expected.Collection true = codes "begin, mark, remark, cleanup, refine, pause or compact"
+expected_words expected.Collection false = codes "begin, mark, remark, cleanup, refine or pause"
+expected_words expected.Marking third = codes "mark"
+expected_words expected.Refining third = codes "refine"
+expected_words (expected.Operand k) third = operand_text k
+expected_words expected.Equals third = codes "= and a reply"
+expected_words expected.Reply third = codes "a reply, such as ok, nil, #3, 7, 1 2 or refused 1 Nil"
+expected_words expected.End third = codes "the line's end"
+expected_words expected.Heap third = codes "heap, heap2 or heap3"
+expected_words expected.Regions third = codes "REGIONS, a number up to 4294967295"
+expected_words expected.RegionWords third = codes "WORDS, a number up to 4294967295"
+expected_words expected.Buffer third = codes "BUFFER, a number up to 4294967295"
+expected_words expected.Mutators third = codes "MUTATORS, a number up to 4294967295"
+expected_words expected.FirstName third = codes "FIRST, a number up to 18446744073709551615"
+expected_words expected.Card third = codes "CARD, a number up to 4294967295"
+expected_words expected.Globals third = codes "GLOBALS, a number up to 4294967295"
+expected_words expected.Registers third = codes "REGISTERS, a number up to 4294967295"
 
 -- the count, or the limit that the sizes of a heap set to a place
-abbrev pub limit_text : Config → Place → List ℕ
-limit_text c (places.Count n) = decimal n
-limit_text c places.ScriptActor = decimal c.mutators
-limit_text c places.RecordActor = decimal c.mutators
-limit_text c (places.Operand operands.Register) = decimal (registers_of c)
-limit_text c (places.Operand operands.Value) = decimal (registers_of c)
-limit_text c (places.Operand operands.Global) = decimal (globals_of c)
+abbrev pub limit_text : Config → Expected → List ℕ
+limit_text c (expected.Count n) = decimal n
+limit_text c expected.ScriptActor = decimal c.mutators
+limit_text c expected.RecordActor = decimal c.mutators
+limit_text c (expected.Operand operands.Register) = decimal (registers_of c)
+limit_text c (expected.Operand operands.Value) = decimal (registers_of c)
+limit_text c (expected.Operand operands.Global) = decimal (globals_of c)
 limit_text c _ = []
 
 -- what may be at a place
-abbrev pub place_text : Config → Place → List ℕ
-place_text c place = place_words place (is_third c.format) ++ limit_text c place
+abbrev pub expected_text : Config → Expected → List ℕ
+expected_text c place = expected_words place (is_third c.format) ++ limit_text c place
 
 -- a word that doesn't fit, and what may be in its place
 abbrev pub stop_text : Config → Stop → List ℕ
-stop_text c stop = codes "word " ++ decimal stop.word ++ codes ": " ++ place_text c stop.place
+stop_text c stop = codes "word " ++ decimal stop.word ++ codes ": " ++ expected_text c stop.place
 
 -- the line that shows line n of a text, and says something of it
 abbrev pub line_reason : ℕ → List ℕ → List ℕ → List ℕ

@@ -16,5 +16,5 @@ pub mod StepsLeft
 pub mod EventsLeft
 pub mod Waiting
 pub mod Texts
-pub mod Places
+pub mod Expected
 pub mod Hints

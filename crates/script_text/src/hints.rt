@@ -12,13 +12,13 @@ ghost use Rattle.std.specs.Fmt.{decimal};
 ghost use Rattle.heap_words.specs.declared.config.Config.{Config};
 ghost use Rattle.script_text.specs.Lines.{heap_line_of, pieces_of, words_of};
 ghost use Rattle.script_text.specs.Faults.{shown_byte, shown};
-ghost use Rattle.script_text.specs.Hints.{operand_text, place_words, limit_text, place_text, stop_text};
+ghost use Rattle.script_text.specs.Hints.{operand_text, expected_words, limit_text, expected_text, stop_text};
 ghost use Rattle.script_text.specs.Hints.{IsLine, NamesMisfit, NamesHeapMisfit};
 ghost use Rattle.script_text.specs.Hints.{IsHint, IsFaultReason, IsLineReason};
 
 use crate::fault::{Kind, LineFault};
 use crate::mistakes::put_mistake;
-use crate::places::{Place, Stop, TextKind, heap_stop_in, no_sizes, stop_in};
+use crate::expected::{Expected, Stop, TextKind, heap_stop_in, no_sizes, stop_in};
 use crate::read::script::heap_line;
 use crate::read::words::split_line;
 use crate::write::bytes::{put_byte, put_number, put_text};
@@ -46,7 +46,7 @@ fn operand_text(kind: Operand) -> &'static [u8]
 /// The limit that a heap's sizes set to an operand, if they do.
 fn put_limit(buffer: &mut [u8], at: usize, config: &Config, kind: Operand) -> usize
     requires { at + 20 ≤ length buffer.old }
-    ensures put { take result buffer.new ≡ take at buffer.old ++ limit_text config.now (Place.Operand kind) }
+    ensures put { take result buffer.new ≡ take at buffer.old ++ limit_text config.now (Expected.Operand kind) }
     ensures end { result ≤ at + 20 }
 {
     match kind {
@@ -57,57 +57,57 @@ fn put_limit(buffer: &mut [u8], at: usize, config: &Config, kind: Operand) -> us
 }
 
 /// The words that say what may be at a place, before the limit that a heap's sizes set, if they do.
-fn place_words(place: Place, third: bool) -> &'static [u8]
-    ensures words { result.now ≡ place_words place third }
+fn expected_words(place: Expected, third: bool) -> &'static [u8]
+    ensures words { result.now ≡ expected_words place third }
     ensures short { length result.now ≤ 110 }
 {
     match place {
-        Place::Count(_) => b"the count ",
-        Place::ScriptActor => b"gc, or a mutator below ",
-        Place::RecordActor => b"gc, m0 to m7, f0 to f7, or a mutator below ",
-        Place::Action => {
+        Expected::Count(_) => b"the count ",
+        Expected::ScriptActor => b"gc, or a mutator below ",
+        Expected::RecordActor => b"gc, m0 to m7, f0 to f7, or a mutator below ",
+        Expected::Action => {
             if third {
                 return b"new, newweak, get, getweak, put, putweak, read, write, move, drop, load, save, scope, shape or weaks";
             }
             b"new, newweak, get, getweak, put, putweak, read, write, move, drop, load, save, shape or weaks"
         }
-        Place::Collection => {
+        Expected::Collection => {
             if third {
                 return b"begin, mark, remark, cleanup, refine, pause or compact";
             }
             b"begin, mark, remark, cleanup, refine or pause"
         }
-        Place::Marking => b"mark",
-        Place::Refining => b"refine",
-        Place::Operand(kind) => operand_text(kind),
-        Place::Equals => b"= and a reply",
-        Place::Reply => b"a reply, such as ok, nil, #3, 7, 1 2 or refused 1 Nil",
-        Place::End => b"the line's end",
-        Place::Heap => b"heap, heap2 or heap3",
-        Place::Regions => b"REGIONS, a number up to 4294967295",
-        Place::RegionWords => b"WORDS, a number up to 4294967295",
-        Place::Buffer => b"BUFFER, a number up to 4294967295",
-        Place::Mutators => b"MUTATORS, a number up to 4294967295",
-        Place::FirstName => b"FIRST, a number up to 18446744073709551615",
-        Place::Card => b"CARD, a number up to 4294967295",
-        Place::Globals => b"GLOBALS, a number up to 4294967295",
-        Place::Registers => b"REGISTERS, a number up to 4294967295",
+        Expected::Marking => b"mark",
+        Expected::Refining => b"refine",
+        Expected::Operand(kind) => operand_text(kind),
+        Expected::Equals => b"= and a reply",
+        Expected::Reply => b"a reply, such as ok, nil, #3, 7, 1 2 or refused 1 Nil",
+        Expected::End => b"the line's end",
+        Expected::Heap => b"heap, heap2 or heap3",
+        Expected::Regions => b"REGIONS, a number up to 4294967295",
+        Expected::RegionWords => b"WORDS, a number up to 4294967295",
+        Expected::Buffer => b"BUFFER, a number up to 4294967295",
+        Expected::Mutators => b"MUTATORS, a number up to 4294967295",
+        Expected::FirstName => b"FIRST, a number up to 18446744073709551615",
+        Expected::Card => b"CARD, a number up to 4294967295",
+        Expected::Globals => b"GLOBALS, a number up to 4294967295",
+        Expected::Registers => b"REGISTERS, a number up to 4294967295",
     }
 }
 
 /// What may be at a place, in sizes.
-fn put_place(buffer: &mut [u8], at: usize, config: &Config, place: Place) -> usize
+fn put_expected(buffer: &mut [u8], at: usize, config: &Config, place: Expected) -> usize
     requires { at + 130 ≤ length buffer.old }
-    ensures put { take result buffer.new ≡ take at buffer.old ++ place_text config.now place }
+    ensures put { take result buffer.new ≡ take at buffer.old ++ expected_text config.now place }
     ensures end { result ≤ at + 130 }
 {
-    let at = put_text(buffer, at, place_words(place, is_third(config.format)));
+    let at = put_text(buffer, at, expected_words(place, is_third(config.format)));
     match place {
-        Place::Count(count) => put_number(buffer, at, count),
-        Place::ScriptActor | Place::RecordActor => {
+        Expected::Count(count) => put_number(buffer, at, count),
+        Expected::ScriptActor | Expected::RecordActor => {
             put_number(buffer, at, config.mutators as u64)
         }
-        Place::Operand(kind) => put_limit(buffer, at, config, kind),
+        Expected::Operand(kind) => put_limit(buffer, at, config, kind),
         _ => at,
     }
 }
@@ -121,7 +121,7 @@ fn put_stop(buffer: &mut [u8], at: usize, config: &Config, stop: Stop) -> usize
     let at = put_text(buffer, at, b"word ");
     let at = put_number(buffer, at, stop.word);
     let at = put_text(buffer, at, b": ");
-    put_place(buffer, at, config, stop.place)
+    put_expected(buffer, at, config, stop.place)
 }
 
 /// A text's first line and what it is read as: the sizes that it gives.

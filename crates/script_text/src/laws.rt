@@ -13,8 +13,8 @@ ghost use Rattle.script_text.specs.Fits.{Fits, ReplyFits, IsScript, IsRecord};
 ghost use Rattle.script_text.specs.Reading.{action_of};
 ghost use Rattle.script_text.specs.Spelling.{action_words, script_text};
 ghost use Rattle.script_text.specs.Lines.{script_of, step_of};
-ghost use Rattle.script_text.specs.Places.{first_misfit, line_places};
-ghost use Rattle.script_text.specs.declared.places.TextKind.TheVariants.{Script};
+ghost use Rattle.script_text.specs.Expected.{first_misfit, expected_in_line};
+ghost use Rattle.script_text.specs.declared.expected.TextKind.TheVariants.{Script};
 
 /// What is read of a text is spelled so, in the whole text.
 pub fn read_is_spelled()
@@ -51,5 +51,5 @@ pub fn spelled_record_is_read()
 /// The words of a script's line are read as a step if and only if none of them is the first that doesn't fit its place.
 pub fn fitting_words_are_read()
     ensures { (c : Config) (n : ℕ) (words : List (List ℕ)) → ((s : Step) × (step_of c words ≡ Ok s))
-        ↔ (first_misfit c 1 (line_places Script c n words) words ≡ None) }
+        ↔ (first_misfit c 1 (expected_in_line Script c n words) words ≡ None) }
 {}

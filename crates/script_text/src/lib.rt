@@ -45,7 +45,7 @@ mod fault;
 mod hints;
 mod laws;
 mod mistakes;
-mod places;
+mod expected;
 mod read;
 mod watched;
 mod write;
@@ -56,7 +56,7 @@ pub use laws::{
     action_is_read, fitting_words_are_read, read_is_spelled, read_record_is_spelled, reply_is_read,
     spelled_is_read, spelled_record_is_read,
 };
-pub use places::TextKind;
+pub use expected::TextKind;
 pub use read::awaited::{LineBuffer, NextFault};
 pub use read::input::read_text;
 pub use read::record_events::RecordEvents;

@@ -15,7 +15,7 @@ use Rattle.heap_steps.specs.declared.step.Reply.{Reply}
 use Rattle.heap_steps.specs.declared.step.Reply.TheVariants as replies
 use Rattle.heap_steps.specs.declared.step.Refusal.{Refusal}
 use Rattle.heap_steps.specs.declared.step.Refusal.TheVariants as refusals
-use Rattle.alloc_buffers.specs.Placement.{place_of}
+use Rattle.alloc_buffers.specs.Placement.{allocation_of}
 use Rattle.step_core.specs.Stands.{CoreState, ShowsGraph, Stands}
 use Rattle.step_core.specs.declared.mutator.NewObject.{NewObject}
 
@@ -35,7 +35,7 @@ new_reply (Err why) = replies.Refused why
 
 -- placement finds no place for so many words
 abbrev pub HasNoPlace : CoreState → ℕ → ℕ → Type 0
-HasNoPlace c m size = place_of c.table c.buffers m size ≡ None
+HasNoPlace c m size = allocation_of c.table c.buffers m size ≡ None
 
 -- the graph creates an object, and the heap has no place for it
 abbrev pub IsFull : Graph → ℕ → Action → CoreState → Type 0

@@ -27,8 +27,8 @@ pub record HasForgotten (words k m : ℕ) (was now : Marker) : Type 0 where
 
 -- the sets of m regions from k on are emptied, and no card of theirs has entered a set; the other sets stay, and the other cards have as
 -- they had
-abbrev pub HasCleared : ℕ → ℕ → Sets → Sets → Type 0
-HasCleared k m was now = AreCleared (is_between k (k + m)) was now
+abbrev pub HasEmptied : ℕ → ℕ → Sets → Sets → Type 0
+HasEmptied k m was now = AreCleared (is_between k (k + m)) was now
 
 -- m dead regions from k on are as in a new heap now, and the others are as they were, dead or not
 pub record HasReleased (k m : ℕ) (c c' : CoreState) : Type 0 where

@@ -4,7 +4,7 @@ use Rattle.heap_words.specs.Configs.{max_object_words}
 use Rattle.heap_words.specs.Sizes.{size_of}
 use Rattle.heap_model.specs.Graph.{Graph}
 use Rattle.regions.specs.Table.{Table, pointers_at, weaks_at, values_at}
-use Rattle.alloc_buffers.specs.Placement.{Buffers, CanPlace}
+use Rattle.alloc_buffers.specs.Placement.{Buffers, CanAllocate}
 use Rattle.heap_steps.specs.declared.step.Action.{Action}
 use Rattle.heap_steps.specs.declared.step.Action.TheVariants as actions
 use Rattle.heap_steps.specs.declared.step.Counts.{Counts}
@@ -63,5 +63,5 @@ pub record CanMake (t : Table) (b : Buffers) (m words : ℕ) (counts : Counts) (
   pub mutator : m < length b.open_buffers
   pub within : words ≤ length t.regions * t.words_per_region
   pub small : words ≤ max_object_words
-  pub ready : CanPlace t b words
+  pub ready : CanAllocate t b words
   pub size : words ≡ size_of counts.pointers weaks counts.values

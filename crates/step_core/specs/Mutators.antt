@@ -3,7 +3,7 @@ use Rattle.std.specs.Prelude.{◌≡◌, ℕ, ◌+◌, ◌-◌, ◌/◌, ◌==�
 use Rattle.heap_words.specs.Sizes.{size_of}
 use Rattle.heap_words.specs.Configs.{card_words}
 use Rattle.regions.specs.Table.{pointers_at, weaks_at, set_pointer, set_weak, set_value, new_object}
-use Rattle.alloc_buffers.specs.Placement.{Placement, place_of, made_at, address_of}
+use Rattle.alloc_buffers.specs.Placement.{Placement, allocation_of, made_at, address_of}
 use Rattle.marker.specs.Steps.{Overwrites}
 use Rattle.marker.specs.declared.marker.Marker.{Marker}
 use Rattle.cards.specs.Cards.{Cards, dirtied}
@@ -82,7 +82,7 @@ with_made c place counts weaks (Some x) = record c {
 abbrev pub after_new : CoreState → ℕ → Register → Counts → ℕ → CoreState
 after_new c m to counts weaks =
     with_made c (register_place (places_of c.config) m to.number) counts weaks
-    (place_of c.table c.buffers m (size_of counts.pointers weaks counts.values))
+    (allocation_of c.table c.buffers m (size_of counts.pointers weaks counts.values))
 
 -- how many weak slots the object that an action makes has
 abbrev pub weaks_made : Action → ℕ

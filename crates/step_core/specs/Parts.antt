@@ -71,7 +71,7 @@ pub record DoesAction (m : ℕ) (a : Action) (reply : Reply) (c c' : CoreState) 
   pub leaves : LeavesRegions c c'
 
 -- a step stores into a field of the object at an address: roots and sizes stay, and the object has as many fields as before
-pub record Fills (c : CoreState) (step : Step) (a : ℕ) (d : CoreState) : Type 0 where
+pub record FillsField (c : CoreState) (step : Step) (a : ℕ) (d : CoreState) : Type 0 where
   pub takes : Takes c step replies.Done d
   pub roots : d.roots ≡ c.roots
   pub config : d.config ≡ c.config

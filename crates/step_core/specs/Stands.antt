@@ -4,7 +4,7 @@ use Rattle.std.specs.Prelude.{ℕ, ⊤, List, Option, Some, None, length, slice_
 use Rattle.std.specs.List.{AllZip}
 use Rattle.heap_words.specs.declared.config.Config.{Config}
 use Rattle.heap_words.specs.Configs.{Suits, card_words, object_limit}
-use Rattle.heap_model.specs.Graph.{Graph, Object, Places, next_name, object_named, IsReachable, IsSound}
+use Rattle.heap_model.specs.Graph.{Graph, Object, RootCounts, next_name, object_named, IsReachable, IsSound}
 use Rattle.heap_model.specs.Heap.{Heap, Stored, Shows, IsShown, IsRoot, StandsOnce}
 use Rattle.heap_model.specs.Marking.{Marking, KeepsSnapshot}
 use Rattle.heap_model.specs.Weak.{KeepsUnreached}
@@ -23,7 +23,7 @@ use Rattle.cards.specs.Cards.{Cards, is_dirty}
 use Rattle.remembered_sets.specs.Sets.{Sets, card_count, may_lead}
 use Rattle.refinement.specs.Remembering.{Remembers}
 use Rattle.evacuation.specs.Rooms.{RoomSizes}
-pub use Rattle.root_table.specs.Roots.{places_of}
+pub use Rattle.root_table.specs.Roots.{root_counts_of}
 use Rattle.graph_runs.specs.State.{State, IsSoundState, root_places, root_at}
 use Rattle.graph_runs.specs.Since.{IsSinceState}
 
@@ -40,7 +40,7 @@ pub record CoreState : Type 0 where
   -- for how many candidates of a pause there is room
   pub row_room : ℕ
   -- how many globals and registers there are, and what they hold
-  pub places : Places
+  pub places : RootCounts
   pub roots : List (Option ℕ)
   -- the name of the next object
   pub next : ℕ
@@ -66,7 +66,7 @@ RemembersFields c = Remembers c.table.words_per_region (kept_of c) (card_words c
 -- the heap shows the graph, whose next name is the core's
 pub record ShowsGraph (g : Graph) (c : CoreState) : Type 0 where
   pub room : g.room ≡ object_limit c.config
-  pub places : g.places ≡ places_of c.config
+  pub places : g.places ≡ root_counts_of c.config
   pub next : next_name g ≡ c.next
   pub shows : Shows g (heap_of c)
 
@@ -150,8 +150,8 @@ pub record IsCore (c : CoreState) : Type 0 where
   pub remembers : RemembersFields c
   pub room : IsRoomFor c.config c.room
   pub rows : c.config.regions ≤ c.row_room
-  pub placed : c.places ≡ places_of c.config
-  pub places : length c.roots ≡ root_places (places_of c.config)
+  pub placed : c.places ≡ root_counts_of c.config
+  pub places : length c.roots ≡ root_places (root_counts_of c.config)
   pub names : c.next < 2 ^ 64
   pub footing : Footing
   pub rests : RestsOn footing c
@@ -167,7 +167,7 @@ IsRootWord h None = ⊤
 IsRootWord h (Some a) = IsRoot h a
 
 -- the object that a root place names, in the heap and in the graph
-pub record HasObject (g : Graph) (c : CoreState) (place a : ℕ) : Type 0 where
+pub record RootNames (g : Graph) (c : CoreState) (place a : ℕ) : Type 0 where
   pub stored : Stored
   pub at : kept_of c a ≡ Some stored
   pub root : root_at g place ≡ Some stored.name
@@ -181,7 +181,7 @@ pub record HasObject (g : Graph) (c : CoreState) (place a : ℕ) : Type 0 where
 -- where a register or global leads
 abbrev pub Leads : CoreState → ℕ → Option ℕ → Type 0
 Leads c place None = (g : Graph) → ShowsGraph g c → root_at g place ≡ None
-Leads c place (Some a) = (g : Graph) → ShowsGraph g c → HasObject g c place a
+Leads c place (Some a) = (g : Graph) → ShowsGraph g c → RootNames g c place a
 
 -- what names the words of a heap have
 abbrev pub name_of : Option Stored → Option ℕ

@@ -40,7 +40,7 @@ abbrev pub putting : ℕ → Register → ℕ → Option Register → Step
 putting m object field value = steps.Mutator (record { mutator = m; action = actions.Put object field value })
 
 -- the register names an object that has so many data words from one on
-pub record HasWords (c : CoreState) (m : ℕ) (object : Register) (from count : ℕ) : Type 0 where
+pub record HasDataWords (c : CoreState) (m : ℕ) (object : Register) (from count : ℕ) : Type 0 where
   pub at : ℕ
   pub named : register_of c m object ≡ Some at
   pub within : from + count ≤ length (values_at c.table at)

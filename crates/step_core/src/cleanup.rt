@@ -18,7 +18,7 @@ ghost use Rattle.regions.specs.declared.row.Kind.TheVariants as kinds;
 ghost use Rattle.marker.specs.Stands.{MarkerStands};
 ghost use Rattle.step_core.specs.Stands.{ShowsGraph, KeepsFrom, kept_of};
 ghost use Rattle.step_core.specs.Cycle.{IsDeadRegion, HasCleaned};
-ghost use Rattle.step_core.specs.Cleaning.{IsDeadHead, HasForgotten, HasCleared, HasReleased};
+ghost use Rattle.step_core.specs.Cleaning.{IsDeadHead, HasForgotten, HasEmptied, HasReleased};
 
 use crate::heap::Core;
 use heap_words::addr::{Addr, RegionNo};
@@ -40,7 +40,7 @@ fn forget(
     requires each { length sets.old.sets ≡ length table.now.regions }
     ensures stands { MarkerStands table.now marker.new }
     ensures forgotten { HasForgotten table.now.words_per_region first count marker.old marker.new }
-    ensures cleared { HasCleared first count sets.old sets.new }
+    ensures cleared { HasEmptied first count sets.old sets.new }
 {
     table.law();
     for i in 0..count {

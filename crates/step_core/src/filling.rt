@@ -16,7 +16,7 @@ ghost use Rattle.regions.specs.Table.{pointers_at, weaks_at, values_at};
 ghost use Rattle.step_core.specs.Mutators.{register_of};
 ghost use Rattle.step_core.specs.Answers.{new_reply};
 ghost use Rattle.step_core.specs.Making.{HasMade};
-ghost use Rattle.step_core.specs.Parts.{Fills};
+ghost use Rattle.step_core.specs.Parts.{FillsField};
 ghost use Rattle.step_core.specs.Words.{AreRefused, Takes, making, putting, writing};
 
 use crate::heap::Core;
@@ -88,7 +88,7 @@ impl Core {
         requires value { IsValue (places_of self.old.config) value }
         requires held { register_of self.old mutator object ≡ Some at }
         requires field { field < length (pointers_at self.old.table at) }
-        ensures { Fills self.old (putting mutator object field value) at self.new }
+        ensures { FillsField self.old (putting mutator object field value) at self.new }
     {
         self.law_remembers();
         self.put_known(mutator, object, at, field, value);
@@ -117,7 +117,7 @@ impl Core {
         requires pointers { length (pointers_at self.old.table at) ≡ pointers }
         requires weaks { length (weaks_at self.old.table at) ≡ 0 }
         requires field { field < length (values_at self.old.table at) }
-        ensures { Fills self.old (writing mutator object field value) at self.new }
+        ensures { FillsField self.old (writing mutator object field value) at self.new }
     {
         self.law_remembers();
         self.write_known(mutator, object, at, pointers, field, value);

@@ -22,7 +22,7 @@ use heap_words::config::Config;
 use marker::Marker;
 use region_choice::LiveRow;
 use remembered_sets::RememberedSets;
-use root_table::{Places, Roots};
+use root_table::{RootCounts, Roots};
 use std::alloc::{AllocError, Global};
 
 /// What the mutators' steps work on, beside the table of regions.
@@ -72,7 +72,7 @@ pub(crate) fn new_mutating(alloc: Global, config: &Config) -> Result<Mutating, A
     ensures names { IfOk result (λ m. m.next < 2 ^ 64) }
 {
     let buffers = AllocBuffers::new(alloc, config)?;
-    let places = Places::of(config);
+    let places = RootCounts::of(config);
     let roots = Roots::new(alloc, places)?;
     let next = first_name(config);
     Ok(Mutating {

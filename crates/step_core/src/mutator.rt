@@ -11,7 +11,7 @@ ghost use Rattle.graph_runs.specs.Run.{snapshot_after};
 ghost use Rattle.heap_steps.specs.declared.step.Reply.TheVariants as replies;
 ghost use Rattle.heap_steps.specs.declared.step.Refusal.TheVariants as refusals;
 ghost use Rattle.regions.specs.Table.{new_object, fields_at, pointers_at, values_at, set_pointer, set_value};
-ghost use Rattle.alloc_buffers.specs.Placement.{address_of, place_of, CanHold, IsMadeAt, Placement, made_at};
+ghost use Rattle.alloc_buffers.specs.Placement.{address_of, allocation_of, CanHold, IsMadeAt, Placement, made_at};
 ghost use Rattle.step_core.specs.Stands.{ShowsGraph, KeepsFrom};
 ghost use Rattle.step_core.specs.Answers.{Acts, IsWithin, new_reply};
 ghost use Rattle.step_core.specs.Making.{CanMake, HasMade, MakesNew, MakesObject};
@@ -21,7 +21,7 @@ ghost use Rattle.step_core.specs.Parts.{DoesAction, HoldsValue, NamesAt};
 ghost use Rattle.step_core.specs.Words.{Takes};
 
 use crate::heap::Core;
-use alloc_buffers::{AllocBuffers, Full, Place};
+use alloc_buffers::{AllocBuffers, Full, Allocation};
 use heap_steps::{Action, Counts, GlobalRoot, Op, Refusal, Register, Reply};
 use heap_words::addr::{Addr, Ptr};
 use heap_words::header::{Count, FillerSize, HeaderCounts};
@@ -29,19 +29,19 @@ use regions::RegionTable;
 
 /// Makes a new object in its place, and answers its address.
 #[inline(always)]
-fn make(table: &mut RegionTable, place: Place, name: u64, counts: HeaderCounts) -> Addr
+fn make(table: &mut RegionTable, place: Allocation, name: u64, counts: HeaderCounts) -> Addr
     requires { CanHold table.old place (size_of counts.pointers counts.weaks counts.values) }
     ensures at { result ≡ address_of table.old place }
     ensures made { table.new ≡ made_at table.old place (new_object name counts.pointers counts.weaks counts.values) }
 {
     table.law();
     match place {
-        Place::Filler(at) => {
+        Allocation::Filler(at) => {
             let size = FillerSize::new(counts.size());
             table.make_object(at, size, name, counts);
             at
         }
-        Place::Run { first, count } => {
+        Allocation::Run { first, count } => {
             let words = table.words_per_region();
             table.make_run(first, count, name, counts);
             Addr::new(first.number() * words)
@@ -108,11 +108,11 @@ fn make_in_place(
     requires { CanMake table.old buffers.old mutator size counts weaks }
     ensures made { IfOk result (λ a. (p : Placement) × IsMadeAt table.old table.new buffers.old buffers.new mutator size
         (new_object name counts.pointers weaks counts.values) a p) }
-    ensures full { IsErr result ↔ (place_of table.old buffers.old mutator size ≡ None) }
+    ensures full { IsErr result ↔ (allocation_of table.old buffers.old mutator size ≡ None) }
     ensures table_same { OnErr result (table.new ≡ table.old) }
     ensures buffers_same { OnErr result (buffers.new ≡ buffers.old) }
 {
-    let Ok(place) = buffers.place(table, mutator, size) else {
+    let Ok(place) = buffers.allocate(table, mutator, size) else {
         return Err(Full);
     };
     table.law();
@@ -135,7 +135,7 @@ fn create(
     requires half { humongous ≡ false → 2 * size ≤ table.old.words_per_region }
     ensures made { IfOk result (λ a. (p : Placement) × IsMadeAt table.old table.new buffers.old buffers.new mutator size
         (new_object name counts.pointers weaks counts.values) a p) }
-    ensures full { IsErr result ↔ (place_of table.old buffers.old mutator size ≡ None) }
+    ensures full { IsErr result ↔ (allocation_of table.old buffers.old mutator size ≡ None) }
     ensures table_same { OnErr result (table.new ≡ table.old) }
     ensures buffers_same { OnErr result (buffers.new ≡ buffers.old) }
 {

@@ -16,7 +16,7 @@ ghost use Rattle.regions.specs.Table.{fields_at, pointers_at};
 ghost use Rattle.refinement.specs.Remembering.{field_word};
 ghost use Rattle.step_core.specs.Mutators.{register_of};
 ghost use Rattle.step_core.specs.Near.{CanPut, HasPut, LeadsFar, LeadsNear, source};
-ghost use Rattle.step_core.specs.Parts.{Fills, HoldsRegister, HoldsValue};
+ghost use Rattle.step_core.specs.Parts.{FillsField, HoldsRegister, HoldsValue};
 ghost use Rattle.step_core.specs.Stands.{heap_of};
 ghost use Rattle.step_core.specs.Storing.{CanStore, StoresWith};
 ghost use Rattle.step_core.specs.Words.{putting};
@@ -116,7 +116,7 @@ impl Core {
         requires field { field < length (pointers_at self.old.table at) }
         requires row { globals_of self.old.config + row ≡ register_place (places_of self.old.config) mutator 0 }
         requires idle { self.old.marker.running ≡ false }
-        ensures fills { Fills self.old (putting mutator object field value) at self.new }
+        ensures fills { FillsField self.old (putting mutator object field value) at self.new }
         ensures idle { self.new.marker.running ≡ false }
     {
         self.law_remembers();

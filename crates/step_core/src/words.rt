@@ -3,7 +3,7 @@
 ghost use Rattle.std.specs.Prelude.{◌≡◌, ◌↔◌, ℕ, ◌<◌, length, IsOk, IfErr};
 ghost use Rattle.graph_runs.specs.State.{places_of};
 ghost use Rattle.heap_steps.specs.Roots.{IsRegister};
-ghost use Rattle.step_core.specs.Words.{HasWords, AreRead, AreWritten, IsUnread, IsUnwritten};
+ghost use Rattle.step_core.specs.Words.{HasDataWords, AreRead, AreWritten, IsUnread, IsUnwritten};
 
 use crate::heap::Core;
 use heap_steps::{Refusal, Register};
@@ -27,7 +27,7 @@ impl Core {
     ) -> Result<(), Refusal>
         requires mutator { mutator < self.now.config.mutators }
         requires object { IsRegister (places_of self.now.config) object }
-        ensures all { IsOk result ↔ HasWords self.now mutator object from (length out.old) }
+        ensures all { IsOk result ↔ HasDataWords self.now mutator object from (length out.old) }
         ensures read { IsOk result → AreRead self.now mutator object from out.new }
         ensures room { length out.new ≡ length out.old }
         ensures refused { IfErr result (IsUnread self.now mutator object from (length out.old)) }
@@ -60,7 +60,7 @@ impl Core {
     ) -> Result<(), Refusal>
         requires mutator { mutator < self.old.config.mutators }
         requires object { IsRegister (places_of self.old.config) object }
-        ensures all { IsOk result ↔ HasWords self.old mutator object from (length words.now) }
+        ensures all { IsOk result ↔ HasDataWords self.old mutator object from (length words.now) }
         ensures written { IsOk result → AreWritten self.old mutator object from words.now self.new }
         ensures refused { IfErr result (IsUnwritten self.old mutator object from words.now) }
         ensures same { IfErr result (λ why. self.new ≡ self.old) }

@@ -10,14 +10,14 @@ use Rattle.regions.specs.Shaped.{IsShaped}
 use Rattle.regions.specs.declared.row.Kind.TheVariants as kinds
 use Rattle.regions.proofs.Words.Sizes.{EachForwardedIn-imp}
 use Rattle.refinement.proofs.Holders.{object_within}
-use Rattle.object_copy.specs.Copies.{Places, CanPlace, Copies, CopiesObject, fill_of}
+use Rattle.object_copy.specs.CopiesAndForwards.{Destinations, CanTake, CopiesAndForwards, CopiesObject, fill_of}
 use Rattle.object_copy.proofs.Copied as copied
-use Rattle.evacuation.specs.Space.{CopiesTo, HasRoom, IsNamed, filled}
+use Rattle.evacuation.specs.Space.{CopiesTo, HasCopyRoom, IsNamed, filled}
 use Rattle.evacuation.specs.Turns.{Pause, IsPause, IsTurn, After, all_words, in_set, kept_now, layout, plan, space}
-use Rattle.evacuation.proofs.Copies.LeftWords.{left_has}
+use Rattle.evacuation.proofs.CopiesAndForwards.LeftWords.{left_has}
 use Rattle.evacuation.proofs.Turns.KeptObjects.{kept_object, object_of}
-use Rattle.evacuation.proofs.Copies.ObjectCopied.{named_object, named_small, copied_copying, copied_after, frame}
-use Rattle.evacuation.proofs.Copies.TableCopied.{copies_to, copy_stays, copy_taken, filled_is}
+use Rattle.evacuation.proofs.CopiesAndForwards.ObjectCopied.{named_object, named_small, copied_copying, copied_after, frame}
+use Rattle.evacuation.proofs.CopiesAndForwards.TableCopied.{copies_to, copy_stays, copy_taken, filled_is}
 
 positive : (words free : ℕ) → 0 < free * words → 0 < free
 positive words zero h = omega arith
@@ -27,8 +27,8 @@ more : (words free fill size left : ℕ) → 2 * (left + fill) ≤ (free + 1) * 
 more words zero fill size left h s n = omega arith
 more words (suc free) fill size left h s n = omega arith
 
-room_place : (words free left size : ℕ) (last : Option ℕ) → HasRoom words free last left → 0 < size
-    → size ≤ left → CanPlace words free last size
+room_place : (words free left size : ℕ) (last : Option ℕ) → HasCopyRoom words free last left → 0 < size
+    → size ≤ left → CanTake words free last size
 room_place words free left size None h p s = positive words free (omega arith)
 room_place words free left size (Some fill) h p s = elim (cases_lt words (fill + size)) [
   | inl n ↦ inr (more words free fill size left h s n)
@@ -50,7 +50,7 @@ if_some : (P : ℕ → Type 0) (o : Option ℕ) → ((k : ℕ) → o ≡ Some k 
 if_some P None f = tt
 if_some P (Some k) f = f k refl
 
-module _ (p : Pause) (q : IsPause p) (t : Table) (d : Places) (turn : IsTurn p t d) (shaped : IsShaped t) (from : ℕ)
+module _ (p : Pause) (q : IsPause p) (t : Table) (d : Destinations) (turn : IsTurn p t d) (shaped : IsShaped t) (from : ℕ)
     (named : IsNamed (layout p) (plan p) from) where
   object_if : moved_to (tile_in t from) ≡ None → kept_now p t from ≡ Some named.object
   object_if un = named_object (layout p) (plan p) (space p t) d from turn.copying named un
@@ -109,20 +109,20 @@ module _ (p : Pause) (q : IsPause p) (t : Table) (d : Places) (turn : IsTurn p t
     pub last_ordinary : IfSome d.last (λ k. kind_of t k ≡ kinds.Ordinary)
     last_ordinary = if_some (λ k. kind_of t k ≡ kinds.Ordinary) d.last (λ k e. (turn.taken k (turn.copying.last k e)).1)
 
-    pub can_place : CanPlace t.words_per_region (free_count t) (fill_of t d.last) (object_words t from)
+    pub can_place : CanTake t.words_per_region (free_count t) (fill_of t d.last) (object_words t from)
     can_place =
-        subst (λ (n : ℕ). CanPlace t.words_per_region (free_count t) (fill_of t d.last) n) (sym size)
-        (subst (λ (n : ℕ). CanPlace n (free_count t) (fill_of t d.last) (tile_size (Object x))) (sym turn.table.size)
-        (subst (λ (o : Option ℕ). CanPlace p.start.words_per_region (free_count t) o (tile_size (Object x))) (filled_is p t d.last)
+        subst (λ (n : ℕ). CanTake t.words_per_region (free_count t) (fill_of t d.last) n) (sym size)
+        (subst (λ (n : ℕ). CanTake n (free_count t) (fill_of t d.last) (tile_size (Object x))) (sym turn.table.size)
+        (subst (λ (o : Option ℕ). CanTake p.start.words_per_region (free_count t) o (tile_size (Object x))) (filled_is p t d.last)
         (room_place p.start.words_per_region (free_count t) (space p t).left (tile_size (Object x))
         (filled (space p t) d.last) turn.copying.room (omega arith) within)))
 
     pub count : d.words + object_words t from < 4294967296
     count = let a = size in let b = within in let c = turn.copying.limit in let e = q.plan_is.limit in omega arith
 
-    module _ (t' : Table) (d' : Places) (to : ℕ) (c : (y : Stored) → object_at t from ≡ Some y → Copies t t' d d' from to y)
+    module _ (t' : Table) (d' : Destinations) (to : ℕ) (c : (y : Stored) → object_at t from ≡ Some y → CopiesAndForwards t t' d d' from to y)
         (changes : (y : Stored) (k : ℕ) → object_at t from ≡ Some y → d'.last ≡ Some k → CopiesObject t t' k from to y) where
-      abbrev copy : Copies t t' d d' from to x
+      abbrev copy : CopiesAndForwards t t' d d' from to x
       copy = c x object
 
       to_space : CopiesTo (layout p) (space p t) (space p t') d d' from to x

@@ -5,13 +5,13 @@ use Rattle.std.proofs.Common.{sym, ap, subst, inl, inr, arith, length-append}
 use Rattle.std.specs.Prelude.{slice_get}
 use Rattle.std.proofs.lemmas.Bool.{cases_eq}
 use Rattle.heap_model.specs.Heap.{Heap, Stored, fields}
-use Rattle.heap_model.specs.Evacuation.{IsEvacuating, Copies}
+use Rattle.heap_model.specs.Evacuation.{IsEvacuating, CopiesAndForwards}
 use Rattle.heap_model.proofs.Lists.{get-push_last, get_kept-append}
 use Rattle.heap_model.proofs.Evacuated as evacuated
-use Rattle.object_copy.specs.Copies.{Places}
+use Rattle.object_copy.specs.CopiesAndForwards.{Destinations}
 use Rattle.evacuation.specs.Evacuates.{stored_words, words_at}
-use Rattle.evacuation.specs.Space.{Layout, Plan, Space, IsPlan, IsCopying, IsTaken, IsTally, IsNamed, IsAfter, CopiesTo, GoesOn}
-use Rattle.evacuation.specs.Space.{TakesNext, HasRoom, AreFilled, AreSpared, filled, set_of, seen_as, words_of}
+use Rattle.evacuation.specs.Space.{Layout, Plan, Space, IsPlan, IsCopying, IsDestination, IsTally, IsNamed, IsAfter, CopiesTo, GoesOn}
+use Rattle.evacuation.specs.Space.{TakesNext, HasCopyRoom, AreFilled, AreSpared, filled, set_of, seen_as, words_of}
 use Rattle.evacuation.proofs.Lists.{push_place}
 
 total_push : (kept : ℕ → Option Stored) (xs : List ℕ) (a : ℕ) → words_at kept (xs ++ a ∷ []) ≡ words_at kept xs + stored_words (kept a)
@@ -22,7 +22,7 @@ room_pushed : (words free left left' fill size : ℕ) → 2 * (left + fill) ≤ 
     → 2 * (left' + (fill + size)) ≤ (free + 1) * words
 room_pushed words free left left' fill size h e = omega arith
 
-room_opened : (words free left size : ℕ) (last : Option ℕ) → HasRoom words (suc free) last left → 2 * size ≤ words → size ≤ left
+room_opened : (words free left size : ℕ) (last : Option ℕ) → HasCopyRoom words (suc free) last left → 2 * size ≤ words → size ≤ left
     → ((f : ℕ) → last ≡ Some f → words < f + size) → 2 * (left + 0) ≤ (free + 1) * words
 room_opened words free left size None h s l n = omega arith
 room_opened words free left size (Some f) h s l n = let k = n f refl in omega arith
@@ -49,11 +49,11 @@ filled_next words n n' fill' copied copied' size (Some fill) e f g z s k h =
     rw (e, f, g) (record { some = omega arith; any = omega arith; closed = omega arith; all = λ two. omega arith })
 
 -- the object of the set stands there until it is forwarded
-pub named_object : (l : Layout) (p : Plan) (s : Space) (d : Places) (a : ℕ) → IsCopying l p s d → (n : IsNamed l p a)
+pub named_object : (l : Layout) (p : Plan) (s : Space) (d : Destinations) (a : ℕ) → IsCopying l p s d → (n : IsNamed l p a)
     → s.forward a ≡ None → s.object a ≡ Some n.object
 named_object l p s d a c n un = c.heap.untouched a n.inside un ∙ n.at
 
-pub named_small : (l : Layout) (p : Plan) (s : Space) (d : Places) (a : ℕ) (x : Stored) → IsPlan l p → IsCopying l p s d → IsNamed l p a
+pub named_small : (l : Layout) (p : Plan) (s : Space) (d : Destinations) (a : ℕ) (x : Stored) → IsPlan l p → IsCopying l p s d → IsNamed l p a
     → s.forward a ≡ None → s.object a ≡ Some x → 2 * words_of x ≤ l.words
 named_small l p s d a x q c n un at =
     let e = named_object l p s d a c n un in
@@ -74,8 +74,8 @@ same_tally set h f f' w w' p q t =
     subst (λ (u : ℕ). IsTally set h f' u) q (subst (λ (u : ℕ → Option ℕ). IsTally set h u w) (λ i a. p a i) t)
 
 -- a destination is the one that the copy went to, or was one before
-pub taken_by : (l : Layout) (s s' : Space) (d d' : Places) (k size : ℕ) → GoesOn l s s' d d' k ⊎ TakesNext l s s' d d' k size
-    → (j : ℕ) → IsTaken d' j → (j ≡ k) ⊎ IsTaken d j
+pub taken_by : (l : Layout) (s s' : Space) (d d' : Destinations) (k size : ℕ) → GoesOn l s s' d d' k ⊎ TakesNext l s s' d d' k size
+    → (j : ℕ) → IsDestination d' j → (j ≡ k) ⊎ IsDestination d j
 taken_by l s s' d d' k size how j w = elim how [
   | inl g ↦ inr (record { at = w.at; is = ap (λ (v : List ℕ). slice_get v w.at) (sym g.regions) ∙ w.is })
   | inr g ↦ elim (push_place d.regions k j w.at (ap (λ (v : List ℕ). slice_get v w.at) (sym g.regions) ∙ w.is)) [
@@ -84,7 +84,7 @@ taken_by l s s' d d' k size how j w = elim how [
   ]
 ]
 
-module _ (l : Layout) (p : Plan) (s s' : Space) (d d' : Places) (from to : ℕ) (x : Stored)
+module _ (l : Layout) (p : Plan) (s s' : Space) (d d' : Destinations) (from to : ℕ) (x : Stored)
     (c : IsCopying l p s d) (u : CopiesTo l s s' d d' from to x) (n : IsNamed l p from) (at : s.object from ≡ Some x)
     (un : s.forward from ≡ None) (small : 2 * words_of x ≤ l.words) where
   abbrev k : ℕ
@@ -108,7 +108,7 @@ module _ (l : Layout) (p : Plan) (s s' : Space) (d d' : Places) (from to : ℕ) 
   back : (b : ℕ) (y : Stored) → s'.object b ≡ Some y → (b ≡ to → ⊥) → s.object b ≡ Some y
   back b y e o = sym (u.others b (λ q. let h = ap s'.object q in let g = u.gone in cc) o) ∙ e
 
-  taken_cases : (j : ℕ) → IsTaken d' j → (j ≡ k) ⊎ IsTaken d j
+  taken_cases : (j : ℕ) → IsDestination d' j → (j ≡ k) ⊎ IsDestination d j
   taken_cases j w = taken_by l s s' d d' k (words_of x) u.how j w
 
   pub taken_grows : (i j : ℕ) → slice_get d.regions i ≡ Some j → slice_get d'.regions i ≡ Some j
@@ -117,10 +117,10 @@ module _ (l : Layout) (p : Plan) (s s' : Space) (d d' : Places) (from to : ℕ) 
     | inr g ↦ ap (λ (v : List ℕ). slice_get v i) g.regions ∙ get_kept-append d.regions (k ∷ []) j i e
   ]
 
-  taken_on : (j : ℕ) → IsTaken d j → IsTaken d' j
+  taken_on : (j : ℕ) → IsDestination d j → IsDestination d' j
   taken_on j w = record { at = w.at; is = taken_grows w.at j w.is }
 
-  is_taken : IsTaken d' k
+  is_taken : IsDestination d' k
   is_taken = elim u.how [
     | inl g ↦ taken_on k (c.last k g.last)
     | inr g ↦ record {
@@ -129,7 +129,7 @@ module _ (l : Layout) (p : Plan) (s s' : Space) (d d' : Places) (from to : ℕ) 
     }
   ]
 
-  copies : Copies (set_of l) s.forward s'.forward (seen_as s p.heap) (seen_as s' p.heap) from to x
+  copies : CopiesAndForwards (set_of l) s.forward s'.forward (seen_as s p.heap) (seen_as s' p.heap) from to x
   copies = record {
     inside = n.inside;
     outside = to_outside;
@@ -183,18 +183,18 @@ module _ (l : Layout) (p : Plan) (s s' : Space) (d d' : Places) (from to : ℕ) 
       distinct i j a (inr q) (inl r) = absurd (never i (q ∙ ap Some r.1))
       distinct i j a (inr q) (inr r) = t.distinct i j a q r
 
-  room_on : GoesOn l s s' d d' k → HasRoom l.words s'.free_count (filled s' d'.last) s'.left
+  room_on : GoesOn l s s' d d' k → HasCopyRoom l.words s'.free_count (filled s' d'.last) s'.left
   room_on g =
       let r' : 2 * (s.left + s.used k) ≤ (s.free_count + 1) * l.words =
-      subst (λ (w : Option ℕ). HasRoom l.words s.free_count (filled s w) s.left) g.last c.room in
+      subst (λ (w : Option ℕ). HasCopyRoom l.words s.free_count (filled s w) s.left) g.last c.room in
       rw (u.last, u.used, g.free_count) (room_pushed l.words s.free_count s.left s'.left (s.used k) (words_of x) r' (u.left clear))
 
-  room_next : TakesNext l s s' d d' k (words_of x) → HasRoom l.words s'.free_count (filled s' d'.last) s'.left
+  room_next : TakesNext l s s' d d' k (words_of x) → HasCopyRoom l.words s'.free_count (filled s' d'.last) s'.left
   room_next g =
       let e = u.left clear in
       let next : s.free_count ≡ suc s'.free_count = (let q = g.free_count in omega arith) in
-      let r' : HasRoom l.words (suc s'.free_count) (filled s d.last) s.left =
-      subst (λ (m : ℕ). HasRoom l.words m (filled s d.last) s.left) next c.room in
+      let r' : HasCopyRoom l.words (suc s'.free_count) (filled s d.last) s.left =
+      subst (λ (m : ℕ). HasCopyRoom l.words m (filled s d.last) s.left) next c.room in
       let r = room_opened l.words s'.free_count s.left (words_of x) (filled s d.last) r' small (omega arith) g.full in
       rw (u.last, u.used, g.empty) (room_pushed l.words s'.free_count s.left s'.left 0 (words_of x) r e)
 
@@ -223,7 +223,7 @@ module _ (l : Layout) (p : Plan) (s s' : Space) (d d' : Places) (from to : ℕ) 
       | inr g ↦ elim (cases_eq j k) [ inl q ↦ ap l.chosen q ∙ clear | inr q ↦ c.free j (sym (g.free j q) ∙ e) ]
     ];
     taken = λ j w. elim (taken_cases j w) [ inl q ↦ ap l.chosen q ∙ clear | inr q ↦ c.taken j q ];
-    last = λ j e. let q : k ≡ j = (let z = u.last in cc) in subst (IsTaken d') q is_taken;
+    last = λ j e. let q : k ≡ j = (let z = u.last in cc) in subst (IsDestination d') q is_taken;
     last_at = λ j i e f.
         let q : k ≡ j = (let z = u.last in cc) in
         elim u.how [
@@ -246,7 +246,7 @@ module _ (l : Layout) (p : Plan) (s s' : Space) (d d' : Places) (from to : ℕ) 
       ]
     ];
     placed = λ a b i e. elim (forward_cases a b e) [
-      | inl q ↦ subst (IsTaken d') (sym (ap (λ (v : ℕ). v / l.words) q.1 ∙ u.at_region)) is_taken
+      | inl q ↦ subst (IsDestination d') (sym (ap (λ (v : ℕ). v / l.words) q.1 ∙ u.at_region)) is_taken
       | inr q ↦ taken_on (b / l.words) (c.placed a b i q.1)
     ];
     room = elim u.how [ inl g ↦ room_on g | inr g ↦ room_next g ];
@@ -275,10 +275,10 @@ module _ (l : Layout) (p : Plan) (s s' : Space) (d d' : Places) (from to : ℕ) 
     ];
   }
 
-  closed_stays : (j : ℕ) → IsTaken d j → d.last ≢ Some j → j ≢ k
+  closed_stays : (j : ℕ) → IsDestination d j → d.last ≢ Some j → j ≢ k
   closed_stays j w m q = elim u.how [
     | inl g ↦ m (g.last ∙ ap Some (sym q))
-    | inr g ↦ let a = c.apart k (subst (IsTaken d) q w) in let b = g.was_free in absurd cc
+    | inr g ↦ let a = c.apart k (subst (IsDestination d) q w) in let b = g.was_free in absurd cc
   ]
 
   pub copied_after : (noted : List Bool) → IsAfter l noted noted s s' d d'

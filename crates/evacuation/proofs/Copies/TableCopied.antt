@@ -12,14 +12,14 @@ use Rattle.regions.specs.Shaped.{IsShaped}
 use Rattle.regions.specs.declared.row.Kind.TheVariants as kinds
 use Rattle.regions.proofs.Words.Divides.{div_is}
 use Rattle.refinement.proofs.Holders.{object_within}
-use Rattle.object_copy.specs.Copies.{Places, Copies, CopiesObject, Takes, fill_of}
+use Rattle.object_copy.specs.CopiesAndForwards.{Destinations, CopiesAndForwards, CopiesObject, OpensLowest, fill_of}
 use Rattle.object_copy.proofs.Frees.{free_by_kind}
 use Rattle.object_copy.proofs.Copied.{copied_moved}
 use Rattle.regions.proofs.Tiles.Placing as placing
-use Rattle.evacuation.specs.Space.{CopiesTo, GoesOn, TakesNext, IsTaken, filled, flag, words_of}
+use Rattle.evacuation.specs.Space.{CopiesTo, GoesOn, TakesNext, IsDestination, filled, flag, words_of}
 use Rattle.evacuation.specs.Turns.{Pause, IsPause, IsTurn, TableStays, all_words, in_set, kept_now, layout, space}
-use Rattle.evacuation.proofs.Copies.LeftWords.{left_less}
-use Rattle.evacuation.proofs.Copies.ObjectCopied.{taken_by}
+use Rattle.evacuation.proofs.CopiesAndForwards.LeftWords.{left_less}
+use Rattle.evacuation.proofs.CopiesAndForwards.ObjectCopied.{taken_by}
 use Rattle.evacuation.proofs.Turns.KeptObjects.{kept_as, kept_none, kept_object, kept_fresh, object_of, cases_free}
 
 pub filled_is : (p : Pause) (t : Table) (w : Option ℕ) → filled (space p t) w ≡ fill_of t w
@@ -43,9 +43,9 @@ below_free t k j e free apart = elim (cases_lt j k) [
   | inr le ↦ omega (arith, le, apart)
 ]
 
-module _ (p : Pause) (q : IsPause p) (t t' : Table) (d d' : Places) (turn : IsTurn p t d) (shaped : IsShaped t) (from to : ℕ) (x : Stored)
+module _ (p : Pause) (q : IsPause p) (t t' : Table) (d d' : Destinations) (turn : IsTurn p t d) (shaped : IsShaped t) (from to : ℕ) (x : Stored)
     (inside : in_set p from ≡ true) (at : kept_now p t from ≡ Some x) (small : 2 * tile_size (Object x) ≤ p.start.words_per_region)
-    (c : Copies t t' d d' from to x)
+    (c : CopiesAndForwards t t' d d' from to x)
     (changes : (k : ℕ) → object_at t from ≡ Some x → d'.last ≡ Some k → CopiesObject t t' k from to x) where
   words : t.words_per_region ≡ p.start.words_per_region
   words = turn.table.size
@@ -57,7 +57,7 @@ module _ (p : Pause) (q : IsPause p) (t t' : Table) (d d' : Places) (turn : IsTu
   here = kept_object p t from x at
 
   last : d'.last ≡ Some k
-  last = ap (λ (y : Places). y.last) c.places_are ∙ c.opens.last
+  last = ap (λ (y : Destinations). y.last) c.places_are ∙ c.opens.last
 
   w : CopiesObject t t' k from to x
   w = changes k here last
@@ -69,7 +69,7 @@ module _ (p : Pause) (q : IsPause p) (t t' : Table) (d d' : Places) (turn : IsTu
   fresh : (kind_of p.start k ≡ kinds.Free) × (flag p.chosen k ≡ false)
   fresh = elim c.opens.how [
     | inl g ↦
-        let l : d.last ≡ Some k = ap (λ (y : Places). y.last) (sym g.1) ∙ c.opens.last in
+        let l : d.last ≡ Some k = ap (λ (y : Destinations). y.last) (sym g.1) ∙ c.opens.last in
         let is = turn.copying.last k l in
         ((turn.taken k is).0, turn.copying.taken k is)
     | inr g ↦
@@ -110,12 +110,12 @@ module _ (p : Pause) (q : IsPause p) (t t' : Table) (d d' : Places) (turn : IsTu
 
   goes : (c.table ≡ t) × (c.places ≡ d) → GoesOn (layout p) (space p t) (space p t') d d' k
   goes g =
-      let l : d.last ≡ Some k = ap (λ (y : Places). y.last) (sym g.1) ∙ c.opens.last in
+      let l : d.last ≡ Some k = ap (λ (y : Destinations). y.last) (sym g.1) ∙ c.opens.last in
       let o = (turn.taken k (turn.copying.last k l)).1 in
       record {
         last = l;
-        regions = ap (λ (y : Places). y.regions) c.places_are ∙ ap (λ (y : Places). y.regions) g.1;
-        room = ap (λ (y : Places). y.room) c.places_are ∙ ap (λ (y : Places). y.room) g.1;
+        regions = ap (λ (y : Destinations). y.regions) c.places_are ∙ ap (λ (y : Destinations). y.regions) g.1;
+        room = ap (λ (y : Destinations). y.room) c.places_are ∙ ap (λ (y : Destinations). y.room) g.1;
         free_count = w.free_same o;
         free = λ j. elim (cases_eq j k) [
           | inl e ↦ subst (λ (m : ℕ). is_free (nth_region t' m) ≡ is_free (nth_region t m)) (sym e)
@@ -124,15 +124,15 @@ module _ (p : Pause) (q : IsPause p) (t t' : Table) (d d' : Places) (turn : IsTu
         ];
       }
 
-  takes : Takes t c.table d c.places k → ((f : ℕ) → fill_of t d.last ≡ Some f → t.words_per_region < f + tile_size (Object x))
+  takes : OpensLowest t c.table d c.places k → ((f : ℕ) → fill_of t d.last ≡ Some f → t.words_per_region < f + tile_size (Object x))
       → TakesNext (layout p) (space p t) (space p t') d d' k (words_of x)
   takes g full =
       let r = placing.region_taken t k g.lowest in
       record {
         was_free = free_kind t k r.was;
         empty = sym (r.used k) ∙ r.empty;
-        regions = ap (λ (y : Places). y.regions) c.places_are ∙ g.regions;
-        room = (let a = ap (λ (y : Places). y.room) c.places_are in let b = g.room in omega arith);
+        regions = ap (λ (y : Destinations). y.regions) c.places_are ∙ g.regions;
+        room = (let a = ap (λ (y : Destinations). y.room) c.places_are in let b = g.room in omega arith);
         free_count = w.free_less r.was;
         taken = ordinary_kind t' k w.ordinary;
         free = λ j e. free_by_kind t' j ∙ ap kind_is_free (w.kinds_same j e) ∙ sym (free_by_kind t j);
@@ -143,8 +143,8 @@ module _ (p : Pause) (q : IsPause p) (t t' : Table) (d d' : Places) (turn : IsTu
   copies_to = record {
     region = k;
     last = last;
-    words = ap (λ (y : Places). y.words) c.places_are
-        ∙ ap (λ (n : ℕ). n + tile_size (Object x)) (elim c.opens.how [ inl g ↦ ap (λ (y : Places). y.words) g.1 | inr g ↦ g.0.words ]);
+    words = ap (λ (y : Destinations). y.words) c.places_are
+        ∙ ap (λ (n : ℕ). n + tile_size (Object x)) (elim c.opens.how [ inl g ↦ ap (λ (y : Destinations). y.words) g.1 | inr g ↦ g.0.words ]);
     at_region = at_region;
     above = let a = w.at in let e = ap (λ (n : ℕ). k * n) words in omega arith;
     room = kept_none p t to (object_of t to None w.was);
@@ -185,7 +185,7 @@ module _ (p : Pause) (q : IsPause p) (t t' : Table) (d d' : Places) (turn : IsTu
       elim (cases_eq m k) [
         | inl same ↦ subst (λ (i : ℕ). i < j) (sym same) (elim c.opens.how [
           | inl g ↦
-              let l : d.last ≡ Some k = ap (λ (y : Places). y.last) (sym g.1) ∙ c.opens.last in
+              let l : d.last ≡ Some k = ap (λ (y : Destinations). y.last) (sym g.1) ∙ c.opens.last in
               turn.table.lowest j k fj was fresh.0 (turn.taken k (turn.copying.last k l)).1
           | inr g ↦ below_free t k j g.0.lowest was apart
         ])
@@ -236,11 +236,11 @@ module _ (p : Pause) (q : IsPause p) (t t' : Table) (d d' : Places) (turn : IsTu
         targets = copied_moved (λ a. in_set p a ≡ false) t t' d d' from to x c to_out s.targets;
       }
 
-  taken_cases : (j : ℕ) → IsTaken d' j → (j ≡ k) ⊎ IsTaken d j
+  taken_cases : (j : ℕ) → IsDestination d' j → (j ≡ k) ⊎ IsDestination d j
   unfolding copies_to
   taken_cases j w = taken_by (layout p) (space p t) (space p t') d d' k (words_of x) copies_to.how j w
 
-  pub copy_taken : (j : ℕ) → IsTaken d' j
+  pub copy_taken : (j : ℕ) → IsDestination d' j
       → (kind_of p.start j ≡ kinds.Free) × (kind_of t' j ≡ kinds.Ordinary) × (j < length p.start.regions)
   copy_taken j is = elim (cases_eq j k) [
     | inl e ↦

@@ -11,7 +11,7 @@ use Rattle.regions.specs.Table.{Table, fields_at}
 use Rattle.regions.specs.Shaped.{IsShaped}
 use Rattle.regions.proofs.Words.Divides.{div_low, card_has_words}
 use Rattle.refinement.proofs.Holders.{fields_of, object_within}
-use Rattle.evacuation.specs.Space.{Layout, IsClean, IsField, IsFieldClean, IsStill, NotesWord, flag}
+use Rattle.evacuation.specs.Space.{Layout, IsOutsideSet, IsField, IsFieldClean, IsStill, NotesWord, flag}
 use Rattle.evacuation.specs.Turns.{Pause, IsPause, TableStays, EachCard, kept_now, layout, space}
 use Rattle.evacuation.proofs.Turns.KeptObjects.{kept_object}
 
@@ -33,7 +33,7 @@ pub nil_clean : (p : Pause) (t : Table) (at i : ℕ) → slice_get (fields_at t 
 nil_clean p t at i e y w here f =
     let k = pointer_is p t at i y None here e in
     let same : None ≡ w = cc in
-    subst (IsClean (layout p)) same tt
+    subst (IsOutsideSet (layout p)) same tt
 
 -- a field's word lies in the heap
 pub word_within : (p : Pause) (t : Table) (at i : ℕ) → IsShaped t → TableStays p t → (f : IsField (space p t) at i)

@@ -3,26 +3,26 @@ use Rattle.std.proofs.Common.{◌≡◌, ℕ, ◌<◌, Bool, true, false, List, 
 use Rattle.std.specs.Prelude.{slice_get}
 use Rattle.heap_model.specs.Heap.{Stored, fields}
 use Rattle.regions.specs.Table.{Table, moved_to, fields_at, set_field, tile_in}
-use Rattle.object_copy.specs.Copies.{Places}
+use Rattle.object_copy.specs.CopiesAndForwards.{Destinations}
 use Rattle.refinement.specs.Remembering.{field_word}
-use Rattle.evacuation.specs.Space.{IsClean, IsField, IsFieldClean, IsFieldSettled, IsNamed, IsNoted, NotesWord, SetsField}
+use Rattle.evacuation.specs.Space.{IsOutsideSet, IsField, IsFieldClean, IsFieldSettled, IsNamed, IsCardNoted, NotesWord, WritesField}
 use Rattle.evacuation.specs.Turns.{Pause, IsPause, IsTurn, After, in_set, kept_now, layout, plan, space}
 use Rattle.evacuation.proofs.Turns.Following.{after_after}
 use Rattle.evacuation.proofs.FieldUpdates.Updated.{field_named, updated_after, updated_copying, updated_settled}
 use Rattle.evacuation.proofs.FieldUpdates.FieldCards.{pointer_is}
 use Rattle.evacuation.proofs.FieldUpdates.Written.{sets_field, write_stays, write_taken}
 
-module _ (p : Pause) (q : IsPause p) (t : Table) (d : Places) (turn : IsTurn p t d) (at i : ℕ) (out : in_set p at ≡ false)
+module _ (p : Pause) (q : IsPause p) (t : Table) (d : Destinations) (turn : IsTurn p t d) (at i : ℕ) (out : in_set p at ≡ false)
     (field : IsField (space p t) at i) where
   pub named : (a : ℕ) → slice_get (fields_at t at) i ≡ Some (Some a) → in_set p a ≡ true → IsNamed (layout p) (plan p) a
   named a e inside = field_named (layout p) (plan p) (space p t) d q.plan_is turn.copying at i a field.object out field.at
       (pointer_is p t at i field.object (Some a) field.at e) inside
 
   -- what a field that isn't updated names
-  pub unchanged : (v : Option ℕ) → slice_get (fields_at t at) i ≡ Some v → IsClean (layout p) v → IsFieldClean (layout p) (space p t) at i
-  unchanged v e c y w here f = let k = pointer_is p t at i y v here e in let same : v ≡ w = cc in subst (IsClean (layout p)) same c
+  pub unchanged : (v : Option ℕ) → slice_get (fields_at t at) i ≡ Some v → IsOutsideSet (layout p) v → IsFieldClean (layout p) (space p t) at i
+  unchanged v e c y w here f = let k = pointer_is p t at i y v here e in let same : v ≡ w = cc in subst (IsOutsideSet (layout p)) same c
 
-  module _ (t1 t2 : Table) (d1 : Places) (turn1 : IsTurn p t1 d1) (after1 : (noted : List Bool) → After p noted noted t t1 d d1)
+  module _ (t1 t2 : Table) (d1 : Destinations) (turn1 : IsTurn p t1 d1) (after1 : (noted : List Bool) → After p noted noted t t1 d d1)
       (frame : (b : ℕ) (y : Stored) → in_set p b ≡ false → kept_now p t b ≡ Some y → kept_now p t1 b ≡ Some y) (a b : ℕ)
       (names : slice_get (fields_at t at) i ≡ Some (Some a)) (inside : in_set p a ≡ true)
       (place : moved_to (tile_in t1 a) ≡ Some b) where
@@ -39,7 +39,7 @@ module _ (p : Pause) (q : IsPause p) (t : Table) (d : Places) (turn : IsTurn p t
     named_there = pointer_is p t at i y (Some a) field.at names
 
     module _ (positive : 0 < t1.words_per_region) (is : t2 ≡ set_field t1 at i (Some b)) where
-      sets : SetsField (space p t1) (space p t2) at i (Some b) y
+      sets : WritesField (space p t1) (space p t2) at i (Some b) y
       sets = sets_field p q t1 t2 d1 turn1 positive at i (Some b) y out here is
 
       update_turn : IsTurn p t2 d1
@@ -66,9 +66,9 @@ module _ (p : Pause) (q : IsPause p) (t : Table) (d : Places) (turn : IsTurn p t
 
 -- a clean field whose card is noted
 pub noted_settled : (p : Pause) (t : Table) (at i : ℕ) (noted : List Bool) (v : Option ℕ) → slice_get (fields_at t at) i ≡ Some v
-    → IsFieldClean (layout p) (space p t) at i → IsNoted (layout p) noted (field_word at i) v
+    → IsFieldClean (layout p) (space p t) at i → IsCardNoted (layout p) noted (field_word at i) v
     → IsFieldSettled (layout p) noted (space p t) at i
 noted_settled p t at i noted v e c n y w here f =
     let k = pointer_is p t at i y v here e in
     let same : v ≡ w = cc in
-    (c y w here f, subst (IsNoted (layout p) noted (field_word at i)) same n)
+    (c y w here f, subst (IsCardNoted (layout p) noted (field_word at i)) same n)

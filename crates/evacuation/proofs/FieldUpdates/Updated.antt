@@ -9,11 +9,11 @@ use Rattle.heap_model.specs.Evacuation.{IsReached, ByRootWord, ByOutside, ByInsi
 use Rattle.heap_model.proofs.Fields.{IsFieldSet, field_set}
 use Rattle.heap_model.proofs.Lists.{get-set_same, get-set_other}
 use Rattle.heap_model.proofs.Evacuated.{field_reached, field_updated}
-use Rattle.object_copy.specs.Copies.{Places}
+use Rattle.object_copy.specs.CopiesAndForwards.{Destinations}
 use Rattle.refinement.specs.Remembering.{field_word}
-use Rattle.evacuation.specs.Space.{Layout, Plan, Space, SetsField, IsPlan, IsCopying, IsNamed, IsAfter, IsObject, IsSettled}
+use Rattle.evacuation.specs.Space.{Layout, Plan, Space, WritesField, IsPlan, IsCopying, IsNamed, IsAfter, IsSpaceObject, IsSettled}
 use Rattle.evacuation.specs.Space.{IsUpdated, IsFieldSettled, NotesWord, filled, set_of, seen_as}
-use Rattle.evacuation.proofs.Copies.ObjectCopied.{same_evacuating, same_tally}
+use Rattle.evacuation.proofs.CopiesAndForwards.ObjectCopied.{same_evacuating, same_tally}
 
 -- what is reached stands there
 pub reached_kept : (set : ℕ → Bool) (h : Heap) → IsClosed h → (a : ℕ) → IsReached set h a → (x : Stored) × (h.kept a ≡ Some x)
@@ -21,7 +21,7 @@ reached_kept set h c a (ByRootWord b r i) = c.root r.place b r.is
 reached_kept set h c a (ByOutside b d o p i) = c.field b p.field d p.object p.at p.is
 reached_kept set h c a (ByInside b d o p i) = c.field b p.field d p.object p.at p.is
 
-module _ (l : Layout) (p : Plan) (s : Space) (d : Places) (q : IsPlan l p) (c : IsCopying l p s d)
+module _ (l : Layout) (p : Plan) (s : Space) (d : Destinations) (q : IsPlan l p) (c : IsCopying l p s d)
     (at i a : ℕ) (y : Stored) (out : set_of l at ≡ false) (here : s.object at ≡ Some y)
     (names : slice_get (fields y) i ≡ Some (Some a)) (inside : set_of l a ≡ true) where
   pub field_named : IsNamed l p a
@@ -30,10 +30,10 @@ module _ (l : Layout) (p : Plan) (s : Space) (d : Places) (q : IsPlan l p) (c : 
       let (x, k) = reached_kept (set_of l) p.heap q.closed a r in
       record { object = x; at = k; inside = inside; reached = r }
 
-module _ (l : Layout) (p : Plan) (s s' : Space) (d : Places) (c : IsCopying l p s d)
+module _ (l : Layout) (p : Plan) (s s' : Space) (d : Destinations) (c : IsCopying l p s d)
     (at i a b : ℕ) (y : Stored) (out : set_of l at ≡ false) (here : s.object at ≡ Some y)
     (names : slice_get (fields y) i ≡ Some (Some a)) (inside : set_of l a ≡ true)
-    (f : s.forward a ≡ Some b) (u : SetsField s s' at i (Some b) y) where
+    (f : s.forward a ≡ Some b) (u : WritesField s s' at i (Some b) y) where
   abbrev updated : Stored
   updated = with_field y i (Some b)
 
@@ -161,5 +161,5 @@ module _ (l : Layout) (p : Plan) (s s' : Space) (d : Places) (c : IsCopying l p 
       ];
     }
       where
-        was : (x : ℕ) (z : Stored) → s'.object x ≡ Some z → IsObject s x
+        was : (x : ℕ) (z : Stored) → s'.object x ≡ Some z → IsSpaceObject s x
         was x z e = elim (cases_eq x at) [ inl k ↦ (y, ap s.object k ∙ here) | inr n ↦ (z, sym (u.others x n) ∙ e) ]

@@ -10,16 +10,16 @@ use Rattle.regions.specs.declared.row.Kind.TheVariants as kinds
 use Rattle.regions.proofs.Words.FieldAccess.{set_field-is}
 use Rattle.regions.proofs.Tiles.Changes.{WritesObject, field_put, field_size, field_weaks, object_same}
 use Rattle.regions.proofs.Tiles.Kept.{put_object-moved}
-use Rattle.object_copy.specs.Copies.{Places}
+use Rattle.object_copy.specs.CopiesAndForwards.{Destinations}
 use Rattle.object_copy.proofs.Frees.{free_by_kind, same_free}
 use Rattle.object_copy.proofs.Copied.{tile_of_object}
 use Rattle.evacuation.specs.Evacuates.{IsSameBut}
-use Rattle.evacuation.specs.Space.{SetsField, IsTaken}
+use Rattle.evacuation.specs.Space.{WritesField, IsDestination}
 use Rattle.evacuation.specs.Turns.{Pause, IsPause, IsTurn, TableStays, all_words, in_set, kept_now, space}
-use Rattle.evacuation.proofs.Copies.LeftWords.{left_same}
+use Rattle.evacuation.proofs.CopiesAndForwards.LeftWords.{left_same}
 use Rattle.evacuation.proofs.Turns.KeptObjects.{kept_as, kept_object, kept_some}
 
-module _ (p : Pause) (q : IsPause p) (t t' : Table) (d : Places) (turn : IsTurn p t d)
+module _ (p : Pause) (q : IsPause p) (t t' : Table) (d : Destinations) (turn : IsTurn p t d)
     (positive : 0 < t.words_per_region) (at i : ℕ) (v : Option ℕ) (y : Stored)
     (out : in_set p at ≡ false) (here : kept_now p t at ≡ Some y) (is : t' ≡ set_field t at i v) where
   object : object_at t at ≡ Some y
@@ -40,7 +40,7 @@ module _ (p : Pause) (q : IsPause p) (t t' : Table) (d : Places) (turn : IsTurn 
   kept_other : (a : ℕ) → (a ≡ at → ⊥) → kept_now p t' a ≡ kept_now p t a
   kept_other a n = kept_as p t t' a w.size (other a n)
 
-  pub sets_field : SetsField (space p t) (space p t') at i v y
+  pub sets_field : WritesField (space p t) (space p t') at i v y
   sets_field = record {
     object = kept_some p t t' at y here w.size ∙ w.is;
     others = kept_other;
@@ -114,6 +114,6 @@ module _ (p : Pause) (q : IsPause p) (t t' : Table) (d : Places) (turn : IsTurn 
           let some = ap (object_at t) f ∙ object in
           cc
 
-  pub write_taken : (j : ℕ) → IsTaken d j
+  pub write_taken : (j : ℕ) → IsDestination d j
       → (kind_of p.start j ≡ kinds.Free) × (kind_of t' j ≡ kinds.Ordinary) × (j < length p.start.regions)
   write_taken j k = let r = turn.taken j k in (r.0, w.kinds j ∙ r.1, r.2)

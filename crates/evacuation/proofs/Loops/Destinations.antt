@@ -8,12 +8,12 @@ use Rattle.regions.specs.Tiles.{Object}
 use Rattle.regions.specs.Table.{Table, kind_of, used_of, top_of, tile_in}
 use Rattle.regions.specs.Shaped.{IsShaped}
 use Rattle.regions.specs.declared.row.Kind.TheVariants as kinds
-use Rattle.object_copy.specs.Copies.{Places}
+use Rattle.object_copy.specs.CopiesAndForwards.{Destinations}
 use Rattle.object_copy.proofs.Copied.{tile_of_object}
-use Rattle.evacuation.specs.Space.{IsObject, IsObjectSettled, IsRegionSettled, IsTaken, flag}
+use Rattle.evacuation.specs.Space.{IsSpaceObject, IsObjectSettled, IsRegionSettled, IsDestination, flag}
 use Rattle.evacuation.specs.Turns.{Pause, IsPause, IsTurn, PauseStands, PauseGoesOn, in_set, kept_now, layout, space}
 use Rattle.evacuation.specs.declared.room.Context.{Context}
-use Rattle.regions.specs.Walks.{IsNext, IsLast}
+use Rattle.regions.specs.Walks.{IsNextTile, IsLast}
 use Rattle.regions.proofs.Tiles.Steps.{tile_low, tile_there}
 use Rattle.evacuation.specs.Cursors.{AreSettledBelow}
 use Rattle.evacuation.proofs.Lists.{get_within, get_before}
@@ -21,8 +21,8 @@ use Rattle.evacuation.proofs.Turns.KeptObjects.{kept_fresh, kept_object, object_
 use Rattle.evacuation.proofs.Turns.Following.{settled_after}
 
 -- what stands in a destination is a kept object
-pub copy_there : (p : Pause) (t : Table) (c : Context) → PauseStands p t c → (k : ℕ) → IsTaken c.destinations k → (a : ℕ)
-    → a / p.start.words_per_region ≡ k → IsSome (tile_in t a) → IsObject (space p t) a
+pub copy_there : (p : Pause) (t : Table) (c : Context) → PauseStands p t c → (k : ℕ) → IsDestination c.destinations k → (a : ℕ)
+    → a / p.start.words_per_region ≡ k → IsSome (tile_in t a) → IsSpaceObject (space p t) a
 copy_there p t c stands k w a r s =
     let (u, e) = tile_there t a s in
     let free : kind_of p.start (a / p.start.words_per_region) ≡ kinds.Free = ap (kind_of p.start) r ∙ (stands.turn.taken k w).0 in
@@ -31,7 +31,7 @@ copy_there p t c stands k w a r s =
     subst (λ (m : ℕ). m < length p.start.regions) (sym r) (stands.turn.taken k w).2 in
     (x, kept_fresh p t a stands.premises stands.turn.table.size known free ∙ object_of t a (Some (Object x)) (e ∙ ap Some same))
 
-module _ (p : Pause) (t : Table) (c : Context) (stands : PauseStands p t c) (g : IsShaped t) (k : ℕ) (w : IsTaken c.destinations k) where
+module _ (p : Pause) (t : Table) (c : Context) (stands : PauseStands p t c) (g : IsShaped t) (k : ℕ) (w : IsDestination c.destinations k) where
   abbrev q : IsPause p
   q = stands.premises
 
@@ -41,7 +41,7 @@ module _ (p : Pause) (t : Table) (c : Context) (stands : PauseStands p t c) (g :
   words : t.words_per_region ≡ p.start.words_per_region
   words = turn.table.size
 
-  pub copy_object : (a : ℕ) → a / p.start.words_per_region ≡ k → IsSome (tile_in t a) → IsObject (space p t) a
+  pub copy_object : (a : ℕ) → a / p.start.words_per_region ≡ k → IsSome (tile_in t a) → IsSpaceObject (space p t) a
   copy_object a r s = copy_there p t c stands k w a r s
 
   pub copy_outside : (a : ℕ) → a / p.start.words_per_region ≡ k → in_set p a ≡ false
@@ -71,7 +71,7 @@ module _ (p : Pause) (t : Table) (c : Context) (stands : PauseStands p t c) (g :
 
   -- the copy at an address was settled: those below the next one are
   module _ (t' : Table) (c' : Context) (on : PauseGoesOn p t t' c c') (at : ℕ) (r : at / p.start.words_per_region ≡ k)
-      (o : IsObject (space p t) at) (done : AreSettledBelow p c.noted t k at)
+      (o : IsSpaceObject (space p t) at) (done : AreSettledBelow p c.noted t k at)
       (settled : IsObjectSettled (layout p) c'.noted (space p t') at) where
     below_at : (b : ℕ) (y : Stored) → b / p.start.words_per_region ≡ k → b < at → kept_now p t' b ≡ Some y
         → IsObjectSettled (layout p) c'.noted (space p t') b
@@ -86,7 +86,7 @@ module _ (p : Pause) (t : Table) (c : Context) (stands : PauseStands p t c) (g :
           )
     ]
 
-    pub done_next : (next : ℕ) → IsNext t' at next → AreSettledBelow p c'.noted t' k next
+    pub done_next : (next : ℕ) → IsNextTile t' at next → AreSettledBelow p c'.noted t' k next
     done_next next n b y rb h e = elim (cases_lt b at) [
       | inl low ↦ below_at b y rb low e
       | inr high ↦ elim (cases_eq b at) [
@@ -110,7 +110,7 @@ module _ (p : Pause) (t : Table) (c : Context) (stands : PauseStands p t c) (g :
     ]
 
 -- ---- destination after destination
-pub record AreRegionsSettled (p : Pause) (noted : List Bool) (t : Table) (d : Places) (n : ℕ) : Type 0 where
+pub record AreRegionsSettled (p : Pause) (noted : List Bool) (t : Table) (d : Destinations) (n : ℕ) : Type 0 where
   pub each : (m k : ℕ) → m < n → slice_get d.regions m ≡ Some k → IsRegionSettled (layout p) noted (space p t) k
 
 module _ (p : Pause) (t t' : Table) (c c' : Context) (stands : PauseStands p t c) (on : PauseGoesOn p t t' c c') (n k : ℕ)
@@ -118,7 +118,7 @@ module _ (p : Pause) (t t' : Table) (c c' : Context) (stands : PauseStands p t c
   still : (m j : ℕ) → m < n → slice_get c.destinations.regions m ≡ Some j → IsRegionSettled (layout p) c.noted (space p t) j
       → IsRegionSettled (layout p) c'.noted (space p t') j
   still m j h e settled b y r here =
-      let w : IsTaken c.destinations j = record { at = m; is = e } in
+      let w : IsDestination c.destinations j = record { at = m; is = e } in
       let closed =
       on.after.closed j w (λ l.
       let z = stands.turn.copying.last_at j m l e in let v = get_within c.destinations.regions n k at in absurd (omega arith)) in
@@ -144,6 +144,6 @@ module _ (p : Pause) (t t' : Table) (c c' : Context) (stands : PauseStands p t c
     ];
   }
 
-pub regions_all : (p : Pause) (noted : List Bool) (t : Table) (d : Places) (n : ℕ) → AreRegionsSettled p noted t d n
-    → slice_get d.regions n ≡ None → (k : ℕ) → IsTaken d k → IsRegionSettled (layout p) noted (space p t) k
+pub regions_all : (p : Pause) (noted : List Bool) (t : Table) (d : Destinations) (n : ℕ) → AreRegionsSettled p noted t d n
+    → slice_get d.regions n ≡ None → (k : ℕ) → IsDestination d k → IsRegionSettled (layout p) noted (space p t) k
 regions_all p noted t d n done none k w = done.each w.at k (get_before d.regions n w.at k none w.is) w.is

@@ -4,7 +4,7 @@ use Rattle.std.specs.Prelude.{false}
 use Rattle.std.proofs.lemmas.Bool.{cases_eq}
 use Rattle.heap_model.specs.Heap.{Stored, fields}
 use Rattle.regions.specs.Table.{Table}
-use Rattle.evacuation.specs.Space.{IsField, IsFieldSettled, IsObject, IsObjectSettled, IsStill}
+use Rattle.evacuation.specs.Space.{IsField, IsFieldSettled, IsSpaceObject, IsObjectSettled, IsStill}
 use Rattle.evacuation.specs.Turns.{Pause, PauseGoesOn, in_set, layout, space}
 use Rattle.evacuation.specs.declared.room.Context.{Context}
 use Rattle.evacuation.specs.Cursors.{AreFieldsSettled}
@@ -15,7 +15,7 @@ pub still_field : (p : Pause) (t : Table) (at n i : ℕ) → IsStill (space p t)
 still_field p t at n i s h = let (y, e, c) = s in record { object = y; at = e; within = omega arith }
 
 pub fields_more : {p : Pause} {t t' : Table} {c c' : Context} (at n : ℕ) → PauseGoesOn p t t' c c' → in_set p at ≡ false
-    → IsObject (space p t) at → AreFieldsSettled p c.noted t at n → IsFieldSettled (layout p) c'.noted (space p t') at n
+    → IsSpaceObject (space p t) at → AreFieldsSettled p c.noted t at n → IsFieldSettled (layout p) c'.noted (space p t') at n
     → AreFieldsSettled p c'.noted t' at (n + 1)
 fields_more {p} {t} {t'} {c} {c'} at n on out o settled last i k = elim (cases_eq i n) [
   | inl q ↦ subst (IsFieldSettled (layout p) c'.noted (space p t') at) (sym q) last

@@ -14,15 +14,15 @@ use Rattle.regions.specs.Walks.{IsHolder, IsPlacedTile}
 use Rattle.regions.specs.Shaped.{IsShaped}
 use Rattle.regions.proofs.Words.Divides.{card_has_words, card_within, card_region, div_low, div_high}
 use Rattle.regions.proofs.Tiles.Holders.{holder_onward, holder_below, one_holder}
-use Rattle.object_copy.specs.Copies.{Places}
+use Rattle.object_copy.specs.CopiesAndForwards.{Destinations}
 use Rattle.object_copy.proofs.Copied.{tile_of_object}
 use Rattle.refinement.specs.Remembering.{field_word}
 use Rattle.refinement.proofs.Holders.{word_holder}
-use Rattle.evacuation.specs.Space.{IsField, IsFieldClean, IsObject, IsStill, IsVisited, AreClean, flag}
+use Rattle.evacuation.specs.Space.{IsField, IsFieldClean, IsSpaceObject, IsStill, IsVisited, AreClean, flag}
 use Rattle.evacuation.specs.declared.outside.Kept.{Kept}
 use Rattle.evacuation.specs.declared.room.Context.{Context}
 use Rattle.evacuation.specs.Turns.{Pause, IsPause, IsTurn, PauseStands, PauseGoesOn, AreKept, in_set, kept_now, layout, plan, space}
-use Rattle.regions.specs.Walks.{IsNext, IsLast}
+use Rattle.regions.specs.Walks.{IsNextTile, IsLast}
 use Rattle.evacuation.specs.Cursors.{AreCleanBelow, IsCardClean}
 use Rattle.mark_bitmap.specs.Tops.{Tops}
 use Rattle.mark_bitmap.specs.Kept.{kept_in}
@@ -38,13 +38,13 @@ zip_length place (x ∷ xs) [] z = absurd z
 zip_length place (x ∷ xs) (y ∷ ys) z = let k = zip_length place xs ys z.1 in omega arith
 
 -- an object that stood outside the set stands there still, with as many fields
-pub outside_stands : (p : Pause) (t : Table) (d : Places) (b : ℕ) (x : Stored) → IsTurn p t d → (plan p).heap.kept b ≡ Some x
+pub outside_stands : (p : Pause) (t : Table) (d : Destinations) (b : ℕ) (x : Stored) → IsTurn p t d → (plan p).heap.kept b ≡ Some x
     → in_set p b ≡ false → IsStill (space p t) b (length (fields x))
 outside_stands p t d b x turn at out =
     let k = turn.copying.heap.objects b b x at (rw out refl) in
     (k.part, k.at, zip_length (place_after (in_set p) (space p t).forward) (fields x) (fields k.part) k.words)
 
-pub visited_field : (p : Pause) (t : Table) (d : Places) (visited : List Bool) (b i : ℕ) → IsTurn p t d
+pub visited_field : (p : Pause) (t : Table) (d : Destinations) (visited : List Bool) (b i : ℕ) → IsTurn p t d
     → IsVisited (layout p) (plan p) visited b i → IsField (space p t) b i
 visited_field p t d visited b i turn v =
     let (y, at, n) = outside_stands p t d b v.object turn v.at v.outside in
@@ -52,7 +52,7 @@ visited_field p t d visited b i turn v =
     record { object = y; at = at; within = omega arith }
 
 -- the word of a visited field belongs to its object's tile
-visited_holder : (p : Pause) (t : Table) (d : Places) (visited : List Bool) (b i : ℕ) → IsTurn p t d
+visited_holder : (p : Pause) (t : Table) (d : Destinations) (visited : List Bool) (b i : ℕ) → IsTurn p t d
     → IsVisited (layout p) (plan p) visited b i → IsHolder t b (field_word b i)
 visited_holder p t d visited b i turn v =
     let f = visited_field p t d visited b i turn v in
@@ -68,7 +68,7 @@ module _ (p : Pause) (q : IsPause p) (card : ℕ) where
   high : (w : ℕ) → w / p.card_words ≡ card → w < card * p.card_words + p.card_words
   high w e = div_high w p.card_words card has_words e
 
-  module _ (t : Table) (d : Places) (turn : IsTurn p t d) (g : IsShaped t) where
+  module _ (t : Table) (d : Destinations) (turn : IsTurn p t d) (g : IsShaped t) where
     region : (w : ℕ) → w / p.card_words ≡ card → w / t.words_per_region ≡ card * p.card_words / t.words_per_region
     region w e = card_region w p.card_words t.words_per_region p.cards_per_region card g.positive (turn.table.size ∙ q.whole_cards) e
 
@@ -121,7 +121,7 @@ module _ (p : Pause) (q : IsPause p) (card : ℕ) where
         let f = visited_field p t' c'.destinations visited b i on.stands.turn v in
         (f.object, tile_of_object t' b f.object (kept_object p t' b f.object f.at))
 
-    pub clean_next : (next : ℕ) → IsNext t' at next → AreCleanBelow p visited t' card next
+    pub clean_next : (next : ℕ) → IsNextTile t' at next → AreCleanBelow p visited t' card next
     clean_next next n b i v e h = elim (cases_lt at b) [
       | inl above ↦ (let (y, is) = tile' b i v in absurd (n.between b (Object y) above h is))
       | inr below ↦ upto b i v e below
@@ -181,13 +181,13 @@ pub card_small : (p : Pause) (card : ℕ) → IsPause p → card < length p.star
 card_small p card q h = card_within card p.card_words p.start.words_per_region p.cards_per_region (length p.start.regions) q.whole_cards h
 
 pub object_now : (p : Pause) (t : Table) (kept : Kept) (at : ℕ) → AreKept p kept
-    → IsSome (kept_in t kept.tams.now kept.marks.now at) → IsObject (space p t) at
+    → IsSome (kept_in t kept.tams.now kept.marks.now at) → IsSpaceObject (space p t) at
 unfolding kept_now
 object_now p t kept at are s = some_of (kept_in t p.tams p.previous at)
     (subst (λ (m : List Bool). IsSome (kept_in t p.tams m at)) are.marks
     (subst (λ (u : Tops). IsSome (kept_in t u kept.marks.now at)) are.tams s))
 
-pub object_tile : (p : Pause) (t : Table) (at : ℕ) → IsObject (space p t) at → IsSome (tile_in t at)
+pub object_tile : (p : Pause) (t : Table) (at : ℕ) → IsSpaceObject (space p t) at → IsSome (tile_in t at)
 object_tile p t at o = some_tile (tile_in t at) (Object o.0) (tile_of_object t at o.0 (kept_object p t at o.0 o.1))
 
 pub placed_tile : (t : Table) (at : ℕ) (shape : Shape) → IsSome (tile_in t at) → IfSome (tile_in t at) (λ u. shape ≡ tile_shape u)

@@ -15,7 +15,7 @@ use Rattle.regions.specs.Table.{Table}
 use Rattle.refinement.proofs.Holders.{object_within}
 use Rattle.evacuation.specs.Evacuates.{AreReachedWords}
 use Rattle.refinement.specs.Remembering.{field_word}
-use Rattle.evacuation.specs.Space.{AreClean, IsRegionSettled, IsTaken, seen_as}
+use Rattle.evacuation.specs.Space.{AreClean, IsRegionSettled, IsDestination, seen_as}
 use Rattle.evacuation.specs.Turns.{Pause, IsPause, IsTurn, PauseGoesOn, AreFieldsNoted, AreVisited, HasCopied}
 use Rattle.evacuation.specs.Turns.{in_set, kept_now, layout, plan, space}
 use Rattle.evacuation.specs.declared.room.Context.{Context}
@@ -35,7 +35,7 @@ start_kept p a = refl
 
 module _ (p : Pause) (visited : List Bool) (t t' : Table) (c c' : Context) (roots : List (Option ℕ)) (on : PauseGoesOn p t t' c c')
     (started : t ≡ p.start) (moved : AllZip (IsMoved (place_after (in_set p) (space p t').forward)) p.roots roots)
-    (copies : (k : ℕ) → IsTaken c'.destinations k → IsRegionSettled (layout p) c'.noted (space p t') k)
+    (copies : (k : ℕ) → IsDestination c'.destinations k → IsRegionSettled (layout p) c'.noted (space p t') k)
     (are : AreVisited p visited) (outside : AreClean (layout p) (plan p) visited (space p t') (length visited)) where
   abbrev q : IsPause p
   q = on.stands.premises
@@ -105,7 +105,7 @@ module _ (p : Pause) (visited : List Bool) (t t' : Table) (c c' : Context) (root
     | inr k ↦ k
   ]
 
-  copy_clean : (b i a : ℕ) (y : Stored) → kept_now p t' b ≡ Some y → IsTaken c'.destinations (b / p.start.words_per_region)
+  copy_clean : (b i a : ℕ) (y : Stored) → kept_now p t' b ≡ Some y → IsDestination c'.destinations (b / p.start.words_per_region)
       → slice_get (fields y) i ≡ Some (Some a) → set a ≡ false
   copy_clean b i a y at w e = (copies (b / p.start.words_per_region) w b y refl at i y (Some a) at e).0
 

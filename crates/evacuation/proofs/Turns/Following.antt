@@ -6,15 +6,15 @@ use Rattle.std.proofs.lemmas.Option.{slice_get-get_or}
 use Rattle.evacuation.proofs.Lists.{get_below}
 use Rattle.heap_model.specs.Heap.{Stored, fields}
 use Rattle.regions.specs.Table.{Table}
-use Rattle.object_copy.specs.Copies.{Places}
+use Rattle.object_copy.specs.CopiesAndForwards.{Destinations}
 use Rattle.refinement.specs.Remembering.{field_word}
-use Rattle.evacuation.specs.Space.{Layout, Space, IsTaken, IsAfter, NewCrossing, IsObject, IsClean, IsNoted, IsSettled, IsUpdated}
+use Rattle.evacuation.specs.Space.{Layout, Space, IsDestination, IsAfter, NewCrossing, IsSpaceObject, IsOutsideSet, IsCardNoted, IsSettled, IsUpdated}
 use Rattle.evacuation.specs.Space.{IsFieldClean, IsFieldSettled, flag}
 use Rattle.evacuation.specs.Turns.{Pause, PauseStands, PauseGoesOn, in_set, layout, space}
 use Rattle.evacuation.specs.declared.room.Context.{Context}
 
 pub noted_grows : (l : Layout) (t t' : List Bool) (at : ℕ) (w : Option ℕ)
-    → ((c : ℕ) → flag t c ≡ true → flag t' c ≡ true) → IsNoted l t at w → IsNoted l t' at w
+    → ((c : ℕ) → flag t c ≡ true → flag t' c ≡ true) → IsCardNoted l t at w → IsCardNoted l t' at w
 noted_grows l t t' at None f s = tt
 noted_grows l t t' at (Some c) f s = elim s [ inl q ↦ inl q | inr q ↦ inr (f (at / l.card_words) q) ]
 
@@ -32,13 +32,13 @@ updated_grows l t t' at v w f u = record {
 }
 
 -- a word that names nothing of the set isn't updated
-clean_stays : (l : Layout) (t : List Bool) (at : ℕ) (v w : Option ℕ) → IsClean l v → IsUpdated l t at v w → ⊥
+clean_stays : (l : Layout) (t : List Bool) (at : ℕ) (v w : Option ℕ) → IsOutsideSet l v → IsUpdated l t at v w → ⊥
 clean_stays l t at v w c u =
-    let c' : IsClean l (Some u.target) = subst (IsClean l) u.named c in
+    let c' : IsOutsideSet l (Some u.target) = subst (IsOutsideSet l) u.named c in
     let i = u.inside in
     absurd cc
 
-pub same_after : (l : Layout) (t : List Bool) (s : Space) (d : Places) → IsAfter l t t s s d d
+pub same_after : (l : Layout) (t : List Bool) (s : Space) (d : Destinations) → IsAfter l t t s s d d
 same_after l t s d = record {
   noted_grows = λ j e. e;
   noted_length = refl;
@@ -53,7 +53,7 @@ same_after l t s d = record {
 }
 
 -- more is noted, and nothing else changes
-pub noted_after : (l : Layout) (t t' : List Bool) (s : Space) (d : Places) → ((c : ℕ) → flag t c ≡ true → flag t' c ≡ true)
+pub noted_after : (l : Layout) (t t' : List Bool) (s : Space) (d : Destinations) → ((c : ℕ) → flag t c ≡ true → flag t' c ≡ true)
     → length t' ≡ length t → ((c : ℕ) → flag t' c ≡ true → (flag t c ≡ true) ⊎ NewCrossing l s s d c) → IsAfter l t t' s s d d
 noted_after l t t' s d f n g = record {
   noted_grows = f;
@@ -72,7 +72,7 @@ above_more : (at a b c : ℕ) → at + b ≤ c → a ≤ b → at + a ≤ c
 above_more at a b c h k = omega arith
 
 -- a clean field stays as it is
-crossing_on : (l : Layout) (t t' t'' : List Bool) (s s' s'' : Space) (d d' d'' : Places) (c : ℕ) → IsAfter l t' t'' s' s'' d' d''
+crossing_on : (l : Layout) (t t' t'' : List Bool) (s s' s'' : Space) (d d' d'' : Destinations) (c : ℕ) → IsAfter l t' t'' s' s'' d' d''
     → NewCrossing l s s' d' c → NewCrossing l s s'' d'' c
 crossing_on l t t' t'' s s' s'' d d' d'' c b x =
     let (z, e, n) = b.stays x.at x.object x.outside x.here in
@@ -90,7 +90,7 @@ crossing_on l t t' t'' s s' s'' d d' d'' c b x =
         | inl h ↦ (let f = x.field in let same : w ≡ Some x.target = cc in is ∙ ap Some same)
         | inr h ↦ absurd (let f = x.field in
             let same : Some x.target ≡ h.0 = (let g = h.1 in cc) in
-            clean_stays l t'' (field_word x.at x.index) h.0 w (subst (IsClean l) same x.clean) h.2)
+            clean_stays l t'' (field_word x.at x.index) h.0 w (subst (IsOutsideSet l) same x.clean) h.2)
       ];
       clean = x.clean;
       in_card = x.in_card;
@@ -98,7 +98,7 @@ crossing_on l t t' t'' s s' s'' d d' d'' c b x =
       is_new = elim x.is_new [ inl k ↦ inl (record { at = k.at; is = b.taken_grows k.at (x.at / l.words) k.is }) | inr k ↦ inr k ];
     }
 
-crossing_back : (l : Layout) (t t' : List Bool) (s s' s'' : Space) (d d' d'' : Places) (c : ℕ) → IsAfter l t t' s s' d d'
+crossing_back : (l : Layout) (t t' : List Bool) (s s' s'' : Space) (d d' d'' : Destinations) (c : ℕ) → IsAfter l t t' s s' d d'
     → NewCrossing l s' s'' d'' c → NewCrossing l s s'' d'' c
 crossing_back l t t' s s' s'' d d' d'' c a x = record {
   at = x.at;
@@ -123,7 +123,7 @@ crossing_back l t t' s s' s'' d d' d'' c a x = record {
   ];
 }
 
-pub after_after : (l : Layout) (t t' t'' : List Bool) (s s' s'' : Space) (d d' d'' : Places) → IsAfter l t t' s s' d d'
+pub after_after : (l : Layout) (t t' t'' : List Bool) (s s' s'' : Space) (d d' d'' : Destinations) → IsAfter l t t' s s' d d'
     → IsAfter l t' t'' s' s'' d' d'' → IsAfter l t t'' s s'' d d''
 after_after l t t' t'' s s' s'' d d' d'' a b = record {
   noted_grows = λ j e. b.noted_grows j (a.noted_grows j e);
@@ -172,12 +172,12 @@ goes_further {p} {t} {t'} {t''} {c} {c'} {c''} a b = record {
 
 module _ {p : Pause} {t t' : Table} {c c' : Context} (on : PauseGoesOn p t t' c c') where
   -- what is clean or settled stays so
-  pub clean_after : (b i : ℕ) → in_set p b ≡ false → IsObject (space p t) b → IsFieldClean (layout p) (space p t) b i
+  pub clean_after : (b i : ℕ) → in_set p b ≡ false → IsSpaceObject (space p t) b → IsFieldClean (layout p) (space p t) b i
       → IsFieldClean (layout p) (space p t') b i
   clean_after b i out o clean z w e g =
       elim (on.after.fields b o.0 z i w out o.1 e g) [ inl q ↦ clean o.0 w o.1 q | inr q ↦ q.2.settled.0 ]
 
-  pub settled_after : (b i : ℕ) → in_set p b ≡ false → IsObject (space p t) b → IsFieldSettled (layout p) c.noted (space p t) b i
+  pub settled_after : (b i : ℕ) → in_set p b ≡ false → IsSpaceObject (space p t) b → IsFieldSettled (layout p) c.noted (space p t) b i
       → IsFieldSettled (layout p) c'.noted (space p t') b i
   settled_after b i out o settled z w e g =
       elim (on.after.fields b o.0 z i w out o.1 e g) [
@@ -185,5 +185,5 @@ module _ {p : Pause} {t t' : Table} {c c' : Context} (on : PauseGoesOn p t t' c 
         | inr q ↦ q.2.settled
       ]
 
-  pub taken_after : (k : ℕ) → IsTaken c.destinations k → IsTaken c'.destinations k
+  pub taken_after : (k : ℕ) → IsDestination c.destinations k → IsDestination c'.destinations k
   taken_after k w = record { at = w.at; is = on.after.taken_grows w.at k w.is }

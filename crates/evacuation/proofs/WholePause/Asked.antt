@@ -25,15 +25,15 @@ use Rattle.refinement.specs.Remembering.{IsCrossing, field_word}
 use Rattle.regions.proofs.Words.Divides.{card_has_words, card_region, div_is, div_low, div_high}
 use Rattle.regions.proofs.Tiles.Holders.{holder_start}
 use Rattle.refinement.proofs.Holders.{word_holder}
-use Rattle.object_copy.specs.Copies.{no_places}
-use Rattle.evacuation.specs.Evacuates.{Layers, CanEvacuate, IsRow, is_chosen, stored_words}
+use Rattle.object_copy.specs.CopiesAndForwards.{no_destinations}
+use Rattle.evacuation.specs.Evacuates.{Layers, CanEvacuate, IsLiveRow, is_chosen, stored_words}
 use Rattle.evacuation.specs.Space.{AllVisited, flag}
 use Rattle.evacuation.specs.Turns.{Pause, IsPause, IsTurn, PauseStands, AreVisited, kept_now, layout, left_words, plan}
 use Rattle.evacuation.specs.declared.room.Context.{Context}
 use Rattle.evacuation.proofs.Turns.KeptObjects.{kept_object}
 use Rattle.evacuation.proofs.Lists.{get_below}
 use Rattle.evacuation.proofs.WholePause.Beginning.{no_tile, start_turn}
-use Rattle.evacuation.proofs.Copies.LeftWords.{left_window, words_from, left_two, left_zero}
+use Rattle.evacuation.proofs.CopiesAndForwards.LeftWords.{left_window, words_from, left_two, left_zero}
 
 -- live bounds, added up row by row
 abbrev bounds : List LiveRow → ℕ
@@ -123,11 +123,11 @@ module _ (h : Layers) (rows : List LiveRow) (cw : ℕ) (can : CanEvacuate h rows
   pub per_region : words / cw ≡ h.sets.cards_per_region
   per_region = let e = can.fit.whole_cards in div_is words cw h.sets.cards_per_region (omega arith) (let z = has_words in omega arith)
 
-  row_of : (k : ℕ) → flag flags k ≡ true → (i : ℕ) × (row : LiveRow) × (slice_get rows i ≡ Some row) × (row.region ≡ k) × IsRow h row
+  row_of : (k : ℕ) → flag flags k ≡ true → (i : ℕ) × (row : LiveRow) × (slice_get rows i ≡ Some row) × (row.region ≡ k) × IsLiveRow h row
   row_of k e =
       let (i, row, f, g) = found rows k (sym (flags_are k) ∙ e) in
       let (lt, is) = get_is rows i row f in
-      (i, row, f, g, subst (IsRow h) is (can.each_row i row lt))
+      (i, row, f, g, subst (IsLiveRow h) is (can.each_row i row lt))
 
   pub ordinary : (k : ℕ) → flag flags k ≡ true → kind_of h.table k ≡ kinds.Ordinary
   ordinary k e = let (i, row, f, g, r) = row_of k e in ap (kind_of h.table) (sym g) ∙ r.ordinary
@@ -141,7 +141,7 @@ module _ (h : Layers) (rows : List LiveRow) (cw : ℕ) (can : CanEvacuate h rows
       let sum = is_sum_by bounds (λ (r : LiveRow). r.live_bound) refl bounds_step rows in
       let l = left_rows kept words (length h.table.regions * words) rows shaped.positive (λ i r e.
       let (lt, is) = get_is rows i r e in
-      let row = subst (IsRow h) is (can.each_row i r lt) in
+      let row = subst (IsLiveRow h) is (can.each_row i r lt) in
       let a = live.kept_le h.table h.tams h.previous r.region shaped can.previous row.known row.ordinary in
       let b = words_same h.table h.tams h.previous (r.region * words) words in
       let c = row.live_bound in
@@ -172,7 +172,7 @@ module _ (h : Layers) (rows : List LiveRow) (cw : ℕ) (can : CanEvacuate h rows
     ordinary = ordinary;
   }
 
-  start_is : (n : ℕ) → n ≡ length h.table.regions → IsTurn pause h.table (no_places n)
+  start_is : (n : ℕ) → n ≡ length h.table.regions → IsTurn pause h.table (no_destinations n)
   start_is n e = start_turn pause is_pause
       (let w = within_bounds in let r = can.room in let s = kept_now_is pause in rw s (omega (arith, w, r)))
       (let s = kept_now_is pause in rw s (omega arith)) n e
@@ -182,7 +182,7 @@ module _ (h : Layers) (rows : List LiveRow) (cw : ℕ) (can : CanEvacuate h rows
       e ∙ ap (λ (m : ℕ). m * h.sets.cards_per_region) can.fit.each_region ∙ ap (λ (m : ℕ). length h.table.regions * m) (sym per_region)
 
   -- it stands where there is no destination yet
-  pub stands : (n : ℕ) (c : Context) → c.destinations ≡ no_places n → n ≡ length h.table.regions → c.chosen.items ≡ flags
+  pub stands : (n : ℕ) (c : Context) → c.destinations ≡ no_destinations n → n ≡ length h.table.regions → c.chosen.items ≡ flags
       → c.card_words ≡ cw → length c.noted ≡ card_count h.sets → PauseStands pause h.table c
   stands n c none room set card each = record {
     premises = is_pause;

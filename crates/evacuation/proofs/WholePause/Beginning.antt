@@ -13,10 +13,10 @@ use Rattle.regions.specs.Tiles.{Filler}
 use Rattle.regions.specs.declared.row.Kind.TheVariants as kinds
 use Rattle.regions.proofs.Tiles.ForwardedLaws.{moved_in}
 use Rattle.regions.proofs.Words.Sizes.{EachForwardedIn-imp}
-use Rattle.object_copy.specs.Copies.{no_places}
+use Rattle.object_copy.specs.CopiesAndForwards.{no_destinations}
 use Rattle.object_copy.proofs.Frees.{free_by_kind}
 use Rattle.object_copy.proofs.Copied.{tile_of_object}
-use Rattle.evacuation.specs.Space.{IsTaken, flag}
+use Rattle.evacuation.specs.Space.{IsDestination, flag}
 use Rattle.evacuation.specs.Turns.{Pause, IsPause, IsTurn, TableStays, in_set, kept_now, plan, space}
 
 -- contradictions over plain variables: in a proof with a whole pause in scope a tactic reads all of it
@@ -90,10 +90,10 @@ module _ (p : Pause) (q : IsPause p) (room : 2 * (space p p.start).left ≤ free
     targets = EachForwardedIn-imp (λ _. ⊥) (λ to. in_set p to ≡ false) p.start.regions (λ to x. absurd x) q.unmoved;
   }
 
-  none_taken : (k : ℕ) → IsTaken (no_places n) k → ⊥
+  none_taken : (k : ℕ) → IsDestination (no_destinations n) k → ⊥
   none_taken k w = clash None _ refl w.is
 
-  pub start_turn : IsTurn p p.start (no_places n)
+  pub start_turn : IsTurn p p.start (no_destinations n)
   start_turn = record {
     copying = record {
       heap = evacuating;

@@ -40,7 +40,7 @@ use Rattle.remembered_sets.specs.Sets.{Sets, may_lead}
 use Rattle.remembered_sets.proofs.Laws.{leads_alike}
 use Rattle.refinement.specs.Remembering.{Remembers, field_card, field_word}
 use Rattle.evacuation.specs.Evacuates.{HasEvacuated, IsNewSet}
-use Rattle.evacuation.specs.Space.{IsTaken}
+use Rattle.evacuation.specs.Space.{IsDestination}
 use Rattle.evacuation.specs.Turns.{HasCopied}
 use Rattle.evacuation.specs.Releasing.{AreCleared}
 use Rattle.evacuation.proofs.Turns.AllCopied.{reached_inside}
@@ -372,7 +372,7 @@ module _ (h : Layers) (rows : List LiveRow) (cw : ℕ) (can : CanEvacuate h rows
             subst (λ (r : LiveRow). get_or h.tams.next r.region 0 ≡ r.region * words) is t in
             bottom_of row.region a (sym g') t'
 
-        fresh : (b : ℕ) → IsTaken c1.destinations (b / words) → below_next h.table h.tams b ≡ false
+        fresh : (b : ℕ) → IsDestination c1.destinations (b / words) → below_next h.table h.tams b ≡ false
         fresh b w =
             let r = turn.taken (b / words) w in
             let low = can.next.bottom (b / words) r.2 in

@@ -5,7 +5,7 @@ use Rattle.std.proofs.lemmas.Nat.{mul-le}
 use Rattle.regions.specs.Table.{Table, top_of}
 use Rattle.regions.specs.WeakStarts.{Starts}
 use Rattle.heap_words.specs.Memory.{Memory}
-use Rattle.regions.specs.Rows.{table_of, IsTable, IsSound, sizes_in}
+use Rattle.regions.specs.Rows.{table_of, IsTable, IsRegionTable, sizes_in}
 use Rattle.regions.specs.FirstTiles.{Entries, AreEntries, start_in}
 use Rattle.regions.specs.Walks.{IsHolder}
 use Rattle.regions.specs.declared.row.Row.{Row}
@@ -24,7 +24,7 @@ all_words size words rows t g e =
     rw (count, ← size_is) (sym g.covers)
 
 pub card_known : (size shift lowest free : ℕ) (entries : Entries) (starts : Starts) (memory : Memory) (rows : List Row) (t : Table)
-    (word card : ℕ) → IsSound size shift lowest free entries starts memory rows → table_of size memory.all rows ≡ t
+    (word card : ℕ) → IsRegionTable size shift lowest free entries starts memory rows → table_of size memory.all rows ≡ t
     → word < length t.regions * t.words_per_region → 0 < entries.card_words
     → card ≡ word / entries.card_words → card < length entries.starts
 card_known size shift lowest free entries starts memory rows t word card s e h z c =
@@ -44,7 +44,7 @@ pub record IsCardStart (t : Table) (card_words card word a : ℕ) : Type 0 where
   pub region : word / t.words_per_region ≡ card * card_words / t.words_per_region
 
 pub card_start : (size shift lowest free : ℕ) (entries : Entries) (starts : Starts) (memory : Memory) (rows : List Row) (t : Table)
-    (word card : ℕ) → IsSound size shift lowest free entries starts memory rows → table_of size memory.all rows ≡ t
+    (word card : ℕ) → IsRegionTable size shift lowest free entries starts memory rows → table_of size memory.all rows ≡ t
     → word < top_of t (word / t.words_per_region) → 0 < entries.card_words → card ≡ word / entries.card_words
     → IsCardStart t entries.card_words card word (start_in entries.card_words entries.starts card)
 card_start size shift lowest free entries starts memory rows t word card s e h z c =

@@ -14,7 +14,7 @@ use Rattle.regions.specs.Table.{set_value, remainder, is_free, first_free, taken
 use Rattle.regions.specs.Table.{region_at, with_regions, run_regions, first_run, released, run_length, kind_of, used_of, top_of}
 use Rattle.regions.specs.Table.{free_table, EachForwarded, IsReleasable, object_words}
 use Rattle.heap_words.specs.Memory.{Memory}
-use Rattle.regions.specs.Rows.{table_of, IsSound, AreTilesWritten, AreUsedBelow, free_row_count, sizes_in}
+use Rattle.regions.specs.Rows.{table_of, IsRegionTable, AreTilesWritten, AreUsedBelow, free_row_count, sizes_in}
 use Rattle.regions.specs.FirstTiles.{Entries, AreEntries, entry_of, last_card}
 use Rattle.regions.specs.Shaped.{IsShaped}
 use Rattle.regions.specs.declared.row.Kind.TheVariants as kinds
@@ -24,7 +24,7 @@ use Rattle.regions.proofs.Tiles.Making.{length-regions_of}
 use Rattle.regions.proofs.Tiles.ShapedMade.{shaped_of, first_object, kind_at}
 use Rattle.regions.proofs.Tiles.Laws.{object_tile}
 use Rattle.regions.proofs.Tiles.Changes.{WritesObject, pointer_put, weak_put, field_put, field_size, field_weaks, value_put}
-use Rattle.regions.specs.WeakStarts.{Starts, AreStarts, HasWeaks, noted, forgotten}
+use Rattle.regions.specs.WeakStarts.{Starts, AreStarts, HasWeaks, start_added, forgotten}
 use Rattle.regions.proofs.Tiles.WeakStarts.{tile_weaks, Notes, notes, Forgets, forgets, Clears, none_there, none_in, free_void, run_later}
 use Rattle.regions.proofs.Tiles.WeakStarts.{starts_same, starts_written, starts_added, starts_cut, starts_forwarded, starts_released}
 use Rattle.regions.proofs.Words.Access.{has_pointer, has_weak}
@@ -39,13 +39,13 @@ use Rattle.regions.proofs.Tiles.Within.{within_fewer, within_added, within_cut}
 use Rattle.regions.proofs.Cards.FirstTiles.{entries_added, entries_same, entries_fewer, entries_cut, if_between, if_below, if_above}
 
 pub sound_changed : (size shift lowest low free free' : ℕ) (entries new : Entries) (starts starts' : Starts) (memory memory' : Memory)
-    (rows rows' : List Row) (t t' : Table) → IsSound size shift lowest free entries starts memory rows → table_of size memory.all rows ≡ t
+    (rows rows' : List Row) (t t' : Table) → IsRegionTable size shift lowest free entries starts memory rows → table_of size memory.all rows ≡ t
     → IsWrittenTable size memory'.all rows' t' → length t'.regions ≡ length t.regions → new.card_words ≡ entries.card_words
     → length new.starts ≡ length entries.starts → AreUsedBelow low rows' → free' ≡ free_row_count rows'
     → starts'.region_words ≡ starts.region_words → length starts'.flags ≡ length starts.flags
     → (AreStarts t starts.flags → AreStarts t' starts'.flags) → (AreEntries t entries → AreEntries t' new)
     → (AreTilesWritten t memory.written → AreTilesWritten t' memory'.written)
-    → IsSound size shift low free' new starts' memory' rows'
+    → IsRegionTable size shift low free' new starts' memory' rows'
 sound_changed size shift lowest low free free' entries new starts starts' memory memory' rows rows' t t' s e w count len each used
     counted wide long told right within =
     let before : length t.regions ≡ length rows =
@@ -126,7 +126,7 @@ object_entries t t' entries x s s' w size e =
     entries_same t t' entries x (Object s) (Object s') (tile_of t x s w.was) (tile_of t' x s' w.is) w.others size (λ n. refl) e
 
 module _ (size shift lowest free : ℕ) (entries : Entries) (starts : Starts) (memory : Memory) (rows : List Row) (t : Table)
-    (s : IsSound size shift lowest free entries starts memory rows) (e : table_of size memory.all rows ≡ t) where
+    (s : IsRegionTable size shift lowest free entries starts memory rows) (e : table_of size memory.all rows ≡ t) where
   shaped : IsShaped t
   shaped = shaped_of size memory.all rows t s.table e
 
@@ -160,7 +160,7 @@ module _ (size shift lowest free : ℕ) (entries : Entries) (starts : Starts) (m
   written_sound : (memory' : Memory) (t' : Table) (x : ℕ) (o o' : Stored) → WritesObject t t' x o o'
       → tile_size (Object o') ≡ tile_size (Object o) → length o'.weaks ≡ length o.weaks
       → memory.written ≤ memory'.written → IsWrittenTable size memory'.all rows t'
-      → IsSound size shift lowest free entries starts memory' rows
+      → IsRegionTable size shift lowest free entries starts memory' rows
   written_sound memory' t' x o o' put same weaks more w =
       sound_changed size shift lowest lowest free free entries entries starts starts memory memory' rows rows t t' s e w put.count refl refl
       s.used_below s.free_is refl refl (λ g. starts_written t t' starts.flags g x o o' put weaks)
@@ -171,7 +171,7 @@ module _ (size shift lowest free : ℕ) (entries : Entries) (starts : Starts) (m
 
   pub pointer_sound : (memory' : Memory) (x i : ℕ) (v : Option ℕ) → i < length (pointers_at t x)
       → memory.written ≤ memory'.written → IsWrittenTable size memory'.all rows (set_pointer t x i v)
-      → IsSound size shift lowest free entries starts memory' rows
+      → IsRegionTable size shift lowest free entries starts memory' rows
   pointer_sound memory' x i v h more w =
       let p = has_pointer t x i h in
       let o = p.object in
@@ -180,7 +180,7 @@ module _ (size shift lowest free : ℕ) (entries : Entries) (starts : Starts) (m
 
   pub weak_sound : (memory' : Memory) (x i : ℕ) (v : Option ℕ) → i < length (weaks_at t x)
       → memory.written ≤ memory'.written → IsWrittenTable size memory'.all rows (set_weak t x i v)
-      → IsSound size shift lowest free entries starts memory' rows
+      → IsRegionTable size shift lowest free entries starts memory' rows
   weak_sound memory' x i v h more w =
       let p = has_weak t x i h in
       let o = p.object in
@@ -189,7 +189,7 @@ module _ (size shift lowest free : ℕ) (entries : Entries) (starts : Starts) (m
 
   pub field_sound : (memory' : Memory) (x i : ℕ) (v : Option ℕ) → i < length (fields_at t x)
       → memory.written ≤ memory'.written → IsWrittenTable size memory'.all rows (set_field t x i v)
-      → IsSound size shift lowest free entries starts memory' rows
+      → IsRegionTable size shift lowest free entries starts memory' rows
   field_sound memory' x i v h more w =
       let p = has_field t x i h in
       let o = p.object in
@@ -198,7 +198,7 @@ module _ (size shift lowest free : ℕ) (entries : Entries) (starts : Starts) (m
 
   pub value_sound : (memory' : Memory) (x i v : ℕ) → i < length (values_at t x)
       → memory.written ≤ memory'.written → IsWrittenTable size memory'.all rows (set_value t x i v)
-      → IsSound size shift lowest free entries starts memory' rows
+      → IsRegionTable size shift lowest free entries starts memory' rows
   value_sound memory' x i v h more w =
       let p = has_value t x i h in
       let o = p.object in
@@ -209,7 +209,7 @@ module _ (size shift lowest free : ℕ) (entries : Entries) (starts : Starts) (m
       → Forwards t t' a to n → tile_in t a ≡ Some (Object x) → tile_size (Object x) ≡ n
       → Forgets starts starts' a (length x.weaks)
       → memory.written ≤ memory'.written → IsWrittenTable size memory'.all rows t'
-      → IsSound size shift lowest free entries starts' memory' rows
+      → IsRegionTable size shift lowest free entries starts' memory' rows
   forward_sound starts' memory' t' a to n x f was long gone more w =
       sound_changed size shift lowest lowest free free entries entries starts starts' memory memory' rows rows t t' s e w f.count refl refl
       s.used_below s.free_is gone.region_words gone.len (λ g. starts_forwarded t t' starts starts' g a to n x was f gone)
@@ -224,7 +224,7 @@ module _ (size shift lowest free : ℕ) (entries : Entries) (starts : Starts) (m
       → AreUsedBelow low rows' → free' ≡ free_row_count rows' → starts'.region_words ≡ starts.region_words
       → length starts'.flags ≡ length starts.flags → (AreStarts t starts.flags → AreStarts t' starts'.flags)
       → memory.written ≤ memory'.written → IsWrittenTable size memory'.all rows' t'
-      → IsSound size shift low free' entries starts' memory' rows'
+      → IsRegionTable size shift low free' entries starts' memory' rows'
   fewer_sound starts' memory' rows' low free' t' count fewer used counted wide long told more w =
       sound_changed size shift lowest low free free' entries entries starts starts' memory memory' rows rows' t t' s e w count refl refl
       used counted wide long told (entries_fewer t t' entries fewer) (within_fewer t t' memory.written memory'.written more fewer)
@@ -237,7 +237,7 @@ module _ (size shift lowest free : ℕ) (entries : Entries) (starts : Starts) (m
       then entry_of entries.card_words a tile (c * entries.card_words) else get_or entries.starts c 0))
       → (HasWeaks t a → ⊥) → Notes starts starts' a tile → AreUsedBelow low rows' → free' ≡ free_row_count rows'
       → memory.written ≤ memory'.written → a + n ≤ memory'.written → IsWrittenTable size memory'.all rows' t'
-      → IsSound size shift low free' new starts' memory' rows'
+      → IsRegionTable size shift low free' new starts' memory' rows'
   added_sound new starts' memory' rows' low free' t' a n tile count is others long len each written none noted used counted more fits w =
       let cw : ℕ = entries.card_words in
       sound_changed size shift lowest low free free' entries new starts starts' memory memory' rows rows' t t' s e w count len each used
@@ -259,7 +259,7 @@ module _ (size shift lowest free : ℕ) (entries : Entries) (starts : Starts) (m
       else (if is_between x (x + tile_size tile) (c * entries.card_words) then entry_of entries.card_words x tile (c * entries.card_words)
       else get_or entries.starts c 0))) → Notes starts starts' x tile
       → memory.written ≤ memory'.written → IsWrittenTable size memory'.all rows t'
-      → IsSound size shift lowest free new starts' memory' rows
+      → IsRegionTable size shift lowest free new starts' memory' rows
   cut_sound new starts' memory' t' x n r tile cut was some sum len each two noted more w =
       let cw : ℕ = entries.card_words in
       let end : ℕ = x + tile_size tile in
@@ -318,7 +318,7 @@ module _ (size shift lowest free : ℕ) (entries : Entries) (starts : Starts) (m
 
   pub taken_sound : (memory' : Memory) (rows' : List Row) (low free' k : ℕ) → first_free t ≡ Some k → AreUsedBelow low rows'
       → free' ≡ free_row_count rows' → memory.written ≤ memory'.written → IsWrittenTable size memory'.all rows' (taken t (first_free t))
-      → IsSound size shift low free' entries starts memory' rows'
+      → IsRegionTable size shift low free' entries starts memory' rows'
   taken_sound memory' rows' low free' k first used counted more w =
       let taken_is = region_taken t k first in
       let fewer : (y : ℕ) (u : Tile) → tile_in (taken t (Some k)) y ≡ Some u → tile_in t y ≡ Some u =
@@ -331,11 +331,11 @@ module _ (size shift lowest free : ℕ) (entries : Entries) (starts : Starts) (m
   pub release_sound : (starts' : Starts) (memory' : Memory) (rows' : List Row) (low free' k : ℕ) → k < length t.regions
       → IsReleasable (kind_of t k) → AreUsedBelow low rows' → free' ≡ free_row_count rows' → Clears starts starts' k t.words_per_region
       → memory.written ≤ memory'.written → IsWrittenTable size memory'.all rows' (released t k)
-      → IsSound size shift low free' entries starts' memory' rows'
+      → IsRegionTable size shift low free' entries starts' memory' rows'
   release_sound starts' memory' rows' low free' k known can used counted clear more w = go (nth_region t k) refl
     where
       gone : (m : ℕ) → 0 < m → ((y : ℕ) → k < y / t.words_per_region → y / t.words_per_region < k + m → tile_in t y ≡ None)
-          → Releases t (released t k) k m → IsSound size shift low free' entries starts' memory' rows'
+          → Releases t (released t k) k m → IsRegionTable size shift low free' entries starts' memory' rows'
       gone m some later x =
           fewer_sound starts' memory' rows' low free' (released t k) x.count (λ y u h. elim (cases_lt (y / t.words_per_region) k) [
             | inl b ↦ sym (x.others y (inl b)) ∙ h
@@ -346,7 +346,7 @@ module _ (size shift lowest free : ℕ) (entries : Entries) (starts : Starts) (m
           ]) used counted clear.region_words clear.len
           (λ g. starts_released t (released t k) starts starts' g k m shaped.positive some later x clear) more w
 
-      go : (r : Region) → nth_region t k ≡ r → IsSound size shift low free' entries starts' memory' rows'
+      go : (r : Region) → nth_region t k ≡ r → IsRegionTable size shift low free' entries starts' memory' rows'
       go Free e = absurd (subst IsReleasable (kind_at t k Free e) can)
       go (Ordinary ts) e =
           gone 1 (omega arith) (λ y low high. absurd (omega arith)) (ordinary_released t k known (kind_at t k (Ordinary ts) e))
@@ -359,9 +359,9 @@ module _ (size shift lowest free : ℕ) (entries : Entries) (starts : Starts) (m
       → at ≡ top_of t k → n ≡ tile_size tile → new.card_words ≡ entries.card_words → length new.starts ≡ length entries.starts
       → ((c : ℕ) → get_or new.starts c 0 ≡ (if is_between at (at + n) (c * entries.card_words)
       then entry_of entries.card_words at tile (c * entries.card_words) else get_or entries.starts c 0))
-      → tile_weaks tile ≡ weaks → starts' ≡ noted starts at weaks → AreUsedBelow low rows' → free' ≡ free_row_count rows'
+      → tile_weaks tile ≡ weaks → starts' ≡ start_added starts at weaks → AreUsedBelow low rows' → free' ≡ free_row_count rows'
       → memory.written ≤ memory'.written → at + n ≤ memory'.written → IsWrittenTable size memory'.all rows' (push_tile t k tile)
-      → IsSound size shift low free' new starts' memory' rows'
+      → IsRegionTable size shift low free' new starts' memory' rows'
   push_sound new starts' memory' rows' low free' k at n weaks tile known ordinary some room unmoved there long
       len each written slots flags_are used counted more fits w =
       let push = filler_push t k tile shaped.positive shaped.fitting known ordinary some room unmoved in
@@ -376,10 +376,10 @@ module _ (size shift lowest free : ℕ) (entries : Entries) (starts : Starts) (m
       → 0 < m → first_run is_free m t.regions ≡ Some k → at ≡ k * t.words_per_region → n ≡ tile_size (Object o)
       → new.card_words ≡ entries.card_words → length new.starts ≡ length entries.starts
       → ((c : ℕ) → get_or new.starts c 0 ≡ (if is_between at (at + n) (c * entries.card_words) then at else get_or entries.starts c 0))
-      → length o.weaks ≡ weaks → starts' ≡ noted starts at weaks → AreUsedBelow low rows' → free' ≡ free_row_count rows'
+      → length o.weaks ≡ weaks → starts' ≡ start_added starts at weaks → AreUsedBelow low rows' → free' ≡ free_row_count rows'
       → memory.written ≤ memory'.written → at + n ≤ memory'.written
       → IsWrittenTable size memory'.all rows' (with_regions t k m (run_regions t.words_per_region o m))
-      → IsSound size shift low free' new starts' memory' rows'
+      → IsRegionTable size shift low free' new starts' memory' rows'
   run_sound new starts' memory' rows' low free' k m at n weaks o some first there long len each written slots flags_are used counted
       more fits w =
       let t' : Table = with_regions t k m (run_regions t.words_per_region o m) in
@@ -403,9 +403,9 @@ module _ (size shift lowest free : ℕ) (entries : Entries) (starts : Starts) (m
       → ((c : ℕ) → get_or new.starts c 0
       ≡ (if is_between at end (c * entries.card_words) && (c * entries.card_words == last_card entries.card_words end) then at
       else (if is_between x (x + b) (c * entries.card_words) then entry_of entries.card_words x tile (c * entries.card_words)
-      else get_or entries.starts c 0))) → tile_weaks tile ≡ weaks → starts' ≡ noted starts x weaks
+      else get_or entries.starts c 0))) → tile_weaks tile ≡ weaks → starts' ≡ start_added starts x weaks
       → memory.written ≤ memory'.written → IsWrittenTable size memory'.all rows (replace_tile t x (tile ∷ remainder r))
-      → IsSound size shift lowest free new starts' memory' rows
+      → IsRegionTable size shift lowest free new starts' memory' rows
   front_sound new starts' memory' x n r at b end weaks tile was some sum unmoved b_is at_is end_is len
       each written slots flags_are more w =
       let total : total_size (tile ∷ remainder r) ≡ n = ap (λ (m : ℕ). tile_size tile + m) (remainder_total r) ∙ sum in
@@ -423,7 +423,7 @@ module _ (size shift lowest free : ℕ) (entries : Entries) (starts : Starts) (m
   pub forwarded_sound : (starts' : Starts) (memory' : Memory) (a to weaks : ℕ) (o : Stored) → object_at t a ≡ Some o
       → IsOrdinary (region_at t a) → weaks ≡ length o.weaks → starts' ≡ forgotten starts a weaks
       → memory.written ≤ memory'.written → IsWrittenTable size memory'.all rows (replace_tile t a (Forwarded to (object_words t a) ∷ []))
-      → IsSound size shift lowest free entries starts' memory' rows
+      → IsRegionTable size shift lowest free entries starts' memory' rows
   forwarded_sound starts' memory' a to weaks o there ordinary slots gone more w =
       let is = tile_of t a o there in
       let long = words_of t a o there in

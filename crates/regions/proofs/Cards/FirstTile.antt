@@ -32,7 +32,7 @@ pub record IsSearching (t : Table) (word : ℕ) (left : List (Addr × Shape)) : 
   pub search : IsSearch t first word left
 
 -- what the next item is
-pub record IsNext (t : Table) (k o : ℕ) (x : Addr) (shape : Shape) (rest : List (Addr × Shape)) : Type 0 where
+pub record IsNextTile (t : Table) (k o : ℕ) (x : Addr) (shape : Shape) (rest : List (Addr × Shape)) : Type 0 where
   pub tile : Tile
   pub at_is : x ≡ k * t.words_per_region + o
   pub tile_is : tile_in t (k * t.words_per_region + o) ≡ Some tile
@@ -42,7 +42,7 @@ pub record IsNext (t : Table) (k o : ℕ) (x : Addr) (shape : Shape) (rest : Lis
   pub within : o + tile_size tile ≤ total_size (tiles_of t k)
 
 pub search_step : (t : Table) (k word : ℕ) (left rest : List (Addr × Shape)) (x : Addr) (shape : Shape) → IsShaped t
-    → (s : IsSearch t k word left) → left ≡ (x, shape) ∷ rest → IsNext t k s.offset x shape rest
+    → (s : IsSearch t k word left) → left ≡ (x, shape) ∷ rest → IsNextTile t k s.offset x shape rest
 search_step t k word left rest x shape g s e =
     elim (cases_lt s.offset (total_size (tiles_of t k))) [
       | inl lt ↦

@@ -9,7 +9,7 @@ use Rattle.heap_words.specs.Memory.{Memory}
 use Rattle.heap_words.proofs.Blocks.{put_none}
 use Rattle.heap_model.specs.Heap.{Stored}
 use Rattle.regions.specs.Table.{Table, object_at, object_values, values_at, set_value, set_values}
-use Rattle.regions.specs.Rows.{table_of, IsSound, IsTable, AreTilesWritten}
+use Rattle.regions.specs.Rows.{table_of, IsRegionTable, IsTable, AreTilesWritten}
 use Rattle.regions.specs.FirstTiles.{Entries}
 use Rattle.regions.specs.WeakStarts.{Starts}
 use Rattle.regions.specs.declared.row.Row.{Row}
@@ -83,12 +83,12 @@ memory_of ws n = record { all = ws; written = n }
 
 pub record AreValuesSet (size shift lowest free : ℕ) (entries : Entries) (starts : Starts) (memory : Memory) (rows : List Row) (t : Table)
     : Type 0 where
-  pub sound : IsSound size shift lowest free entries starts memory rows
+  pub sound : IsRegionTable size shift lowest free entries starts memory rows
   pub table_is : table_of size memory.all rows ≡ t
 
 -- so many words stand in the place of as many: then the table has each data word
 pub values_set : (size shift lowest free : ℕ) (entries : Entries) (starts : Starts) (memory memory' : Memory) (rows : List Row) (t : Table)
-    (x from : ℕ) (vs : List ℕ) → IsSound size shift lowest free entries starts memory rows → table_of size memory.all rows ≡ t
+    (x from : ℕ) (vs : List ℕ) → IsRegionTable size shift lowest free entries starts memory rows → table_of size memory.all rows ≡ t
     → from + length vs ≤ length (values_at t x) → memory'.written ≡ memory.written
     → memory'.all ≡ put memory.all (x + 2 + field_count (header_of (get_or memory.all x 0)) + from) vs
     → AreValuesSet size shift lowest free entries starts memory' rows (set_values t x from vs)
@@ -96,7 +96,7 @@ values_set size shift lowest free entries starts memory memory' rows t x from []
     let is : memory'.all ≡ memory.all = all ∙ put_none memory.all _ in
     let k : memory' ≡ memory = ap₂ (λ (ws : List ℕ) (n : ℕ). memory_of ws n) is same in
     record {
-      sound = subst (λ (m : Memory). IsSound size shift lowest free entries starts m rows) (sym k) s;
+      sound = subst (λ (m : Memory). IsRegionTable size shift lowest free entries starts m rows) (sym k) s;
       table_is = ap (λ (ws : List ℕ). table_of size ws rows) is ∙ e;
     }
 values_set size shift lowest free entries starts memory memory' rows t x from (v ∷ vs) s e h same all =

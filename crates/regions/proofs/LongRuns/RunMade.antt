@@ -14,7 +14,7 @@ use Rattle.regions.specs.Table.{Region, Free, Table, region_at, tile_in, object_
 use Rattle.regions.specs.Table.{run_regions, with_regions, new_object, first_run, is_free}
 use Rattle.regions.proofs.Rows.Search.{free, run_found, first_run-is}
 use Rattle.regions.proofs.Words.Parse.{stored_of-append}
-use Rattle.regions.specs.Rows.{object_size, sizes_in, first_stored, region_by, regions_of, IsObject, AreRows, free_row, kind_is_free}
+use Rattle.regions.specs.Rows.{object_size, sizes_in, first_stored, region_by, regions_of, IsObjectHeader, AreRows, free_row, kind_is_free}
 use Rattle.regions.specs.Rows.{run_kind, run_row, run_rows, table_of, table_by, IsTable}
 use Rattle.regions.specs.declared.row.Row.{Row}
 use Rattle.regions.specs.declared.row.Kind.{Kind}
@@ -100,7 +100,7 @@ free_outside size words rows t k m e h x o = (o, go (x / t.words_per_region) ref
 pub run_made : (size : ℕ) (words words' : List ℕ) (rows : List Row) (t : Table) (k m s : ℕ) (object : Stored) → IsTable size words rows
     → table_of size words rows ≡ t → FreeFront m (drop k rows) → k < length rows → 0 < m → s ≤ m * size → m * size < s + size
     → length words' ≡ length words → take (k * size) words' ≡ take (k * size) words
-    → drop (k * size + m * size) words' ≡ drop (k * size + m * size) words → IsObject (header_of (get_or (drop (k * size) words') 0 0))
+    → drop (k * size + m * size) words' ≡ drop (k * size + m * size) words → IsObjectHeader (header_of (get_or (drop (k * size) words') 0 0))
     → object_size (header_of (get_or (drop (k * size) words') 0 0)) ≡ s → first_stored (drop (k * size) words') ≡ object
     → tile_size (Object object) ≡ s → IsWrittenTable size words' (take k rows ++ (run_rows size s 0 m ++ drop (k + m) rows))
     (with_regions t k m (run_regions size object m))

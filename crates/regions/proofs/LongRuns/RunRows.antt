@@ -6,7 +6,7 @@ use Rattle.heap_words.specs.Headers.{header_of}
 use Rattle.heap_model.specs.Heap.{Stored}
 use Rattle.regions.specs.Tiles.{Object, tile_size}
 use Rattle.regions.specs.Table.{Region, First, Rest, rests, run_regions}
-use Rattle.regions.specs.Rows.{object_size, first_stored, regions_of, IsObject, left_by, AreRows, free_row, kind_is_free, run_rows}
+use Rattle.regions.specs.Rows.{object_size, first_stored, regions_of, IsObjectHeader, left_by, AreRows, free_row, kind_is_free, run_rows}
 use Rattle.regions.specs.declared.row.Row.{Row}
 use Rattle.regions.specs.declared.row.Kind.{Kind}
 use Rattle.regions.proofs.Rows.RowLemmas.{start_at, rest_is}
@@ -119,7 +119,7 @@ pub record IsRun (f : ℕ → ℕ) (size s m n : ℕ) (ws : List ℕ) (object : 
 
 -- a run's rows and those behind it
 pub run_is : (f : ℕ → ℕ) (size s m n : ℕ) (ws : List ℕ) (object : Stored) (tail : List Row) → 0 < size → 0 < m → n ≡ m * size → s ≤ n
-    → n < s + size → IsObject (header_of (get_or ws 0 0)) → object_size (header_of (get_or ws 0 0)) ≡ s → first_stored ws ≡ object
+    → n < s + size → IsObjectHeader (header_of (get_or ws 0 0)) → object_size (header_of (get_or ws 0 0)) ≡ s → first_stored ws ≡ object
     → tile_size (Object object) ≡ s → AreRows f size 0 (drop n ws) tail → IsRun f size s m n ws object tail
 run_is f size s zero n ws object tail z y e le lt i o st ts r = absurd (omega arith)
 run_is f size s (suc m) n ws object tail z y e le lt i o st ts r =

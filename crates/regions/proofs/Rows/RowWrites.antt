@@ -9,7 +9,7 @@ use Rattle.heap_words.specs.Headers.{header_of}
 use Rattle.regions.specs.Tiles.{stored_of}
 use Rattle.regions.specs.Table.{First}
 use Rattle.regions.specs.Rows.{object_size, stored_by, first_stored, region_by, region_of}
-use Rattle.regions.specs.Rows.{regions_of, IsObject, IsRow, IsRestRow, left_by, AreRows}
+use Rattle.regions.specs.Rows.{regions_of, IsObjectHeader, IsRow, IsRestRow, left_by, AreRows}
 use Rattle.regions.specs.declared.row.Row.{Row}
 use Rattle.regions.specs.declared.row.Kind.{Kind}
 use Rattle.regions.proofs.Words.Parse.{stored_of-append}
@@ -35,7 +35,7 @@ plain_not_rest kinds.First h e = h
 plain_not_rest kinds.Rest h e = h
 
 -- two words lists that begin with the same n words
-stored_by-front : (o : Option Header) (ws : List ℕ) (m : ℕ) → IsObject o → object_size o ≤ suc m → m ≤ length ws
+stored_by-front : (o : Option Header) (ws : List ℕ) (m : ℕ) → IsObjectHeader o → object_size o ≤ suc m → m ≤ length ws
     → stored_by (take m ws) o ≡ stored_by ws o
 stored_by-front None ws m i h l = absurd i
 stored_by-front (Some (headers.Object p weak d)) ws m i h l =
@@ -47,7 +47,7 @@ stored_by-front (Some (headers.Object p weak d)) ws m i h l =
 stored_by-front (Some (headers.Filler n)) ws m i h l = absurd i
 stored_by-front (Some (headers.Forwarded to)) ws m i h l = absurd i
 
-first_stored-front : (ws : List ℕ) (n : ℕ) → IsObject (header_of (get_or ws 0 0)) → object_size (header_of (get_or ws 0 0)) ≤ n → 0 < n
+first_stored-front : (ws : List ℕ) (n : ℕ) → IsObjectHeader (header_of (get_or ws 0 0)) → object_size (header_of (get_or ws 0 0)) ≤ n → 0 < n
     → n ≤ length ws → first_stored (take n ws) ≡ first_stored ws
 first_stored-front ws zero i h z l = absurd (omega arith)
 first_stored-front [] (suc n) i h z l = absurd (omega arith)

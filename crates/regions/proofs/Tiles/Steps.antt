@@ -6,7 +6,7 @@ use Rattle.std.proofs.lemmas.Nat.{div-mul-add}
 use Rattle.regions.specs.Tiles.{Tile, tile_size, total_size}
 use Rattle.regions.specs.Table.{Region, Free, Ordinary, First, Rest, Table, region_at, region_kind, nth_region, region_tile}
 use Rattle.regions.specs.Table.{region_used, kind_of, used_of, top_of, tile_in}
-use Rattle.regions.specs.Walks.{tiles_of, region_tiles, IsNext, IsLast}
+use Rattle.regions.specs.Walks.{tiles_of, region_tiles, IsNextTile, IsLast}
 use Rattle.regions.specs.Shaped.{IsShaped}
 use Rattle.regions.specs.declared.row.Kind.TheVariants as kinds
 use Rattle.regions.proofs.Tiles.Placing.{ordinary_at}
@@ -80,7 +80,7 @@ module _ (t : Table) (g : IsShaped t) (a : ℕ) (u : Tile) (e : tile_in t a ≡ 
   between b v h r f = apart t a b u v g.positive r e f h
 
   module _ (o : kind_of t k ≡ kinds.Ordinary) where
-    pub next_is : next < top_of t k → IsNext t a next
+    pub next_is : next < top_of t k → IsNextTile t a next
     next_is h =
         let z = g.positive in
         let whole : a / t.words_per_region * t.words_per_region + a % t.words_per_region ≡ a = omega arith in

@@ -11,7 +11,7 @@ use Rattle.regions.specs.Tiles.{Tile, Object, Filler, Forwarded, tile_size, tile
 use Rattle.regions.specs.Table.{Table, Region, Free, Ordinary, First, Rest, kind_of, region_kind, tile_in, tile_object, object_at}
 use Rattle.regions.specs.Table.{remainder, free_table, region_at, region_tile, nth_region, is_rest, run_length}
 use Rattle.regions.specs.declared.row.Kind.TheVariants as kinds
-use Rattle.regions.specs.WeakStarts.{Starts, AreRegions, HasWeaks, AreStarts, noted, forgotten}
+use Rattle.regions.specs.WeakStarts.{Starts, AreRegions, HasWeaks, AreStarts, start_added, forgotten}
 use Rattle.regions.proofs.Words.Parse.{past}
 use Rattle.regions.proofs.Tiles.Laws.{object_tile}
 use Rattle.regions.proofs.Tiles.Changes.{WritesObject, object_same}
@@ -68,7 +68,7 @@ pub record Notes (old new : Starts) (a : ℕ) (tile : Tile) : Type 0 where
   pub only : has new.flags a ≡ true → (has old.flags a ≡ true) ⊎ (0 < tile_weaks tile)
 
 pub notes : (old new : Starts) (a weaks : ℕ) (tile : Tile) → a < length old.flags → tile_weaks tile ≡ weaks
-    → new ≡ noted old a weaks → Notes old new a tile
+    → new ≡ start_added old a weaks → Notes old new a tile
 notes old new a zero tile known count is = record {
   region_words = ap (λ (s : Starts). s.region_words) is;
   len = ap (λ (s : Starts). length s.flags) is;

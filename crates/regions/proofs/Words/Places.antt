@@ -10,7 +10,7 @@ use Rattle.heap_words.specs.Headers.{header_of}
 use Rattle.heap_model.specs.Heap.{Stored}
 use Rattle.regions.specs.Tiles.{Tile, Object, tile_size, tile_at, stored_of, tile_by, size_by, tiles, IsTiled}
 use Rattle.regions.specs.Table.{Table, region_tile, region_at, tile_in, object_at}
-use Rattle.regions.specs.Rows.{object_size, stored_by, first_stored, region_by, IsObject, IsRow, left_by, AreRows}
+use Rattle.regions.specs.Rows.{object_size, stored_by, first_stored, region_by, IsObjectHeader, IsRow, left_by, AreRows}
 use Rattle.regions.specs.Rows.{free_row, table_by, IsTableBy, IsTable, sizes_in}
 use Rattle.regions.specs.declared.row.Row.{Row}
 use Rattle.regions.specs.declared.row.Kind.{Kind}
@@ -138,7 +138,7 @@ in_ordinary f size words rows x s g q =
 room : (m k l size n : ℕ) → l ≡ m + suc k → n ≡ l * size → n ≡ m * size + size + k * size
 room m k l size n e f = f ∙ rw e (omega arith)
 
-first_by : (o : Option Header) (ws : List ℕ) (s : Stored) → IsObject o → object_size o - 1 ≤ length ws → stored_by ws o ≡ s
+first_by : (o : Option Header) (ws : List ℕ) (s : Stored) → IsObjectHeader o → object_size o - 1 ≤ length ws → stored_by ws o ≡ s
     → (o ≡ Some (headers.Object (length s.pointers) (length s.weaks) (length s.values)))
     × (s ≡ stored_of (length s.pointers) (length s.weaks) (length s.values) ws)
 first_by None ws s i f h = absurd i
@@ -152,7 +152,7 @@ object_size_pos (Some (headers.Object p weak d)) = omega arith
 object_size_pos (Some (headers.Filler n)) = omega arith
 object_size_pos (Some (headers.Forwarded to)) = omega arith
 
-first_in : (v words : List ℕ) (x : ℕ) (s : Stored) → drop x words ≡ v → IsObject (header_of (get_or v 0 0)) → first_stored v ≡ s
+first_in : (v words : List ℕ) (x : ℕ) (s : Stored) → drop x words ≡ v → IsObjectHeader (header_of (get_or v 0 0)) → first_stored v ≡ s
     → object_size (header_of (get_or v 0 0)) ≤ length v → IsIn words x s
 first_in [] words x s e i h f = absurd (omega (arith, object_size_pos (header_of 0)))
 first_in (w ∷ v) words x s e i h f =

@@ -5,8 +5,8 @@ use Rattle.std.proofs.lemmas.Bool.{lt-ltb, ltb-true}
 use Rattle.heap_words.specs.declared.config.Config.{Config}
 use Rattle.heap_words.specs.declared.config.Format.{Format}
 use Rattle.heap_words.specs.declared.config.Format.TheVariants.{V3}
-use Rattle.heap_model.specs.Graph.{Places}
-use Rattle.root_table.specs.Roots.{places_of}
+use Rattle.heap_model.specs.Graph.{RootCounts}
+use Rattle.root_table.specs.Roots.{root_counts_of}
 use Rattle.heap_steps.specs.declared.form.Operand.{Operand}
 use Rattle.heap_steps.specs.declared.form.Operand.TheVariants as operands
 use Rattle.heap_steps.specs.Forms.{action_row, action_verb}
@@ -43,26 +43,26 @@ row_again f true h = third_again f h
 row_again f false h = refl
 
 -- a root is there if the test says so
-there_is : (p : Places) (k : Operand) (n : ℕ) → is_there p k n ≡ true → IsThere p k n
+there_is : (p : RootCounts) (k : Operand) (n : ℕ) → is_there p k n ≡ true → IsThere p k n
 there_is p operands.Register n e = ltb-true n p.registers e
 there_is p operands.Global n e = ltb-true n p.globals e
 there_is p operands.Value (suc n) e = ltb-true n p.registers e
 there_is p _ n e = tt
 
-there_again : (p : Places) (k : Operand) (n : ℕ) → IsThere p k n → is_there p k n ≡ true
+there_again : (p : RootCounts) (k : Operand) (n : ℕ) → IsThere p k n → is_there p k n ≡ true
 there_again p operands.Register n h = lt-ltb n p.registers h
 there_again p operands.Global n h = lt-ltb n p.globals h
 there_again p operands.Value (suc n) h = lt-ltb n p.registers h
 there_again p _ n h = refl
 
-are_is : (p : Places) (rs : List Root) → are_there p rs ≡ true → AreThere p rs
+are_is : (p : RootCounts) (rs : List Root) → are_there p rs ≡ true → AreThere p rs
 are_is p [] e = tt
 are_is p (r ∷ []) e = there_is p r.operand r.number e
 are_is p (r ∷ s ∷ rs) e =
     let tests = both_true (is_there p r.operand r.number) (are_there p (s ∷ rs)) e in
     (there_is p r.operand r.number tests.0, are_is p (s ∷ rs) tests.1)
 
-are_again : (p : Places) (rs : List Root) → AreThere p rs → are_there p rs ≡ true
+are_again : (p : RootCounts) (rs : List Root) → AreThere p rs → are_there p rs ≡ true
 are_again p [] h = refl
 are_again p (r ∷ []) h = there_again p r.operand r.number h
 are_again p (r ∷ s ∷ rs) h =
@@ -71,16 +71,16 @@ are_again p (r ∷ s ∷ rs) h =
 -- a mutator may do what the sizes allow
 op_is : (c : Config) (m : ℕ) (a : Action) → m < c.mutators → allows c a ≡ true → IsOp c (record { mutator = m; action = a })
 op_is c m a few e =
-    let tests = both_true (names_roots (places_of c) a) (has_action c.format a) e in
+    let tests = both_true (names_roots (root_counts_of c) a) (has_action c.format a) e in
     record {
-      at = record { mutator = few; roots = are_is (places_of c) (action_roots a) tests.0 };
+      at = record { mutator = few; roots = are_is (root_counts_of c) (action_roots a) tests.0 };
       known = row_is c.format (action_row (action_verb a)).third tests.1;
     }
 
 -- and the sizes allow what it may do
 op_again : (c : Config) (m : ℕ) (a : Action) → IsOp c (record { mutator = m; action = a }) → allows c a ≡ true
 op_again c m a h =
-    true_both (names_roots (places_of c) a) (has_action c.format a) (are_again (places_of c) (action_roots a) h.at.roots)
+    true_both (names_roots (root_counts_of c) a) (has_action c.format a) (are_again (root_counts_of c) (action_roots a) h.at.roots)
     (row_again c.format (action_row (action_verb a)).third h.known)
 
 pub guarded : {A : Type 0} (b : Bool) (x y : A) → cond b (Some x) None ≡ Some y → (b ≡ true) × (x ≡ y)

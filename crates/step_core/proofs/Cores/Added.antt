@@ -13,9 +13,9 @@ use Rattle.regions.specs.Table.{object_at, HasNoForwarded, new_object, kind_of, 
 use Rattle.regions.proofs.Tiles.Placing.{Replaces, filler_replaced, tile_at-inside}
 use Rattle.regions.proofs.Tiles.Changes.{WritesObject, object_same}
 use Rattle.alloc_buffers.specs.declared.buffers.Buffer.{Buffer}
-use Rattle.alloc_buffers.specs.declared.placement.Place.{Place}
-use Rattle.alloc_buffers.specs.declared.placement.Place.TheVariants as places
-use Rattle.alloc_buffers.specs.Placement.{Buffers, BuffersStand, AreAbove, IsAbove, IsPlaced, IsRunFor, IsPlace, address_of, made_at}
+use Rattle.alloc_buffers.specs.declared.placement.Allocation.{Allocation}
+use Rattle.alloc_buffers.specs.declared.placement.Allocation.TheVariants as allocations
+use Rattle.alloc_buffers.specs.Placement.{Buffers, BuffersStand, AreAbove, IsAbove, IsAllocated, IsRunFor, IsAllocation, address_of, made_at}
 use Rattle.alloc_buffers.proofs.Above.{above_same}
 use Rattle.alloc_buffers.proofs.Runs.{takes, no_tile, run_stands, run_above}
 use Rattle.regions.proofs.Tiles.ShapedMade.{first_object}
@@ -54,7 +54,7 @@ stand_writes {t} {t'} {b} {a} {x} {y} w s = stand_same t t' b w.count w.kinds (�
     let here = ap (object_at t) h in cc)) s
 
 -- a filler becomes an object
-pub record Fills (t t' : Table) (b : Buffers) (a : ℕ) (x : Stored) : Type 0 where
+pub record FillsField (t t' : Table) (b : Buffers) (a : ℕ) (x : Stored) : Type 0 where
   pub is : object_at t' a ≡ Some x
   pub others : (y : ℕ) → y ≢ a → object_at t' y ≡ object_at t y
   pub unmoved : HasNoForwarded t'
@@ -68,7 +68,7 @@ pub fills : (t t' : Table) (b : Buffers) (a n name p weak d : ℕ) → 0 < t.wor
     → tile_in t a ≡ Some (Filler n) → n ≡ 2 + p + weak + d
     → t' ≡ replace_tile t a (Object (new_object name p weak d) ∷ remainder (n - (2 + p + weak + d)))
     → ((m : ℕ) (x : Buffer) → slice_get b.open_buffers m ≡ Some (Some x) → x.next ≢ a) → BuffersStand t b
-    → Fills t t' b a (new_object name p weak d)
+    → FillsField t t' b a (new_object name p weak d)
 fills t t' b a n name p weak d z fitting none h size is spare s =
     let x : Stored = new_object name p weak d in
     let long : tile_size (Object x) ≡ n =
@@ -107,7 +107,7 @@ fills t t' b a n name p weak d z fitting none h size is spare s =
       ]) s;
     }
 
-was_none : (t t1 : Table) (b b1 : Buffers) (n a : ℕ) → IsPlaced t t1 b b1 n a → object_at t a ≡ None
+was_none : (t t1 : Table) (b b1 : Buffers) (n a : ℕ) → IsAllocated t t1 b b1 n a → object_at t a ≡ None
 was_none t t1 b b1 n a p = sym (p.objects a) ∙ object_none t1 a n p.filler
 
 -- an object is made at an address where none was, and no other object changed
@@ -127,7 +127,7 @@ pub record Creates (t t' : Table) (b b' : Buffers) (a : ℕ) (x : Stored) : Type
   pub above : (limit : ℕ → ℕ) → AreAbove t b limit → IsAbove t.words_per_region limit a × AreAbove t' b' limit
 
 creates_small : (t t1 : Table) (b b1 : Buffers) (a n name p weak d : ℕ) → 0 < t1.words_per_region → AreFitting t1
-    → 2 * n ≤ t.words_per_region → IsPlaced t t1 b b1 n a → n ≡ 2 + p + weak + d
+    → 2 * n ≤ t.words_per_region → IsAllocated t t1 b b1 n a → n ≡ 2 + p + weak + d
     → Creates t (replace_tile t1 a (Object (new_object name p weak d) ∷ [])) b b1 a (new_object name p weak d)
 creates_small t t1 b b1 a n name p weak d z fitting half placed size =
     let t2 : Table = replace_tile t1 a (Object (new_object name p weak d) ∷ []) in
@@ -186,13 +186,13 @@ creates_run t b n k count x shaped none stand run over =
     }
 
 -- a new object is made in its place
-pub creates : (t t1 : Table) (b b1 : Buffers) (place : Place) (n name p weak d : ℕ) → IsShaped t → 0 < t1.words_per_region
+pub creates : (t t1 : Table) (b b1 : Buffers) (place : Allocation) (n name p weak d : ℕ) → IsShaped t → 0 < t1.words_per_region
     → AreFitting t1 → HasNoForwarded t
-    → BuffersStand t b → IsPlace t t1 b b1 n place → n ≡ 2 + p + weak + d
+    → BuffersStand t b → IsAllocation t t1 b b1 n place → n ≡ 2 + p + weak + d
     → Creates t (made_at t1 place (new_object name p weak d)) b b1 (address_of t1 place) (new_object name p weak d)
-creates t t1 b b1 (places.Filler a) n name p weak d shaped z fitting none stand is size =
+creates t t1 b b1 (allocations.Filler a) n name p weak d shaped z fitting none stand is size =
     creates_small t t1 b b1 a n name p weak d z fitting is.0 is.1 size
-creates t t1 b b1 (places.Run k count) n name p weak d shaped z fitting none stand is size =
+creates t t1 b b1 (allocations.Run k count) n name p weak d shaped z fitting none stand is size =
     subst (λ (u : Table). Creates t (with_regions u k count (run_regions u.words_per_region (new_object name p weak d) count)) b b1
     (k * u.words_per_region) (new_object name p weak d)) (sym is.1.table)
     (subst (λ (c : Buffers). Creates t (with_regions t k count (run_regions t.words_per_region (new_object name p weak d) count)) b c

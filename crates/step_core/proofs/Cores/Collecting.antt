@@ -2,7 +2,7 @@
 use Rattle.std.proofs.Common.{◌≡◌, ℕ, true, false, Option, Some, None, refl, sym, ◌∙◌, ap, subst}
 use Rattle.heap_model.specs.Graph.{Graph}
 use Rattle.graph_runs.specs.State.{State}
-use Rattle.graph_runs.specs.Run.{IsCollectorReply, Collects, ClearsBy}
+use Rattle.graph_runs.specs.Run.{IsCollectorReply, ChangesState, ClearsBy}
 use Rattle.heap_steps.specs.declared.step.CollectorStep.{CollectorStep}
 use Rattle.heap_steps.specs.declared.step.CollectorStep.TheVariants as collector
 use Rattle.heap_steps.specs.declared.step.Step.TheVariants as steps
@@ -19,7 +19,7 @@ use Rattle.step_core.proofs.Cores.Following.{follows_by}
 use Rattle.step_core.proofs.Cores.Snapshots.{keeps_for}
 
 -- the state stays
-pub stays : (s : State) (k : CollectorStep) (r : Reply) (c c' : CoreState) → Stands s c → IsCollectorReply k r → Collects s k r s
+pub stays : (s : State) (k : CollectorStep) (r : Reply) (c c' : CoreState) → Stands s c → IsCollectorReply k r → ChangesState s k r s
     → c'.marker.running ≡ c.marker.running → ((g : Graph) → ShowsGraph g c → ShowsGraph g c')
     → ((g : Graph) → KeepsFrom g c → KeepsFrom g c') → Follows s (steps.Collector k) r c'
 stays s k r c c' st reply collects run shows keeps =

@@ -5,7 +5,7 @@ use Rattle.std.proofs.lemmas.List.{length-set}
 use Rattle.heap_words.specs.declared.config.Config.{Config}
 use Rattle.heap_words.specs.Configs.{registers_of}
 use Rattle.root_table.proofs.Rows.{register_within}
-use Rattle.heap_model.specs.Graph.{Graph, Object, Places, IsSound}
+use Rattle.heap_model.specs.Graph.{Graph, Object, RootCounts, IsSound}
 use Rattle.heap_model.specs.Heap.{Heap, Stored, IsShown, IsRoot, IsHeld, ObjectSet}
 use Rattle.heap_model.specs.Weak.{KeepsUnreached}
 use Rattle.heap_model.proofs.Unreached.{unreached_root, unreached_written}
@@ -18,7 +18,7 @@ use Rattle.heap_steps.specs.declared.step.Action.TheVariants as actions
 use Rattle.heap_steps.specs.declared.step.Reply.TheVariants as replies
 use Rattle.heap_steps.specs.declared.step.Register.{Register}
 use Rattle.step_core.specs.Stands.{places_of, CoreState, kept_of, heap_of, RemembersFields, ShowsGraph, KeepsFrom, IsCore, IsWordOf}
-use Rattle.step_core.specs.Stands.{IsRootWord, HasObject, Leads, name_in, name_of}
+use Rattle.step_core.specs.Stands.{IsRootWord, RootNames, Leads, name_in, name_of}
 use Rattle.step_core.specs.Cycle.{LeavesRegions}
 use Rattle.step_core.specs.Mutators.{with_root_word}
 use Rattle.step_core.specs.Parts.{DoesAction, HoldsRegister, HoldsRoot, NamesAt}
@@ -41,13 +41,13 @@ placed_in k c e core = core.placed ∙ ap (λ (d : CoreState). places_of d.confi
 
 -- the place of a register, by the places that the code has
 pub register_at : (k c : CoreState) → k ≡ c → IsCore k → (m r : ℕ) → register_place k.places m r ≡ register_place (places_of c.config) m r
-register_at k c e core m r = ap (λ (p : Places). register_place p m r) (placed_in k c e core)
+register_at k c e core m r = ap (λ (p : RootCounts). register_place p m r) (placed_in k c e core)
 
 pub register_there : (k : CoreState) → IsCore k → (m r : ℕ) → register_place k.places m r ≡ register_place (places_of k.config) m r
-register_there k core m r = ap (λ (p : Places). register_place p m r) core.placed
+register_there k core m r = ap (λ (p : RootCounts). register_place p m r) core.placed
 
 pub registers_at : (k c : CoreState) → k ≡ c → IsCore k → k.places.registers ≡ registers_of c.config
-registers_at k c e core = ap (λ (p : Places). p.registers) (placed_in k c e core)
+registers_at k c e core = ap (λ (p : RootCounts). p.registers) (placed_in k c e core)
 
 -- the graph has the register in the same place
 pub register_shows : (c d : CoreState) (m r : ℕ) (w : Option ℕ)
@@ -55,7 +55,7 @@ pub register_shows : (c d : CoreState) (m r : ℕ) (w : Option ℕ)
     → ShowsGraph (with_root g (register_place (places_of c.config) m r) v) d)
     → (g : Graph) (v : Option ℕ) → ShowsGraph g c → IsShown (heap_of c) w v → ShowsGraph (with_root g (register_place g.places m r) v) d
 register_shows c d m r w each g v s shown =
-    subst (λ (p : Places). ShowsGraph (with_root g (register_place p m r) v) d) (sym s.places) (each g v s shown)
+    subst (λ (p : RootCounts). ShowsGraph (with_root g (register_place p m r) v) d) (sym s.places) (each g v s shown)
 
 -- a register's place is among the places
 pub register_inside : (c : Config) (m r : ℕ) → m < c.mutators → r < registers_of c
@@ -92,7 +92,7 @@ register_facts k c m r w e core known inside is =
       word = f.word;
       rooted = f.rooted;
       leads = f.leads;
-      shows = λ g s. subst (λ (p : Places). IsShown (heap_of c) w (root_at g (register_place p m r.number))) (sym s.places) (f.shows g s);
+      shows = λ g s. subst (λ (p : RootCounts). IsShown (heap_of c) w (root_at g (register_place p m r.number))) (sym s.places) (f.shows g s);
     }
 
 -- what a root holds may be stored
@@ -171,7 +171,7 @@ module _ (k c : CoreState) (e : k ≡ c) (core : IsCore k) (m : ℕ) (object : R
       (subst (λ (d : CoreState). Leads d (register_place (places_of d.config) m object.number) (Some a)) (sym e) l) i v t within
       (some_words k core) is
 
-  h : HasObject core.footing.graph k (register_place (places_of k.config) m object.number) a
+  h : RootNames core.footing.graph k (register_place (places_of k.config) m object.number) a
   h = subst (λ (d : CoreState). Leads d (register_place (places_of d.config) m object.number) (Some a))
       (sym e) l core.footing.graph core.rests.shows
 

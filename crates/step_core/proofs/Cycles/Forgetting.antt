@@ -13,7 +13,7 @@ use Rattle.marker.specs.declared.marker.Marker.{Marker}
 use Rattle.remembered_sets.specs.Sets.{Sets, cleared}
 use Rattle.evacuation.specs.Evacuates.{MarksAfter}
 use Rattle.evacuation.proofs.WholePause.ChosenReleased.{step_cleared, step_marks}
-use Rattle.step_core.specs.Cleaning.{HasForgotten, HasCleared}
+use Rattle.step_core.specs.Cleaning.{HasForgotten, HasEmptied}
 
 -- a marker is the one before with other tops and marks, if the rest is the same
 pub marker_is : (m0 m : Marker) → m.grey ≡ m0.grey → m.logs ≡ m0.logs → m.running ≡ m0.running → m.scans ≡ m0.scans
@@ -51,7 +51,7 @@ none_forgotten words k m = record {
   next = none_marks words k m.tams.next m.bitmaps.next;
 }
 
-pub none_cleared : (k : ℕ) (s : Sets) → HasCleared k 0 s s
+pub none_cleared : (k : ℕ) (s : Sets) → HasEmptied k 0 s s
 none_cleared k s = record {
   cards = refl;
   count = refl;
@@ -76,7 +76,7 @@ one_forgotten words k i q m0 m m' z f at known known' len len' previous next top
       m'.tams.next m0.bitmaps.next m.bitmaps.next m'.bitmaps.next z known' (ap (λ (t : Tops). t.next) tops) len' next f.next;
 }
 
-pub one_cleared : (k i q : ℕ) (s0 s s' : Sets) → HasCleared k i s0 s → q ≡ k + i → q < length s.sets
-    → s' ≡ cleared s q → HasCleared k (i + 1) s0 s'
+pub one_cleared : (k i q : ℕ) (s0 s s' : Sets) → HasEmptied k i s0 s → q ≡ k + i → q < length s.sets
+    → s' ≡ cleared s q → HasEmptied k (i + 1) s0 s'
 one_cleared k i q s0 s s' f at known e =
     step_cleared (is_between k (k + i)) (is_between k (k + (i + 1))) q (one_between k i q at) s0 s s' known e f

@@ -43,7 +43,7 @@ use Rattle.evacuation.proofs.Lists.{get_below}
 use Rattle.step_core.proofs.Mutating.Small.{IsHalf, IsOver, sizes_left, words_by}
 use Rattle.step_core.specs.Stands.{CoreState, kept_of, heap_of, RemembersFields, CardsFit, ShowsGraph, KeepsFrom, IsCore}
 use Rattle.step_core.specs.Cycle.{IsDeadRegion, IsDeadRun, IsDead, IsAsNew, IsAsBefore}
-use Rattle.step_core.specs.Cleaning.{IsDeadHead, HasForgotten, HasCleared, HasReleased}
+use Rattle.step_core.specs.Cleaning.{IsDeadHead, HasForgotten, HasEmptied, HasReleased}
 
 -- what is kept, by what is told of an address
 abbrev pub keeps : Bool → Bool → Option Stored → Option Stored
@@ -79,7 +79,7 @@ below_near w w' tops tops' a e h = ap (λ (n : ℕ). nat_lt a (slice_index tops'
 module _ (k : CoreState) (core : IsCore k) (shaped : IsShaped k.table) (n m : ℕ) (known : n < length k.table.regions)
     (dead : IsDeadHead k n) (together : m ≡ run_length k.table n)
     (mk : Marker) (idle : mk.running ≡ false) (st : MarkerStands k.table mk) (f : HasForgotten k.table.words_per_region n m k.marker mk)
-    (ss : Sets) (empty : HasCleared n m k.sets ss) where
+    (ss : Sets) (empty : HasEmptied n m k.sets ss) where
   abbrev after : CoreState
   after = record k { table = released k.table n; marker = mk; sets = ss }
 

@@ -2,7 +2,7 @@
 use Rattle.std.proofs.Common.{◌≡◌, ℕ, ◌+◌, ◌-◌, ◌<◌, ◌≤◌, Option, Some, None, List, length, get_or, refl, sym, ◌∙◌, ap, subst}
 use Rattle.std.specs.Prelude.{slice_get, slice_set}
 use Rattle.std.specs.List.{AllZip}
-use Rattle.heap_model.specs.Graph.{Graph, Object, Places, object_named, with_changed}
+use Rattle.heap_model.specs.Graph.{Graph, Object, RootCounts, object_named, with_changed}
 use Rattle.heap_model.specs.Heap.{Stored, IsShown, ObjectSet}
 use Rattle.heap_words.specs.Configs.{object_limit}
 use Rattle.std.proofs.lemmas.List.{length-set}
@@ -20,7 +20,7 @@ use Rattle.heap_steps.specs.declared.step.Reply.TheVariants as replies
 use Rattle.heap_steps.specs.declared.step.Refusal.{Refusal}
 use Rattle.heap_steps.specs.declared.step.Refusal.TheVariants as refusals
 use Rattle.heap_steps.specs.declared.step.Register.{Register}
-use Rattle.step_core.specs.Stands.{CoreState, kept_of, heap_of, ShowsGraph, IsCore, IsWordOf, HasObject, Leads, name_in}
+use Rattle.step_core.specs.Stands.{CoreState, kept_of, heap_of, ShowsGraph, IsCore, IsWordOf, RootNames, Leads, name_in}
 use Rattle.step_core.specs.Answers.{Acts}
 use Rattle.step_core.specs.Mutators.{with_root_word}
 use Rattle.step_core.specs.Parts.{DoesAction}
@@ -36,15 +36,15 @@ acts_by g m a reply c out e r s = record {
 }
 
 on_found : (g : Graph) (c : CoreState) (s : ShowsGraph g c) (m a : ℕ) (r : Register) (f : ℕ → Object → Outcome)
-    (h : HasObject g c (register_place (places_of c.config) m r.number) a) → on_object g m r f ≡ f h.stored.name h.object
-on_found g c s m a r f h = ap (λ (p : Places). on_name g (root_at g (register_place p m r.number)) f) s.places
+    (h : RootNames g c (register_place (places_of c.config) m r.number) a) → on_object g m r f ≡ f h.stored.name h.object
+on_found g c s m a r f h = ap (λ (p : RootCounts). on_name g (root_at g (register_place p m r.number)) f) s.places
     ∙ ap (λ (o : Option ℕ). on_name g o f) h.root ∙ ap (λ (o : Option Object). on_contents g o (f h.stored.name)) h.found
 
 -- a register that is nil names no object
 nil_object : (g : Graph) (c : CoreState) → ShowsGraph g c → (m : ℕ) (r : Register) (f : ℕ → Object → Outcome)
     → Leads c (register_place (places_of c.config) m r.number) None → on_object g m r f ≡ refused g refusals.Nil
 nil_object g c s m r f l =
-    ap (λ (p : Places). on_name g (root_at g (register_place p m r.number)) f) s.places ∙ ap (λ (o : Option ℕ). on_name g o f) (l g s)
+    ap (λ (p : RootCounts). on_name g (root_at g (register_place p m r.number)) f) s.places ∙ ap (λ (o : Option ℕ). on_name g o f) (l g s)
 
 nil_acts : (g : Graph) (c : CoreState) → ShowsGraph g c → (m : ℕ) (r : Register) (a : Action) (f : ℕ → Object → Outcome)
     → act g m a ≡ on_object g m r f → Leads c (register_place (places_of c.config) m r.number) None
@@ -114,7 +114,7 @@ module _ (g : Graph) (c : CoreState) (s : ShowsGraph g c) (m : ℕ) (object : Re
   module _ (a : ℕ) (l : Leads c (register_place (places_of c.config) m object.number) (Some a)) where
     -- the object has no such field
     past_acts : (b : Action) (f : ℕ → Object → Outcome) → act g m b ≡ on_object g m object f
-        → ((h : HasObject g c (register_place (places_of c.config) m object.number) a)
+        → ((h : RootNames g c (register_place (places_of c.config) m object.number) a)
         → f h.stored.name h.object ≡ refused g refusals.NoField)
         → Acts g m b (replies.Refused refusals.NoField) c
     past_acts b f is none = let h = l g s in
@@ -243,7 +243,7 @@ module _ (g : Graph) (c : CoreState) (s : ShowsGraph g c) (m : ℕ) (object : Re
         acts_by g m (actions.PutWeak object i value) replies.Done c' (replies.Done, with_changed g h.stored.name p)
         (on_found g c s m a object _ h ∙ rw there refl) refl (after g h.stored h.object v s h.at h.named shown)
 
-    pub write_is : (i v : ℕ) (h : HasObject g c (register_place (places_of c.config) m object.number) a) → i < length (values_at c.table a)
+    pub write_is : (i v : ℕ) (h : RootNames g c (register_place (places_of c.config) m object.number) a) → i < length (values_at c.table a)
         → act g m (actions.Write object i v)
         ≡ (replies.Done, with_changed g h.stored.name (record h.object { values = slice_set h.object.values i v }))
     write_is i v h k =

@@ -8,7 +8,7 @@ use Rattle.std.proofs.lemmas.Grind.{common_steps}
 use Rattle.std.proofs.lemmas.Bool.Decides.{nat_tests}
 use Rattle.std.proofs.lemmas.List.{length-set, length-append}
 use Rattle.heap_words.specs.Configs.{object_limit}
-use Rattle.heap_model.specs.Graph.{Graph, Object, Places, IsReachable, next_name, with_object}
+use Rattle.heap_model.specs.Graph.{Graph, Object, RootCounts, IsReachable, next_name, with_object}
 use Rattle.heap_model.specs.Heap.{Heap, Stored, IsShown, ObjectAdded}
 use Rattle.heap_model.specs.Kept.{kept_by}
 use Rattle.heap_model.specs.Marking.{Marking, KeepsSnapshot}
@@ -120,7 +120,7 @@ module _ (k : CoreState) (m : ℕ) (to : Register) (t2 : Table) (b1 : Buffers) (
   -- the graph has its roots in the same places
   new_there : (g : Graph) → ShowsGraph g k → ShowsGraph (with_object g (fresh p weak d) (register_place g.places m to.number))
       (with_new k t2 b1 (register_place (places_of k.config) m to.number) a)
-  new_there g s = subst (λ (q : Places). ShowsGraph (with_object g (fresh p weak d) (register_place q m to.number))
+  new_there g s = subst (λ (q : RootCounts). ShowsGraph (with_object g (fresh p weak d) (register_place q m to.number))
       (with_new k t2 b1 (register_place (places_of k.config) m to.number) a)) (sym s.places) (new_shows g s)
 
   pub new_acts : (g : Graph) → ShowsGraph g k

@@ -3,8 +3,8 @@ use Rattle.std.proofs.Common.{◌≡◌, ℕ, Option, Some, None, refl, sym, ◌
 use Rattle.std.specs.Prelude.{slice_get, slice_index_or, unwrap_or}
 use Rattle.heap_words.specs.Sizes.{size_of}
 use Rattle.regions.specs.Table.{Table, pointers_at, weaks_at, new_object}
-use Rattle.alloc_buffers.specs.Placement.{Buffers, Placement, place_of, made_at, address_of}
-use Rattle.alloc_buffers.specs.declared.placement.Place.{Place}
+use Rattle.alloc_buffers.specs.Placement.{Buffers, Placement, allocation_of, made_at, address_of}
+use Rattle.alloc_buffers.specs.declared.placement.Allocation.{Allocation}
 use Rattle.marker.specs.Steps.{Overwrites}
 use Rattle.marker.specs.declared.marker.Marker.{Marker}
 use Rattle.graph_runs.specs.State.{register_place, places_of}
@@ -48,8 +48,8 @@ got_weak c c' m to object i a w there held core marker =
     }
 
 -- an object is made in its place
-pub made_in_place : (k c : CoreState) (m : ℕ) (to : Register) (counts : Counts) (weaks size : ℕ) (p : Place) (t : Table) (b : Buffers)
-    → k ≡ c → place_of k.table k.buffers m size ≡ Some (record { place = p; table = t; buffers = b })
+pub made_in_place : (k c : CoreState) (m : ℕ) (to : Register) (counts : Counts) (weaks size : ℕ) (p : Allocation) (t : Table) (b : Buffers)
+    → k ≡ c → allocation_of k.table k.buffers m size ≡ Some (record { place = p; table = t; buffers = b })
     → size ≡ size_of counts.pointers weaks counts.values
     → HasActed m (actions.NewWeak to counts weaks) c
     (with_new k (made_at t p (new_object k.next counts.pointers weaks counts.values)) b
@@ -58,15 +58,15 @@ made_in_place k c m to counts weaks size p t b e placed many =
     let place : ℕ = register_place (places_of k.config) m to.number in
     let made : CoreState = with_new k (made_at t p (new_object k.next counts.pointers weaks counts.values)) b place (address_of t p) in
     let there : Some (record { place = p; table = t; buffers = b })
-    ≡ place_of k.table k.buffers m (size_of counts.pointers weaks counts.values) =
-    sym placed ∙ ap (λ (n : ℕ). place_of k.table k.buffers m n) many in
+    ≡ allocation_of k.table k.buffers m (size_of counts.pointers weaks counts.values) =
+    sym placed ∙ ap (λ (n : ℕ). allocation_of k.table k.buffers m n) many in
     let same : made ≡ after_new k m to counts weaks = ap (λ (x : Option Placement). with_made k place counts weaks x) there in
     subst (λ (d : CoreState). HasActed m (actions.NewWeak to counts weaks) d made) e
     (record { core = with_its_marker made _ same; marker = refl })
 
 pub has_place : (k c : CoreState) (m size n : ℕ) (x : Placement) → k ≡ c
-    → place_of k.table k.buffers m size ≡ Some x → size ≡ n → HasNoPlace c m n → ⊥
+    → allocation_of k.table k.buffers m size ≡ Some x → size ≡ n → HasNoPlace c m n → ⊥
 has_place k c m size n x e placed many none =
     let gone : Some x ≡ None =
-    sym placed ∙ ap (λ (d : CoreState). place_of d.table d.buffers m size) e ∙ ap (λ (s : ℕ). place_of c.table c.buffers m s) many ∙ none in
+    sym placed ∙ ap (λ (d : CoreState). allocation_of d.table d.buffers m size) e ∙ ap (λ (s : ℕ). allocation_of c.table c.buffers m s) many ∙ none in
     cc

@@ -5,7 +5,7 @@ use Rattle.std.specs.Prelude.{◌==◌, if◌then◌else◌, unwrap_or}
 use Rattle.std.proofs.lemmas.Grind.{common_steps}
 use Rattle.std.proofs.lemmas.Bool.Decides.{nat_tests}
 use Rattle.heap_words.specs.Configs.{globals_of, registers_of, card_words}
-use Rattle.heap_model.specs.Graph.{Places}
+use Rattle.heap_model.specs.Graph.{RootCounts}
 use Rattle.graph_runs.specs.State.{places_of, register_place}
 use Rattle.cards.specs.Cards.{Cards, dirtied}
 use Rattle.regions.specs.Table.{pointers_at, values_at, set_pointer, set_value}
@@ -18,7 +18,7 @@ use Rattle.step_core.specs.Stands.{CoreState, IsCore}
 use Rattle.step_core.specs.Cycle.{LeavesRegions}
 use Rattle.step_core.specs.Mutators.{noted, object_of, pointer_of, with_pointer}
 use Rattle.step_core.specs.Near.{LeadsFar, LeadsNear}
-use Rattle.step_core.specs.Parts.{DoesAction, Fills, HoldsValue, NamesAt}
+use Rattle.step_core.specs.Parts.{DoesAction, FillsField, HoldsValue, NamesAt}
 use Rattle.step_core.specs.Storing.{HasNoted, StoresPointer, StoresWith}
 use Rattle.step_core.specs.Words.{putting, writing}
 use Rattle.step_core.proofs.Cores.Acted.{acted_plain}
@@ -34,20 +34,20 @@ use Rattle.step_core.proofs.Mutating.Noting.{keeps_noted, kept_noted, shown_note
 pub row_place : (k c : CoreState) (m r row : ℕ) → k ≡ c → IsCore k
     → globals_of c.config + row ≡ register_place (places_of c.config) m 0 → k.places.globals + (row + r) ≡ register_place k.places m r
 row_place k c m r row e core is =
-    subst (λ (p : Places). p.globals + (row + r) ≡ register_place p m r) (sym (placed_in k c e core)) (omega (arith, is))
+    subst (λ (p : RootCounts). p.globals + (row + r) ≡ register_place p m r) (sym (placed_in k c e core)) (omega (arith, is))
 
 pub row_inside : (k c : CoreState) (m r row : ℕ) → k ≡ c → IsCore k → m < c.config.mutators → r < registers_of c.config
     → globals_of c.config + row ≡ register_place (places_of c.config) m 0 → k.places.globals + (row + r) < length k.roots
 row_inside k c m r row e core known inside is =
     let there = root_within k c (register_place (places_of c.config) m r) e core (register_inside c.config m r known inside) in
     let same : register_place k.places m r ≡ register_place (places_of c.config) m r =
-    ap (λ (p : Places). register_place p m r) (placed_in k c e core) in
+    ap (λ (p : RootCounts). register_place p m r) (placed_in k c e core) in
     omega (arith, there, same, row_place k c m r row e core is)
 
 pub row_of_core : (k c : CoreState) (m row : ℕ) → k ≡ c → IsCore k → k.places.globals + row ≡ register_place k.places m 0
     → globals_of c.config + row ≡ register_place (places_of c.config) m 0
 row_of_core k c m row e core is =
-    subst (λ (p : Places). p.globals + row ≡ register_place p m 0) (placed_in k c e core) is
+    subst (λ (p : RootCounts). p.globals + row ≡ register_place p m 0) (placed_in k c e core) is
 
 -- ---- its card stays as it is
 same_number : (n : ℕ) → (n == n) ≡ true
@@ -116,7 +116,7 @@ put_does c c' m object a i value w names within held s =
 -- ---- an object whose address is known
 pub put_fills : (c c' : CoreState) (m : ℕ) (object : Register) (a i : ℕ) (value : Option Register) (w : Option ℕ) → IsCore c
     → i < length (pointers_at c.table a) → c'.table ≡ set_pointer c.table a i w
-    → DoesAction m (actions.Put object i value) replies.Done c c' → Fills c (putting m object i value) a c'
+    → DoesAction m (actions.Put object i value) replies.Done c c' → FillsField c (putting m object i value) a c'
 put_fills c c' m object a i value w core within table d =
     let n = put_counts c.table c'.table a i w (some_words c core) within table in
     record {
@@ -130,7 +130,7 @@ put_fills c c' m object a i value w core within table d =
 
 pub write_fills : (c c' : CoreState) (m : ℕ) (object : Register) (a i v : ℕ) → IsCore c
     → i < length (values_at c.table a) → c'.table ≡ set_value c.table a i v
-    → DoesAction m (actions.Write object i v) replies.Done c c' → Fills c (writing m object i v) a c'
+    → DoesAction m (actions.Write object i v) replies.Done c c' → FillsField c (writing m object i v) a c'
 write_fills c c' m object a i v core within table d =
     let n = write_counts c.table c'.table a i v (some_words c core) within table in
     record {

@@ -15,7 +15,7 @@ use Rattle.regions.proofs.Tiles.InUse.{object_in_use}
 use Rattle.marker.proofs.Views.{kept_object}
 use Rattle.graph_runs.specs.State.{State, root_at}
 use Rattle.step_core.specs.Stands.{CoreState, kept_of, heap_of, ShowsGraph, Stands, IsCore, IsWordOf}
-use Rattle.step_core.specs.Stands.{IsRootWord, HasObject, Leads, name_in, name_of, IsWhole}
+use Rattle.step_core.specs.Stands.{IsRootWord, RootNames, Leads, name_in, name_of, IsWhole}
 
 pub get_or-get : {A : Type 0} (xs : List A) (i : ℕ) (d x : A) → slice_get xs i ≡ Some x → get_or xs i d ≡ x
 get_or-get [] i d x e = cc
@@ -43,7 +43,7 @@ shown_there h a None s = absurd s
 shown_there h a (Some n) s = (s.0, s.1, ap Some (sym s.2))
 
 object_there : (g : Graph) (c : CoreState) (place a : ℕ) → ShowsGraph g c
-    → IsShown (heap_of c) (Some a) (root_at g place) → HasObject g c place a
+    → IsShown (heap_of c) (Some a) (root_at g place) → RootNames g c place a
 object_there g c place a s shown =
     let (x, at, root) = shown_there (heap_of c) a (root_at g place) shown in
     let o = s.shows.objects a x at in
@@ -107,13 +107,13 @@ pub record FieldRead (c : CoreState) (vs : List (Option ℕ)) (i : ℕ) (w : Opt
   pub there : slice_get vs i ≡ Some name
   pub shown : IsShown (heap_of c) w name
 
-pub field_shown : (g : Graph) (c : CoreState) (place a i : ℕ) (w : Option ℕ) (h : HasObject g c place a)
+pub field_shown : (g : Graph) (c : CoreState) (place a i : ℕ) (w : Option ℕ) (h : RootNames g c place a)
     → slice_get h.stored.pointers i ≡ Some w → FieldRead c h.object.pointers i w
 field_shown g c place a i w h e =
     let (v, is, shown) = AllZip-get (IsShown (heap_of c)) h.stored.pointers h.object.pointers h.pointers i w e in
     record { name = v; there = is; shown = shown }
 
-pub slot_shown : (g : Graph) (c : CoreState) (place a i : ℕ) (w : Option ℕ) (h : HasObject g c place a)
+pub slot_shown : (g : Graph) (c : CoreState) (place a i : ℕ) (w : Option ℕ) (h : RootNames g c place a)
     → slice_get h.stored.weaks i ≡ Some w → FieldRead c h.object.weaks i w
 slot_shown g c place a i w h e =
     let (v, is, shown) = AllZip-get (IsShown (heap_of c)) h.stored.weaks h.object.weaks h.weaks i w e in
@@ -130,19 +130,19 @@ AllZip-length R [] (y ∷ ys) z = absurd z
 AllZip-length R (x ∷ xs) [] z = absurd z
 AllZip-length R (x ∷ xs) (y ∷ ys) z = ap suc (AllZip-length R xs ys z.1)
 
-pub no_field : (g : Graph) (c : CoreState) (place a i : ℕ) (h : HasObject g c place a)
+pub no_field : (g : Graph) (c : CoreState) (place a i : ℕ) (h : RootNames g c place a)
     → length h.stored.pointers ≤ i → slice_get h.object.pointers i ≡ None
 no_field g c place a i h k =
     let e = AllZip-length (IsShown (heap_of c)) h.stored.pointers h.object.pointers h.pointers in
     past_end h.object.pointers i (omega arith)
 
-pub no_slot : (g : Graph) (c : CoreState) (place a i : ℕ) (h : HasObject g c place a)
+pub no_slot : (g : Graph) (c : CoreState) (place a i : ℕ) (h : RootNames g c place a)
     → length h.stored.weaks ≤ i → slice_get h.object.weaks i ≡ None
 no_slot g c place a i h k =
     let e = AllZip-length (IsShown (heap_of c)) h.stored.weaks h.object.weaks h.weaks in
     past_end h.object.weaks i (omega arith)
 
-pub no_value : (g : Graph) (c : CoreState) (place a i : ℕ) (h : HasObject g c place a)
+pub no_value : (g : Graph) (c : CoreState) (place a i : ℕ) (h : RootNames g c place a)
     → length h.stored.values ≤ i → slice_get h.object.values i ≡ None
 no_value g c place a i h k = past_end h.object.values i (rw (← h.values) k)
 

@@ -32,7 +32,7 @@ use Rattle.marker.specs.declared.marker.Marker.{Marker}
 use Rattle.region_choice.specs.declared.LiveRow.{LiveRow}
 use Rattle.evacuation.specs.Rooms.{RoomSizes}
 use Rattle.evacuation.proofs.WholePause.ChosenReleased.{mark_gone, mark_left, top_gone, top_left}
-use Rattle.evacuation.specs.Evacuates.{CanEvacuate, HasEvacuated, IsRow, IsNewSet, IsSameBut, MarksAfter, is_chosen, set_in}
+use Rattle.evacuation.specs.Evacuates.{CanEvacuate, HasEvacuated, IsLiveRow, IsNewSet, IsSameBut, MarksAfter, is_chosen, set_in}
 use Rattle.heap_words.specs.Configs.{card_words, object_limit}
 use Rattle.step_core.proofs.Mutating.Noting.{cards_a_region}
 use Rattle.step_core.specs.Stands.{places_of, CoreState, kept_of, heap_of, marking_of, ShowsGraph, KeepsFrom, LayersFit, IsCore}
@@ -68,7 +68,7 @@ module _ (k : CoreState) (core : IsCore k) (which : Choice) (budget : ℕ) (chos
   words : ℕ
   words = k.table.words_per_region
 
-  row_of : (x : LiveRow) → IsRowOf k.table k.marker.tams.previous k.marker.bitmaps.previous x → IsRow (layers_of k) x
+  row_of : (x : LiveRow) → IsRowOf k.table k.marker.tams.previous k.marker.bitmaps.previous x → IsLiveRow (layers_of k) x
   row_of x r = record { known = r.known; ordinary = r.ordinary; live_bound = r.bound }
 
   pub can_evacuate : CanEvacuate (layers_of k) chosen (card_words k.config)
@@ -83,7 +83,7 @@ module _ (k : CoreState) (core : IsCore k) (which : Choice) (budget : ℕ) (chos
     each_card = core.cards.each_card;
     clean = clean;
     remembers = core.remembers;
-    each_row = All_to (IsRowOf k.table k.marker.tams.previous k.marker.bitmaps.previous) (IsRow (layers_of k)) row_of chosen
+    each_row = All_to (IsRowOf k.table k.marker.tams.previous k.marker.bitmaps.previous) (IsLiveRow (layers_of k)) row_of chosen
         (chosen_rows k.table k.marker.tams k.marker.bitmaps.previous k.marker.running budget chosen may);
     distinct = chosen_distinct k.table k.marker.tams k.marker.bitmaps.previous k.marker.running budget chosen may;
     room = chosen_room k.table k.marker.tams k.marker.bitmaps.previous k.marker.running budget chosen may;

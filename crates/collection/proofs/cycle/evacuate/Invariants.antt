@@ -1,11 +1,11 @@
 use Rattle.std.proofs.Common.{◌≤◌, ◌-◌}
 use Rattle.regions.specs.Table.{free_count}
-use Rattle.collection.specs.Steps.{Collects}
+use Rattle.collection.specs.Steps.{CollectsWithin}
 use Rattle.collection.proofs.cycle.evacuate.Given as goal
 
 abbrev pub invariant-pauses : goal.invariant-pauses
 invariant-pauses g l = record {
-  collects : Collects g.W.Watch.sees (free_count l.core.table - free_count l.initial.core.table) l.initial.core l.initial.watch l.core
+  collects : CollectsWithin g.W.Watch.sees (free_count l.core.table - free_count l.initial.core.table) l.initial.core l.initial.watch l.core
       l.watch;
   grows : free_count l.initial.core.table ≤ free_count l.core.table;
 }

@@ -5,7 +5,7 @@ use Rattle.heap_steps.specs.Actors.{IsThird}
 use Rattle.regions.specs.Table.{free_count}
 use Rattle.step_core.specs.Stands.{kept_of}
 use Rattle.collection.specs.Space.{IsPackedAt, ordinary_count, run_count}
-use Rattle.collection.specs.Steps.{IsAsked, LeavesTwo, asked_words}
+use Rattle.collection.specs.Steps.{AsksFor, LeavesTwo, asked_words}
 use Rattle.collection.specs.Rooms.{HasRun}
 use Rattle.collection.proofs.Counts.{count_all}
 use Rattle.collection.proofs.Leaving.{clash, leaves_four, leaves_not, leaves_still}
@@ -19,7 +19,7 @@ some_kept (Some x) n = (x, refl)
 
 pub is_spared-requires-clause-asked : goal.is_spared-requires-clause-asked
 is_spared-requires-clause-asked g c =
-    subst (λ (x : Config). IsAsked x c.args.op.now c.args.size) (sym c.collect.ensures.collects.config) c.requires.asked
+    subst (λ (x : Config). AsksFor x c.args.op.now c.args.size) (sym c.collect.ensures.collects.config) c.requires.asked
 
 pub is_spared-requires-clause-within : goal.is_spared-requires-clause-within
 is_spared-requires-clause-within g c =
@@ -103,7 +103,7 @@ compact_all-requires-clause-third g c =
 
 pub compact_all-requires-clause-asked : goal.compact_all-requires-clause-asked
 compact_all-requires-clause-asked g c =
-    subst (λ (x : Config). IsAsked x c.args.op.now c.args.size) (sym c.collect.ensures.collects.config) c.requires.asked
+    subst (λ (x : Config). AsksFor x c.args.op.now c.args.size) (sym c.collect.ensures.collects.config) c.requires.asked
 
 pub compact_all-requires-clause-large : goal.compact_all-requires-clause-large
 compact_all-requires-clause-large g c =

@@ -3,7 +3,7 @@ use Rattle.heap_words.specs.declared.config.Config.{Config}
 use Rattle.heap_steps.specs.declared.step.Event.{Event}
 use Rattle.step_core.specs.Stands.{CoreState}
 use Rattle.collection.specs.Asked.{due_steps}
-use Rattle.collection.specs.Steps.{Collects, IsAsked}
+use Rattle.collection.specs.Steps.{CollectsWithin, AsksFor}
 use Rattle.collection.proofs.Leaving.{filled_after, last_after, leaves_after}
 use Rattle.collection.proofs.Paced.{look_most}
 use Rattle.collection.proofs.Took.{chain, more, none}
@@ -11,8 +11,8 @@ use Rattle.collection.proofs.making.make_room.Goals as goal
 
 -- after what was due, and the end of the cycle
 looked_on : {W : Type 0} (sees : W → Event → W → Type 0) (due : Bool) (c d e : CoreState) (x y z : W)
-    → Collects sees (due_steps c.config due) c x d y → Collects sees (2 + d.config.regions) d y e z
-    → Collects sees (7 + 2 * c.config.regions) c x e z
+    → CollectsWithin sees (due_steps c.config due) c x d y → CollectsWithin sees (2 + d.config.regions) d y e z
+    → CollectsWithin sees (7 + 2 * c.config.regions) c x e z
 looked_on sees due c d e x y z h k =
     let regions = ap (λ (q : Config). q.regions) h.config in
     chain sees (c.config.regions + 5) (2 + d.config.regions) (7 + 2 * c.config.regions) c d e x y z (omega (arith, regions))
@@ -20,7 +20,7 @@ looked_on sees due c d e x y z h k =
 
 pub is_spared-requires-clause-asked : goal.is_spared-requires-clause-asked
 is_spared-requires-clause-asked g c =
-    subst (λ (x : Config). IsAsked x c.args.op.now c.args.size) (sym c.look.ensures.collects.config) c.requires.asked
+    subst (λ (x : Config). AsksFor x c.args.op.now c.args.size) (sym c.look.ensures.collects.config) c.requires.asked
 
 pub is_spared-requires-clause-within : goal.is_spared-requires-clause-within
 is_spared-requires-clause-within g c = subst (λ (x : Config). c.args.size ≤ x.regions * x.words)
@@ -35,7 +35,7 @@ pub returns-then-is_spared-clause-room : goal.returns-then-is_spared-clause-room
 returns-then-is_spared-clause-room g c e = inl (c.is_spared.ensures.spared c.if-is_spared.true)
 
 pub is_spared-requires-2-clause-asked : goal.is_spared-requires-2-clause-asked
-is_spared-requires-2-clause-asked g c = subst (λ (x : Config). IsAsked x c.args.op.now c.args.size)
+is_spared-requires-2-clause-asked g c = subst (λ (x : Config). AsksFor x c.args.op.now c.args.size)
     (sym (c.finish_cycle.ensures.config ∙ c.look.ensures.collects.config)) c.requires.asked
 
 pub is_spared-requires-2-clause-within : goal.is_spared-requires-2-clause-within
@@ -53,7 +53,7 @@ pub returns-then-is_spared-2-clause-room : goal.returns-then-is_spared-2-clause-
 returns-then-is_spared-2-clause-room g c e = inl (c.is_spared-2.ensures.spared c.if-is_spared-2.true)
 
 pub collect_all-requires-clause-asked : goal.collect_all-requires-clause-asked
-collect_all-requires-clause-asked g c = subst (λ (x : Config). IsAsked x c.args.op.now c.args.size)
+collect_all-requires-clause-asked g c = subst (λ (x : Config). AsksFor x c.args.op.now c.args.size)
     (sym (c.finish_cycle.ensures.config ∙ c.look.ensures.collects.config)) c.requires.asked
 
 pub collect_all-requires-clause-within : goal.collect_all-requires-clause-within

@@ -2,12 +2,12 @@ use Rattle.std.proofs.Common.{◌≤◌, ◌-◌}
 use Rattle.regions.specs.Table.{free_count}
 use Rattle.graph_runs.specs.State.{State}
 use Rattle.collection.specs.Space.{IsQuiet}
-use Rattle.collection.specs.Steps.{Collects}
+use Rattle.collection.specs.Steps.{CollectsWithin}
 use Rattle.collection.proofs.whole.pause_all.Given as goal
 
 abbrev pub invariant-pauses : goal.invariant-pauses
 invariant-pauses g l = record {
-  collects : Collects g.W.Watch.sees (free_count l.core.table - free_count l.initial.core.table) l.initial.core l.initial.watch l.core
+  collects : CollectsWithin g.W.Watch.sees (free_count l.core.table - free_count l.initial.core.table) l.initial.core l.initial.watch l.core
       l.watch;
   grows : free_count l.initial.core.table ≤ free_count l.core.table;
   quiet : (s : State) → IsQuiet s l.initial.core → IsQuiet s l.core;

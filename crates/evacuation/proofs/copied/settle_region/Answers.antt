@@ -1,5 +1,5 @@
 use Rattle.heap_words.specs.Configs.{max_words}
-use Rattle.evacuation.specs.Space.{IsTaken}
+use Rattle.evacuation.specs.Space.{IsDestination}
 use Rattle.std.proofs.Common.{◌≡◌, ◌∙◌, ℕ, ap, refl, subst, arith, ◌<◌, ◌≤◌, ◌+◌, ◌*◌, ◌/◌, ◌-◌, length, sym}
 use Rattle.std.proofs.lemmas.Nat.{mul-le}
 use Rattle.evacuation.proofs.Turns.KeptObjects.{kept_object}
@@ -91,7 +91,7 @@ settle_object-requires g c =
     let w = taken_after v.on c.args.region destination in
     let out =
     scans.copy_outside g.pause c.tiles.table c.tiles.context v.on.stands c.law-in-tiles.ensures c.args.region w c.tiles.at v.region in
-    (v.on.stands, (out, (v.object, subst (IsTaken c.tiles.context.destinations) (sym v.region) w)))
+    (v.on.stands, (out, (v.object, subst (IsDestination c.tiles.context.destinations) (sym v.region) w)))
 
 pub next_behind-requires : goal.next_behind-requires
 next_behind-requires g c =

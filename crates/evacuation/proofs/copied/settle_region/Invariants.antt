@@ -1,5 +1,5 @@
 use Rattle.std.proofs.Common.{◌≡◌, ◌-◌, ◌+◌, ◌*◌, ◌/◌}
-use Rattle.evacuation.specs.Space.{IsObject}
+use Rattle.evacuation.specs.Space.{IsSpaceObject}
 use Rattle.evacuation.specs.Turns.{PauseGoesOn, space}
 use Rattle.evacuation.specs.Cursors.{AreSettledBelow}
 use Rattle.evacuation.proofs.copied.settle_region.Given as goal
@@ -11,7 +11,7 @@ abbrev pub invariant-tiles : goal.invariant-tiles
 invariant-tiles g l = record {
   on : PauseGoesOn g.pause l.initial.table l.table l.initial.context l.context;
   region : l.at / g.pause.start.words_per_region ≡ l.fn.region;
-  object : IsObject (space g.pause l.table) l.at;
+  object : IsSpaceObject (space g.pause l.table) l.at;
   done : AreSettledBelow g.pause l.context.noted l.table l.fn.region l.at;
 }
 

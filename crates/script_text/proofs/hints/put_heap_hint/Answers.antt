@@ -3,7 +3,7 @@ use Rattle.heap_words.specs.declared.config.Config.{Config}
 use Rattle.std.proofs.lemmas.List.{append-nil}
 use Rattle.script_text.specs.Hints.{stop_text}
 use Rattle.script_text.specs.Lines.{words_of}
-use Rattle.script_text.specs.Places.{no_sizes}
+use Rattle.script_text.specs.Expected.{no_sizes}
 use Rattle.script_text.proofs.hints.put_heap_hint.Goals as goal
 
 pub returns-in-Some-clause-put : goal.returns-in-Some-clause-put

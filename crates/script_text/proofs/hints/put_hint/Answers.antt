@@ -1,7 +1,7 @@
 use Rattle.std.proofs.Common.{◌≡◌, ℕ, List, refl}
 use Rattle.script_text.specs.declared.fault.Kind.{Kind}
 use Rattle.script_text.specs.declared.fault.Kind.TheVariants as kinds
-use Rattle.script_text.specs.declared.places.TextKind.{TextKind}
+use Rattle.script_text.specs.declared.expected.TextKind.{TextKind}
 use Rattle.script_text.specs.Hints.{IsHint, NamesMisfit}
 use Rattle.script_text.proofs.hints.put_hint.Goals as goal
 

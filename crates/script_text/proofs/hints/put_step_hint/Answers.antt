@@ -1,11 +1,11 @@
 use Rattle.std.proofs.Common.{◌≡◌, ◌∙◌, ◌-◌, [], ℕ, List, Some, ap, arith, sym, take}
 use Rattle.std.proofs.lemmas.List.{append-nil}
 use Rattle.heap_words.specs.declared.config.Config.{Config}
-use Rattle.script_text.specs.declared.places.Stop.{Stop}
-use Rattle.script_text.specs.declared.places.TextKind.{TextKind}
+use Rattle.script_text.specs.declared.expected.Stop.{Stop}
+use Rattle.script_text.specs.declared.expected.TextKind.{TextKind}
 use Rattle.script_text.specs.Hints.{stop_text}
 use Rattle.script_text.specs.Lines.{words_of}
-use Rattle.script_text.specs.Places.{stop_in}
+use Rattle.script_text.specs.Expected.{stop_in}
 use Rattle.script_text.proofs.hints.put_step_hint.Goals as goal
 
 -- the same sizes and the same place tell the same

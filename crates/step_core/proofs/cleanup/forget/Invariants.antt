@@ -1,6 +1,6 @@
 use Rattle.std.proofs.Common.{◌≡◌, false}
 use Rattle.marker.specs.Stands.{MarkerStands}
-use Rattle.step_core.specs.Cleaning.{HasForgotten, HasCleared}
+use Rattle.step_core.specs.Cleaning.{HasForgotten, HasEmptied}
 use Rattle.step_core.proofs.cleanup.forget.Given as goal
 
 abbrev pub invariant-loop-i : goal.invariant-loop-i
@@ -8,5 +8,5 @@ invariant-loop-i l = record {
   stands : MarkerStands l.table l.marker;
   idle : l.marker.running ≡ false;
   forgotten : HasForgotten l.table.words_per_region l.first l.i l.fn.marker l.marker;
-  cleared : HasCleared l.first l.i l.fn.sets l.sets;
+  cleared : HasEmptied l.first l.i l.fn.sets l.sets;
 }

@@ -9,36 +9,36 @@ use Rattle.bit_sets.proofs.pages.PagedWords.insert.Goals as goal
 bit_read : (word bit : ℕ) → bit_and (word / 2 ^ bit) 1 ≡ bit_at word bit
 bit_read word bit = rw shr_and_one refl
 
-pub reach-place-requires-clause-known : goal.reach-place-requires-clause-known
-reach-place-requires-clause-known c = group_known _ _ _ _ c.args.group c.self.view_is c.requires.known
+pub find_or_take-place-requires-clause-known : goal.find_or_take-place-requires-clause-known
+find_or_take-place-requires-clause-known c = group_known _ _ _ _ c.args.group c.self.view_is c.requires.known
 
 pub returns-then-word-bit-eq1-clause-came : goal.returns-then-word-bit-eq1-clause-came
 returns-then-word-bit-eq1-clause-came c =
-    let pool = c.reach-place.new.pool in
-    let view = words_same _ _ _ pool.items _ (λ g _. c.reach-place.ensures.same g) ∙ c.self.view_is in
-    let w = word_at _ _ pool.items _ c.args.group _ c.reach-place.ensures.pages view c.requires.known c.reach-place.ensures.taken
-    c.reach-place.ensures.place in
+    let pool = c.find_or_take-place.new.pool in
+    let view = words_same _ _ _ pool.items _ (λ g _. c.find_or_take-place.ensures.same g) ∙ c.self.view_is in
+    let w = word_at _ _ pool.items _ c.args.group _ c.find_or_take-place.ensures.pages view c.requires.known c.find_or_take-place.ensures.taken
+    c.find_or_take-place.ensures.place in
     let word = get_or_read pool.items _ _ w.inside c.index-word.ensures 0 ∙ w.read in
     sym (ap not (ap (λ (x : ℕ). eqb (bit_at x c.args.bit) 1) (sym word)
     ∙ ap (λ (v : ℕ). eqb v 1) (sym (bit_read c.index-word.result.now c.args.bit) ∙ c.if-word-bit-eq1.true)))
 
 pub returns-then-word-bit-eq1-clause-same : goal.returns-then-word-bit-eq1-clause-same
 returns-then-word-bit-eq1-clause-same c =
-    λ _. words_same _ _ c.reach-place.new.places.items c.reach-place.new.pool.items _ (λ g _. c.reach-place.ensures.same g) ∙ c.self.view_is
+    λ _. words_same _ _ c.find_or_take-place.new.places.items c.find_or_take-place.new.pool.items _ (λ g _. c.find_or_take-place.ensures.same g) ∙ c.self.view_is
 
 pub invariant_of-self-2 : goal.invariant_of-self-2
 invariant_of-self-2 c = (
-  pages_kept _ c.reach-place.new.pool.items _ _ c.reach-place.ensures.pages
-      (length-set {A = ℕ} c.reach-place.new.pool.items c.reach-place.result _),
-  c.reach-place.ensures.room,
+  pages_kept _ c.find_or_take-place.new.pool.items _ _ c.find_or_take-place.ensures.pages
+      (length-set {A = ℕ} c.find_or_take-place.new.pool.items c.find_or_take-place.result _),
+  c.find_or_take-place.ensures.room,
 )
 
 pub returns-clause-came : goal.returns-clause-came
 returns-clause-came c =
-    let pool = c.reach-place.new.pool in
-    let view = words_same _ _ _ pool.items _ (λ g _. c.reach-place.ensures.same g) ∙ c.self.view_is in
-    let w = word_at _ _ pool.items _ c.args.group _ c.reach-place.ensures.pages view c.requires.known c.reach-place.ensures.taken
-    c.reach-place.ensures.place in
+    let pool = c.find_or_take-place.new.pool in
+    let view = words_same _ _ _ pool.items _ (λ g _. c.find_or_take-place.ensures.same g) ∙ c.self.view_is in
+    let w = word_at _ _ pool.items _ c.args.group _ c.find_or_take-place.ensures.pages view c.requires.known c.find_or_take-place.ensures.taken
+    c.find_or_take-place.ensures.place in
     let word = get_or_read pool.items _ _ w.inside c.index-word.ensures 0 ∙ w.read in
     sym (ap not (ap (λ (x : ℕ). eqb (bit_at x c.args.bit) 1) (sym word)
     ∙ ne_eqb (bit_at c.index-word.result.now c.args.bit) 1
@@ -46,9 +46,9 @@ returns-clause-came c =
 
 pub returns-clause-set : goal.returns-clause-set
 returns-clause-set c = λ _.
-    let pool = c.reach-place.new.pool in
-    let view = words_same _ _ _ pool.items _ (λ g _. c.reach-place.ensures.same g) ∙ c.self.view_is in
-    let w = word_at _ _ pool.items _ c.args.group _ c.reach-place.ensures.pages view c.requires.known c.reach-place.ensures.taken
-    c.reach-place.ensures.place in
+    let pool = c.find_or_take-place.new.pool in
+    let view = words_same _ _ _ pool.items _ (λ g _. c.find_or_take-place.ensures.same g) ∙ c.self.view_is in
+    let w = word_at _ _ pool.items _ c.args.group _ c.find_or_take-place.ensures.pages view c.requires.known c.find_or_take-place.ensures.taken
+    c.find_or_take-place.ensures.place in
     w.written _ ∙ ap (λ (x : ℕ). set c.args.self.now c.args.group (bit_or x (1 * 2 ^ c.args.bit % 2 ^ 64)))
     (get_or_read pool.items _ _ w.inside c.index-word.ensures 0 ∙ w.read)

@@ -2,7 +2,7 @@ use Rattle.std.proofs.Common.{◌≡◌, set, true, false, arith, sym, ap, ◌�
 use Rattle.std.specs.Vec.{with_item}
 use Rattle.cards.specs.Cards.{is_dirty}
 use Rattle.cards.specs.declared.table.CardTable.TheInside.{Inside}
-use Rattle.cards.proofs.Fields.{is_pushed, longer_log_room, now_is, IsSound-dirtied, sent_view, stays_view}
+use Rattle.cards.proofs.Fields.{is_pushed, longer_log_room, now_is, IsCardTable-dirtied, sent_view, stays_view}
 use Rattle.cards.proofs.table.CardTable.dirty.Goals as goal
 
 pub move_to-requires : goal.move_to-requires
@@ -47,7 +47,7 @@ invariant_of-self c =
     c.requires.mutator now (omega arith)
     (c.set.ensures ∙ ap (λ n. set c.self.inside.dirty n true) c.number.ensures)
     (ap (λ l. set c.self.inside.logs.items c.args.mutator l) c.move_to.ensures.emptied) c.move_to.ensures.queue in
-    IsSound-dirtied c.self.inside after c.args.self.now c.args.mutator c.args.card c.self.view_is c.self.invariant view c.requires.mutator
+    IsCardTable-dirtied c.self.inside after c.args.self.now c.args.mutator c.args.card c.self.view_is c.self.invariant view c.requires.mutator
     c.requires.card c.move_to.ensures.capacity
 
 pub invariant_of-self-else-len-eq-LOG_LEN : goal.invariant_of-self-else-len-eq-LOG_LEN
@@ -64,5 +64,5 @@ invariant_of-self-else-len-eq-LOG_LEN c =
     let view = stays_view c.self.inside after c.args.self.now c.args.mutator c.args.card c.push.new.self c.self.view_is clean
     c.requires.mutator now (λ four. c.if-len-eq-LOG_LEN.false (c.len.ensures.value ∙ four))
     (c.set.ensures ∙ ap (λ n. set c.self.inside.dirty n true) c.number.ensures) refl refl in
-    IsSound-dirtied c.self.inside after c.args.self.now c.args.mutator c.args.card c.self.view_is c.self.invariant view c.requires.mutator
+    IsCardTable-dirtied c.self.inside after c.args.self.now c.args.mutator c.args.card c.self.view_is c.self.invariant view c.requires.mutator
     c.requires.card refl

@@ -4,7 +4,7 @@ use Rattle.cards.specs.declared.table.CardTable.TheInside.{Inside}
 use Rattle.cards.specs.Cards.{Cards, sent, flushed}
 use Rattle.cards.specs.Inside.{cards_of, IsCounted}
 use Rattle.cards.proofs.Listed.{IsCounted-sent}
-use Rattle.cards.proofs.Fields.{log_room, sent_fields, logs_stay, dirty_stays, IsSound-flushed}
+use Rattle.cards.proofs.Fields.{log_room, sent_fields, logs_stay, dirty_stays, IsCardTable-flushed}
 use Rattle.cards.proofs.Flushed.{sent_more, all_sent}
 use Rattle.cards.proofs.table.CardTable.flush_all.Goals as goal
 
@@ -52,7 +52,7 @@ pub invariant_of-self : goal.invariant_of-self
 invariant_of-self c =
     let all : c.loop-mutator.mutator ≡ length c.self.inside.logs.items =
     omega (arith, c.loop-mutator-test.false, c.loop-mutator.auto.mutator-end, c.len-mutator-end.ensures, c.self.inside.logs.ok.0) in
-    IsSound-flushed c.self.inside c.loop-mutator.self-inside c.self.invariant
+    IsCardTable-flushed c.self.inside c.loop-mutator.self-inside c.self.invariant
     (c.loop-mutator.invariant.sent ∙ all_sent
     (cards_of c.self.inside) c.loop-mutator.mutator all) c.loop-mutator.invariant.counted c.loop-mutator.invariant.capacity
 

@@ -1,10 +1,10 @@
 use Rattle.std.proofs.Common.{◌-◌, length}
-use Rattle.marker.specs.Steps.{IsAmong}
+use Rattle.marker.specs.Steps.{IsInFirst}
 use Rattle.marker.proofs.Reached.{Reached}
 use Rattle.marker.proofs.marker.Marker.begin.Given as goal
 
 abbrev pub invariant-loop-place : goal.invariant-loop-place
-invariant-loop-place l = Reached l.table (IsAmong l.roots.words l.from) l.initial.self l.self
+invariant-loop-place l = Reached l.table (IsInFirst l.roots.words l.from) l.initial.self l.self
 
 abbrev pub decreases-loop-place : goal.decreases-loop-place
 decreases-loop-place l = length l.roots.words - l.from

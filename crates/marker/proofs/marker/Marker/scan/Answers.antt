@@ -1,7 +1,7 @@
 use Rattle.std.proofs.Common.{◌≡◌, ◌≤◌, ℕ, Some, length, ap, ◌∙◌, subst, arith}
 use Rattle.regions.specs.Table.{pointers_at}
 use Rattle.regions.specs.Table.{Table}
-use Rattle.marker.specs.Steps.{IsAmong}
+use Rattle.marker.specs.Steps.{IsInFirst}
 use Rattle.marker.specs.declared.marker.Marker.{Marker}
 use Rattle.marker.proofs.Reached.{Reached, among_more}
 use Rattle.marker.proofs.Scanned.{all_pointers, grey_is, target_kept}
@@ -28,9 +28,9 @@ loop-field-preserved c =
     (record { stands = q.stands; marks = q.marks; same = q.same; scanned = q.scanned; scans = q.scans; logs = q.logs })
 
 all_reached : (t : Table) (m m' : Marker) (object n count : ℕ) → count ≡ length (pointers_at t object) → count ≤ n → n ≤ count
-    → Reached t (IsAmong (pointers_at t object) n) m m' → Reached t (all_pointers t object) m m'
+    → Reached t (IsInFirst (pointers_at t object) n) m m' → Reached t (all_pointers t object) m m'
 all_reached t m m' object n count e low high p =
-    subst (λ (k : ℕ). Reached t (IsAmong (pointers_at t object) k) m m')
+    subst (λ (k : ℕ). Reached t (IsInFirst (pointers_at t object) k) m m')
     (let same : n ≡ length (pointers_at t object) = omega (arith, e, low, high) in same) p
 
 pub returns-clause-snapshots : goal.returns-clause-snapshots

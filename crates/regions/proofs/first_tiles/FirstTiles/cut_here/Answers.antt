@@ -5,14 +5,14 @@ use Rattle.regions.specs.FirstTiles.{last_card}
 use Rattle.regions.proofs.Cards.Written.{cards_reached, end_written, entries_put, length_all}
 use Rattle.regions.proofs.first_tiles.FirstTiles.cut_here.Goals as goal
 
-pub reach-requires-clause-within : goal.reach-requires-clause-within
-reach-requires-clause-within c = cards_reached (c.args.at + c.args.filler) c.self.inside.shift c.self.inside.cards _ c.card_from.ensures
+pub zero_below-requires-clause-within : goal.zero_below-requires-clause-within
+zero_below-requires-clause-within c = cards_reached (c.args.at + c.args.filler) c.self.inside.shift c.self.inside.cards _ c.card_from.ensures
     (rw (← c.self.view_is, length_all c.self.inside.starts.items c.self.inside.cards c.self.invariant.1, c.self.invariant.0.is)
     at c.requires.within)
 
 pub write_front-requires-clause-within : goal.write_front-requires-clause-within
 write_front-requires-clause-within c = end_written (c.args.at + c.args.filler) c.self.inside.shift _ c.card_from.result c.card_from.ensures
-    (omega (arith, c.reach.ensures.written, c.deref_mut.ensures.len))
+    (omega (arith, c.zero_below.ensures.written, c.deref_mut.ensures.len))
 
 pub returns-clause-entries : goal.returns-clause-entries
 returns-clause-entries c k =
@@ -21,6 +21,6 @@ returns-clause-entries c k =
     (λ (d : ℕ). if is_between (c.args.at + c.args.size) (c.args.at + c.args.filler) (k * 2 ^ c.self.inside.shift)
     && (k * 2 ^ c.self.inside.shift == last_card (2 ^ c.self.inside.shift) (c.args.at + c.args.filler)) then c.args.at + c.args.size
     else (if is_between c.args.at (c.args.at + c.args.size) (k * 2 ^ c.self.inside.shift) then c.args.at else d))
-    _ c.reach.new.entries.items _ c.write_front.new.entries _ c.reach.new.entries.len c.self.inside.cards k
-    (omega (arith, c.write_front.ensures.len, c.deref_mut.ensures.len)) c.deref_mut.ensures.value c.reach.ensures.all
+    _ c.zero_below.new.entries.items _ c.write_front.new.entries _ c.zero_below.new.entries.len c.self.inside.cards k
+    (omega (arith, c.write_front.ensures.len, c.deref_mut.ensures.len)) c.deref_mut.ensures.value c.zero_below.ensures.all
     (c.write_front.ensures.entries k))

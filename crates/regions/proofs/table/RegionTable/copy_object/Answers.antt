@@ -7,7 +7,7 @@ use Rattle.regions.proofs.Rows.UsedBelow.{used_set}
 use Rattle.regions.proofs.Rows.Counting.{count_kept, row_used}
 use Rattle.regions.proofs.Cards.Entries.{push_sound}
 use Rattle.regions.proofs.Words.FieldAccess.{weaks_are}
-use Rattle.regions.specs.WeakStarts.{noted}
+use Rattle.regions.specs.WeakStarts.{start_added}
 use Rattle.regions.specs.Tiles.{Object, tile_size}
 use Rattle.regions.specs.Table.{object_words}
 use Rattle.regions.proofs.Tiles.Within.{object_within}
@@ -21,8 +21,8 @@ overflow_add-end c =
     let at = top_at _ _ _ _ _ _ n c.top-to.ensures in
     omega (arith, at, t.room, n.size_is, c.requires.room, c.object_size-size.ensures, c.word.ensures, c.self.invariant.table.small)
 
-pub reach-requires : goal.reach-requires
-reach-requires c =
+pub zero_below-requires : goal.zero_below-requires
+zero_below-requires c =
     let (n, t) = known_top _ _ _ _ _ c.self.invariant.table c.self.view_is c.requires.known c.requires.ordinary in
     let at = top_at _ _ _ _ _ _ n c.top-to.ensures in
     omega (arith, at, t.room, n.size_is, c.requires.room, c.object_size-size.ensures, c.word.ensures)
@@ -31,10 +31,10 @@ pub copy_apart-requires-clause-source : goal.copy_apart-requires-clause-source
 copy_apart-requires-clause-source c =
     let o = object_there _ _ _ _ _ c.self.invariant.table c.self.view_is c.requires.object in
     let stands = object_within _ _ _ _ _ c.self.invariant.written c.self.view_is o.1.is in
-    omega (arith, stands, o.1.words_are, c.object_size-size.ensures, c.reach.ensures.written)
+    omega (arith, stands, o.1.words_are, c.object_size-size.ensures, c.zero_below.ensures.written)
 
 pub copy_apart-requires-clause-target : goal.copy_apart-requires-clause-target
-copy_apart-requires-clause-target c = omega (arith, c.word.ensures, c.reach.ensures.written)
+copy_apart-requires-clause-target c = omega (arith, c.word.ensures, c.zero_below.ensures.written)
 
 pub copy_apart-requires-clause-apart : goal.copy_apart-requires-clause-apart
 copy_apart-requires-clause-apart c =
@@ -78,13 +78,13 @@ invariant_of-self c =
     let read = row_read _ _ _ _ _ _ _ n c.number-number.ensures c.index.ensures in
     let w = copy_pushed _ _ _ _ _ c.args.from _ _ _ _ o.0 _ c.self.invariant.table c.self.view_is c.requires.known
     c.requires.ordinary o.1.is c.requires.room c.top-to.ensures (ap (λ (row : Row). row.used) read) c.object_size-size.ensures
-    c.number-number.ensures (rw c.reach.ensures.all at c.copy_apart.ensures.all) in
+    c.number-number.ensures (rw c.zero_below.ensures.all at c.copy_apart.ensures.all) in
     let long : object_words c.args.self.now c.args.from ≡ tile_size (Object o.0) = o.1.words_are in
     let slots : c.weak_count-weaks.result ≡ length o.0.weaks =
     c.weak_count-weaks.ensures ∙ ap (λ (l : List (Option ℕ)). length l) (weaks_are c.args.self.now c.args.from o.0 o.1.is) in
-    let flags = c.note.ensures
-    ∙ ap (λ (k : ℕ). noted c.self.inside.weak_starts k c.weak_count-weaks.result) (c.word-3.ensures ∙ sym c.word-2.ensures)
-    ∙ ap (λ (n : ℕ). noted c.self.inside.weak_starts c.word-2.result n) slots in
+    let flags = c.add.ensures
+    ∙ ap (λ (k : ℕ). start_added c.self.inside.weak_starts k c.weak_count-weaks.result) (c.word-3.ensures ∙ sym c.word-2.ensures)
+    ∙ ap (λ (n : ℕ). start_added c.self.inside.weak_starts c.word-2.result n) slots in
     push_sound _ _ _ _ _ _ _ _ _ c.self.invariant c.self.view_is _ _ _ _ _ _ c.args.region _ _ (length o.0.weaks) (Object o.0)
     c.requires.known c.requires.ordinary (omega (arith, o.1.large, long)) (rw long at c.requires.room) tt
     (c.word-2.ensures ∙ c.top-to.ensures) (c.object_size-size.ensures ∙ long) c.put_object.ensures.card_words c.put_object.ensures.len
@@ -92,8 +92,8 @@ invariant_of-self c =
     (used_set _ _ _ _ (omega (arith, n.in_rows, c.number-number.ensures)) refl c.self.invariant.used_below)
     (count_kept c.self.inside.rows.items c.number-number.result _ _ (omega (arith, n.in_rows, c.number-number.ensures))
     (rw c.number-number.ensures (row_used _ _ _ _ _ n c.requires.ordinary)) refl c.self.invariant.free_is)
-    (omega (arith, c.reach.ensures.written, c.copy_apart.ensures.written))
-    (omega (arith, c.word-2.ensures, c.word.ensures, c.reach.ensures.written, c.copy_apart.ensures.written)) w
+    (omega (arith, c.zero_below.ensures.written, c.copy_apart.ensures.written))
+    (omega (arith, c.word-2.ensures, c.word.ensures, c.zero_below.ensures.written, c.copy_apart.ensures.written)) w
 
 pub returns-clause-pushed : goal.returns-clause-pushed
 returns-clause-pushed c s is =
@@ -101,10 +101,10 @@ returns-clause-pushed c s is =
     let read = row_read _ _ _ _ _ _ _ n c.number-number.ensures c.index.ensures in
     (copy_pushed _ _ _ _ _ c.args.from _ _ _ _ s _ c.self.invariant.table c.self.view_is c.requires.known
     c.requires.ordinary is c.requires.room c.top-to.ensures (ap (λ (row : Row). row.used) read)
-    c.object_size-size.ensures c.number-number.ensures (rw c.reach.ensures.all at c.copy_apart.ensures.all)).table_is
+    c.object_size-size.ensures c.number-number.ensures (rw c.zero_below.ensures.all at c.copy_apart.ensures.all)).table_is
 
-pub note-requires : goal.note-requires
-note-requires c =
+pub add-requires : goal.add-requires
+add-requires c =
     let (n, t) = known_top _ _ _ _ _ c.self.invariant.table c.self.view_is c.requires.known c.requires.ordinary in
     let o = object_there _ _ _ _ _ c.self.invariant.table c.self.view_is c.requires.object in
     let at = top_at _ _ _ _ _ _ n c.top-to.ensures in

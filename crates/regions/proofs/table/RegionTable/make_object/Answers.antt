@@ -1,6 +1,6 @@
 use Rattle.std.proofs.Common.{arith, ◌≡◌, ◌+◌, ◌-◌, ℕ, Option, None, ap, ◌∙◌}
 use Rattle.std.proofs.lemmas.List.{length-replicate}
-use Rattle.regions.specs.WeakStarts.{noted}
+use Rattle.regions.specs.WeakStarts.{start_added}
 use Rattle.regions.proofs.Tiles.Replaced.{filler_fits, filler_filled}
 use Rattle.regions.proofs.Tiles.Within.{tile_within}
 use Rattle.regions.proofs.Cards.Entries.{front_sound, new_size, object_cut}
@@ -47,8 +47,8 @@ invariant_of-self c =
     let long : c.size-size.result
     ≡ tile_size (Object (new_object c.args.name c.args.counts.pointers c.args.counts.weaks c.args.counts.values)) =
     omega (arith, c.size-size.ensures, new_size c.args.name c.args.counts.pointers c.args.counts.weaks c.args.counts.values) in
-    let flags = c.note.ensures ∙ ap (λ (k : ℕ). noted c.self.inside.weak_starts k c.from-weaks.result) c.word-3.ensures
-    ∙ ap (λ (n : ℕ). noted c.self.inside.weak_starts c.args.at n) c.from-weaks.ensures in
+    let flags = c.add.ensures ∙ ap (λ (k : ℕ). start_added c.self.inside.weak_starts k c.from-weaks.result) c.word-3.ensures
+    ∙ ap (λ (n : ℕ). start_added c.self.inside.weak_starts c.args.at n) c.from-weaks.ensures in
     front_sound _ _ _ _ _ _ _ _ _ c.self.invariant c.self.view_is c.cut_front.new.self _ _ c.args.at c.args.filler
     _ _ _ _ c.args.counts.weaks (Object (new_object c.args.name c.args.counts.pointers c.args.counts.weaks c.args.counts.values))
     c.requires.there (omega (arith, long)) (omega (arith, c.requires.room, long, c.size-size.ensures)) tt long
@@ -69,8 +69,8 @@ returns c =
     c.self.invariant.table c.self.view_is c.requires.there (omega (arith, c.requires.room)) (omega arith) (omega arith)
     (omega arith) c.write_object.ensures.all c.write_remainder.ensures.all size rest).table_is
 
-pub note-requires : goal.note-requires
-note-requires c =
+pub add-requires : goal.add-requires
+add-requires c =
     let f = filler_fits _ _ _ _ _ _ c.self.invariant.table c.self.view_is c.requires.there in
     let count = c.self.invariant.weak_count in
     omega (arith, f, c.requires.room, count, c.word-3.ensures)

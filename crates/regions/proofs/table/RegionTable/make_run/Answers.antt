@@ -1,6 +1,6 @@
 use Rattle.std.proofs.Common.{arith, ◌≡◌, ◌+◌, ◌*◌, ◌≤◌, length, Option, None, ap, ◌∙◌, ℕ}
 use Rattle.std.proofs.lemmas.List.{length-replicate}
-use Rattle.regions.specs.WeakStarts.{noted}
+use Rattle.regions.specs.WeakStarts.{start_added}
 use Rattle.regions.proofs.LongRuns.RunMade.{run_taken, run_there}
 use Rattle.regions.proofs.Tiles.Making.{size_is_of}
 use Rattle.regions.proofs.Rows.UsedBelow.{used_written, used_le, front_free}
@@ -21,15 +21,15 @@ overflow_add-end c =
     rw (size_is_of _ _ _ _ c.self.view_is) c.requires.covers in
     rw c.number-number.ensures (omega (arith, f.ends, covers, c.size-size.ensures, c.self.invariant.table.small))
 
-pub reach-requires : goal.reach-requires
-reach-requires c =
+pub zero_below-requires : goal.zero_below-requires
+zero_below-requires c =
     let (e, f) = run_there _ _ _ _ _ _ c.self.invariant.table c.self.view_is c.requires.lowest in
     let covers : 2 + c.args.counts.pointers + c.args.counts.weaks + c.args.counts.values ≤ c.args.count * c.self.inside.words_per_region =
     rw (size_is_of _ _ _ _ c.self.view_is) c.requires.covers in
     rw c.number-number.ensures (omega (arith, f.ends, covers, c.size-size.ensures))
 
 pub write_object-requires : goal.write_object-requires
-write_object-requires c = rw c.new.ensures (omega (arith, c.size-size.ensures, c.reach.ensures.written))
+write_object-requires c = rw c.new.ensures (omega (arith, c.size-size.ensures, c.zero_below.ensures.written))
 
 pub write_run-requires-clause-within : goal.write_run-requires-clause-within
 write_run-requires-clause-within c =
@@ -62,9 +62,9 @@ invariant_of-self c =
     let rows = rw (c.deref_mut.ensures.value, c.number-number.ensures) at c.write_run.ensures in
     let w = run_taken _ _ _ _ _ _ c.args.name c.args.counts.pointers c.args.counts.weaks c.args.counts.values _ _ _ _ _
     c.self.invariant.table c.self.view_is e c.requires.positive c.requires.covers c.requires.tight (omega arith) (omega arith) (omega arith)
-    bottom size number (rw c.reach.ensures.all at c.write_object.ensures.all) rows in
-    let flags = c.note.ensures
-    ∙ ap (λ (n : ℕ). noted c.self.inside.weak_starts (c.number-number.result * c.self.inside.words_per_region) n) c.from-weaks.ensures in
+    bottom size number (rw c.zero_below.ensures.all at c.write_object.ensures.all) rows in
+    let flags = c.add.ensures
+    ∙ ap (λ (n : ℕ). start_added c.self.inside.weak_starts (c.number-number.result * c.self.inside.words_per_region) n) c.from-weaks.ensures in
     run_sound _ _ _ _ _ _ _ _ _ c.self.invariant c.self.view_is _ _ _ _ _ _ c.args.first c.args.count _ _ c.args.counts.weaks
     (new_object c.args.name c.args.counts.pointers c.args.counts.weaks c.args.counts.values) c.requires.positive c.requires.lowest
     (ap (λ (k : ℕ). k * c.self.inside.words_per_region) c.number-number.ensures
@@ -77,8 +77,8 @@ invariant_of-self c =
     (used_le c.self.inside.rows.items c.self.inside.lowest c.args.first c.self.invariant.used_below
     (front_free c.self.inside.rows.items c.args.first c.args.count c.requires.positive f.free)) (omega arith) number rows)
     (let n = count_run _ _ _ _ _ _ _ _ f.room f.free c.self.invariant.free_is number rows in omega arith)
-    (omega (arith, c.reach.ensures.written, c.write_object.ensures.written))
-    (omega (arith, c.reach.ensures.written, c.write_object.ensures.written)) w
+    (omega (arith, c.zero_below.ensures.written, c.write_object.ensures.written))
+    (omega (arith, c.zero_below.ensures.written, c.write_object.ensures.written)) w
 
 pub returns : goal.returns
 returns c =
@@ -91,10 +91,10 @@ returns c =
     let rows = rw (c.deref_mut.ensures.value, c.number-number.ensures) at c.write_run.ensures in
     (run_taken _ _ _ _ _ _ c.args.name c.args.counts.pointers c.args.counts.weaks c.args.counts.values _ _ _ _ _
     c.self.invariant.table c.self.view_is e c.requires.positive c.requires.covers c.requires.tight (omega arith)
-    (omega arith) (omega arith) bottom size number (rw c.reach.ensures.all at c.write_object.ensures.all) rows).table_is
+    (omega arith) (omega arith) bottom size number (rw c.zero_below.ensures.all at c.write_object.ensures.all) rows).table_is
 
-pub note-requires : goal.note-requires
-note-requires c =
+pub add-requires : goal.add-requires
+add-requires c =
     let (e, f) = run_there _ _ _ _ _ _ c.self.invariant.table c.self.view_is c.requires.lowest in
     let covers : 2 + c.args.counts.pointers + c.args.counts.weaks + c.args.counts.values ≤ c.args.count * c.self.inside.words_per_region =
     rw (size_is_of _ _ _ _ c.self.view_is) c.requires.covers in

@@ -2,7 +2,7 @@ use Rattle.std.proofs.Common.{◌≡◌, ◌∙◌, ℕ, Some, ap, sym, subst, a
 use Rattle.heap_model.specs.Heap.{Stored}
 use Rattle.regions.specs.Tiles.{Object, tile_size}
 use Rattle.regions.specs.Table.{Table, top_of, object_at, tile_in}
-use Rattle.regions.specs.Walks.{IsNext}
+use Rattle.regions.specs.Walks.{IsNextTile}
 use Rattle.regions.proofs.Words.ObjectWords.{some_object, words_of}
 use Rattle.regions.proofs.Walks.WalkFrom.{tile_region}
 use Rattle.regions.proofs.Tiles.Laws.{object_tile}
@@ -35,7 +35,7 @@ returns-then-next-word-clause-next c =
     omega (arith, c.word.ensures, c.object_size.ensures, words_of c.args.self.now c.args.object o.0 o.1) in
     let top : c.word-2.result ≡ top_of c.args.self.now (c.args.object / c.args.self.now.words_per_region) =
     c.word-2.ensures ∙ c.top.ensures ∙ ap (top_of c.args.self.now) c.region_of.ensures in
-    subst (IsNext c.args.self.now c.args.object) (sym (c.new.ensures ∙ next))
+    subst (IsNextTile c.args.self.now c.args.object) (sym (c.new.ensures ∙ next))
     (next_is c.args.self.now c.law.ensures c.args.object (Object o.0) e c.requires.ordinary
     (let h = c.if-next-word.true in omega (arith, next, top, h)))
 

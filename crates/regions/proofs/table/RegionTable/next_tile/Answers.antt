@@ -5,7 +5,7 @@ use Rattle.regions.specs.Shapes.{tile_shape, size_of_shape}
 use Rattle.regions.specs.declared.row.Kind.TheVariants as kinds
 use Rattle.regions.proofs.Walks.WalkFrom.{tile_region}
 use Rattle.regions.proofs.Walks.WalkMade.{shape_size_is}
-use Rattle.regions.specs.Walks.{IsNext}
+use Rattle.regions.specs.Walks.{IsNextTile}
 use Rattle.regions.proofs.Tiles.Steps.{next_is, last_is, last_else, tile_there}
 use Rattle.regions.proofs.table.RegionTable.next_tile.Goals as goal
 
@@ -40,7 +40,7 @@ returns-then-next-word-clause-next c =
     let next : c.word.result + c.size.result ≡ c.args.at + tile_size u = (let at = c.word.ensures in omega (arith, size, at)) in
     let top : c.word-in-Ordinary.result ≡ top_of c.args.self.now (c.args.at / c.args.self.now.words_per_region) =
     c.word-in-Ordinary.ensures ∙ c.top.ensures ∙ ap (top_of c.args.self.now) r in
-    subst (IsNext c.args.self.now c.args.at) (sym (c.new.ensures ∙ next))
+    subst (IsNextTile c.args.self.now c.args.at) (sym (c.new.ensures ∙ next))
     (next_is c.args.self.now c.law.ensures c.args.at u e o (let h = c.if-next-word.true in omega (arith, next, top, h)))
 
 pub returns-else-next-word-clause-last : goal.returns-else-next-word-clause-last

@@ -14,14 +14,14 @@ overflow_add-end c =
     let at = top_at _ _ _ _ _ _ n c.top-at.ensures in
     omega (arith, at, t.room, n.size_is, c.requires.room, c.get-more.ensures.value, c.word.ensures, c.self.invariant.table.small)
 
-pub reach-requires : goal.reach-requires
-reach-requires c =
+pub zero_below-requires : goal.zero_below-requires
+zero_below-requires c =
     let (n, t) = known_top _ _ _ _ _ c.self.invariant.table c.self.view_is c.requires.known c.requires.ordinary in
     let at = top_at _ _ _ _ _ _ n c.top-at.ensures in
     omega (arith, at, t.room, n.size_is, c.requires.room, c.get-more.ensures.value, c.word.ensures)
 
 pub write_filler-requires : goal.write_filler-requires
-write_filler-requires c = omega (arith, c.word.ensures, c.get-more.ensures.positive, c.reach.ensures.written)
+write_filler-requires c = omega (arith, c.word.ensures, c.get-more.ensures.positive, c.zero_below.ensures.written)
 
 pub index-requires : goal.index-requires
 index-requires c =
@@ -58,7 +58,7 @@ invariant_of-self c =
     let w = filler_added _ _ _ _ _ c.args.size _ _ _ _ _ c.self.invariant.table c.self.view_is c.requires.known c.requires.ordinary
     c.requires.room (omega (arith, c.get-more.ensures.value, c.get-more.ensures.positive)) c.top-at.ensures
     (ap (λ (row : Row). row.used) read) c.get-more.ensures.value c.number-number.ensures
-    (rw c.reach.ensures.all at c.write_filler.ensures.all) in
+    (rw c.zero_below.ensures.all at c.write_filler.ensures.all) in
     let some : 0 < c.args.size = omega (arith, c.get-more.ensures.value, c.get-more.ensures.positive) in
     push_sound _ _ _ _ _ _ _ _ _ c.self.invariant c.self.view_is _ _ _ _ _ _ c.args.region _ _ 0 (Filler c.args.size) c.requires.known
     c.requires.ordinary some c.requires.room tt (c.word-2.ensures ∙ c.top-at.ensures) c.get-more.ensures.value
@@ -67,8 +67,8 @@ invariant_of-self c =
     (used_set _ _ _ _ (omega (arith, n.in_rows, c.number-number.ensures)) refl c.self.invariant.used_below)
     (count_kept c.self.inside.rows.items c.number-number.result _ _ (omega (arith, n.in_rows, c.number-number.ensures))
     (rw c.number-number.ensures (row_used _ _ _ _ _ n c.requires.ordinary)) refl c.self.invariant.free_is)
-    (omega (arith, c.reach.ensures.written, c.write_filler.ensures.written))
-    (omega (arith, c.word-2.ensures, c.word.ensures, c.reach.ensures.written, c.write_filler.ensures.written)) w
+    (omega (arith, c.zero_below.ensures.written, c.write_filler.ensures.written))
+    (omega (arith, c.word-2.ensures, c.word.ensures, c.zero_below.ensures.written, c.write_filler.ensures.written)) w
 
 pub returns-clause-pushed : goal.returns-clause-pushed
 returns-clause-pushed c =
@@ -76,4 +76,4 @@ returns-clause-pushed c =
     let read = row_read _ _ _ _ _ _ _ n c.number-number.ensures c.index.ensures in
     (filler_added _ _ _ _ _ c.args.size _ _ _ _ _ c.self.invariant.table c.self.view_is c.requires.known c.requires.ordinary c.requires.room
     (omega (arith, c.get-more.ensures.value, c.get-more.ensures.positive)) c.top-at.ensures (ap (λ (row : Row). row.used) read)
-    c.get-more.ensures.value c.number-number.ensures (rw c.reach.ensures.all at c.write_filler.ensures.all)).table_is
+    c.get-more.ensures.value c.number-number.ensures (rw c.zero_below.ensures.all at c.write_filler.ensures.all)).table_is

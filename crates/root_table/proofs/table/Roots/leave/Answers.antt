@@ -1,7 +1,7 @@
 use Rattle.std.proofs.Common.{◌≡◌, ◌+◌, ◌-◌, ◌++◌, ℕ, List, Option, get_or, length, set, refl, ap, subst, sym, arith, ◌∙◌}
 use Rattle.std.proofs.lemmas.List.{with_items_is}
 use Rattle.heap_model.specs.Graph.{with_nils}
-use Rattle.root_table.specs.Bounds.{IsTable}
+use Rattle.root_table.specs.Bounds.{IsRootTable}
 use Rattle.root_table.proofs.Nils.{length-nils}
 use Rattle.root_table.proofs.Apart.{frame_is_nil, frame_left, mutator_in, place_in, table_left}
 use Rattle.root_table.proofs.table.Roots.leave.Goals as goal
@@ -21,7 +21,7 @@ invariant_of-self c =
       length-nils c.self.inside.registers.items c.among_registers-first.result count,
       c.self.inside.registers.ok.0,
     ) in
-    subst (λ (ws : List (Option ℕ)). IsTable c.self.inside.places c.self.inside.globals.items ws
+    subst (λ (ws : List (Option ℕ)). IsRootTable c.self.inside.places c.self.inside.globals.items ws
     (set c.self.inside.used (c.args.mutator + 1) c.args.register))
     (sym (with_items_is c.self.inside.registers c.fill_nil.new.words len ∙ filled))
     (table_left _ _ _ _ c.args.mutator c.args.register _ c.self.invariant

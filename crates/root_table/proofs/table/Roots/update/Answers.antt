@@ -1,6 +1,6 @@
 use Rattle.std.proofs.Common.{◌≡◌, ◌++◌, ◌<◌, ◌-◌, length, set, arith, subst, sym, ap, ◌∙◌, ℕ}
 use Rattle.std.proofs.lemmas.List.{set-append_left}
-use Rattle.root_table.specs.Bounds.{IsTable}
+use Rattle.root_table.specs.Bounds.{IsRootTable}
 use Rattle.root_table.proofs.Apart.{some_in, global_updated, register_updated, later_set, set_in}
 use Rattle.root_table.proofs.table.Roots.update.Goals as goal
 
@@ -20,7 +20,7 @@ pub invariant_of-self-else-place-globals : goal.invariant_of-self-else-place-glo
 invariant_of-self-else-place-globals c = rw c.of-held.ensures (
     let count : length c.self.inside.globals.items ≡ c.len-globals.result =
     omega (arith, c.len-globals.ensures, c.self.inside.globals.ok.0) in
-    subst (λ (n : ℕ). IsTable c.self.inside.places c.self.inside.globals.items
+    subst (λ (n : ℕ). IsRootTable c.self.inside.places c.self.inside.globals.items
     (set c.self.inside.registers.items (c.args.place - n) c.args.value) c.self.inside.used) count
     (register_updated _ _ _ _ c.args.place c.args.value c.self.invariant (omega (arith, count, c.if-place-globals.false))
     (some_in _ _ c.args.place c.self.view_is c.requires)))

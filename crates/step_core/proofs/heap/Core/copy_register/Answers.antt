@@ -1,20 +1,20 @@
 use Rattle.std.proofs.Common.{◌<◌, subst, sym}
-use Rattle.heap_model.specs.Graph.{Places}
+use Rattle.heap_model.specs.Graph.{RootCounts}
 use Rattle.step_core.proofs.Cores.Keeping.{placed_in}
 use Rattle.step_core.proofs.Mutating.Setting.{register_core, register_held, register_sets, register_set_shows, register_word, sets_as}
 use Rattle.step_core.proofs.heap.Core.copy_register.Goals as goal
 
 pub copy_register-requires-clause-mutator : goal.copy_register-requires-clause-mutator
 copy_register-requires-clause-mutator c =
-    subst (λ (p : Places). c.args.mutator < p.mutators) (sym (placed_in _ _ c.self.view_is c.self.invariant)) c.requires.mutator
+    subst (λ (p : RootCounts). c.args.mutator < p.mutators) (sym (placed_in _ _ c.self.view_is c.self.invariant)) c.requires.mutator
 
 pub copy_register-requires-clause-to : goal.copy_register-requires-clause-to
 copy_register-requires-clause-to c =
-    subst (λ (p : Places). c.args.to.number < p.registers) (sym (placed_in _ _ c.self.view_is c.self.invariant)) c.requires.to
+    subst (λ (p : RootCounts). c.args.to.number < p.registers) (sym (placed_in _ _ c.self.view_is c.self.invariant)) c.requires.to
 
 pub copy_register-requires-clause-from : goal.copy_register-requires-clause-from
 copy_register-requires-clause-from c =
-    subst (λ (p : Places). c.args.from.number < p.registers) (sym (placed_in _ _ c.self.view_is c.self.invariant)) c.requires.from
+    subst (λ (p : RootCounts). c.args.from.number < p.registers) (sym (placed_in _ _ c.self.view_is c.self.invariant)) c.requires.from
 
 pub invariant_of-self : goal.invariant_of-self
 invariant_of-self c =

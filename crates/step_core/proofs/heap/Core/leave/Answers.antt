@@ -1,16 +1,16 @@
 use Rattle.std.proofs.Common.{ℕ, ◌<◌, ◌-◌, ap, subst, sym}
-use Rattle.heap_model.specs.Graph.{Places, register_place}
+use Rattle.heap_model.specs.Graph.{RootCounts, register_place}
 use Rattle.step_core.proofs.Cores.Keeping.{placed_in, register_at, registers_at}
 use Rattle.step_core.proofs.Cores.Leaving.{left_kept, left_keeps, left_leaves, left_set, left_shows}
 use Rattle.step_core.proofs.heap.Core.leave.Goals as goal
 
 pub leave-requires-clause-mutator : goal.leave-requires-clause-mutator
 leave-requires-clause-mutator c =
-    subst (λ (p : Places). c.args.mutator < p.mutators) (sym (placed_in _ _ c.self.view_is c.self.invariant)) c.requires.mutator
+    subst (λ (p : RootCounts). c.args.mutator < p.mutators) (sym (placed_in _ _ c.self.view_is c.self.invariant)) c.requires.mutator
 
 pub leave-requires-clause-register : goal.leave-requires-clause-register
 leave-requires-clause-register c =
-    subst (λ (p : Places). c.args.from.number < p.registers) (sym (placed_in _ _ c.self.view_is c.self.invariant)) c.requires.from
+    subst (λ (p : RootCounts). c.args.from.number < p.registers) (sym (placed_in _ _ c.self.view_is c.self.invariant)) c.requires.from
 
 pub invariant_of-self : goal.invariant_of-self
 invariant_of-self c = rw c.leave.ensures

@@ -1,5 +1,5 @@
 use Rattle.std.proofs.Common.{◌≡◌, ◌<◌, arith, rules, subst, sym, ap, inl}
-use Rattle.heap_model.specs.Graph.{Places}
+use Rattle.heap_model.specs.Graph.{RootCounts}
 use Rattle.step_core.proofs.Cores.Keeping.{placed_in, register_there}
 use Rattle.step_core.specs.Stands.{CoreState, ShowsGraph, KeepsFrom}
 use Rattle.step_core.proofs.Cores.Added.{creates}
@@ -59,8 +59,8 @@ returns c =
 
 pub set_register-requires-clause-mutator : goal.set_register-requires-clause-mutator
 set_register-requires-clause-mutator c =
-    subst (λ (p : Places). c.args.mutator < p.mutators) (sym (placed_in _ _ c.self.view_is c.self.invariant)) c.requires.mutator
+    subst (λ (p : RootCounts). c.args.mutator < p.mutators) (sym (placed_in _ _ c.self.view_is c.self.invariant)) c.requires.mutator
 
 pub set_register-requires-clause-register : goal.set_register-requires-clause-register
 set_register-requires-clause-register c =
-    subst (λ (p : Places). c.args.to.number < p.registers) (sym (placed_in _ _ c.self.view_is c.self.invariant)) c.requires.to
+    subst (λ (p : RootCounts). c.args.to.number < p.registers) (sym (placed_in _ _ c.self.view_is c.self.invariant)) c.requires.to

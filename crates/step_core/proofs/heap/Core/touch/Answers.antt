@@ -1,5 +1,5 @@
 use Rattle.std.proofs.Common.{◌<◌, ◌∙◌, subst, sym}
-use Rattle.heap_model.specs.Graph.{Places}
+use Rattle.heap_model.specs.Graph.{RootCounts}
 use Rattle.step_core.proofs.Cores.Keeping.{placed_in}
 use Rattle.step_core.proofs.Mutating.Logging.{saves, takes_log}
 use Rattle.step_core.proofs.Mutating.Touching.{word_kept, idle_ends, saved_ends, taken_ends}
@@ -7,11 +7,11 @@ use Rattle.step_core.proofs.heap.Core.touch.Goals as goal
 
 pub set_register-requires-clause-mutator : goal.set_register-requires-clause-mutator
 set_register-requires-clause-mutator c =
-    subst (λ (p : Places). c.args.mutator < p.mutators) (sym (placed_in _ _ c.self.view_is c.self.invariant)) c.requires.known
+    subst (λ (p : RootCounts). c.args.mutator < p.mutators) (sym (placed_in _ _ c.self.view_is c.self.invariant)) c.requires.known
 
 pub set_register-requires-clause-register : goal.set_register-requires-clause-register
 set_register-requires-clause-register c =
-    subst (λ (p : Places). c.args.to.number < p.registers) (sym (placed_in _ _ c.self.view_is c.self.invariant)) c.requires.to
+    subst (λ (p : RootCounts). c.args.to.number < p.registers) (sym (placed_in _ _ c.self.view_is c.self.invariant)) c.requires.to
 
 pub save-full-requires-clause-kept : goal.save-full-requires-clause-kept
 save-full-requires-clause-kept c = word_kept _ _ c.self.view_is c.self.invariant c.args.mutator c.args.to c.args.value.now c.requires.word _

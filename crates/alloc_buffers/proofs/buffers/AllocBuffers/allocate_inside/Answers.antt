@@ -1,7 +1,7 @@
 use Rattle.std.proofs.Common.{◌∙◌, arith}
 use Rattle.regions.proofs.Tiles.Released.{filler_short}
 use Rattle.alloc_buffers.proofs.Placed.{inside_placed}
-use Rattle.alloc_buffers.proofs.buffers.AllocBuffers.place_inside.Goals as goal
+use Rattle.alloc_buffers.proofs.buffers.AllocBuffers.allocate_inside.Goals as goal
 
 pub returns-clause-placed : goal.returns-clause-placed
 returns-clause-placed c = inside_placed _ _ _ _ _ _ _ _ _ _ _ c.self.view_is c.requires.ready.stand c.requires.ready.unmoved

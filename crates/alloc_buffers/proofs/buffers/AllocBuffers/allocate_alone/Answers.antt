@@ -1,5 +1,5 @@
 use Rattle.alloc_buffers.proofs.Placed.{alone_placed, alone_is}
-use Rattle.alloc_buffers.proofs.buffers.AllocBuffers.place_alone.Goals as goal
+use Rattle.alloc_buffers.proofs.buffers.AllocBuffers.allocate_alone.Goals as goal
 
 pub push_filler-at-requires : goal.push_filler-at-requires
 push_filler-at-requires c = let r = c.in_ok-region.ensures.room in record {

@@ -2,35 +2,35 @@
 
 ghost use Rattle.std.specs.Prelude.{◌≡◌, ◌<◌, ◌≤◌};
 ghost use Rattle.heap_model.specs.Graph as model;
-ghost use Rattle.root_table.specs.Roots.{places_of, row_start};
+ghost use Rattle.root_table.specs.Roots.{root_counts_of, row_start};
 
 use heap_words::config::Config;
 use std::marker::Model;
 
 /// How many globals a heap has, how many mutators, and how many registers each of them.
 #[derive(Clone, Copy, Debug, PartialEq, Eq)]
-pub struct Places {
+pub struct RootCounts {
     globals: u32,
     mutators: u32,
     registers: u32,
 }
 
-impl Model for Places {
+impl Model for RootCounts {
     ghost use Rattle.heap_model.specs.Graph as model;
 
-    ghost Value = { model.Places };
+    ghost Value = { model.RootCounts };
 
     ghost view = { λ p. record { globals = p.globals; mutators = p.mutators; registers = p.registers } };
 
     ghost inverse = { λ p. record { globals = p.globals; mutators = p.mutators; registers = p.registers } };
 }
 
-impl Places {
+impl RootCounts {
     /// So many globals, and so many registers for each of so many mutators.
-    pub fn new(globals: u32, mutators: u32, registers: u32) -> Places
+    pub fn new(globals: u32, mutators: u32, registers: u32) -> RootCounts
         ensures { result ≡ record { globals = globals; mutators = mutators; registers = registers } }
     {
-        Places {
+        RootCounts {
             globals,
             mutators,
             registers,
@@ -38,10 +38,10 @@ impl Places {
     }
 
     /// As many as the sizes of a heap ask for.
-    pub fn of(config: &Config) -> Places
-        ensures { result ≡ places_of config.now }
+    pub fn of(config: &Config) -> RootCounts
+        ensures { result ≡ root_counts_of config.now }
     {
-        Places::new(config.globals(), config.mutators, config.registers())
+        RootCounts::new(config.globals(), config.mutators, config.registers())
     }
 
     /// How many globals there are.

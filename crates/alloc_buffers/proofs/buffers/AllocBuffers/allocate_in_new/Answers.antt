@@ -1,7 +1,7 @@
 use Rattle.std.proofs.Common.{◌<◌, ◌≤◌, ◌∙◌, length, subst, sym, arith}
 use Rattle.alloc_buffers.specs.Placement.{Buffers}
 use Rattle.alloc_buffers.proofs.Placed.{alone_placed, in_new_is, new_placed}
-use Rattle.alloc_buffers.proofs.buffers.AllocBuffers.place_in_new.Goals as goal
+use Rattle.alloc_buffers.proofs.buffers.AllocBuffers.allocate_in_new.Goals as goal
 
 pub returns-clause-placed : goal.returns-clause-placed
 returns-clause-placed c =

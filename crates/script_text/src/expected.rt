@@ -4,9 +4,9 @@ ghost use Rattle.std.specs.Prelude.{◌≡◌, ◌+◌, ◌^◌, ◌<◌, ◌≤
 ghost use Rattle.std.specs.Prelude.{◌∷◌, [], None, if◌then◌else◌};
 ghost use Rattle.std.specs.Str.{bytes_eq};
 ghost use Rattle.heap_words.specs.declared.config.Config.{Config};
-ghost use Rattle.script_text.specs.declared.places.Place.{Place};
-ghost use Rattle.script_text.specs.Places.{actor_in, action_form, collection_form, verb_place, form_at, heap_form, fits_word, fits};
-ghost use Rattle.script_text.specs.Places.{actor_place, verb_places, step_places, first_misfit, stop_in, no_sizes, heap_stop_in};
+ghost use Rattle.script_text.specs.declared.expected.Expected.{Expected};
+ghost use Rattle.script_text.specs.Expected.{actor_in, action_form, collection_form, verb_expected, form_at, heap_form, fits_word, fits};
+ghost use Rattle.script_text.specs.Expected.{actor_expected, expected_from_verb, expected_in_step, first_misfit, stop_in, no_sizes, heap_stop_in};
 
 use crate::read::events::actor;
 use crate::read::replies::reply;
@@ -24,7 +24,7 @@ pub enum TextKind {
 
 /// What may be at a word's place in a line.
 #[derive(Clone, Copy)]
-pub(crate) enum Place {
+pub(crate) enum Expected {
     /// The count of an event.
     Count(u64),
     /// An actor of a script.
@@ -64,7 +64,7 @@ pub(crate) enum Place {
 #[derive(Clone, Copy)]
 pub(crate) struct Stop {
     pub(crate) word: u64,
-    pub(crate) place: Place,
+    pub(crate) place: Expected,
 }
 
 /// The actor of a step in a text of this kind.
@@ -86,9 +86,9 @@ fn actor_in(kind: TextKind, config: &Config, word: &[u8]) -> Option<Actor>
 }
 
 /// What may be after a mutator's verb. `None`: the word is none that the format has.
-#[tactic(auto, unfolding(crate::specs::Places::action_form))]
+#[tactic(auto, unfolding(crate::specs::Expected::action_form))]
 fn action_form(format: Format, word: &[u8]) -> Option<&'static [Operand]>
-    ensures form { option_map (λ form. map Place.Operand form.now) result ≡ action_form format word.now }
+    ensures form { option_map (λ form. map Expected.Operand form.now) result ≡ action_form format word.now }
     ensures short { IfSome result (λ form. length form.now ≤ 8) }
 {
     let Some(verb) = action_verb_in(format, word) else {
@@ -98,9 +98,9 @@ fn action_form(format: Format, word: &[u8]) -> Option<&'static [Operand]>
 }
 
 /// The same of a verb of the collector.
-#[tactic(auto, unfolding(crate::specs::Places::collection_form))]
+#[tactic(auto, unfolding(crate::specs::Expected::collection_form))]
 fn collection_form(format: Format, word: &[u8]) -> Option<&'static [Operand]>
-    ensures form { option_map (λ form. map Place.Operand form.now) result ≡ collection_form format word.now }
+    ensures form { option_map (λ form. map Expected.Operand form.now) result ≡ collection_form format word.now }
     ensures short { IfSome result (λ form. length form.now ≤ 8) }
 {
     let Some(verb) = collection_verb_in(format, word) else {
@@ -110,21 +110,21 @@ fn collection_form(format: Format, word: &[u8]) -> Option<&'static [Operand]>
 }
 
 /// Where a verb of the actor is.
-fn verb_place(actor: Actor) -> Place
-    ensures { result ≡ verb_place actor }
+fn verb_expected(actor: Actor) -> Expected
+    ensures { result ≡ verb_expected actor }
 {
     match actor {
-        Actor::Mutator(_) => Place::Action,
-        Actor::Collector => Place::Collection,
-        Actor::Marker(_) => Place::Marking,
-        Actor::Refiner(_) => Place::Refining,
+        Actor::Mutator(_) => Expected::Action,
+        Actor::Collector => Expected::Collection,
+        Actor::Marker(_) => Expected::Marking,
+        Actor::Refiner(_) => Expected::Refining,
     }
 }
 
 /// What may be after a verb that a number follows. `None`: the word is another.
 fn number_form(word: &[u8], verb: &'static [u8]) -> Option<&'static [Operand]>
-    ensures form { option_map (λ form. map Place.Operand form.now) result
-        ≡ (if bytes_eq word.now verb.now then Some (Place.Operand Operand.Small ∷ []) else None) }
+    ensures form { option_map (λ form. map Expected.Operand form.now) result
+        ≡ (if bytes_eq word.now verb.now then Some (Expected.Operand Operand.Small ∷ []) else None) }
     ensures short { IfSome result (λ form. length form.now ≤ 8) }
 {
     if is_word(word, verb) {
@@ -135,52 +135,52 @@ fn number_form(word: &[u8], verb: &'static [u8]) -> Option<&'static [Operand]>
 }
 
 /// What may be after a verb at such a place. `None`: the word is no verb there.
-fn form_at(format: Format, place: Place, verb: &[u8]) -> Option<&'static [Operand]>
-    ensures form { option_map (λ form. map Place.Operand form.now) result ≡ form_at format place verb.now }
+fn form_at(format: Format, place: Expected, verb: &[u8]) -> Option<&'static [Operand]>
+    ensures form { option_map (λ form. map Expected.Operand form.now) result ≡ form_at format place verb.now }
     ensures short { IfSome result (λ form. length form.now ≤ 8) }
 {
     match place {
-        Place::Action => action_form(format, verb),
-        Place::Collection => collection_form(format, verb),
-        Place::Marking => number_form(verb, b"mark"),
-        Place::Refining => number_form(verb, b"refine"),
+        Expected::Action => action_form(format, verb),
+        Expected::Collection => collection_form(format, verb),
+        Expected::Marking => number_form(verb, b"mark"),
+        Expected::Refining => number_form(verb, b"refine"),
         _ => None,
     }
 }
 
 /// What may be after the heap line's first word. `None`: it is no format's.
-#[tactic(auto, unfolding(crate::specs::Places::heap_form))]
-fn heap_form(verb: &[u8]) -> Option<&'static [Place]>
+#[tactic(auto, unfolding(crate::specs::Expected::heap_form))]
+fn heap_form(verb: &[u8]) -> Option<&'static [Expected]>
     ensures form { option_map (λ form. form.now) result ≡ heap_form verb.now }
     ensures short { IfSome result (λ form. length form.now ≤ 8) }
 {
     if is_word(verb, b"heap") {
         Some(&[
-            Place::Regions,
-            Place::RegionWords,
-            Place::Buffer,
-            Place::Mutators,
-            Place::FirstName,
+            Expected::Regions,
+            Expected::RegionWords,
+            Expected::Buffer,
+            Expected::Mutators,
+            Expected::FirstName,
         ])
     } else if is_word(verb, b"heap2") {
         Some(&[
-            Place::Regions,
-            Place::RegionWords,
-            Place::Buffer,
-            Place::Mutators,
-            Place::FirstName,
-            Place::Card,
+            Expected::Regions,
+            Expected::RegionWords,
+            Expected::Buffer,
+            Expected::Mutators,
+            Expected::FirstName,
+            Expected::Card,
         ])
     } else if is_word(verb, b"heap3") {
         Some(&[
-            Place::Regions,
-            Place::RegionWords,
-            Place::Buffer,
-            Place::Mutators,
-            Place::FirstName,
-            Place::Card,
-            Place::Globals,
-            Place::Registers,
+            Expected::Regions,
+            Expected::RegionWords,
+            Expected::Buffer,
+            Expected::Mutators,
+            Expected::FirstName,
+            Expected::Card,
+            Expected::Globals,
+            Expected::Registers,
         ])
     } else {
         None
@@ -189,7 +189,7 @@ fn heap_form(verb: &[u8]) -> Option<&'static [Place]>
 
 /// Whether a word is such an operand, in heaps of these sizes.
 fn is_operand(config: &Config, kind: Operand, word: &[u8]) -> bool
-    ensures { result ≡ fits_word config.now (Place.Operand kind) word.now }
+    ensures { result ≡ fits_word config.now (Expected.Operand kind) word.now }
 {
     match operand(kind, word) {
         Some(number) => kind.has_root(config, number),
@@ -199,7 +199,7 @@ fn is_operand(config: &Config, kind: Operand, word: &[u8]) -> bool
 
 /// Whether a word is this number.
 fn is_count(count: u64, word: &[u8]) -> bool
-    ensures { (config : Config) → result ≡ fits_word config (Place.Count count) word.now }
+    ensures { (config : Config) → result ≡ fits_word config (Expected.Count count) word.now }
 {
     match number(word, u64::MAX) {
         Some(number) => number == count,
@@ -208,35 +208,35 @@ fn is_count(count: u64, word: &[u8]) -> bool
 }
 
 /// Whether a word may be at a place.
-fn fits_word(config: &Config, place: Place, word: &[u8]) -> bool
+fn fits_word(config: &Config, place: Expected, word: &[u8]) -> bool
     ensures { result ≡ fits_word config.now place word.now }
 {
     match place {
-        Place::Count(count) => is_count(count, word),
-        Place::ScriptActor => actor_in(TextKind::Script, config, word).is_some(),
-        Place::RecordActor => actor_in(TextKind::Record, config, word).is_some(),
-        Place::Operand(kind) => is_operand(config, kind, word),
-        Place::FirstName => number(word, u64::MAX).is_some(),
-        Place::Equals => is_word(word, b"="),
-        Place::Heap => heap_form(word).is_some(),
-        Place::Action => action_form(config.format, word).is_some(),
-        Place::Collection => collection_form(config.format, word).is_some(),
-        Place::Marking => is_word(word, b"mark"),
-        Place::Refining => is_word(word, b"refine"),
-        Place::Reply | Place::End => false,
+        Expected::Count(count) => is_count(count, word),
+        Expected::ScriptActor => actor_in(TextKind::Script, config, word).is_some(),
+        Expected::RecordActor => actor_in(TextKind::Record, config, word).is_some(),
+        Expected::Operand(kind) => is_operand(config, kind, word),
+        Expected::FirstName => number(word, u64::MAX).is_some(),
+        Expected::Equals => is_word(word, b"="),
+        Expected::Heap => heap_form(word).is_some(),
+        Expected::Action => action_form(config.format, word).is_some(),
+        Expected::Collection => collection_form(config.format, word).is_some(),
+        Expected::Marking => is_word(word, b"mark"),
+        Expected::Refining => is_word(word, b"refine"),
+        Expected::Reply | Expected::End => false,
         _ => small_number(word).is_some(),
     }
 }
 
 /// Whether the words that are left may come from a place on.
-fn fits(config: &Config, place: Place, words: &[&[u8]]) -> bool
+fn fits(config: &Config, place: Expected, words: &[&[u8]]) -> bool
     ensures { result ≡ fits config.now place (map (λ w. w.now) words.now) }
 {
     let [word, ..] = words else {
-        return matches!(place, Place::End);
+        return matches!(place, Expected::End);
     };
     match place {
-        Place::Reply => reply(words).is_some(),
+        Expected::Reply => reply(words).is_some(),
         _ => fits_word(config, place, word),
     }
 }
@@ -245,13 +245,13 @@ fn fits(config: &Config, place: Place, words: &[&[u8]]) -> bool
 fn first_misfit<'a, 'b>(
     config: &Config,
     from: u64,
-    places: &[Place],
+    places: &[Expected],
     words: &'b [&'a [u8]],
 ) -> Result<&'b [&'a [u8]], Stop>
     requires { from + length places.now < 2 ^ 64 }
-    ensures stops { IfErr result (λ stop. (more : List Place) → first_misfit config.now from (places.now ++ more)
+    ensures stops { IfErr result (λ stop. (more : List Expected) → first_misfit config.now from (places.now ++ more)
         (map (λ w. w.now) words.entry.now) ≡ Some stop) }
-    ensures passes { IfOk result (λ left. (more : List Place) → first_misfit config.now from (places.now ++ more)
+    ensures passes { IfOk result (λ left. (more : List Expected) → first_misfit config.now from (places.now ++ more)
         (map (λ w. w.now) words.entry.now) ≡ first_misfit config.now (from + length places.now) more (map (λ w. w.now) left.now)) }
 {
     let mut left = words;
@@ -277,15 +277,15 @@ fn first_operand_misfit<'a, 'b>(
     words: &'b [&'a [u8]],
 ) -> Result<&'b [&'a [u8]], Stop>
     requires { from + length form.now < 2 ^ 64 }
-    ensures stops { IfErr result (λ stop. (more : List Place) → first_misfit config.now from (map Place.Operand form.now ++ more)
+    ensures stops { IfErr result (λ stop. (more : List Expected) → first_misfit config.now from (map Expected.Operand form.now ++ more)
         (map (λ w. w.now) words.entry.now) ≡ Some stop) }
-    ensures passes { IfOk result (λ left. (more : List Place) → first_misfit config.now from (map Place.Operand form.now ++ more)
+    ensures passes { IfOk result (λ left. (more : List Expected) → first_misfit config.now from (map Expected.Operand form.now ++ more)
         (map (λ w. w.now) words.entry.now) ≡ first_misfit config.now (from + length form.now) more (map (λ w. w.now) left.now)) }
 {
     let mut left = words;
     let mut word = from;
     'form: for kind in form {
-        let place = Place::Operand(*kind);
+        let place = Expected::Operand(*kind);
         if !fits(config, place, left) {
             return Err(Stop { word, place });
         }
@@ -306,17 +306,17 @@ fn behind_first<'a, 'b>(words: &'b [&'a [u8]]) -> &'b [&'a [u8]]
 }
 
 /// The place of an actor.
-fn actor_place(kind: TextKind) -> Place
-    ensures { result ≡ actor_place kind }
+fn actor_expected(kind: TextKind) -> Expected
+    ensures { result ≡ actor_expected kind }
 {
     match kind {
-        TextKind::Script => Place::ScriptActor,
-        TextKind::Record => Place::RecordActor,
+        TextKind::Script => Expected::ScriptActor,
+        TextKind::Record => Expected::RecordActor,
     }
 }
 
 /// The first of a line's last places at which the words that are left don't fit.
-fn last_stop(config: &Config, from: u64, end: &[Place], words: &[&[u8]]) -> Option<Stop>
+fn last_stop(config: &Config, from: u64, end: &[Expected], words: &[&[u8]]) -> Option<Stop>
     requires { from + length end.now < 2 ^ 64 }
     ensures { result ≡ first_misfit config.now from end.now (map (λ w. w.now) words.now) }
 {
@@ -331,11 +331,11 @@ fn form_stop(
     config: &Config,
     from: u64,
     form: &[Operand],
-    end: &[Place],
+    end: &[Expected],
     words: &[&[u8]],
 ) -> Option<Stop>
     requires { from + length form.now + length end.now < 2 ^ 64 }
-    ensures { result ≡ first_misfit config.now from (map Place.Operand form.now ++ end.now) (map (λ w. w.now) words.now) }
+    ensures { result ≡ first_misfit config.now from (map Expected.Operand form.now ++ end.now) (map (λ w. w.now) words.now) }
 {
     match first_operand_misfit(config, from, form, words) {
         Err(stop) => Some(stop),
@@ -349,13 +349,13 @@ fn verb_stop(
     actor: Actor,
     from: u64,
     words: &[&[u8]],
-    end: &[Place],
+    end: &[Expected],
 ) -> Option<Stop>
     requires { from + 9 + length end.now < 2 ^ 64 }
-    ensures { result ≡ first_misfit config.now from (verb_places config.now (Some actor) (map (λ w. w.now) words.now) end.now)
+    ensures { result ≡ first_misfit config.now from (expected_from_verb config.now (Some actor) (map (λ w. w.now) words.now) end.now)
         (map (λ w. w.now) words.now) }
 {
-    let place = verb_place(actor);
+    let place = verb_expected(actor);
     let [verb, rest @ ..] = words else {
         return Some(Stop { word: from, place });
     };
@@ -371,13 +371,13 @@ fn step_stop(
     config: &Config,
     from: u64,
     words: &[&[u8]],
-    end: &[Place],
+    end: &[Expected],
 ) -> Option<Stop>
     requires { from + 10 + length end.now < 2 ^ 64 }
-    ensures { result ≡ first_misfit config.now from (step_places kind config.now (map (λ w. w.now) words.now) end.now)
+    ensures { result ≡ first_misfit config.now from (expected_in_step kind config.now (map (λ w. w.now) words.now) end.now)
         (map (λ w. w.now) words.now) }
 {
-    let place = actor_place(kind);
+    let place = actor_expected(kind);
     let [word, rest @ ..] = words else {
         return Some(Stop { word: from, place });
     };
@@ -392,14 +392,14 @@ pub(crate) fn stop_in(kind: TextKind, config: &Config, count: u64, words: &[&[u8
     ensures { (all : List (List ℕ)) → map (λ w. w.now) words.now ≡ take 12 all → result ≡ stop_in kind config.now count all }
 {
     match kind {
-        TextKind::Script => step_stop(kind, config, 1, words, &[Place::End]),
+        TextKind::Script => step_stop(kind, config, 1, words, &[Expected::End]),
         TextKind::Record => {
-            let place = Place::Count(count);
+            let place = Expected::Count(count);
             if !fits(config, place, words) {
                 return Some(Stop { word: 1, place });
             }
             let rest = behind_first(words);
-            step_stop(kind, config, 2, rest, &[Place::Equals, Place::Reply])
+            step_stop(kind, config, 2, rest, &[Expected::Equals, Expected::Reply])
         }
     }
 }
@@ -426,17 +426,17 @@ pub(crate) fn heap_stop_in(words: &[&[u8]]) -> Option<Stop>
     let [verb, rest @ ..] = words else {
         return Some(Stop {
             word: 1,
-            place: Place::Heap,
+            place: Expected::Heap,
         });
     };
     let Some(form) = heap_form(verb) else {
         return Some(Stop {
             word: 1,
-            place: Place::Heap,
+            place: Expected::Heap,
         });
     };
     match first_misfit(&config, 2, form, rest) {
         Err(stop) => Some(stop),
-        Ok(left) => last_stop(&config, 2 + form.len() as u64, &[Place::End], left),
+        Ok(left) => last_stop(&config, 2 + form.len() as u64, &[Expected::End], left),
     }
 }
