@@ -5,7 +5,7 @@ use Rattle.heap_model.specs.Heap.{Heap, Stored, IsClosed, fields, with_field}
 use Rattle.heap_model.specs.Relocation.{IsMoved}
 use Rattle.heap_model.specs.Evacuation.{IsEvacuating, IsReached, place_after}
 use Rattle.regions.specs.Tiles.{Object, tile_size}
-use Rattle.object_copy.specs.CopiesAndForwards.{Destinations}
+use Rattle.object_copy.specs.Copies.{Destinations}
 use Rattle.refinement.specs.Remembering.{field_word}
 use Rattle.evacuation.specs.Evacuates.{words_at}
 

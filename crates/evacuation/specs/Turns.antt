@@ -11,7 +11,7 @@ use Rattle.regions.specs.Shaped.{IsShaped}
 use Rattle.regions.specs.declared.row.Kind.TheVariants as kinds
 use Rattle.mark_bitmap.specs.Tops.{Tops}
 use Rattle.mark_bitmap.specs.Kept.{MarksObjects, heap_in, kept_in}
-use Rattle.object_copy.specs.CopiesAndForwards.{Destinations}
+use Rattle.object_copy.specs.Copies.{Destinations}
 use Rattle.evacuation.specs.Evacuates.{AreReachedWords, IsSameBut, stored_words}
 use Rattle.refinement.specs.Remembering.{field_word}
 use Rattle.evacuation.specs.Space.{Layout, Plan, Space, AllVisited, IsAfter, IsCopying, IsPlan, IsSettled, IsDestination, flag, set_of}

@@ -15,7 +15,7 @@ use Rattle.regions.proofs.Tiles.Placing.{Pushed, filler_push, ordinary_at}
 use Rattle.regions.proofs.Words.Sizes.{EachForwardedIn-set, EachForwardedIn-at, EachForwarded-append, EachForwarded-replace}
 use Rattle.regions.proofs.Tiles.TileLaws.{Forwards, object_forwarded}
 use Rattle.regions.proofs.Tiles.Totals.{used_same, total-replace}
-use Rattle.object_copy.specs.CopiesAndForwards.{Destinations, Opens, CopiesAndForwards, CopiesObject}
+use Rattle.object_copy.specs.Copies.{Destinations, Opens, CopiesAndForwards, CopiesObject}
 use Rattle.object_copy.proofs.Frees.{same_free}
 use Rattle.object_copy.proofs.Opened.{Opened, opened, opened_moved}
 

@@ -7,7 +7,7 @@ use Rattle.regions.specs.Table.{used_of, EachForwardedIn, with_region, free_coun
 use Rattle.regions.specs.declared.row.Kind.TheVariants as kinds
 use Rattle.regions.proofs.Tiles.Placing.{region_taken}
 use Rattle.regions.proofs.Words.Sizes.{EachForwardedIn-set}
-use Rattle.object_copy.specs.CopiesAndForwards.{Destinations, Opens, OpensLowest, fill_of}
+use Rattle.object_copy.specs.Copies.{Destinations, Opens, OpensLowest, fill_of}
 use Rattle.object_copy.proofs.Frees.{fewer_free}
 
 -- what that changes: a free region may be ordinary now

@@ -1,1 +1,1 @@
-pub mod CopiesAndForwards
+pub mod Copies

@@ -4,7 +4,7 @@ ghost use Rattle.std.specs.Prelude.{◌≡◌, ◌≢◌, ℕ, ◌≤◌, ◌<�
 ghost use Rattle.heap_model.specs.Heap.{Stored};
 ghost use Rattle.regions.specs.Table.{kind_of, object_at, object_words, EachForwardedIn, free_count};
 ghost use Rattle.regions.specs.declared.row.Kind.TheVariants as kinds;
-ghost use Rattle.object_copy.specs.CopiesAndForwards.{fill_of, CanTake, OpensLowest, Opens, CopiesAndForwards, CopiesObject};
+ghost use Rattle.object_copy.specs.Copies.{fill_of, CanTake, OpensLowest, Opens, CopiesAndForwards, CopiesObject};
 
 use crate::destinations::Destinations;
 use heap_words::addr::{Addr, RegionNo};

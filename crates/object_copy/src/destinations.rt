@@ -1,7 +1,7 @@
 //! The regions that copies go to.
 
 ghost use Rattle.std.specs.Prelude.{◌≡◌, ◌<◌, ◌+◌, ◌^◌, ◌∷◌, [], ◌++◌, IfOk, Some, length, slice_get};
-ghost use Rattle.object_copy.specs.CopiesAndForwards.{no_destinations};
+ghost use Rattle.object_copy.specs.Copies.{no_destinations};
 
 use heap_words::addr::RegionNo;
 use std::alloc::{AllocError, Global};
@@ -19,7 +19,7 @@ pub struct Destinations {
 
 impl Model for Destinations {
     ghost use Rattle.std.specs.Prelude.{◌≤◌, ◌-◌, take, vec_len};
-    ghost use Rattle.object_copy.specs.CopiesAndForwards.{Destinations};
+    ghost use Rattle.object_copy.specs.Copies.{Destinations};
 
     ghost Value = { Destinations };
 

@@ -10,14 +10,14 @@ use Rattle.regions.specs.Shaped.{IsShaped}
 use Rattle.regions.specs.declared.row.Kind.TheVariants as kinds
 use Rattle.regions.proofs.Words.Sizes.{EachForwardedIn-imp}
 use Rattle.refinement.proofs.Holders.{object_within}
-use Rattle.object_copy.specs.CopiesAndForwards.{Destinations, CanTake, CopiesAndForwards, CopiesObject, fill_of}
+use Rattle.object_copy.specs.Copies.{Destinations, CanTake, CopiesAndForwards, CopiesObject, fill_of}
 use Rattle.object_copy.proofs.Copied as copied
 use Rattle.evacuation.specs.Space.{CopiesTo, HasCopyRoom, IsNamed, filled}
 use Rattle.evacuation.specs.Turns.{Pause, IsPause, IsTurn, After, all_words, in_set, kept_now, layout, plan, space}
-use Rattle.evacuation.proofs.CopiesAndForwards.LeftWords.{left_has}
+use Rattle.evacuation.proofs.Copies.LeftWords.{left_has}
 use Rattle.evacuation.proofs.Turns.KeptObjects.{kept_object, object_of}
-use Rattle.evacuation.proofs.CopiesAndForwards.ObjectCopied.{named_object, named_small, copied_copying, copied_after, frame}
-use Rattle.evacuation.proofs.CopiesAndForwards.TableCopied.{copies_to, copy_stays, copy_taken, filled_is}
+use Rattle.evacuation.proofs.Copies.ObjectCopied.{named_object, named_small, copied_copying, copied_after, frame}
+use Rattle.evacuation.proofs.Copies.TableCopied.{copies_to, copy_stays, copy_taken, filled_is}
 
 positive : (words free : ℕ) → 0 < free * words → 0 < free
 positive words zero h = omega arith

@@ -5,10 +5,10 @@ use Rattle.std.proofs.Common.{sym, ap, subst, inl, inr, arith, length-append}
 use Rattle.std.specs.Prelude.{slice_get}
 use Rattle.std.proofs.lemmas.Bool.{cases_eq}
 use Rattle.heap_model.specs.Heap.{Heap, Stored, fields}
-use Rattle.heap_model.specs.Evacuation.{IsEvacuating, CopiesAndForwards}
+use Rattle.heap_model.specs.Evacuation.{IsEvacuating, Copies}
 use Rattle.heap_model.proofs.Lists.{get-push_last, get_kept-append}
 use Rattle.heap_model.proofs.Evacuated as evacuated
-use Rattle.object_copy.specs.CopiesAndForwards.{Destinations}
+use Rattle.object_copy.specs.Copies.{Destinations}
 use Rattle.evacuation.specs.Evacuates.{stored_words, words_at}
 use Rattle.evacuation.specs.Space.{Layout, Plan, Space, IsPlan, IsCopying, IsDestination, IsTally, IsNamed, IsAfter, CopiesTo, GoesOn}
 use Rattle.evacuation.specs.Space.{TakesNext, HasCopyRoom, AreFilled, AreSpared, filled, set_of, seen_as, words_of}
@@ -129,7 +129,7 @@ module _ (l : Layout) (p : Plan) (s s' : Space) (d d' : Destinations) (from to :
     }
   ]
 
-  copies : CopiesAndForwards (set_of l) s.forward s'.forward (seen_as s p.heap) (seen_as s' p.heap) from to x
+  copies : Copies (set_of l) s.forward s'.forward (seen_as s p.heap) (seen_as s' p.heap) from to x
   copies = record {
     inside = n.inside;
     outside = to_outside;

@@ -12,14 +12,14 @@ use Rattle.regions.specs.Shaped.{IsShaped}
 use Rattle.regions.specs.declared.row.Kind.TheVariants as kinds
 use Rattle.regions.proofs.Words.Divides.{div_is}
 use Rattle.refinement.proofs.Holders.{object_within}
-use Rattle.object_copy.specs.CopiesAndForwards.{Destinations, CopiesAndForwards, CopiesObject, OpensLowest, fill_of}
+use Rattle.object_copy.specs.Copies.{Destinations, CopiesAndForwards, CopiesObject, OpensLowest, fill_of}
 use Rattle.object_copy.proofs.Frees.{free_by_kind}
 use Rattle.object_copy.proofs.Copied.{copied_moved}
 use Rattle.regions.proofs.Tiles.Placing as placing
 use Rattle.evacuation.specs.Space.{CopiesTo, GoesOn, TakesNext, IsDestination, filled, flag, words_of}
 use Rattle.evacuation.specs.Turns.{Pause, IsPause, IsTurn, TableStays, all_words, in_set, kept_now, layout, space}
-use Rattle.evacuation.proofs.CopiesAndForwards.LeftWords.{left_less}
-use Rattle.evacuation.proofs.CopiesAndForwards.ObjectCopied.{taken_by}
+use Rattle.evacuation.proofs.Copies.LeftWords.{left_less}
+use Rattle.evacuation.proofs.Copies.ObjectCopied.{taken_by}
 use Rattle.evacuation.proofs.Turns.KeptObjects.{kept_as, kept_none, kept_object, kept_fresh, object_of, cases_free}
 
 pub filled_is : (p : Pause) (t : Table) (w : Option ℕ) → filled (space p t) w ≡ fill_of t w

@@ -3,7 +3,7 @@ use Rattle.std.proofs.Common.{◌≡◌, ℕ, ◌<◌, Bool, true, false, List, 
 use Rattle.std.specs.Prelude.{slice_get}
 use Rattle.heap_model.specs.Heap.{Stored, fields}
 use Rattle.regions.specs.Table.{Table, moved_to, fields_at, set_field, tile_in}
-use Rattle.object_copy.specs.CopiesAndForwards.{Destinations}
+use Rattle.object_copy.specs.Copies.{Destinations}
 use Rattle.refinement.specs.Remembering.{field_word}
 use Rattle.evacuation.specs.Space.{IsOutsideSet, IsField, IsFieldClean, IsFieldSettled, IsNamed, IsCardNoted, NotesWord, WritesField}
 use Rattle.evacuation.specs.Turns.{Pause, IsPause, IsTurn, After, in_set, kept_now, layout, plan, space}

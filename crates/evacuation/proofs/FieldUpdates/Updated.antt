@@ -9,11 +9,11 @@ use Rattle.heap_model.specs.Evacuation.{IsReached, ByRootWord, ByOutside, ByInsi
 use Rattle.heap_model.proofs.Fields.{IsFieldSet, field_set}
 use Rattle.heap_model.proofs.Lists.{get-set_same, get-set_other}
 use Rattle.heap_model.proofs.Evacuated.{field_reached, field_updated}
-use Rattle.object_copy.specs.CopiesAndForwards.{Destinations}
+use Rattle.object_copy.specs.Copies.{Destinations}
 use Rattle.refinement.specs.Remembering.{field_word}
 use Rattle.evacuation.specs.Space.{Layout, Plan, Space, WritesField, IsPlan, IsCopying, IsNamed, IsAfter, IsSpaceObject, IsSettled}
 use Rattle.evacuation.specs.Space.{IsUpdated, IsFieldSettled, NotesWord, filled, set_of, seen_as}
-use Rattle.evacuation.proofs.CopiesAndForwards.ObjectCopied.{same_evacuating, same_tally}
+use Rattle.evacuation.proofs.Copies.ObjectCopied.{same_evacuating, same_tally}
 
 -- what is reached stands there
 pub reached_kept : (set : ℕ → Bool) (h : Heap) → IsClosed h → (a : ℕ) → IsReached set h a → (x : Stored) × (h.kept a ≡ Some x)

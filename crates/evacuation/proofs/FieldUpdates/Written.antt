@@ -10,13 +10,13 @@ use Rattle.regions.specs.declared.row.Kind.TheVariants as kinds
 use Rattle.regions.proofs.Words.FieldAccess.{set_field-is}
 use Rattle.regions.proofs.Tiles.Changes.{WritesObject, field_put, field_size, field_weaks, object_same}
 use Rattle.regions.proofs.Tiles.Kept.{put_object-moved}
-use Rattle.object_copy.specs.CopiesAndForwards.{Destinations}
+use Rattle.object_copy.specs.Copies.{Destinations}
 use Rattle.object_copy.proofs.Frees.{free_by_kind, same_free}
 use Rattle.object_copy.proofs.Copied.{tile_of_object}
 use Rattle.evacuation.specs.Evacuates.{IsSameBut}
 use Rattle.evacuation.specs.Space.{WritesField, IsDestination}
 use Rattle.evacuation.specs.Turns.{Pause, IsPause, IsTurn, TableStays, all_words, in_set, kept_now, space}
-use Rattle.evacuation.proofs.CopiesAndForwards.LeftWords.{left_same}
+use Rattle.evacuation.proofs.Copies.LeftWords.{left_same}
 use Rattle.evacuation.proofs.Turns.KeptObjects.{kept_as, kept_object, kept_some}
 
 module _ (p : Pause) (q : IsPause p) (t t' : Table) (d : Destinations) (turn : IsTurn p t d)

@@ -8,7 +8,7 @@ use Rattle.regions.specs.Tiles.{Object}
 use Rattle.regions.specs.Table.{Table, kind_of, used_of, top_of, tile_in}
 use Rattle.regions.specs.Shaped.{IsShaped}
 use Rattle.regions.specs.declared.row.Kind.TheVariants as kinds
-use Rattle.object_copy.specs.CopiesAndForwards.{Destinations}
+use Rattle.object_copy.specs.Copies.{Destinations}
 use Rattle.object_copy.proofs.Copied.{tile_of_object}
 use Rattle.evacuation.specs.Space.{IsSpaceObject, IsObjectSettled, IsRegionSettled, IsDestination, flag}
 use Rattle.evacuation.specs.Turns.{Pause, IsPause, IsTurn, PauseStands, PauseGoesOn, in_set, kept_now, layout, space}

@@ -14,7 +14,7 @@ use Rattle.regions.specs.Walks.{IsHolder, IsPlacedTile}
 use Rattle.regions.specs.Shaped.{IsShaped}
 use Rattle.regions.proofs.Words.Divides.{card_has_words, card_within, card_region, div_low, div_high}
 use Rattle.regions.proofs.Tiles.Holders.{holder_onward, holder_below, one_holder}
-use Rattle.object_copy.specs.CopiesAndForwards.{Destinations}
+use Rattle.object_copy.specs.Copies.{Destinations}
 use Rattle.object_copy.proofs.Copied.{tile_of_object}
 use Rattle.refinement.specs.Remembering.{field_word}
 use Rattle.refinement.proofs.Holders.{word_holder}

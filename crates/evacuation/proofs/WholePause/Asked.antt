@@ -25,7 +25,7 @@ use Rattle.refinement.specs.Remembering.{IsCrossing, field_word}
 use Rattle.regions.proofs.Words.Divides.{card_has_words, card_region, div_is, div_low, div_high}
 use Rattle.regions.proofs.Tiles.Holders.{holder_start}
 use Rattle.refinement.proofs.Holders.{word_holder}
-use Rattle.object_copy.specs.CopiesAndForwards.{no_destinations}
+use Rattle.object_copy.specs.Copies.{no_destinations}
 use Rattle.evacuation.specs.Evacuates.{Layers, CanEvacuate, IsLiveRow, is_chosen, stored_words}
 use Rattle.evacuation.specs.Space.{AllVisited, flag}
 use Rattle.evacuation.specs.Turns.{Pause, IsPause, IsTurn, PauseStands, AreVisited, kept_now, layout, left_words, plan}
@@ -33,7 +33,7 @@ use Rattle.evacuation.specs.declared.room.Context.{Context}
 use Rattle.evacuation.proofs.Turns.KeptObjects.{kept_object}
 use Rattle.evacuation.proofs.Lists.{get_below}
 use Rattle.evacuation.proofs.WholePause.Beginning.{no_tile, start_turn}
-use Rattle.evacuation.proofs.CopiesAndForwards.LeftWords.{left_window, words_from, left_two, left_zero}
+use Rattle.evacuation.proofs.Copies.LeftWords.{left_window, words_from, left_two, left_zero}
 
 -- live bounds, added up row by row
 abbrev bounds : List LiveRow → ℕ

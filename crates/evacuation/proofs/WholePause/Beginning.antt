@@ -13,7 +13,7 @@ use Rattle.regions.specs.Tiles.{Filler}
 use Rattle.regions.specs.declared.row.Kind.TheVariants as kinds
 use Rattle.regions.proofs.Tiles.ForwardedLaws.{moved_in}
 use Rattle.regions.proofs.Words.Sizes.{EachForwardedIn-imp}
-use Rattle.object_copy.specs.CopiesAndForwards.{no_destinations}
+use Rattle.object_copy.specs.Copies.{no_destinations}
 use Rattle.object_copy.proofs.Frees.{free_by_kind}
 use Rattle.object_copy.proofs.Copied.{tile_of_object}
 use Rattle.evacuation.specs.Space.{IsDestination, flag}

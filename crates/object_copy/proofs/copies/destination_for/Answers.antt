@@ -1,7 +1,7 @@
 use Rattle.std.proofs.Common.{◌≡◌, ◌∙◌, ℕ, sym, ap, arith, ◌<◌, ◌+◌, leb, false, inl, inr}
 use Rattle.std.proofs.lemmas.Bool.Decides.{leb_tells}
 use Rattle.regions.specs.Table.{used_of}
-use Rattle.object_copy.specs.CopiesAndForwards.{fill_of}
+use Rattle.object_copy.specs.Copies.{fill_of}
 use Rattle.object_copy.proofs.Opened.{taken_opens}
 use Rattle.object_copy.proofs.copies.destination_for.Goals as goal
 use Rattle.object_copy.proofs.copies.destination_for.Goals.{in-Some+else-has_room, in_default}

@@ -1,5 +1,5 @@
 use Rattle.std.proofs.Common.{◌≡◌, ◌*◌, ◌∙◌, ℕ, refl, arith, ap}
-use Rattle.object_copy.specs.CopiesAndForwards.{Destinations}
+use Rattle.object_copy.specs.Copies.{Destinations}
 use Rattle.region_tests.specs.Copied.{copied}
 use Rattle.region_tests.proofs.CopySamples.{can_copy, stored_there}
 use Rattle.region_tests.proofs.copies.copies_to_the_lowest_free_region.Goals as goal

@@ -1,5 +1,5 @@
 use Rattle.std.proofs.Common.{◌∙◌, arith, ap}
-use Rattle.object_copy.specs.CopiesAndForwards.{Destinations}
+use Rattle.object_copy.specs.Copies.{Destinations}
 use Rattle.region_tests.specs.Copied.{copied}
 use Rattle.region_tests.proofs.CopySamples.{can_copy, has_slot, stored_there}
 use Rattle.region_tests.proofs.copies.copies_weak_slots.Goals as goal
