@@ -36,4 +36,4 @@ pub mod laws;
 pub mod placement;
 
 pub use buffers::{AllocBuffers, Buffer};
-pub use placement::{Full, Allocation};
+pub use placement::{Allocation, Full};

@@ -6,7 +6,8 @@ ghost use Rattle.heap_words.specs.Configs.{max_object_words};
 ghost use Rattle.regions.specs.Table.{used_of, kind_of, tile_in, push_tile, replace_tile, remainder};
 ghost use Rattle.regions.specs.Tiles.{Filler};
 ghost use Rattle.regions.specs.declared.row.Kind.TheVariants as kinds;
-ghost use Rattle.alloc_buffers.specs.Placement.{room_for, allocation_of, small_allocation_of, run_count, CanAllocate, IsAllocated, IsAllocation, HasRoom};
+ghost use Rattle.alloc_buffers.specs.Placement.{room_for, allocation_of, small_allocation_of, run_count, CanAllocate, IsAllocated};
+ghost use Rattle.alloc_buffers.specs.Placement.{IsAllocation, HasRoom};
 ghost use Rattle.alloc_buffers.specs.Placement.{in_buffer, alone, in_new_buffer, with_buffer};
 ghost use Rattle.alloc_buffers.specs.OpenBuffers.{buffer_of};
 
@@ -89,7 +90,12 @@ impl AllocBuffers {
     /// buffer, and no object changed. A humongous one's is the lowest run of free regions that it needs, and nothing
     /// changed: buffers stay open.
     #[inline(always)]
-    pub fn allocate(&mut self, table: &mut RegionTable, mutator: u32, size: u32) -> Result<Allocation, Full>
+    pub fn allocate(
+        &mut self,
+        table: &mut RegionTable,
+        mutator: u32,
+        size: u32,
+    ) -> Result<Allocation, Full>
         requires mutator { mutator < length self.old.open_buffers }
         requires within { size ≤ length table.old.regions * table.old.words_per_region }
         requires small { size ≤ max_object_words }

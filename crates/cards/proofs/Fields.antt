@@ -68,7 +68,8 @@ stays_view s t v m c now view clean known is short flags logs queue =
     rw (flags, logs, queue, dirtied_short v m c now clean known is short)
     (ap (λ (u : Cards). record { dirty = set u.dirty c true; logs = set u.logs m now; queue = u.queue }) view)
 
-pub IsCardTable-dirtied : (s t : Inside) (v : Cards) (m c : ℕ) → cards_of s ≡ v → IsCardTable s → cards_of t ≡ dirtied v m c → m < length v.logs
+pub IsCardTable-dirtied : (s t : Inside) (v : Cards) (m c : ℕ) → cards_of s ≡ v → IsCardTable s → cards_of t ≡ dirtied v m c
+    → m < length v.logs
     → c < length v.dirty → deque_capacity t.queue ≡ deque_capacity s.queue → IsCardTable t
 IsCardTable-dirtied s t v m c view sound after known h queue =
     let all : IsCounted v = subst IsCounted view sound.cards in

@@ -88,7 +88,8 @@ module _ (c : CoreState) (m size : ℕ) (small : 2 * size ≤ c.table.words_per_
   b = c.buffers
 
   placed : allocation_of t b m size ≡ allocation_by t b m size (slice_index_or b.open_buffers m None)
-  placed = ap (λ (q : Bool). if q then small_allocation_of t b m size else run_allocation_of t b size) (le-leb (2 * size) t.words_per_region small)
+  placed = ap (λ (q : Bool). if q then small_allocation_of t b m size else run_allocation_of t b size) (le-leb (2 * size)
+      t.words_per_region small)
 
   fits_by : (o : Option Placement) → allocation_of t b m size ≡ o → IsFitting t o → FitsOpen c m size
   fits_by o e f = record { place = f.place; is = e ∙ f.is; free = f.free }

@@ -107,7 +107,8 @@ module _ (c : CoreState) where
       count = run_count c.table.words_per_region size
 
       placed : allocation_of c.table c.buffers op.mutator size ≡ in_run c.table c.buffers count (first_run is_free count c.table.regions)
-      placed = ap (λ (q : Bool). if q then small_allocation_of c.table c.buffers op.mutator size else run_allocation_of c.table c.buffers size)
+      placed = ap (λ (q : Bool). if q then small_allocation_of c.table c.buffers op.mutator size else run_allocation_of c.table c.buffers
+          size)
           (lt-leb (2 * size) c.table.words_per_region large)
 
       go : (o : Option ℕ) → first_run is_free count c.table.regions ≡ o → ⊥

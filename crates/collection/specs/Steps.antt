@@ -61,7 +61,8 @@ pub record IsCollectors (e : Event) : Type 0 where
 
 -- The collector took steps, so many at most, and the watch saw them. From each state that the core stood for they lead on to one
 -- that it stands for, through states and cores between. Where two regions were free, two are; the sizes stay, and no name is given
-pub record CollectsWithin {W : Type 0} (sees : W → Event → W → Type 0) (most : ℕ) (c : CoreState) (x : W) (c' : CoreState) (x' : W) : Type 0 where
+pub record CollectsWithin {W : Type 0} (sees : W → Event → W → Type 0) (most : ℕ) (c : CoreState) (x : W) (c' : CoreState) (x' : W)
+    : Type 0 where
   pub events : List Event
   pub few : length events ≤ most
   pub collectors : All IsCollectors events

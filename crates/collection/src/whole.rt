@@ -79,7 +79,8 @@ pub(crate) fn pause_all<W: Watch>(core: &mut Core, policy: &mut Policy, watch: &
 /// assert_eq!(rt; core.free_regions(), 4);
 /// ```
 pub fn collect<W: Watch>(core: &mut Core, policy: &mut Policy, watch: &mut W)
-    ensures collects { CollectsWithin W.sees (4 + (core.old.config.regions - free_count core.old.table)) core.old watch.old core.new watch.new }
+    ensures collects { CollectsWithin W.sees (4 + (core.old.config.regions - free_count core.old.table)) core.old watch.old core.new
+        watch.new }
     ensures quiet { (s : State) → Stands s core.old → IsCollected s.graph core.new }
     ensures packed { (s : State) → Stands s core.old → 2 ≤ free_count core.old.table → IsPacked s.graph core.new }
 {

@@ -7,7 +7,7 @@ use Rattle.heap_words.specs.declared.config.Config.{Config}
 use Rattle.heap_words.specs.declared.config.Format.{Format}
 use Rattle.heap_words.specs.declared.config.Format.TheVariants.{V1, V2, V3}
 use Rattle.heap_model.specs.Graph.{RootCounts}
-use Rattle.graph_runs.specs.State.{places_of}
+use Rattle.graph_runs.specs.State.{root_counts_of}
 use Rattle.heap_steps.specs.Actors.{HasRow, IsOp, IsStep, IsThird}
 use Rattle.heap_steps.specs.Forms.{action_row, action_verb, collection_row, collection_verb}
 use Rattle.heap_steps.specs.Roots.{IsValue, NamesRoots}
@@ -86,7 +86,7 @@ row f true = third f
 row f false = inl tt
 
 pub is_op : (c : Config) (o : Op) → OrNot (IsOp c o)
-is_op c o = elim (both _ _ (less o.mutator c.mutators) (both _ _ (roots (places_of c) o.action)
+is_op c o = elim (both _ _ (less o.mutator c.mutators) (both _ _ (roots (root_counts_of c) o.action)
     (row c.format (action_row (action_verb o.action)).third))) [
       | inl h ↦ inl (record { at = record { mutator = h.0; roots = h.1.0 }; known = h.1.1 })
       | inr nay ↦ inr (λ h. nay (h.at.mutator, (h.at.roots, h.known)))

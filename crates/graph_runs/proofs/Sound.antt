@@ -9,7 +9,7 @@ use Rattle.heap_model.specs.Weak.{touched, IsClearedSlot, ClearsObject, Clears}
 use Rattle.heap_model.proofs.Lists.{AllZip-get_right, AllZip_length, get-set_cases, get-append_cases, get-append_left, get-append_right}
 use Rattle.heap_model.proofs.Lists.{get-push_cases, length-set, length-push}
 use Rattle.heap_model.proofs.Unreached.{touched_cases}
-use Rattle.graph_runs.specs.State.{State, root_places, places_of, register_place, with_nil_roots, root_at, Occurs, AtRoot, AtField}
+use Rattle.graph_runs.specs.State.{State, root_places, root_counts_of, register_place, with_nil_roots, root_at, Occurs, AtRoot, AtField}
 use Rattle.graph_runs.specs.State.{IsNameOf, HoldsNames, IsEarlier, ForSnapshot, IsSoundState, first_graph, first_state}
 use Rattle.graph_runs.specs.Machine.{Outcome, refused, on_contents, on_name, on_field, stored, made, act, outcome_of}
 use Rattle.graph_runs.specs.Run.{snapshot_after, ClearsBy, ChangesState, Happens, IsRun}
@@ -347,7 +347,7 @@ pub first_sound : (c : Config) → IsSoundState (first_state c)
 first_sound c = record { graph = λ n o. absurd (nowhere n o); snapshot = tt }
   where
     nowhere : (n : ℕ) → Occurs (first_graph c) n → ⊥
-    nowhere n (AtRoot j e) = nils (root_places (places_of c)) j n e
+    nowhere n (AtRoot j e) = nils (root_places (root_counts_of c)) j n e
     nowhere n (AtField p i x at e) = cc
 
 -- a run keeps the places of roots

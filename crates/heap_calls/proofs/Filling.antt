@@ -5,7 +5,7 @@ use Rattle.std.specs.Prelude.{slice_index, slice_index_or}
 use Rattle.heap_words.specs.declared.config.Config.{Config}
 use Rattle.heap_steps.specs.Actors.{IsStep}
 use Rattle.regions.specs.Table.{pointers_at, values_at, weaks_at}
-use Rattle.graph_runs.specs.State.{register_place, places_of}
+use Rattle.graph_runs.specs.State.{register_place, root_counts_of}
 use Rattle.heap_steps.specs.declared.step.Counts.{Counts}
 use Rattle.heap_steps.specs.declared.step.Refusal.TheVariants as refusals
 use Rattle.heap_steps.specs.declared.step.Register.{Register}
@@ -62,13 +62,13 @@ pub still_held : (c d : CoreState) (m : ℕ) (r to : Register) (a : ℕ) → d.c
     → register_of c m to ≡ Some a → register_of d m r ≡ Some a
 still_held c d m r to a e f q h =
     ap (λ (x : Register). register_of d m x) q
-    ∙ ap (λ (k : Config). slice_index_or d.roots (register_place (places_of k) m to.number) None) e
-    ∙ ap (λ (rs : List (Option ℕ)). slice_index_or rs (register_place (places_of c.config) m to.number) None) f ∙ h
+    ∙ ap (λ (k : Config). slice_index_or d.roots (register_place (root_counts_of k) m to.number) None) e
+    ∙ ap (λ (rs : List (Option ℕ)). slice_index_or rs (register_place (root_counts_of c.config) m to.number) None) f ∙ h
 
 -- what making the object asks for
 pub record CanMake (k : Config) (m : ℕ) (r : Register) : Type 0 where
   pub mutator : m < k.mutators
-  pub to : IsRegister (places_of k) r
+  pub to : IsRegister (root_counts_of k) r
 
 pub can_make : (k : Config) (m to : ℕ) (from words : List ℕ) (r : Register) → r ≡ register to → IsStep k (making m to from words)
     → CanMake k m r
@@ -133,5 +133,5 @@ put_runs c m to from (suc n) r d e (b, (h, t)) = (
 
 -- what that asks for: a register or nil for each
 pub sources_there : (k : Config) (m to : ℕ) (from : List ℕ) → ((i : ℕ) → i < length from → IsStep k (pointing m to from i))
-    → (i : ℕ) → i < length from → IsValue (places_of k) (source (slice_index from i))
+    → (i : ℕ) → i < length from → IsValue (root_counts_of k) (source (slice_index from i))
 sources_there k m to from all i h = let at = (all i h).at in at.roots.1

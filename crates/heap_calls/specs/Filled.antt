@@ -1,7 +1,7 @@
 -- A new object with its fields in one call: the step that makes it, and those that fill it.
 use Rattle.std.specs.Prelude.{◌≡◌, ◌≢◌, ◌<◌, ◌^◌, ℕ, zero, suc, List, length, slice_index, Option, Some, None}
 use Rattle.heap_words.specs.declared.config.Config.{Config}
-use Rattle.graph_runs.specs.State.{places_of}
+use Rattle.graph_runs.specs.State.{root_counts_of}
 use Rattle.heap_steps.specs.Actors.{IsStep}
 use Rattle.heap_steps.specs.Roots.{IsValue}
 use Rattle.heap_steps.specs.declared.step.Action.TheVariants as actions
@@ -33,7 +33,7 @@ wording m to words i = by m (actions.Write (register to) i (slice_index words i)
 -- a number of a field's source: nil's or a register's, and another one than that of the register which takes the object
 pub record IsSource (config : Config) (to number : ℕ) : Type 0 where
   pub apart : number ≢ to
-  pub there : IsValue (places_of config) (value number)
+  pub there : IsValue (root_counts_of config) (value number)
 
 -- the steps are some of the heap, and the register that takes the object is none of its sources
 pub record AreFields (config : Config) (m to : ℕ) (from words : List ℕ) : Type 0 where

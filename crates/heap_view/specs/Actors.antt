@@ -9,7 +9,7 @@ use Rattle.alloc_buffers.specs.declared.buffers.Buffer.{Buffer}
 use Rattle.cards.specs.Cards as cards
 use Rattle.satb_log.specs.Logs as logs
 use Rattle.heap_model.specs.Graph.{register_place}
-use Rattle.step_core.specs.Stands.{CoreState, places_of}
+use Rattle.step_core.specs.Stands.{CoreState, root_counts_of}
 use Rattle.heap_dump.specs.Lists.{named, text_below}
 use Rattle.heap_view.specs.Lists.{titled_line}
 use Rattle.heap_view.specs.Tiles.{pointer_text, spaced_pointer}
@@ -52,8 +52,8 @@ abbrev pub globals_line : CoreState → List ℕ
 globals_line c = roots_text c.table c.roots (codes "g") 0 (globals_of c.config) ++ codes "\n"
 
 abbrev pub registers_line : CoreState → ℕ → List ℕ
-registers_line c mutator = roots_text c.table c.roots (codes "r") (register_place (places_of c.config) mutator 0)
-    (register_place (places_of c.config) mutator (registers_of c.config)) ++ codes "\n"
+registers_line c mutator = roots_text c.table c.roots (codes "r") (register_place (root_counts_of c.config) mutator 0)
+    (register_place (root_counts_of c.config) mutator (registers_of c.config)) ++ codes "\n"
 
 -- an open buffer: where the next object goes, and how many words are left
 abbrev pub buffer_line : Option (Option Buffer) → List ℕ

@@ -250,7 +250,8 @@ replaced_moved P t a to n h m =
     one (Rest k) q = tt
 
 -- what holds of each moved tile still does, where it holds of the new place
-pub copied_moved : (P : ℕ → Type 0) (t t' : Table) (d d' : Destinations) (from to : ℕ) (x : Stored) → CopiesAndForwards t t' d d' from to x → P to
+pub copied_moved : (P : ℕ → Type 0) (t t' : Table) (d d' : Destinations) (from to : ℕ) (x : Stored)
+    → CopiesAndForwards t t' d d' from to x → P to
     → EachForwardedIn P t.regions → EachForwardedIn P t'.regions
 copied_moved P t t' d d' from to x c h m =
     subst (λ (u : Table). EachForwardedIn P u.regions) (sym c.table_is)

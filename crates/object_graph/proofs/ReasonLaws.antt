@@ -10,7 +10,7 @@ use Rattle.heap_model.specs.Graph.{Graph, RootCounts, next_name}
 use Rattle.heap_model.specs.Weak.{cleared_graph}
 use Rattle.heap_steps.specs.Actors.{IsStepOf, IsEvent}
 use Rattle.heap_steps.specs.Roots.{IsOpAt}
-use Rattle.graph_runs.specs.State.{State, IsSoundState, ForSnapshot, IsEarlier, first_state, places_of}
+use Rattle.graph_runs.specs.State.{State, IsSoundState, ForSnapshot, IsEarlier, first_state, root_counts_of}
 use Rattle.object_graph.specs.Reached.{started, all_found, searched, flag_of}
 use Rattle.graph_runs.specs.Machine.{Outcome, outcome_of, reply_of}
 use Rattle.graph_runs.specs.Run.{ForMutator, ClearsBy, ChangesState, Happens, EventHappens, IsRun, snapshot_after}
@@ -138,7 +138,7 @@ may_stand old (steps.Collector k) (givens.Form j) r sound is = (
 may_stand old _ _ r sound is = absurd is
 
 -- a step of an actor, where it is a mutator's, names roots that there are
-op_of : (c : Config) (a : Actor) (s : Step) → IsStepOf c a s → ForMutator s (IsOpAt (places_of c))
+op_of : (c : Config) (a : Actor) (s : Step) → IsStepOf c a s → ForMutator s (IsOpAt (root_counts_of c))
 op_of c (actors.Mutator m) (steps.Mutator o) h = h.1.at
 op_of c a (steps.Collector k) h = tt
 op_of c _ (steps.Mutator o) h = absurd h
@@ -147,7 +147,7 @@ op_of c _ (steps.Mutator o) h = absurd h
 pub op_judged : (j : Judging) (es : List Event) (e : Event) → HasJudged j es → IsEvent j.config e
     → ForMutator e.step (IsOpAt j.state.graph.places)
 op_judged j es e taken known =
-    let same : j.state.graph.places ≡ places_of j.config =
+    let same : j.state.graph.places ≡ root_counts_of j.config =
     ap (λ (g : Graph). g.places) taken.2.graph ∙ run_places es (first_state j.config) taken.0 taken.1 in
     subst (λ (p : RootCounts). ForMutator e.step (IsOpAt p)) (sym same) (op_of j.config e.actor e.step known)
 

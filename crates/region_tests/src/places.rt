@@ -1,6 +1,6 @@
 //! Placements in a small heap.
 
-use alloc_buffers::{AllocBuffers, Full, Allocation};
+use alloc_buffers::{AllocBuffers, Allocation, Full};
 use heap_words::addr::RegionNo;
 use heap_words::config::{Config, Format};
 use regions::RegionTable;

@@ -148,7 +148,8 @@ pub record AreTilesWritten (t : Table) (n : ℕ) : Type 0 where
 -- words and rows are a table's, with 2 ^ shift words a region, which are whole cards; each tile stands in the words that are
 -- written; no row below `lowest` is free; `free` rows are; each card has its entry; and `weaks` tells where objects with weak slots
 -- start
-pub record IsRegionTable (size shift lowest free : ℕ) (entries : Entries) (weaks : Starts) (memory : Memory) (rows : List Row) : Type 0 where
+pub record IsRegionTable (size shift lowest free : ℕ) (entries : Entries) (weaks : Starts) (memory : Memory) (rows : List Row)
+    : Type 0 where
   pub table : IsTable size memory.all rows
   pub written : AreTilesWritten (table_of size memory.all rows) memory.written
   pub power : size ≡ 2 ^ shift

@@ -89,7 +89,8 @@ global_raised p g r used k v t inside below =
     (stored_in p (g ++ r) used 0 k k (get_or used 0 0) v t.bounded (omega arith) inside (omega arith)
     (read_used used 0 (omega (arith, t.bounded.rows))) below)
 
-pub global_within_bound : (p : RootCounts) (g r : List (Option ℕ)) (used : List ℕ) (k : ℕ) (v : Option ℕ) → IsRootTable p g r used → k < p.globals
+pub global_within_bound : (p : RootCounts) (g r : List (Option ℕ)) (used : List ℕ) (k : ℕ) (v : Option ℕ) → IsRootTable p g r used
+    → k < p.globals
     → k < get_or used 0 0 → IsRootTable p (set g k v) r used
 global_within_bound p g r used k v t inside above =
     table_with p g r (set g k v) r (set (g ++ r) k v) used used t (length-set g k v) (globals_set p g r used k v t inside)
@@ -97,7 +98,8 @@ global_within_bound p g r used k v t inside above =
     (read_used used 0 (omega (arith, t.bounded.rows))) above)
 
 -- a place that isn't nil takes a value
-pub global_updated : (p : RootCounts) (g r : List (Option ℕ)) (used : List ℕ) (place : ℕ) (v : Option ℕ) → IsRootTable p g r used → place < length g
+pub global_updated : (p : RootCounts) (g r : List (Option ℕ)) (used : List ℕ) (place : ℕ) (v : Option ℕ) → IsRootTable p g r used
+    → place < length g
     → IsSome (get_or (g ++ r) place None) → IsRootTable p (set g place v) r used
 global_updated p g r used place v t inside some =
     let named = some_address (get_or (g ++ r) place None) some in
@@ -163,7 +165,8 @@ frame_is_nil v t g r used m k e words table known inside below =
 
 -- the table in which it is
 pub frame_left : (v t : RootTable) (g r ws : List (Option ℕ)) (used : List ℕ) (m k at : ℕ) → v ≡ t → v.words ≡ g ++ r
-    → IsRootTable v.places g r used → m < t.places.mutators → t.places.globals + at ≡ register_place t.places m k → k < get_or used (m + 1) 0
+    → IsRootTable v.places g r used → m < t.places.mutators → t.places.globals + at ≡ register_place t.places m k
+    → k < get_or used (m + 1) 0
     → ws ≡ g ++ with_nils r at (get_or used (m + 1) 0 - k) → with_words v ws ≡ left_from t m k
 frame_left v t g r ws used m k at e words table known place less same =
     let n = get_or used (m + 1) 0 in

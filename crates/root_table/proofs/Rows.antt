@@ -64,7 +64,8 @@ stored_bounded p words used used' row k v b known inside len others more above m
 }
 
 -- the same where the bound is raised to the place, or was above it
-pub raised : (p : RootCounts) (words : List (Option ℕ)) (used : List ℕ) (row k : ℕ) (v : Option ℕ) → AreBounded p words used → row ≤ p.mutators
+pub raised : (p : RootCounts) (words : List (Option ℕ)) (used : List ℕ) (row k : ℕ) (v : Option ℕ) → AreBounded p words used
+    → row ≤ p.mutators
     → k < row_length p row
     → get_or used row 0 ≤ k → AreBounded p (set words (row_start p row + k) v) (set used row (k + 1))
 raised p words used row k v b known inside below =
@@ -73,7 +74,8 @@ raised p words used row k v b known inside below =
     (λ other ne. get_or-set_other used row other (k + 1) 0 ne)
     (omega (arith, at, below)) (omega (arith, at)) (omega (arith, at, inside))
 
-pub kept : (p : RootCounts) (words : List (Option ℕ)) (used : List ℕ) (row k : ℕ) (v : Option ℕ) → AreBounded p words used → row ≤ p.mutators
+pub kept : (p : RootCounts) (words : List (Option ℕ)) (used : List ℕ) (row k : ℕ) (v : Option ℕ) → AreBounded p words used
+    → row ≤ p.mutators
     → k < row_length p row
     → k < get_or used row 0 → AreBounded p (set words (row_start p row + k) v) used
 kept p words used row k v b known inside above =
@@ -137,7 +139,8 @@ bound_within p words used row x b known e =
     omega (arith, most, end, bound, b.places)
 
 -- the same as `past_row`, as the code finds it
-pub past_read : (p : RootCounts) (words : List (Option ℕ)) (used : List ℕ) (from row x from' : ℕ) → AreBounded p words used → row ≤ p.mutators
+pub past_read : (p : RootCounts) (words : List (Option ℕ)) (used : List ℕ) (from row x from' : ℕ) → AreBounded p words used
+    → row ≤ p.mutators
     → x ≡ get_or used row x → (from' ≤ from) ⊎ (from' ≤ row_start p row)
     → AreNil words from (row_start p row) → AreNil words from' (row_start p row + x) → AreNil words from (row_start p (row + 1))
 past_read p words used from row x from' b known e which before here =

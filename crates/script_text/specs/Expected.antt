@@ -118,7 +118,8 @@ expected_in_step kind c (word ∷ rest) end = actor_expected kind ∷ expected_f
 -- the places of a line of a step, or of the event of this count
 abbrev pub expected_in_line : TextKind → Config → ℕ → List (List ℕ) → List Expected
 expected_in_line Script c count words = expected_in_step Script c words (expected.End ∷ [])
-expected_in_line Record c count words = expected.Count count ∷ expected_in_step Record c (drop 1 words) (expected.Equals ∷ expected.Reply ∷ [])
+expected_in_line Record c count words = expected.Count count ∷
+    expected_in_step Record c (drop 1 words) (expected.Equals ∷ expected.Reply ∷ [])
 
 -- the places of a heap line
 abbrev pub expected_in_heap_line : List (List ℕ) → List Expected

@@ -6,7 +6,8 @@ ghost use Rattle.std.specs.Str.{bytes_eq};
 ghost use Rattle.heap_words.specs.declared.config.Config.{Config};
 ghost use Rattle.script_text.specs.declared.expected.Expected.{Expected};
 ghost use Rattle.script_text.specs.Expected.{actor_in, action_form, collection_form, verb_expected, form_at, heap_form, fits_word, fits};
-ghost use Rattle.script_text.specs.Expected.{actor_expected, expected_from_verb, expected_in_step, first_misfit, stop_in, no_sizes, heap_stop_in};
+ghost use Rattle.script_text.specs.Expected.{actor_expected, expected_from_verb, expected_in_step, first_misfit, stop_in, no_sizes};
+ghost use Rattle.script_text.specs.Expected.{heap_stop_in};
 
 use crate::read::events::actor;
 use crate::read::replies::reply;

@@ -16,9 +16,9 @@ ghost use Rattle.script_text.specs.Hints.{operand_text, expected_words, limit_te
 ghost use Rattle.script_text.specs.Hints.{IsLine, NamesMisfit, NamesHeapMisfit};
 ghost use Rattle.script_text.specs.Hints.{IsHint, IsFaultReason, IsLineReason};
 
+use crate::expected::{Expected, Stop, TextKind, heap_stop_in, no_sizes, stop_in};
 use crate::fault::{Kind, LineFault};
 use crate::mistakes::put_mistake;
-use crate::expected::{Expected, Stop, TextKind, heap_stop_in, no_sizes, stop_in};
 use crate::read::script::heap_line;
 use crate::read::words::split_line;
 use crate::write::bytes::{put_byte, put_number, put_text};

@@ -41,22 +41,22 @@
 //! ```
 #![tactic(auto)]
 
+mod expected;
 mod fault;
 mod hints;
 mod laws;
 mod mistakes;
-mod expected;
 mod read;
 mod watched;
 mod write;
 
+pub use expected::TextKind;
 pub use fault::{Kind, LineFault, ReadFault, WriteFault, put_fault};
 pub use hints::{REASON_ROOM, put_fault_reason, put_line_reason, put_shown, sizes_in};
 pub use laws::{
     action_is_read, fitting_words_are_read, read_is_spelled, read_record_is_spelled, reply_is_read,
     spelled_is_read, spelled_record_is_read,
 };
-pub use expected::TextKind;
 pub use read::awaited::{LineBuffer, NextFault};
 pub use read::input::read_text;
 pub use read::record_events::RecordEvents;

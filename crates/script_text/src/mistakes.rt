@@ -3,8 +3,8 @@
 ghost use Rattle.std.specs.Prelude.{◌≤◌, ◌+◌, IsTrue, length};
 ghost use Rattle.script_text.specs.Faults.{PutsHint};
 
-use crate::fault::{Kind, LineFault};
 use crate::expected::TextKind;
+use crate::fault::{Kind, LineFault};
 use crate::read::events::event;
 use crate::read::steps::step;
 use crate::read::words::{is_word, number};

@@ -8,7 +8,7 @@ use Rattle.marker.specs.Views.{fresh_marker}
 use Rattle.cards.specs.Cards.{clean_cards}
 use Rattle.remembered_sets.specs.Sets.{empty_sets}
 use Rattle.graph_runs.specs.State.{root_places}
-use Rattle.step_core.specs.Stands.{CoreState, places_of}
+use Rattle.step_core.specs.Stands.{CoreState, root_counts_of}
 
 -- how many rows of the second kind a set's filter has: 7 for 32 words of a card, so that a filter takes 21 bits for 32 words of a region;
 -- none where the heap is no larger than one of the first two formats can be, or where a region's cards are no whole groups of 64
@@ -27,7 +27,7 @@ fresh_core c = record {
   sets = empty_sets c.regions (c.words / card_words c) (filter_rows c);
   room = record { regions = c.regions; cards = c.regions * (c.words / card_words c) };
   row_room = c.regions;
-  places = places_of c;
-  roots = replicate (root_places (places_of c)) None;
+  places = root_counts_of c;
+  roots = replicate (root_places (root_counts_of c)) None;
   next = c.first_name;
 }

@@ -10,7 +10,7 @@ use Rattle.cards.specs.Cards.{Cards, dirtied}
 use Rattle.refinement.specs.Remembering.{field_word}
 use Rattle.heap_words.specs.Configs.{registers_of}
 use Rattle.heap_model.specs.Graph.{with_nils}
-use Rattle.graph_runs.specs.State.{register_place, places_of}
+use Rattle.graph_runs.specs.State.{register_place, root_counts_of}
 use Rattle.heap_steps.specs.declared.step.Action.{Action}
 use Rattle.heap_steps.specs.declared.step.Action.TheVariants as actions
 use Rattle.heap_steps.specs.declared.step.Counts.{Counts}
@@ -24,7 +24,7 @@ abbrev pub root_of : CoreState → ℕ → Option ℕ
 root_of c place = slice_index_or c.roots place None
 
 abbrev pub register_of : CoreState → ℕ → Register → Option ℕ
-register_of c m r = root_of c (register_place (places_of c.config) m r.number)
+register_of c m r = root_of c (register_place (root_counts_of c.config) m r.number)
 
 abbrev pub object_of : CoreState → ℕ → Register → ℕ
 object_of c m r = unwrap_or (register_of c m r) 0
@@ -81,7 +81,7 @@ with_made c place counts weaks (Some x) = record c {
 -- the core once an object is made
 abbrev pub after_new : CoreState → ℕ → Register → Counts → ℕ → CoreState
 after_new c m to counts weaks =
-    with_made c (register_place (places_of c.config) m to.number) counts weaks
+    with_made c (register_place (root_counts_of c.config) m to.number) counts weaks
     (allocation_of c.table c.buffers m (size_of counts.pointers weaks counts.values))
 
 -- how many weak slots the object that an action makes has
@@ -93,22 +93,22 @@ weaks_made _ = 0
 abbrev pub core_after : CoreState → ℕ → Action → CoreState
 core_after c m (actions.New to counts) = after_new c m to counts 0
 core_after c m (actions.Get to object i) =
-    with_root_word c (register_place (places_of c.config) m to.number) (pointer_of c (object_of c m object) i)
+    with_root_word c (register_place (root_counts_of c.config) m to.number) (pointer_of c (object_of c m object) i)
 core_after c m (actions.Put object i value) = with_pointer c m (object_of c m object) i (value_of c m value)
 core_after c m (actions.Read object i) = c
 core_after c m (actions.Write object i v) = record c { table = set_value c.table (object_of c m object) i v }
-core_after c m (actions.Move to from) = with_root_word c (register_place (places_of c.config) m to.number) (register_of c m from)
-core_after c m (actions.Drop register) = with_root_word c (register_place (places_of c.config) m register.number) None
-core_after c m (actions.Load to from) = with_root_word c (register_place (places_of c.config) m to.number) (root_of c from.number)
+core_after c m (actions.Move to from) = with_root_word c (register_place (root_counts_of c.config) m to.number) (register_of c m from)
+core_after c m (actions.Drop register) = with_root_word c (register_place (root_counts_of c.config) m register.number) None
+core_after c m (actions.Load to from) = with_root_word c (register_place (root_counts_of c.config) m to.number) (root_of c from.number)
 core_after c m (actions.Save to from) = with_root_word c to.number (register_of c m from)
 core_after c m (actions.Shape object) = c
 core_after c m (actions.NewWeak to counts weaks) = after_new c m to counts weaks
 core_after c m (actions.GetWeak to object i) =
-    with_root_word c (register_place (places_of c.config) m to.number) (weak_of c (object_of c m object) i)
+    with_root_word c (register_place (root_counts_of c.config) m to.number) (weak_of c (object_of c m object) i)
 core_after c m (actions.PutWeak object i value) = with_weak c m (object_of c m object) i (value_of c m value)
 core_after c m (actions.Weaks object) = c
 core_after c m (actions.Scope from) =
-    with_nil_words c (register_place (places_of c.config) m from.number) (registers_of c.config - from.number)
+    with_nil_words c (register_place (root_counts_of c.config) m from.number) (registers_of c.config - from.number)
 
 -- the marker after it: a put saves the pointer that it overwrites, a getweak what it reads, and no other step concerns the marker
 abbrev pub MarkerAfter : CoreState → ℕ → Action → Marker → Type 0

@@ -5,7 +5,7 @@ use Rattle.regions.specs.Table.{pointers_at, weaks_at, values_at}
 use Rattle.heap_steps.specs.declared.step.Register.{Register}
 use Rattle.heap_steps.specs.declared.step.Reply.TheVariants as replies
 use Rattle.heap_steps.specs.Roots.{IsRegister, IsValue}
-use Rattle.step_core.specs.Stands.{CoreState, places_of}
+use Rattle.step_core.specs.Stands.{CoreState, root_counts_of}
 use Rattle.step_core.specs.Mutators.{register_of}
 use Rattle.step_core.specs.Words.{Takes, putting}
 
@@ -32,8 +32,8 @@ pub record HasPut (c : CoreState) (m : ℕ) (object : Register) (from : List ℕ
 pub record CanPut (c : CoreState) (m : ℕ) (object : Register) (a : ℕ) (from : List ℕ) : Type 0 where
   pub few : length from < 2 ^ 32
   pub mutator : m < c.config.mutators
-  pub register : IsRegister (places_of c.config) object
-  pub values : (i : ℕ) → i < length from → IsValue (places_of c.config) (source (slice_index from i))
+  pub register : IsRegister (root_counts_of c.config) object
+  pub values : (i : ℕ) → i < length from → IsValue (root_counts_of c.config) (source (slice_index from i))
   pub held : register_of c m object ≡ Some a
   pub fields : length from ≤ length (pointers_at c.table a)
 

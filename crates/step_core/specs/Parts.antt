@@ -12,7 +12,7 @@ use Rattle.heap_steps.specs.declared.step.Register.{Register}
 use Rattle.heap_steps.specs.declared.step.Reply.{Reply}
 use Rattle.heap_steps.specs.declared.step.Reply.TheVariants as replies
 use Rattle.heap_steps.specs.declared.step.Step.{Step}
-use Rattle.step_core.specs.Stands.{CoreState, IsRootWord, IsWordOf, KeepsFrom, Leads, ShowsGraph, heap_of, places_of}
+use Rattle.step_core.specs.Stands.{CoreState, IsRootWord, IsWordOf, KeepsFrom, Leads, ShowsGraph, heap_of, root_counts_of}
 use Rattle.step_core.specs.Answers.{Acts}
 use Rattle.step_core.specs.Cycle.{LeavesRegions}
 use Rattle.step_core.specs.Mutators.{ActsOn, register_of, root_of, value_of, with_root_word}
@@ -31,7 +31,7 @@ pub record HoldsRegister (c : CoreState) (m : ℕ) (r : Register) (w : Option �
   pub value : w ≡ register_of c m r
   pub word : IsWordOf (heap_of c) w
   pub rooted : IsRootWord (heap_of c) w
-  pub leads : Leads c (register_place (places_of c.config) m r.number) w
+  pub leads : Leads c (register_place (root_counts_of c.config) m r.number) w
   pub shows : (g : Graph) → ShowsGraph g c → IsShown (heap_of c) w (root_at g (register_place g.places m r.number))
 
 -- it is what a mutator stores: nil, or what a register holds
@@ -45,7 +45,7 @@ pub record HoldsValue (c : CoreState) (m : ℕ) (source : Option Register) (w : 
 pub record NamesAt (c : CoreState) (m : ℕ) (object : Register) (a : ℕ) : Type 0 where
   pub held : register_of c m object ≡ Some a
   pub rooted : IsRoot (heap_of c) a
-  pub leads : Leads c (register_place (places_of c.config) m object.number) (Some a)
+  pub leads : Leads c (register_place (root_counts_of c.config) m object.number) (Some a)
 
 -- a root place takes a word, and nothing else changes
 pub record SetsRoot (place : ℕ) (w : Option ℕ) (c c' : CoreState) : Type 0 where
@@ -59,7 +59,7 @@ pub record Touches (m : ℕ) (to : Register) (w : Option ℕ) (c c' : CoreState)
       → ShowsGraph (with_root g (register_place g.places m to.number) v) c'
   pub keeps : (s g : Graph) (v : Option ℕ) → ShowsGraph g c → KeepsUnreached s g → IsShown (heap_of c) w v → KeepsFrom s c
       → KeepsFrom (touched s v) c'
-  pub core : c' ≡ record (with_root_word c (register_place (places_of c.config) m to.number) w) { marker = c'.marker }
+  pub core : c' ≡ record (with_root_word c (register_place (root_counts_of c.config) m to.number) w) { marker = c'.marker }
   pub marker : Overwrites c.marker.running c.table m w c.marker c'.marker
   pub leaves : LeavesRegions c c'
 

@@ -24,7 +24,7 @@
 
 ghost use Rattle.std.specs.Prelude.{◌≡◌, ◌<◌, ◌/◌, length, true};
 ghost use Rattle.heap_model.specs.Heap.{IsRoot};
-ghost use Rattle.graph_runs.specs.State.{places_of};
+ghost use Rattle.graph_runs.specs.State.{root_counts_of};
 ghost use Rattle.heap_steps.specs.Roots.{IsRegister};
 ghost use Rattle.regions.specs.Table.{weaks_at, fields_at};
 ghost use Rattle.cards.specs.Cards.{is_dirty, dirtied};
@@ -163,7 +163,7 @@ impl Core {
     /// A register takes what was read from a weak slot. While marking runs, that is saved, and its name is touched.
     pub(crate) fn touch(&mut self, mutator: u32, to: Register, value: &Ptr)
         requires known { mutator < self.old.config.mutators }
-        requires to { IsRegister (places_of self.old.config) to }
+        requires to { IsRegister (root_counts_of self.old.config) to }
         requires word { IsWordOf (heap_of self.old) value.now }
         ensures { Touches mutator to value.now self.old self.new }
     {

@@ -10,7 +10,7 @@
 //! `put_all_at` (`near`) stores all pointers, and asks once what each `put_at` asks.
 
 ghost use Rattle.std.specs.Prelude.{◌≡◌, ◌<◌, IfNone, IfOk, Some, length};
-ghost use Rattle.graph_runs.specs.State.{places_of};
+ghost use Rattle.graph_runs.specs.State.{root_counts_of};
 ghost use Rattle.heap_steps.specs.Roots.{IsRegister, IsValue};
 ghost use Rattle.regions.specs.Table.{pointers_at, weaks_at, values_at};
 ghost use Rattle.step_core.specs.Mutators.{register_of};
@@ -41,7 +41,7 @@ impl Core {
         counts: Counts,
     ) -> Result<NewObject, Refusal>
         requires mutator { mutator < self.old.config.mutators }
-        requires to { IsRegister (places_of self.old.config) to }
+        requires to { IsRegister (root_counts_of self.old.config) to }
         ensures takes { Takes self.old (making mutator to counts) (new_reply result) self.new }
         ensures made { HasMade mutator (actions.New to counts) (new_reply result) self.new }
         ensures at { IfOk result (λ x. register_of self.new mutator to ≡ Some x.at) }
@@ -60,7 +60,7 @@ impl Core {
     #[inline(always)]
     pub fn address_of(&self, mutator: u32, object: Register) -> Ptr
         requires mutator { mutator < self.now.config.mutators }
-        requires object { IsRegister (places_of self.now.config) object }
+        requires object { IsRegister (root_counts_of self.now.config) object }
         ensures held { result ≡ register_of self.now mutator object }
         ensures nil { IfNone result (AreRefused self.now mutator object) }
     {
@@ -84,8 +84,8 @@ impl Core {
         value: Option<Register>,
     )
         requires mutator { mutator < self.old.config.mutators }
-        requires object { IsRegister (places_of self.old.config) object }
-        requires value { IsValue (places_of self.old.config) value }
+        requires object { IsRegister (root_counts_of self.old.config) object }
+        requires value { IsValue (root_counts_of self.old.config) value }
         requires held { register_of self.old mutator object ≡ Some at }
         requires field { field < length (pointers_at self.old.table at) }
         ensures { FillsField self.old (putting mutator object field value) at self.new }
@@ -112,7 +112,7 @@ impl Core {
         value: u64,
     )
         requires mutator { mutator < self.old.config.mutators }
-        requires object { IsRegister (places_of self.old.config) object }
+        requires object { IsRegister (root_counts_of self.old.config) object }
         requires held { register_of self.old mutator object ≡ Some at }
         requires pointers { length (pointers_at self.old.table at) ≡ pointers }
         requires weaks { length (weaks_at self.old.table at) ≡ 0 }

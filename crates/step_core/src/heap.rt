@@ -4,7 +4,8 @@ ghost use Rattle.std.specs.Prelude.{◌≡◌, ℕ, ◌<◌, ◌-◌, length, Op
 ghost use Rattle.heap_words.specs.Configs.{Suits, IsNewFault};
 ghost use Rattle.heap_model.specs.Graph.{Graph};
 ghost use Rattle.heap_model.specs.Heap.{IsShown, IsHeld};
-ghost use Rattle.graph_runs.specs.State.{State, root_places, register_place, places_of, with_root, with_nil_roots, root_at, first_state};
+ghost use Rattle.graph_runs.specs.State.{State, root_places, register_place, root_counts_of, with_root, with_nil_roots, root_at};
+ghost use Rattle.graph_runs.specs.State.{first_state};
 ghost use Rattle.heap_words.specs.Configs.{registers_of};
 ghost use Rattle.heap_steps.specs.Roots.{IsRegister, IsGlobal};
 ghost use Rattle.step_core.specs.Stands.{ShowsGraph, KeepsFrom, Stands, IsCore, IsWhole, heap_of};
@@ -227,7 +228,7 @@ impl Core {
 
     /// What a root place holds.
     pub(crate) fn root(&self, place: usize) -> Ptr
-        requires { place < root_places (places_of self.now.config) }
+        requires { place < root_places (root_counts_of self.now.config) }
         ensures { HoldsRoot self.now place result }
     {
         self.roots.get(place)
@@ -236,7 +237,7 @@ impl Core {
     /// What a mutator's register holds.
     pub(crate) fn register(&self, mutator: u32, register: Register) -> Ptr
         requires mutator { mutator < self.now.config.mutators }
-        requires register { IsRegister (places_of self.now.config) register }
+        requires register { IsRegister (root_counts_of self.now.config) register }
         ensures { HoldsRegister self.now mutator register result }
     {
         self.roots.register(mutator, register.number)
@@ -244,12 +245,12 @@ impl Core {
 
     pub(crate) fn set_register(&mut self, mutator: u32, register: Register, value: Ptr)
         requires mutator { mutator < self.old.config.mutators }
-        requires register { IsRegister (places_of self.old.config) register }
+        requires register { IsRegister (root_counts_of self.old.config) register }
         requires word { IsWordOf (heap_of self.old) value }
         requires held { IsHeld (heap_of self.old) value }
         ensures shows { (g : Graph) (v : Option ℕ) → ShowsGraph g self.old → IsShown (heap_of self.old) value v
             → ShowsGraph (with_root g (register_place g.places mutator register.number) v) self.new }
-        ensures sets { SetsRoot (register_place (places_of self.old.config) mutator register.number) value self.old self.new }
+        ensures sets { SetsRoot (register_place (root_counts_of self.old.config) mutator register.number) value self.old self.new }
     {
         self.roots.set_register(mutator, register.number, value);
     }
@@ -258,12 +259,12 @@ impl Core {
     #[inline(always)]
     pub(crate) fn copy_register(&mut self, mutator: u32, to: Register, from: Register)
         requires mutator { mutator < self.old.config.mutators }
-        requires to { IsRegister (places_of self.old.config) to }
-        requires from { IsRegister (places_of self.old.config) from }
+        requires to { IsRegister (root_counts_of self.old.config) to }
+        requires from { IsRegister (root_counts_of self.old.config) from }
         ensures shows { (g : Graph) → ShowsGraph g self.old
             → ShowsGraph (with_root g (register_place g.places mutator to.number) (root_at g (register_place g.places mutator from.number)))
             self.new }
-        ensures sets { SetsRoot (register_place (places_of self.old.config) mutator to.number) (register_of self.old mutator from)
+        ensures sets { SetsRoot (register_place (root_counts_of self.old.config) mutator to.number) (register_of self.old mutator from)
             self.old self.new }
     {
         self.roots.copy_register(mutator, to.number, from.number);
@@ -272,9 +273,9 @@ impl Core {
     /// A global takes what a mutator's register holds, which isn't looked at.
     #[inline(always)]
     pub(crate) fn copy_to_global(&mut self, to: GlobalRoot, mutator: u32, from: Register)
-        requires to { IsGlobal (places_of self.old.config) to }
+        requires to { IsGlobal (root_counts_of self.old.config) to }
         requires mutator { mutator < self.old.config.mutators }
-        requires from { IsRegister (places_of self.old.config) from }
+        requires from { IsRegister (root_counts_of self.old.config) from }
         ensures shows { (g : Graph) → ShowsGraph g self.old
             → ShowsGraph (with_root g to.number (root_at g (register_place g.places mutator from.number))) self.new }
         ensures sets { SetsRoot to.number (register_of self.old mutator from) self.old self.new }
@@ -285,11 +286,11 @@ impl Core {
     /// A mutator's registers from one on are nil.
     pub(crate) fn leave(&mut self, mutator: u32, from: Register)
         requires mutator { mutator < self.old.config.mutators }
-        requires from { IsRegister (places_of self.old.config) from }
+        requires from { IsRegister (root_counts_of self.old.config) from }
         ensures shows { (g : Graph) → ShowsGraph g self.old
             → ShowsGraph (with_nil_roots g (register_place g.places mutator from.number) (g.places.registers - from.number)) self.new }
         ensures keeps { (s : Graph) → KeepsFrom s self.old → KeepsFrom s self.new }
-        ensures after { self.new ≡ with_nil_words self.old (register_place (places_of self.old.config) mutator from.number)
+        ensures after { self.new ≡ with_nil_words self.old (register_place (root_counts_of self.old.config) mutator from.number)
             (registers_of self.old.config - from.number) }
         ensures leaves { LeavesRegions self.old self.new }
     {
@@ -311,13 +312,13 @@ impl Core {
     #[inline(always)]
     pub(crate) fn take_named(&mut self, mutator: u32, register: Register, value: Ptr) -> Option<u64>
         requires mutator { mutator < self.old.config.mutators }
-        requires register { IsRegister (places_of self.old.config) register }
+        requires register { IsRegister (root_counts_of self.old.config) register }
         requires word { IsWordOf (heap_of self.old) value }
         requires held { IsHeld (heap_of self.old) value }
         ensures name { result ≡ name_in self.old.table value }
         ensures shows { (g : Graph) (v : Option ℕ) → ShowsGraph g self.old → IsShown (heap_of self.old) value v
             → ShowsGraph (with_root g (register_place g.places mutator register.number) v) self.new }
-        ensures sets { SetsRoot (register_place (places_of self.old.config) mutator register.number) value self.old self.new }
+        ensures sets { SetsRoot (register_place (root_counts_of self.old.config) mutator register.number) value self.old self.new }
     {
         match value {
             None => {

@@ -12,7 +12,7 @@ ghost use Rattle.marker.specs.Views.{fresh_marker};
 ghost use Rattle.cards.specs.Cards.{clean_cards};
 ghost use Rattle.remembered_sets.specs.Sets.{empty_sets};
 ghost use Rattle.graph_runs.specs.State.{root_places};
-ghost use Rattle.step_core.specs.Stands.{places_of};
+ghost use Rattle.step_core.specs.Stands.{root_counts_of};
 ghost use Rattle.step_core.specs.Fresh.{filter_rows};
 
 use alloc_buffers::AllocBuffers;
@@ -67,7 +67,7 @@ pub(crate) fn new_mutating(alloc: Global, config: &Config) -> Result<Mutating, A
     ensures closed { IfOk result (λ m. m.buffers ≡ closed config.now.buffer config.now.mutators) }
     ensures stand { IfOk result (λ m. (t : Table) → BuffersStand t m.buffers) }
     ensures roots { IfOk result (λ m. m.roots
-        ≡ record { places = places_of config.now; words = replicate (root_places (places_of config.now)) None }) }
+        ≡ record { places = root_counts_of config.now; words = replicate (root_places (root_counts_of config.now)) None }) }
     ensures next { IfOk result (λ m. m.next ≡ config.now.first_name) }
     ensures names { IfOk result (λ m. m.next < 2 ^ 64) }
 {

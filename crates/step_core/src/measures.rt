@@ -16,7 +16,7 @@ ghost use Rattle.regions.specs.Table.{free_count, kind_of, stored_size, used_of}
 ghost use Rattle.regions.specs.declared.row.Kind.TheVariants as kinds;
 ghost use Rattle.graph_runs.specs.State.{register_place, root_at};
 ghost use Rattle.heap_steps.specs.Roots.{IsRegister};
-ghost use Rattle.step_core.specs.Stands.{places_of, kept_of, name_in, ShowsGraph};
+ghost use Rattle.step_core.specs.Stands.{root_counts_of, kept_of, name_in, ShowsGraph};
 ghost use Rattle.step_core.specs.Mutators.{register_of};
 ghost use Rattle.step_core.specs.Measures.{used_words, live_in, live_words, HasGrey};
 
@@ -151,7 +151,7 @@ impl Core {
     /// ```
     pub fn name_at(&self, mutator: u32, register: Register) -> Option<u64>
         requires mutator { mutator < self.now.config.mutators }
-        requires register { IsRegister (places_of self.now.config) register }
+        requires register { IsRegister (root_counts_of self.now.config) register }
         ensures name { result ≡ name_in self.now.table (register_of self.now mutator register) }
         ensures shows { (g : Graph) → ShowsGraph g self.now → result ≡ root_at g (register_place g.places mutator register.number) }
     {

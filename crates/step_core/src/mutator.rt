@@ -5,7 +5,7 @@ ghost use Rattle.heap_words.specs.Configs.{max_object_words, object_limit};
 ghost use Rattle.heap_words.specs.Sizes.{size_of};
 ghost use Rattle.heap_model.specs.Graph.{Graph};
 ghost use Rattle.heap_model.specs.Weak.{KeepsUnreached};
-ghost use Rattle.graph_runs.specs.State.{State, ForSnapshot, places_of};
+ghost use Rattle.graph_runs.specs.State.{State, ForSnapshot, root_counts_of};
 ghost use Rattle.heap_steps.specs.Roots.{IsRegister, IsGlobal, IsValue, IsOpAt};
 ghost use Rattle.graph_runs.specs.Run.{snapshot_after};
 ghost use Rattle.heap_steps.specs.declared.step.Reply.TheVariants as replies;
@@ -21,7 +21,7 @@ ghost use Rattle.step_core.specs.Parts.{DoesAction, HoldsValue, NamesAt};
 ghost use Rattle.step_core.specs.Words.{Takes};
 
 use crate::heap::Core;
-use alloc_buffers::{AllocBuffers, Full, Allocation};
+use alloc_buffers::{AllocBuffers, Allocation, Full};
 use heap_steps::{Action, Counts, GlobalRoot, Op, Refusal, Register, Reply};
 use heap_words::addr::{Addr, Ptr};
 use heap_words::header::{Count, FillerSize, HeaderCounts};
@@ -186,8 +186,8 @@ impl Core {
 
     fn get(&mut self, mutator: u32, to: Register, object: Register, field: u32) -> Reply
         requires mutator { mutator < self.old.config.mutators }
-        requires to { IsRegister (places_of self.old.config) to }
-        requires object { IsRegister (places_of self.old.config) object }
+        requires to { IsRegister (root_counts_of self.old.config) to }
+        requires object { IsRegister (root_counts_of self.old.config) object }
         ensures { DoesAction mutator (actions.Get to object field) result self.old self.new }
     {
         let Some(at) = self.register(mutator, object) else {
@@ -203,7 +203,7 @@ impl Core {
 
     fn read(&self, mutator: u32, object: Register, field: u32) -> Reply
         requires mutator { mutator < self.now.config.mutators }
-        requires object { IsRegister (places_of self.now.config) object }
+        requires object { IsRegister (root_counts_of self.now.config) object }
         ensures { DoesAction mutator (actions.Read object field) result self.now self.now }
     {
         let Some(at) = self.register(mutator, object) else {
@@ -218,7 +218,7 @@ impl Core {
     /// What is stored: nil, or what a register holds.
     fn stored(&self, mutator: u32, value: Option<Register>) -> Ptr
         requires mutator { mutator < self.now.config.mutators }
-        requires value { IsValue (places_of self.now.config) value }
+        requires value { IsValue (root_counts_of self.now.config) value }
         ensures { HoldsValue self.now mutator value result }
     {
         match value {
@@ -230,8 +230,8 @@ impl Core {
     #[inline(always)]
     fn put(&mut self, mutator: u32, object: Register, field: u32, value: Option<Register>) -> Reply
         requires mutator { mutator < self.old.config.mutators }
-        requires object { IsRegister (places_of self.old.config) object }
-        requires value { IsValue (places_of self.old.config) value }
+        requires object { IsRegister (root_counts_of self.old.config) object }
+        requires value { IsValue (root_counts_of self.old.config) value }
         ensures { DoesAction mutator (actions.Put object field value) result self.old self.new }
     {
         let Some(at) = self.register(mutator, object) else {
@@ -251,7 +251,7 @@ impl Core {
         value: Option<Register>,
     ) -> Reply
         requires mutator { mutator < self.old.config.mutators }
-        requires value { IsValue (places_of self.old.config) value }
+        requires value { IsValue (root_counts_of self.old.config) value }
         requires names { NamesAt self.old mutator object at }
         ensures { DoesAction mutator (actions.Put object field value) result self.old self.new }
     {
@@ -295,7 +295,7 @@ impl Core {
         value: Option<Register>,
     )
         requires mutator { mutator < self.old.config.mutators }
-        requires value { IsValue (places_of self.old.config) value }
+        requires value { IsValue (root_counts_of self.old.config) value }
         requires names { NamesAt self.old mutator object at }
         requires field { field < length (pointers_at self.old.table at) }
         ensures does { DoesAction mutator (actions.Put object field value) replies.Done self.old self.new }
@@ -307,7 +307,7 @@ impl Core {
 
     fn write(&mut self, mutator: u32, object: Register, field: u32, value: u64) -> Reply
         requires mutator { mutator < self.old.config.mutators }
-        requires object { IsRegister (places_of self.old.config) object }
+        requires object { IsRegister (root_counts_of self.old.config) object }
         ensures { DoesAction mutator (actions.Write object field value) result self.old self.new }
     {
         let Some(at) = self.register(mutator, object) else {
@@ -358,8 +358,8 @@ impl Core {
 
     fn move_register(&mut self, mutator: u32, to: Register, from: Register) -> Reply
         requires mutator { mutator < self.old.config.mutators }
-        requires to { IsRegister (places_of self.old.config) to }
-        requires from { IsRegister (places_of self.old.config) from }
+        requires to { IsRegister (root_counts_of self.old.config) to }
+        requires from { IsRegister (root_counts_of self.old.config) from }
         ensures { DoesAction mutator (actions.Move to from) result self.old self.new }
     {
         self.copy_register(mutator, to, from);
@@ -368,7 +368,7 @@ impl Core {
 
     fn drop_register(&mut self, mutator: u32, register: Register) -> Reply
         requires mutator { mutator < self.old.config.mutators }
-        requires register { IsRegister (places_of self.old.config) register }
+        requires register { IsRegister (root_counts_of self.old.config) register }
         ensures { DoesAction mutator (actions.Drop register) result self.old self.new }
     {
         self.set_register(mutator, register, None);
@@ -377,8 +377,8 @@ impl Core {
 
     fn load(&mut self, mutator: u32, to: Register, from: GlobalRoot) -> Reply
         requires mutator { mutator < self.old.config.mutators }
-        requires to { IsRegister (places_of self.old.config) to }
-        requires from { IsGlobal (places_of self.old.config) from }
+        requires to { IsRegister (root_counts_of self.old.config) to }
+        requires from { IsGlobal (root_counts_of self.old.config) from }
         ensures { DoesAction mutator (actions.Load to from) result self.old self.new }
     {
         let value = self.root(from.number as usize);
@@ -389,8 +389,8 @@ impl Core {
 
     fn save(&mut self, mutator: u32, to: GlobalRoot, from: Register) -> Reply
         requires mutator { mutator < self.old.config.mutators }
-        requires to { IsGlobal (places_of self.old.config) to }
-        requires from { IsRegister (places_of self.old.config) from }
+        requires to { IsGlobal (root_counts_of self.old.config) to }
+        requires from { IsRegister (root_counts_of self.old.config) from }
         ensures { DoesAction mutator (actions.Save to from) result self.old self.new }
     {
         self.copy_to_global(to, mutator, from);
@@ -399,7 +399,7 @@ impl Core {
 
     fn shape(&self, mutator: u32, object: Register) -> Reply
         requires mutator { mutator < self.now.config.mutators }
-        requires object { IsRegister (places_of self.now.config) object }
+        requires object { IsRegister (root_counts_of self.now.config) object }
         ensures { DoesAction mutator (actions.Shape object) result self.now self.now }
     {
         let Some(at) = self.register(mutator, object) else {
@@ -413,8 +413,8 @@ impl Core {
 
     fn get_weak(&mut self, mutator: u32, to: Register, object: Register, slot: u32) -> Reply
         requires mutator { mutator < self.old.config.mutators }
-        requires to { IsRegister (places_of self.old.config) to }
-        requires object { IsRegister (places_of self.old.config) object }
+        requires to { IsRegister (root_counts_of self.old.config) to }
+        requires object { IsRegister (root_counts_of self.old.config) object }
         ensures acts { (g : Graph) → ShowsGraph g self.old → Acts g mutator (actions.GetWeak to object slot) result self.new }
         // What was replied is touched.
         ensures keeps { (s g : Graph) → ShowsGraph g self.old → KeepsUnreached s g → KeepsFrom s self.old
@@ -442,8 +442,8 @@ impl Core {
         value: Option<Register>,
     ) -> Reply
         requires mutator { mutator < self.old.config.mutators }
-        requires object { IsRegister (places_of self.old.config) object }
-        requires value { IsValue (places_of self.old.config) value }
+        requires object { IsRegister (root_counts_of self.old.config) object }
+        requires value { IsValue (root_counts_of self.old.config) value }
         ensures { DoesAction mutator (actions.PutWeak object slot value) result self.old self.new }
     {
         let Some(at) = self.register(mutator, object) else {
@@ -459,7 +459,7 @@ impl Core {
 
     fn weaks(&self, mutator: u32, object: Register) -> Reply
         requires mutator { mutator < self.now.config.mutators }
-        requires object { IsRegister (places_of self.now.config) object }
+        requires object { IsRegister (root_counts_of self.now.config) object }
         ensures { DoesAction mutator (actions.Weaks object) result self.now self.now }
     {
         let Some(at) = self.register(mutator, object) else {
@@ -470,7 +470,7 @@ impl Core {
 
     fn scope(&mut self, mutator: u32, from: Register) -> Reply
         requires mutator { mutator < self.old.config.mutators }
-        requires from { IsRegister (places_of self.old.config) from }
+        requires from { IsRegister (root_counts_of self.old.config) from }
         ensures { DoesAction mutator (actions.Scope from) result self.old self.new }
     {
         self.leave(mutator, from);
@@ -519,7 +519,7 @@ impl Core {
         weaks: u8,
     ) -> Result<NewObject, Refusal>
         requires mutator { mutator < self.old.config.mutators }
-        requires to { IsRegister (places_of self.old.config) to }
+        requires to { IsRegister (root_counts_of self.old.config) to }
         ensures { MakesNew mutator to counts weaks result self.old self.new }
     {
         if self.is_small(mutator, counts, weaks) {
@@ -533,7 +533,7 @@ impl Core {
     #[inline(always)]
     fn new_object(&mut self, mutator: u32, to: Register, counts: Counts, weaks: u8) -> Reply
         requires mutator { mutator < self.old.config.mutators }
-        requires to { IsRegister (places_of self.old.config) to }
+        requires to { IsRegister (root_counts_of self.old.config) to }
         ensures { MakesObject mutator to counts weaks result self.old self.new }
     {
         new_reply(&self.made(mutator, to, counts, weaks))
@@ -550,7 +550,7 @@ impl Core {
         weaks: u8,
     ) -> Result<NewObject, Refusal>
         requires mutator { mutator < self.old.config.mutators }
-        requires to { IsRegister (places_of self.old.config) to }
+        requires to { IsRegister (root_counts_of self.old.config) to }
         ensures { MakesNew mutator to counts weaks result self.old self.new }
     {
         self.new_apart(mutator, to, counts, weaks)
@@ -567,7 +567,7 @@ impl Core {
         weaks: u8,
     ) -> Result<NewObject, Refusal>
         requires mutator { mutator < self.old.config.mutators }
-        requires to { IsRegister (places_of self.old.config) to }
+        requires to { IsRegister (root_counts_of self.old.config) to }
         ensures { MakesNew mutator to counts weaks result self.old self.new }
     {
         self.new_here(mutator, to, counts, weaks)
@@ -583,7 +583,7 @@ impl Core {
         weaks: u8,
     ) -> Result<NewObject, Refusal>
         requires mutator { mutator < self.old.config.mutators }
-        requires to { IsRegister (places_of self.old.config) to }
+        requires to { IsRegister (root_counts_of self.old.config) to }
         ensures { MakesNew mutator to counts weaks result self.old self.new }
     {
         let size = counts.size(weaks);
@@ -618,7 +618,7 @@ impl Core {
     /// Does a mutator's step. Where the step is known, as in a call of the C library, its own arm alone is left of this.
     #[inline(always)]
     pub(crate) fn act(&mut self, op: Op) -> Reply
-        requires { IsOpAt (places_of self.old.config) op }
+        requires { IsOpAt (root_counts_of self.old.config) op }
         ensures takes { Takes self.old (steps.Mutator op) result self.new }
         ensures leaves { LeavesRegions self.old self.new }
         ensures within { IsWithin self.old.config op.action result }

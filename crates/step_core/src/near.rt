@@ -10,7 +10,7 @@
 ghost use Rattle.std.specs.Prelude.{◌≡◌, ℕ, ◌+◌, ◌<◌, ◌≤◌, ◌^◌, Some, length, slice_index, true, false};
 ghost use Rattle.heap_words.specs.Configs.{globals_of};
 ghost use Rattle.heap_model.specs.Heap.{IsRoot};
-ghost use Rattle.graph_runs.specs.State.{places_of, register_place};
+ghost use Rattle.graph_runs.specs.State.{root_counts_of, register_place};
 ghost use Rattle.heap_steps.specs.Roots.{IsRegister, IsValue};
 ghost use Rattle.regions.specs.Table.{fields_at, pointers_at};
 ghost use Rattle.refinement.specs.Remembering.{field_word};
@@ -41,7 +41,7 @@ impl Core {
     #[inline(always)]
     fn row(&self, mutator: u32) -> u32
         requires { mutator < self.now.config.mutators }
-        ensures { globals_of self.now.config + result ≡ register_place (places_of self.now.config) mutator 0 }
+        ensures { globals_of self.now.config + result ≡ register_place (root_counts_of self.now.config) mutator 0 }
     {
         self.roots.row(mutator)
     }
@@ -50,8 +50,8 @@ impl Core {
     #[inline(always)]
     fn register_in(&self, row: u32, mutator: u32, register: Register) -> Ptr
         requires mutator { mutator < self.now.config.mutators }
-        requires register { IsRegister (places_of self.now.config) register }
-        requires row { globals_of self.now.config + row ≡ register_place (places_of self.now.config) mutator 0 }
+        requires register { IsRegister (root_counts_of self.now.config) register }
+        requires row { globals_of self.now.config + row ≡ register_place (root_counts_of self.now.config) mutator 0 }
         ensures { HoldsRegister self.now mutator register result }
     {
         self.roots.in_row(row, register.number)
@@ -61,8 +61,8 @@ impl Core {
     #[inline(always)]
     fn stored_in(&self, row: u32, mutator: u32, value: Option<Register>) -> Ptr
         requires mutator { mutator < self.now.config.mutators }
-        requires value { IsValue (places_of self.now.config) value }
-        requires row { globals_of self.now.config + row ≡ register_place (places_of self.now.config) mutator 0 }
+        requires value { IsValue (root_counts_of self.now.config) value }
+        requires row { globals_of self.now.config + row ≡ register_place (root_counts_of self.now.config) mutator 0 }
         ensures { HoldsValue self.now mutator value result }
     {
         match value {
@@ -110,11 +110,11 @@ impl Core {
         value: Option<Register>,
     )
         requires mutator { mutator < self.old.config.mutators }
-        requires object { IsRegister (places_of self.old.config) object }
-        requires value { IsValue (places_of self.old.config) value }
+        requires object { IsRegister (root_counts_of self.old.config) object }
+        requires value { IsValue (root_counts_of self.old.config) value }
         requires held { register_of self.old mutator object ≡ Some at }
         requires field { field < length (pointers_at self.old.table at) }
-        requires row { globals_of self.old.config + row ≡ register_place (places_of self.old.config) mutator 0 }
+        requires row { globals_of self.old.config + row ≡ register_place (root_counts_of self.old.config) mutator 0 }
         requires idle { self.old.marker.running ≡ false }
         ensures fills { FillsField self.old (putting mutator object field value) at self.new }
         ensures idle { self.new.marker.running ≡ false }
@@ -166,8 +166,8 @@ impl Core {
     pub fn put_all_at(&mut self, mutator: u32, object: Register, at: Addr, from: &[u32])
         requires few { length from.now < 2 ^ 32 }
         requires mutator { mutator < self.old.config.mutators }
-        requires object { IsRegister (places_of self.old.config) object }
-        requires values { (i : ℕ) → i < length from.now → IsValue (places_of self.old.config) (source (slice_index from.now i)) }
+        requires object { IsRegister (root_counts_of self.old.config) object }
+        requires values { (i : ℕ) → i < length from.now → IsValue (root_counts_of self.old.config) (source (slice_index from.now i)) }
         requires held { register_of self.old mutator object ≡ Some at }
         requires fields { length from.now ≤ length (pointers_at self.old.table at) }
         ensures { HasPut self.old mutator object from.now at (length from.now) self.new }

@@ -7,7 +7,7 @@
 //! ```
 
 ghost use Rattle.std.specs.Prelude.{◌≡◌};
-ghost use Rattle.step_core.specs.Stands.{places_of};
+ghost use Rattle.step_core.specs.Stands.{root_counts_of};
 
 use crate::heap::Core;
 use alloc_buffers::AllocBuffers;
@@ -86,7 +86,7 @@ impl Core {
     /// assert_eq!(rt; core.roots().next_named(0), Some(16));
     /// ```
     pub fn roots(&self) -> &Roots
-        ensures places { result.now.places ≡ places_of self.now.config }
+        ensures places { result.now.places ≡ root_counts_of self.now.config }
         ensures words { result.now.words ≡ self.now.roots }
     {
         &self.roots

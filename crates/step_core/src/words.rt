@@ -1,7 +1,7 @@
 //! Several data words of an object in one go, by one copy of memory.
 
 ghost use Rattle.std.specs.Prelude.{◌≡◌, ◌↔◌, ℕ, ◌<◌, length, IsOk, IfErr};
-ghost use Rattle.graph_runs.specs.State.{places_of};
+ghost use Rattle.graph_runs.specs.State.{root_counts_of};
 ghost use Rattle.heap_steps.specs.Roots.{IsRegister};
 ghost use Rattle.step_core.specs.Words.{HasDataWords, AreRead, AreWritten, IsUnread, IsUnwritten};
 
@@ -26,7 +26,7 @@ impl Core {
         out: &mut [u64],
     ) -> Result<(), Refusal>
         requires mutator { mutator < self.now.config.mutators }
-        requires object { IsRegister (places_of self.now.config) object }
+        requires object { IsRegister (root_counts_of self.now.config) object }
         ensures all { IsOk result ↔ HasDataWords self.now mutator object from (length out.old) }
         ensures read { IsOk result → AreRead self.now mutator object from out.new }
         ensures room { length out.new ≡ length out.old }
@@ -59,7 +59,7 @@ impl Core {
         words: &[u64],
     ) -> Result<(), Refusal>
         requires mutator { mutator < self.old.config.mutators }
-        requires object { IsRegister (places_of self.old.config) object }
+        requires object { IsRegister (root_counts_of self.old.config) object }
         ensures all { IsOk result ↔ HasDataWords self.old mutator object from (length words.now) }
         ensures written { IsOk result → AreWritten self.old mutator object from words.now self.new }
         ensures refused { IfErr result (IsUnwritten self.old mutator object from words.now) }

@@ -120,7 +120,8 @@ module _ (p : Pause) (q : IsPause p) (t : Table) (d : Destinations) (turn : IsTu
     pub count : d.words + object_words t from < 4294967296
     count = let a = size in let b = within in let c = turn.copying.limit in let e = q.plan_is.limit in omega arith
 
-    module _ (t' : Table) (d' : Destinations) (to : ℕ) (c : (y : Stored) → object_at t from ≡ Some y → CopiesAndForwards t t' d d' from to y)
+    module _ (t' : Table) (d' : Destinations) (to : ℕ)
+        (c : (y : Stored) → object_at t from ≡ Some y → CopiesAndForwards t t' d d' from to y)
         (changes : (y : Stored) (k : ℕ) → object_at t from ≡ Some y → d'.last ≡ Some k → CopiesObject t t' k from to y) where
       abbrev copy : CopiesAndForwards t t' d d' from to x
       copy = c x object

@@ -53,7 +53,8 @@ pub named_object : (l : Layout) (p : Plan) (s : Space) (d : Destinations) (a : �
     → s.forward a ≡ None → s.object a ≡ Some n.object
 named_object l p s d a c n un = c.heap.untouched a n.inside un ∙ n.at
 
-pub named_small : (l : Layout) (p : Plan) (s : Space) (d : Destinations) (a : ℕ) (x : Stored) → IsPlan l p → IsCopying l p s d → IsNamed l p a
+pub named_small : (l : Layout) (p : Plan) (s : Space) (d : Destinations) (a : ℕ) (x : Stored) → IsPlan l p → IsCopying l p s d
+    → IsNamed l p a
     → s.forward a ≡ None → s.object a ≡ Some x → 2 * words_of x ≤ l.words
 named_small l p s d a x q c n un at =
     let e = named_object l p s d a c n un in

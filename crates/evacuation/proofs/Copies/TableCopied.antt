@@ -43,7 +43,8 @@ below_free t k j e free apart = elim (cases_lt j k) [
   | inr le ↦ omega (arith, le, apart)
 ]
 
-module _ (p : Pause) (q : IsPause p) (t t' : Table) (d d' : Destinations) (turn : IsTurn p t d) (shaped : IsShaped t) (from to : ℕ) (x : Stored)
+module _ (p : Pause) (q : IsPause p) (t t' : Table) (d d' : Destinations) (turn : IsTurn p t d) (shaped : IsShaped t)
+    (from to : ℕ) (x : Stored)
     (inside : in_set p from ≡ true) (at : kept_now p t from ≡ Some x) (small : 2 * tile_size (Object x) ≤ p.start.words_per_region)
     (c : CopiesAndForwards t t' d d' from to x)
     (changes : (k : ℕ) → object_at t from ≡ Some x → d'.last ≡ Some k → CopiesObject t t' k from to x) where
@@ -144,7 +145,8 @@ module _ (p : Pause) (q : IsPause p) (t t' : Table) (d d' : Destinations) (turn 
     region = k;
     last = last;
     words = ap (λ (y : Destinations). y.words) c.places_are
-        ∙ ap (λ (n : ℕ). n + tile_size (Object x)) (elim c.opens.how [ inl g ↦ ap (λ (y : Destinations). y.words) g.1 | inr g ↦ g.0.words ]);
+        ∙ ap (λ (n : ℕ). n + tile_size (Object x)) (elim c.opens.how
+        [ inl g ↦ ap (λ (y : Destinations). y.words) g.1 | inr g ↦ g.0.words ]);
     at_region = at_region;
     above = let a = w.at in let e = ap (λ (n : ℕ). k * n) words in omega arith;
     room = kept_none p t to (object_of t to None w.was);

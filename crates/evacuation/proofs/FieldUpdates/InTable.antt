@@ -19,7 +19,8 @@ module _ (p : Pause) (q : IsPause p) (t : Table) (d : Destinations) (turn : IsTu
       (pointer_is p t at i field.object (Some a) field.at e) inside
 
   -- what a field that isn't updated names
-  pub unchanged : (v : Option ℕ) → slice_get (fields_at t at) i ≡ Some v → IsOutsideSet (layout p) v → IsFieldClean (layout p) (space p t) at i
+  pub unchanged : (v : Option ℕ) → slice_get (fields_at t at) i ≡ Some v → IsOutsideSet (layout p) v
+      → IsFieldClean (layout p) (space p t) at i
   unchanged v e c y w here f = let k = pointer_is p t at i y v here e in let same : v ≡ w = cc in subst (IsOutsideSet (layout p)) same c
 
   module _ (t1 t2 : Table) (d1 : Destinations) (turn1 : IsTurn p t1 d1) (after1 : (noted : List Bool) → After p noted noted t t1 d d1)

@@ -31,7 +31,8 @@ copy_there p t c stands k w a r s =
     subst (λ (m : ℕ). m < length p.start.regions) (sym r) (stands.turn.taken k w).2 in
     (x, kept_fresh p t a stands.premises stands.turn.table.size known free ∙ object_of t a (Some (Object x)) (e ∙ ap Some same))
 
-module _ (p : Pause) (t : Table) (c : Context) (stands : PauseStands p t c) (g : IsShaped t) (k : ℕ) (w : IsDestination c.destinations k) where
+module _ (p : Pause) (t : Table) (c : Context) (stands : PauseStands p t c) (g : IsShaped t)
+    (k : ℕ) (w : IsDestination c.destinations k) where
   abbrev q : IsPause p
   q = stands.premises
 

@@ -8,7 +8,8 @@ use Rattle.heap_model.specs.Heap.{Stored, fields}
 use Rattle.regions.specs.Table.{Table}
 use Rattle.object_copy.specs.Copies.{Destinations}
 use Rattle.refinement.specs.Remembering.{field_word}
-use Rattle.evacuation.specs.Space.{Layout, Space, IsDestination, IsAfter, NewCrossing, IsSpaceObject, IsOutsideSet, IsCardNoted, IsSettled, IsUpdated}
+use Rattle.evacuation.specs.Space.{Layout, Space, IsDestination, IsAfter, NewCrossing, IsSpaceObject, IsOutsideSet, IsCardNoted}
+use Rattle.evacuation.specs.Space.{IsSettled, IsUpdated}
 use Rattle.evacuation.specs.Space.{IsFieldClean, IsFieldSettled, flag}
 use Rattle.evacuation.specs.Turns.{Pause, PauseStands, PauseGoesOn, in_set, layout, space}
 use Rattle.evacuation.specs.declared.room.Context.{Context}

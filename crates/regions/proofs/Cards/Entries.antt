@@ -39,7 +39,8 @@ use Rattle.regions.proofs.Tiles.Within.{within_fewer, within_added, within_cut}
 use Rattle.regions.proofs.Cards.FirstTiles.{entries_added, entries_same, entries_fewer, entries_cut, if_between, if_below, if_above}
 
 pub sound_changed : (size shift lowest low free free' : ℕ) (entries new : Entries) (starts starts' : Starts) (memory memory' : Memory)
-    (rows rows' : List Row) (t t' : Table) → IsRegionTable size shift lowest free entries starts memory rows → table_of size memory.all rows ≡ t
+    (rows rows' : List Row) (t t' : Table) → IsRegionTable size shift lowest free entries starts memory rows
+    → table_of size memory.all rows ≡ t
     → IsWrittenTable size memory'.all rows' t' → length t'.regions ≡ length t.regions → new.card_words ≡ entries.card_words
     → length new.starts ≡ length entries.starts → AreUsedBelow low rows' → free' ≡ free_row_count rows'
     → starts'.region_words ≡ starts.region_words → length starts'.flags ≡ length starts.flags

@@ -100,7 +100,8 @@ free_outside size words rows t k m e h x o = (o, go (x / t.words_per_region) ref
 pub run_made : (size : ℕ) (words words' : List ℕ) (rows : List Row) (t : Table) (k m s : ℕ) (object : Stored) → IsTable size words rows
     → table_of size words rows ≡ t → FreeFront m (drop k rows) → k < length rows → 0 < m → s ≤ m * size → m * size < s + size
     → length words' ≡ length words → take (k * size) words' ≡ take (k * size) words
-    → drop (k * size + m * size) words' ≡ drop (k * size + m * size) words → IsObjectHeader (header_of (get_or (drop (k * size) words') 0 0))
+    → drop (k * size + m * size) words' ≡ drop (k * size + m * size) words
+    → IsObjectHeader (header_of (get_or (drop (k * size) words') 0 0))
     → object_size (header_of (get_or (drop (k * size) words') 0 0)) ≡ s → first_stored (drop (k * size) words') ≡ object
     → tile_size (Object object) ≡ s → IsWrittenTable size words' (take k rows ++ (run_rows size s 0 m ++ drop (k + m) rows))
     (with_regions t k m (run_regions size object m))

@@ -47,7 +47,8 @@ stored_by-front (Some (headers.Object p weak d)) ws m i h l =
 stored_by-front (Some (headers.Filler n)) ws m i h l = absurd i
 stored_by-front (Some (headers.Forwarded to)) ws m i h l = absurd i
 
-first_stored-front : (ws : List ℕ) (n : ℕ) → IsObjectHeader (header_of (get_or ws 0 0)) → object_size (header_of (get_or ws 0 0)) ≤ n → 0 < n
+first_stored-front : (ws : List ℕ) (n : ℕ) → IsObjectHeader (header_of (get_or ws 0 0)) → object_size (header_of (get_or ws 0 0)) ≤ n
+    → 0 < n
     → n ≤ length ws → first_stored (take n ws) ≡ first_stored ws
 first_stored-front ws zero i h z l = absurd (omega arith)
 first_stored-front [] (suc n) i h z l = absurd (omega arith)

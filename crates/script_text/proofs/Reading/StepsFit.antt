@@ -32,7 +32,8 @@ step_fits c (actor ∷ rest) = go (bytes_eq actor (codes "gc")) (mutator_of c ac
         → is_some (when_read (if gc then (or_fault (collection_of c.format rest) kinds.BadStep >>= λ k. Ok (steps.Collector k))
         else (m >>= λ m. or_fault (allowed_of c rest) kinds.BadStep >>= λ a. Ok (steps.Mutator (record { mutator = m; action = a })))))
         ≡ is_some (if gc then Some actors.Collector else option_map actors.Mutator (when_read m))
-        && all_fit c (expected_from_verb c (if gc then Some actors.Collector else option_map actors.Mutator (when_read m)) rest (expected.End ∷ []))
+        && all_fit c (expected_from_verb c (if gc then Some actors.Collector else option_map actors.Mutator (when_read m)) rest
+        (expected.End ∷ []))
         rest
     go true m [] = refl
     go true m (verb ∷ args) = read_part (collection_of c.format (verb ∷ args)) steps.Collector kinds.BadStep ∙ collects_by c verb args

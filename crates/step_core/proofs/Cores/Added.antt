@@ -15,7 +15,8 @@ use Rattle.regions.proofs.Tiles.Changes.{WritesObject, object_same}
 use Rattle.alloc_buffers.specs.declared.buffers.Buffer.{Buffer}
 use Rattle.alloc_buffers.specs.declared.placement.Allocation.{Allocation}
 use Rattle.alloc_buffers.specs.declared.placement.Allocation.TheVariants as allocations
-use Rattle.alloc_buffers.specs.Placement.{Buffers, BuffersStand, AreAbove, IsAbove, IsAllocated, IsRunFor, IsAllocation, address_of, made_at}
+use Rattle.alloc_buffers.specs.Placement.{Buffers, BuffersStand, AreAbove, IsAbove, IsAllocated, IsRunFor, IsAllocation, address_of}
+use Rattle.alloc_buffers.specs.Placement.{made_at}
 use Rattle.alloc_buffers.proofs.Above.{above_same}
 use Rattle.alloc_buffers.proofs.Runs.{takes, no_tile, run_stands, run_above}
 use Rattle.regions.proofs.Tiles.ShapedMade.{first_object}

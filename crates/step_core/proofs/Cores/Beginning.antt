@@ -26,7 +26,7 @@ use Rattle.refinement.proofs.Remembered.{remembers_none}
 use Rattle.evacuation.specs.Rooms.{RoomSizes}
 use Rattle.heap_words.specs.Configs.{card_words}
 use Rattle.heap_words.proofs.Limits.{region_cards}
-use Rattle.step_core.specs.Stands.{places_of, IsRoomFor, CoreState, kept_of, heap_of, CardsFit, ShowsGraph, Stands, IsCore}
+use Rattle.step_core.specs.Stands.{root_counts_of, IsRoomFor, CoreState, kept_of, heap_of, CardsFit, ShowsGraph, Stands, IsCore}
 use Rattle.step_core.proofs.Mutating.Reading.{object_kept}
 
 all_free : (n k : ℕ) → get_or (replicate n Free) k Free ≡ Free
@@ -56,8 +56,8 @@ first_core g m d r = record {
   sets = empty_sets g.regions (g.words / card_words g) (filter_rows g);
   room = d;
   row_room = r;
-  places = places_of g;
-  roots = replicate (root_places (places_of g)) None;
+  places = root_counts_of g;
+  roots = replicate (root_places (root_counts_of g)) None;
   next = g.first_name;
 }
 
@@ -70,7 +70,7 @@ first_shows g m d r = record {
   places = refl;
   next = omega arith;
   shows = record {
-    roots = nil_shown (heap_of (first_core g m d r)) (root_places (places_of g));
+    roots = nil_shown (heap_of (first_core g m d r)) (root_places (root_counts_of g));
     distinct = λ a b x y h k n. absurd (none_kept g m d r a x h);
     objects = λ a x h. absurd (none_kept g m d r a x h);
   };
@@ -151,7 +151,7 @@ first_is g m d r stand suits to rows names idle logs stands =
       room = to;
       rows = rows;
       placed = refl;
-      places = length-replicate (root_places (places_of g)) None;
+      places = length-replicate (root_places (root_counts_of g)) None;
       names = names;
       footing = record { graph = first_graph g; snapshot = first_graph g };
       rests = record {

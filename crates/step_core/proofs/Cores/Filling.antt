@@ -2,7 +2,7 @@
 use Rattle.std.proofs.Common.{◌≡◌, ◌<◌, ℕ, Option, Some, None, length, ◌∙◌, inl, inr, refl, sym, ap, arith}
 use Rattle.std.specs.Prelude.{IfNone}
 use Rattle.heap_words.specs.Configs.{registers_of}
-use Rattle.graph_runs.specs.State.{register_place, places_of}
+use Rattle.graph_runs.specs.State.{register_place, root_counts_of}
 use Rattle.heap_steps.specs.declared.step.Op.{Op}
 use Rattle.heap_steps.specs.declared.step.Action.{Action}
 use Rattle.heap_steps.specs.declared.step.Action.TheVariants as actions
@@ -42,18 +42,18 @@ pub names_at : (c : CoreState) (m : ℕ) (object : Register) (a : ℕ) → IsCor
     → object.number < registers_of c.config → register_of c m object ≡ Some a → NamesAt c m object a
 names_at c m object a core known inside held =
     let all = core.places in
-    let place : ℕ = register_place (places_of c.config) m object.number in
+    let place : ℕ = register_place (root_counts_of c.config) m object.number in
     let within : place < length c.roots = omega (arith, register_inside c.config m object.number known inside, all) in
     record { held = held; rooted = root_rooted c place (Some a) within (sym held); leads = leads c place (Some a) within (sym held) }
 
 pub all_refused : (c : CoreState) (m : ℕ) (object : Register)
-    → Leads c (register_place (places_of c.config) m object.number) None → AreRefused c m object
+    → Leads c (register_place (root_counts_of c.config) m object.number) None → AreRefused c m object
 all_refused c m object l = record {
   put = λ i value. refused_takes (put_op m object i value) refusals.Nil c refl (λ g f. f) (λ g s. put_nil g c s m object i value l);
   written = λ i v. refused_takes (write_op m object i v) refusals.Nil c refl (λ g f. f) (λ g s. write_nil g c s m object i v l);
 }
 
 pub nil_refused : (c : CoreState) (m : ℕ) (object : Register) (w : Option ℕ)
-    → Leads c (register_place (places_of c.config) m object.number) w → IfNone w (AreRefused c m object)
+    → Leads c (register_place (root_counts_of c.config) m object.number) w → IfNone w (AreRefused c m object)
 nil_refused c m object None l = all_refused c m object l
 nil_refused c m object (Some a) l = tt

@@ -17,7 +17,7 @@ use Rattle.graph_runs.specs.Machine.{Outcome, act}
 use Rattle.heap_steps.specs.declared.step.Action.TheVariants as actions
 use Rattle.heap_steps.specs.declared.step.Reply.TheVariants as replies
 use Rattle.heap_steps.specs.declared.step.Register.{Register}
-use Rattle.step_core.specs.Stands.{places_of, CoreState, kept_of, heap_of, RemembersFields, ShowsGraph, KeepsFrom, IsCore, IsWordOf}
+use Rattle.step_core.specs.Stands.{root_counts_of, CoreState, kept_of, heap_of, RemembersFields, ShowsGraph, KeepsFrom, IsCore, IsWordOf}
 use Rattle.step_core.specs.Stands.{IsRootWord, RootNames, Leads, name_in, name_of}
 use Rattle.step_core.specs.Cycle.{LeavesRegions}
 use Rattle.step_core.specs.Mutators.{with_root_word}
@@ -36,14 +36,15 @@ pub core_of : (k c : CoreState) → k ≡ c → IsCore k → IsCore c
 core_of k c e core = subst (λ (d : CoreState). IsCore d) e core
 
 -- it has as many globals, mutators and registers as steps may name
-pub placed_in : (k c : CoreState) → k ≡ c → IsCore k → k.places ≡ places_of c.config
-placed_in k c e core = core.placed ∙ ap (λ (d : CoreState). places_of d.config) e
+pub placed_in : (k c : CoreState) → k ≡ c → IsCore k → k.places ≡ root_counts_of c.config
+placed_in k c e core = core.placed ∙ ap (λ (d : CoreState). root_counts_of d.config) e
 
 -- the place of a register, by the places that the code has
-pub register_at : (k c : CoreState) → k ≡ c → IsCore k → (m r : ℕ) → register_place k.places m r ≡ register_place (places_of c.config) m r
+pub register_at : (k c : CoreState) → k ≡ c → IsCore k → (m r : ℕ)
+    → register_place k.places m r ≡ register_place (root_counts_of c.config) m r
 register_at k c e core m r = ap (λ (p : RootCounts). register_place p m r) (placed_in k c e core)
 
-pub register_there : (k : CoreState) → IsCore k → (m r : ℕ) → register_place k.places m r ≡ register_place (places_of k.config) m r
+pub register_there : (k : CoreState) → IsCore k → (m r : ℕ) → register_place k.places m r ≡ register_place (root_counts_of k.config) m r
 register_there k core m r = ap (λ (p : RootCounts). register_place p m r) core.placed
 
 pub registers_at : (k c : CoreState) → k ≡ c → IsCore k → k.places.registers ≡ registers_of c.config
@@ -52,21 +53,21 @@ registers_at k c e core = ap (λ (p : RootCounts). p.registers) (placed_in k c e
 -- the graph has the register in the same place
 pub register_shows : (c d : CoreState) (m r : ℕ) (w : Option ℕ)
     → ((g : Graph) (v : Option ℕ) → ShowsGraph g c → IsShown (heap_of c) w v
-    → ShowsGraph (with_root g (register_place (places_of c.config) m r) v) d)
+    → ShowsGraph (with_root g (register_place (root_counts_of c.config) m r) v) d)
     → (g : Graph) (v : Option ℕ) → ShowsGraph g c → IsShown (heap_of c) w v → ShowsGraph (with_root g (register_place g.places m r) v) d
 register_shows c d m r w each g v s shown =
     subst (λ (p : RootCounts). ShowsGraph (with_root g (register_place p m r) v) d) (sym s.places) (each g v s shown)
 
 -- a register's place is among the places
 pub register_inside : (c : Config) (m r : ℕ) → m < c.mutators → r < registers_of c
-    → register_place (places_of c) m r < root_places (places_of c)
-register_inside c m r known inside = register_within (places_of c) m r known inside
+    → register_place (root_counts_of c) m r < root_places (root_counts_of c)
+register_inside c m r known inside = register_within (root_counts_of c) m r known inside
 
-pub root_within : (k c : CoreState) (place : ℕ) → k ≡ c → IsCore k → place < root_places (places_of c.config) → place < length k.roots
+pub root_within : (k c : CoreState) (place : ℕ) → k ≡ c → IsCore k → place < root_places (root_counts_of c.config) → place < length k.roots
 root_within k c place e core less =
     subst (λ (d : CoreState). place < length d.roots) (sym e) (let all = (core_of k c e core).places in omega (arith, less, all))
 
-pub root_facts : (k c : CoreState) (place : ℕ) (w : Option ℕ) → k ≡ c → IsCore k → place < root_places (places_of c.config)
+pub root_facts : (k c : CoreState) (place : ℕ) (w : Option ℕ) → k ≡ c → IsCore k → place < root_places (root_counts_of c.config)
     → w ≡ get_or k.roots place None → HoldsRoot c place w
 root_facts k c place w e core less r =
     let core' = core_of k c e core in
@@ -85,14 +86,15 @@ root_facts k c place w e core less r =
 pub register_facts : (k c : CoreState) (m : ℕ) (r : Register) (w : Option ℕ) → k ≡ c → IsCore k → m < c.config.mutators
     → r.number < registers_of c.config → w ≡ get_or k.roots (register_place k.places m r.number) None → HoldsRegister c m r w
 register_facts k c m r w e core known inside is =
-    let f = root_facts k c (register_place (places_of c.config) m r.number) w e core (register_inside c.config m r.number known inside)
+    let f = root_facts k c (register_place (root_counts_of c.config) m r.number) w e core (register_inside c.config m r.number known inside)
     (is ∙ ap (λ (place : ℕ). get_or k.roots place None) (register_at k c e core m r.number)) in
     record {
       value = f.value;
       word = f.word;
       rooted = f.rooted;
       leads = f.leads;
-      shows = λ g s. subst (λ (p : RootCounts). IsShown (heap_of c) w (root_at g (register_place p m r.number))) (sym s.places) (f.shows g s);
+      shows = λ g s. subst (λ (p : RootCounts). IsShown (heap_of c) w (root_at g (register_place p m r.number))) (sym s.places)
+          (f.shows g s);
     }
 
 -- what a root holds may be stored
@@ -163,16 +165,16 @@ object_led k c place a e core l =
 
 module _ (k c : CoreState) (e : k ≡ c) (core : IsCore k) (m : ℕ) (object : Register) (a i v : ℕ) (t : Table)
     (names : NamesAt c m object a) (within : i < length (values_at k.table a)) (is : t ≡ set_value k.table a i v) where
-  l : Leads c (register_place (places_of c.config) m object.number) (Some a)
+  l : Leads c (register_place (root_counts_of c.config) m object.number) (Some a)
   l = names.leads
 
   write_by : (g : Graph) → ShowsGraph g k → Acts g m (actions.Write object i v) replies.Done (record k { table = t })
   write_by g s = write_done g k s m object a
-      (subst (λ (d : CoreState). Leads d (register_place (places_of d.config) m object.number) (Some a)) (sym e) l) i v t within
+      (subst (λ (d : CoreState). Leads d (register_place (root_counts_of d.config) m object.number) (Some a)) (sym e) l) i v t within
       (some_words k core) is
 
-  h : RootNames core.footing.graph k (register_place (places_of k.config) m object.number) a
-  h = subst (λ (d : CoreState). Leads d (register_place (places_of d.config) m object.number) (Some a))
+  h : RootNames core.footing.graph k (register_place (root_counts_of k.config) m object.number) a
+  h = subst (λ (d : CoreState). Leads d (register_place (root_counts_of d.config) m object.number) (Some a))
       (sym e) l core.footing.graph core.rests.shows
 
   writes : WritesObject k.table t a h.stored (with_value h.stored i v)
@@ -204,8 +206,8 @@ module _ (k c : CoreState) (e : k ≡ c) (core : IsCore k) (m : ℕ) (object : R
   abbrev written : Object
   written = record h.object { values = slice_set h.object.values i v }
 
-  l' : Leads k (register_place (places_of k.config) m object.number) (Some a)
-  l' = subst (λ (d : CoreState). Leads d (register_place (places_of d.config) m object.number) (Some a)) (sym e) l
+  l' : Leads k (register_place (root_counts_of k.config) m object.number) (Some a)
+  l' = subst (λ (d : CoreState). Leads d (register_place (root_counts_of d.config) m object.number) (Some a)) (sym e) l
 
   write_sound : IsSound (act core.footing.graph m (actions.Write object i v)).1
   write_sound = subst (λ (out : Outcome). IsSound out.1) (sym (write_is core.footing.graph k core.rests.shows m object a l' i v h within))

@@ -1,7 +1,7 @@
 -- Roots that become nil: k is the core by its fields, c the same by its value.
 use Rattle.std.proofs.Common.{◌≡◌, ℕ, zero, suc, ◌+◌, ◌-◌, None, refl, sym, ap, ◌∙◌, subst}
 use Rattle.heap_model.specs.Graph.{Graph, RootCounts}
-use Rattle.graph_runs.specs.State.{with_nil_roots, register_place, places_of}
+use Rattle.graph_runs.specs.State.{with_nil_roots, register_place, root_counts_of}
 use Rattle.step_core.specs.Stands.{CoreState, ShowsGraph, KeepsFrom, IsCore}
 use Rattle.step_core.specs.Mutators.{with_nil_words}
 use Rattle.step_core.specs.Cycle.{LeavesRegions}
@@ -48,10 +48,12 @@ module _ (k c : CoreState) (e : k ≡ c) (core : IsCore k) (first count : ℕ) w
     left_by g s = subst (λ (d : CoreState). ShowsGraph (with_nil_roots g to many) d) (sym left_set) (nils_shows g c to many s)
 
 -- the graph has the registers in the same places
-pub left_shows : (k c : CoreState) (e : k ≡ c) (core : IsCore k) (first count m r : ℕ) → first ≡ register_place (places_of c.config) m r
-    → count ≡ (places_of c.config).registers - r → (g : Graph) → ShowsGraph g c
+pub left_shows : (k c : CoreState) (e : k ≡ c) (core : IsCore k) (first count m r : ℕ)
+    → first ≡ register_place (root_counts_of c.config) m r
+    → count ≡ (root_counts_of c.config).registers - r → (g : Graph) → ShowsGraph g c
     → ShowsGraph (with_nil_roots g (register_place g.places m r) (g.places.registers - r)) (with_nil_words k first count)
 left_shows k c e core first count m r there as_many g s =
     subst (λ (p : RootCounts).
     ShowsGraph (with_nil_roots g (register_place p m r) (p.registers - r)) (with_nil_words k first count)) (sym s.places)
-    (left_by k c e core first count (register_place (places_of c.config) m r) ((places_of c.config).registers - r) there as_many g s)
+    (left_by k c e core first count (register_place (root_counts_of c.config) m r) ((root_counts_of c.config).registers - r) there as_many
+    g s)

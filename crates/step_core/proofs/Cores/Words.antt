@@ -8,7 +8,7 @@ use Rattle.regions.specs.Table.{Table, values_at, set_value, set_values}
 use Rattle.regions.proofs.Cards.ValueRuns.{values_stay}
 use Rattle.heap_words.specs.Configs.{registers_of}
 use Rattle.heap_model.specs.Graph.{Graph}
-use Rattle.graph_runs.specs.State.{register_place, places_of}
+use Rattle.graph_runs.specs.State.{register_place, root_counts_of}
 use Rattle.heap_steps.specs.declared.step.Op.{Op}
 use Rattle.heap_steps.specs.declared.step.Register.{Register}
 use Rattle.heap_steps.specs.declared.step.Action.TheVariants as actions
@@ -45,7 +45,7 @@ refused_takes o why c plain never acts =
 
 -- ---- reads
 pub unread_past : (c : CoreState) (m : ℕ) (object : Register) (a from count : ℕ)
-    → Leads c (register_place (places_of c.config) m object.number) (Some a) → length (values_at c.table a) < from + count
+    → Leads c (register_place (root_counts_of c.config) m object.number) (Some a) → length (values_at c.table a) < from + count
     → IsUnread c m object from count refusals.NoField
 unread_past c m object a from count l h =
     refused_takes (read_op m object (from + (count - 1))) refusals.NoField c refl (λ g f. f)
@@ -59,7 +59,7 @@ part_at values from n i h k =
     ∙ ap Some (sym (get_or-take n (drop from values) i 0 h ∙ get_or-drop from values i 0))
 
 pub all_read : (c : CoreState) (m : ℕ) (object : Register) (a from : ℕ) (words : List ℕ)
-    → Leads c (register_place (places_of c.config) m object.number) (Some a) → from + length words ≤ length (values_at c.table a)
+    → Leads c (register_place (root_counts_of c.config) m object.number) (Some a) → from + length words ≤ length (values_at c.table a)
     → words ≡ take (length words) (drop from (values_at c.table a)) → AreRead c m object from words
 all_read c m object a from words l h is i k =
     let word : ℕ = slice_index words i in
@@ -74,7 +74,7 @@ all_read c m object a from words l h is i k =
 
 -- ---- writes
 pub unwritten_past : (c : CoreState) (m : ℕ) (object : Register) (a from : ℕ) (words : List ℕ)
-    → Leads c (register_place (places_of c.config) m object.number) (Some a) → length (values_at c.table a) < from + length words
+    → Leads c (register_place (root_counts_of c.config) m object.number) (Some a) → length (values_at c.table a) < from + length words
     → IsUnwritten c m object from words refusals.NoField
 unwritten_past c m object a from words l h =
     refused_takes (write_op m object (from + (length words - 1)) (slice_index words (length words - 1))) refusals.NoField c refl (λ g f. f)
@@ -86,7 +86,7 @@ pub record HasRun (c : CoreState) (m : ℕ) (object : Register) (from : ℕ) (wo
   pub written : AreWritten c m object from words d
 
 pub all_written : (c : CoreState) (m : ℕ) (object : Register) (a from : ℕ) (words : List ℕ) → IsCore c
-    → register_place (places_of c.config) m object.number < length c.roots → register_of c m object ≡ Some a
+    → register_place (root_counts_of c.config) m object.number < length c.roots → register_of c m object ≡ Some a
     → from + length words ≤ length (values_at c.table a)
     → HasRun c m object from words (record c { table = set_values c.table a from words })
 all_written c m object a from [] core inside named h = record { core = core; written = refl }
@@ -94,7 +94,7 @@ all_written c m object a from (w ∷ ws) core inside named h =
     let t : Table = set_value c.table a from w in
     let b : CoreState = record c { table = t } in
     let first : from < length (values_at c.table a) = omega arith in
-    let place : ℕ = register_place (places_of c.config) m object.number in
+    let place : ℕ = register_place (root_counts_of c.config) m object.number in
     let names : NamesAt c m object a = record {
       held = named;
       rooted = root_rooted c place (Some a) inside (sym named);
@@ -114,10 +114,10 @@ pub run_of : (k c : CoreState) (m : ℕ) (object : Register) (a from : ℕ) (wor
     → HasRun c m object from words (record k { table = t })
 run_of k c m object a from words t e core known inside named h is =
     let all = (core_of k c e core).places in
-    let within : register_place (places_of c.config) m object.number < length c.roots =
+    let within : register_place (root_counts_of c.config) m object.number < length c.roots =
     omega (arith, register_inside c.config m object.number known inside, all) in
     let run = all_written k m object a from words core
-    (subst (λ (d : CoreState). register_place (places_of d.config) m object.number < length d.roots) (sym e) within)
+    (subst (λ (d : CoreState). register_place (root_counts_of d.config) m object.number < length d.roots) (sym e) within)
     (subst (λ (d : CoreState). register_of d m object ≡ Some a) (sym e) (sym named)) h in
     subst (λ (d : CoreState). HasRun d m object from words (record k { table = t })) e
     (subst (λ (u : Table). HasRun k m object from words (record k { table = u })) (sym is) run)

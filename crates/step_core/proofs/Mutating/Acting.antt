@@ -11,7 +11,7 @@ use Rattle.heap_model.proofs.Changed.{root_set_shows, object_set_shows}
 use Rattle.regions.specs.Table.{Table, pointers_at, weaks_at, values_at, object_values, set_value}
 use Rattle.regions.proofs.Tiles.Changes.{WritesObject, value_put}
 use Rattle.regions.proofs.Words.Values.{with_value}
-use Rattle.graph_runs.specs.State.{with_root, root_at, register_place, places_of}
+use Rattle.graph_runs.specs.State.{with_root, root_at, register_place, root_counts_of}
 use Rattle.graph_runs.specs.Machine.{Outcome, act, on_object, on_name, on_contents, refused, stored}
 use Rattle.heap_steps.specs.declared.step.Action.{Action}
 use Rattle.heap_steps.specs.declared.step.Action.TheVariants as actions
@@ -36,29 +36,29 @@ acts_by g m a reply c out e r s = record {
 }
 
 on_found : (g : Graph) (c : CoreState) (s : ShowsGraph g c) (m a : ℕ) (r : Register) (f : ℕ → Object → Outcome)
-    (h : RootNames g c (register_place (places_of c.config) m r.number) a) → on_object g m r f ≡ f h.stored.name h.object
+    (h : RootNames g c (register_place (root_counts_of c.config) m r.number) a) → on_object g m r f ≡ f h.stored.name h.object
 on_found g c s m a r f h = ap (λ (p : RootCounts). on_name g (root_at g (register_place p m r.number)) f) s.places
     ∙ ap (λ (o : Option ℕ). on_name g o f) h.root ∙ ap (λ (o : Option Object). on_contents g o (f h.stored.name)) h.found
 
 -- a register that is nil names no object
 nil_object : (g : Graph) (c : CoreState) → ShowsGraph g c → (m : ℕ) (r : Register) (f : ℕ → Object → Outcome)
-    → Leads c (register_place (places_of c.config) m r.number) None → on_object g m r f ≡ refused g refusals.Nil
+    → Leads c (register_place (root_counts_of c.config) m r.number) None → on_object g m r f ≡ refused g refusals.Nil
 nil_object g c s m r f l =
     ap (λ (p : RootCounts). on_name g (root_at g (register_place p m r.number)) f) s.places ∙ ap (λ (o : Option ℕ). on_name g o f) (l g s)
 
 nil_acts : (g : Graph) (c : CoreState) → ShowsGraph g c → (m : ℕ) (r : Register) (a : Action) (f : ℕ → Object → Outcome)
-    → act g m a ≡ on_object g m r f → Leads c (register_place (places_of c.config) m r.number) None
+    → act g m a ≡ on_object g m r f → Leads c (register_place (root_counts_of c.config) m r.number) None
     → Acts g m a (replies.Refused refusals.Nil) c
 nil_acts g c s m r a f is l =
     acts_by g m a (replies.Refused refusals.Nil) c (refused g refusals.Nil) (is ∙ nil_object g c s m r f l) refl s
 
 pub write_nil : (g : Graph) (c : CoreState) → ShowsGraph g c → (m : ℕ) (object : Register) (i v : ℕ)
-    → Leads c (register_place (places_of c.config) m object.number) None
+    → Leads c (register_place (root_counts_of c.config) m object.number) None
     → Acts g m (actions.Write object i v) (replies.Refused refusals.Nil) c
 write_nil g c s m object i v = nil_acts g c s m object (actions.Write object i v) _ refl
 
 pub put_nil : (g : Graph) (c : CoreState) → ShowsGraph g c → (m : ℕ) (object : Register) (i : ℕ) (value : Option Register)
-    → Leads c (register_place (places_of c.config) m object.number) None
+    → Leads c (register_place (root_counts_of c.config) m object.number) None
     → Acts g m (actions.Put object i value) (replies.Refused refusals.Nil) c
 put_nil g c s m object i value = nil_acts g c s m object (actions.Put object i value) _ refl
 
@@ -105,16 +105,16 @@ pub object_shows : (g : Graph) (c c' : CoreState) (a : ℕ) (x y : Stored) (o p 
     → ShowsGraph (with_changed g x.name p) c'
 object_shows g c c' a x y o p s same set named pointers weaks values = record {
   room = s.room ∙ sym (ap object_limit same.config);
-  places = s.places ∙ sym (ap places_of same.config);
+  places = s.places ∙ sym (ap root_counts_of same.config);
   next = ap (λ n. g.first_name + n) (length-set g.objects (x.name - g.first_name) p) ∙ s.next ∙ sym same.next;
   shows = object_set_shows g (heap_of c) (heap_of c') s.shows a x y o p set named pointers weaks values;
 }
 
 module _ (g : Graph) (c : CoreState) (s : ShowsGraph g c) (m : ℕ) (object : Register) where
-  module _ (a : ℕ) (l : Leads c (register_place (places_of c.config) m object.number) (Some a)) where
+  module _ (a : ℕ) (l : Leads c (register_place (root_counts_of c.config) m object.number) (Some a)) where
     -- the object has no such field
     past_acts : (b : Action) (f : ℕ → Object → Outcome) → act g m b ≡ on_object g m object f
-        → ((h : RootNames g c (register_place (places_of c.config) m object.number) a)
+        → ((h : RootNames g c (register_place (root_counts_of c.config) m object.number) a)
         → f h.stored.name h.object ≡ refused g refusals.NoField)
         → Acts g m b (replies.Refused refusals.NoField) c
     past_acts b f is none = let h = l g s in
@@ -243,7 +243,8 @@ module _ (g : Graph) (c : CoreState) (s : ShowsGraph g c) (m : ℕ) (object : Re
         acts_by g m (actions.PutWeak object i value) replies.Done c' (replies.Done, with_changed g h.stored.name p)
         (on_found g c s m a object _ h ∙ rw there refl) refl (after g h.stored h.object v s h.at h.named shown)
 
-    pub write_is : (i v : ℕ) (h : RootNames g c (register_place (places_of c.config) m object.number) a) → i < length (values_at c.table a)
+    pub write_is : (i v : ℕ) (h : RootNames g c (register_place (root_counts_of c.config) m object.number) a)
+        → i < length (values_at c.table a)
         → act g m (actions.Write object i v)
         ≡ (replies.Done, with_changed g h.stored.name (record h.object { values = slice_set h.object.values i v }))
     write_is i v h k =

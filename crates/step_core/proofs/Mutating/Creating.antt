@@ -16,7 +16,7 @@ use Rattle.heap_model.proofs.Mutate.{object_added}
 use Rattle.heap_model.proofs.Changed.{object_added_shows}
 use Rattle.heap_model.proofs.Unreached.{object_sound, unreached_object}
 use Rattle.regions.specs.Table.{Table, new_object, object_at, object_words}
-use Rattle.graph_runs.specs.State.{register_place, places_of}
+use Rattle.graph_runs.specs.State.{register_place, root_counts_of}
 use Rattle.graph_runs.specs.Machine.{made}
 use Rattle.heap_steps.specs.declared.step.Action.TheVariants as actions
 use Rattle.heap_steps.specs.declared.step.Reply.TheVariants as replies
@@ -105,55 +105,57 @@ module _ (k : CoreState) (m : ℕ) (to : Register) (t2 : Table) (b1 : Buffers) (
       below : is_below k.table.words_per_region k.marker.tams.previous a ≡ false
       below = new_below k.marker.tams.previous core.layers.above_previous
 
-  new_shows : (g : Graph) → ShowsGraph g k → ShowsGraph (with_object g (fresh p weak d) (register_place (places_of k.config) m to.number))
-      (with_new k t2 b1 (register_place (places_of k.config) m to.number) a)
+  new_shows : (g : Graph) → ShowsGraph g k → ShowsGraph (with_object g (fresh p weak d) (register_place (root_counts_of k.config) m
+      to.number))
+      (with_new k t2 b1 (register_place (root_counts_of k.config) m to.number) a)
   new_shows g s = record {
     room = s.room;
     places = s.places;
     next = (let next = s.next in let len = length-append g.objects (fresh p weak d ∷ []) in omega arith);
-    shows = object_added_shows g (heap_of k) (heap_of (with_new k t2 b1 (register_place (places_of k.config) m to.number) a)) s.shows a
-        (new_object k.next p weak d) (fresh p weak d) (register_place (places_of k.config) m to.number)
-        (added (register_place (places_of k.config) m to.number)) (sym s.next)
+    shows = object_added_shows g (heap_of k) (heap_of (with_new k t2 b1 (register_place (root_counts_of k.config) m to.number) a)) s.shows a
+        (new_object k.next p weak d) (fresh p weak d) (register_place (root_counts_of k.config) m to.number)
+        (added (register_place (root_counts_of k.config) m to.number)) (sym s.next)
         (nil_shown (heap_of k) p) (nil_shown (heap_of k) weak) refl;
   }
 
   -- the graph has its roots in the same places
   new_there : (g : Graph) → ShowsGraph g k → ShowsGraph (with_object g (fresh p weak d) (register_place g.places m to.number))
-      (with_new k t2 b1 (register_place (places_of k.config) m to.number) a)
+      (with_new k t2 b1 (register_place (root_counts_of k.config) m to.number) a)
   new_there g s = subst (λ (q : RootCounts). ShowsGraph (with_object g (fresh p weak d) (register_place q m to.number))
-      (with_new k t2 b1 (register_place (places_of k.config) m to.number) a)) (sym s.places) (new_shows g s)
+      (with_new k t2 b1 (register_place (root_counts_of k.config) m to.number) a)) (sym s.places) (new_shows g s)
 
   pub new_acts : (g : Graph) → ShowsGraph g k
       → Acts g m (actions.NewWeak to (record { pointers = p; values = d }) weak) (replies.Named (Some k.next))
-      (with_new k t2 b1 (register_place (places_of k.config) m to.number) a)
+      (with_new k t2 b1 (register_place (root_counts_of k.config) m to.number) a)
   new_acts g s =
       let next = s.next in
       let fits : 2 + p + weak + d ≤ g.room = rw s.room room in
       let there : next_name g ≢ 2 ^ 64 - 1 = λ h. names (sym next ∙ h) in
       acts_by g m (actions.NewWeak to (record { pointers = p; values = d }) weak) (replies.Named (Some k.next))
-      (with_new k t2 b1 (register_place (places_of k.config) m to.number) a)
+      (with_new k t2 b1 (register_place (root_counts_of k.config) m to.number) a)
       (replies.Named (Some (next_name g)), with_object g (fresh p weak d) (register_place g.places m to.number))
       (made_is g m p weak d to fits there) (ap (λ (j : ℕ). replies.Named (Some j)) (sym next)) (new_there g s)
 
-  pub new_keeps : (s : Graph) → KeepsFrom s k → KeepsFrom s (with_new k t2 b1 (register_place (places_of k.config) m to.number) a)
+  pub new_keeps : (s : Graph) → KeepsFrom s k → KeepsFrom s (with_new k t2 b1 (register_place (root_counts_of k.config) m to.number) a)
   new_keeps s f = record {
     earlier = (let le = f.earlier in omega arith);
-    marking = λ run. subst (λ (marks : Marking). KeepsSnapshot s (heap_of (new (register_place (places_of k.config) m to.number))) marks)
+    marking = λ run. subst (λ (marks : Marking). KeepsSnapshot s (heap_of (new (register_place (root_counts_of k.config) m to.number)))
+        marks)
         (sym (marking_same k.table t2 k.marker words))
         (object_added (IsReachable s) (next_name s) (heap_of k) (marking_of k) (f.marking run)
-        (heap_of (new (register_place (places_of k.config) m to.number))) a (new_object k.next p weak d)
-        (register_place (places_of k.config) m to.number) (new_below k.marker.tams.next core.layers.above_next) f.earlier
-        (added (register_place (places_of k.config) m to.number)));
+        (heap_of (new (register_place (root_counts_of k.config) m to.number))) a (new_object k.next p weak d)
+        (register_place (root_counts_of k.config) m to.number) (new_below k.marker.tams.next core.layers.above_next) f.earlier
+        (added (register_place (root_counts_of k.config) m to.number)));
   }
 
-  new_leaves_by : LeavesRegions k (with_new k t2 b1 (register_place (places_of k.config) m to.number) a)
+  new_leaves_by : LeavesRegions k (with_new k t2 b1 (register_place (root_counts_of k.config) m to.number) a)
   new_leaves_by = record { config = refl; in_use = λ j used free. used (sym (makes.kinds_stay j used) ∙ free) }
 
-  pub new_leaves : (c : CoreState) → k ≡ c → LeavesRegions c (with_new k t2 b1 (register_place (places_of k.config) m to.number) a)
+  pub new_leaves : (c : CoreState) → k ≡ c → LeavesRegions c (with_new k t2 b1 (register_place (root_counts_of k.config) m to.number) a)
   new_leaves c e =
-      subst (λ (d : CoreState). LeavesRegions d (with_new k t2 b1 (register_place (places_of k.config) m to.number) a)) e new_leaves_by
+      subst (λ (d : CoreState). LeavesRegions d (with_new k t2 b1 (register_place (root_counts_of k.config) m to.number) a)) e new_leaves_by
 
-  pub new_kept : IsCore (with_new k t2 b1 (register_place (places_of k.config) m to.number) a)
+  pub new_kept : IsCore (with_new k t2 b1 (register_place (root_counts_of k.config) m to.number) a)
   new_kept =
       let g = core.footing.graph in
       let shows = new_shows g core.rests.shows in
@@ -173,7 +175,7 @@ module _ (k : CoreState) (m : ℕ) (to : Register) (t2 : Table) (b1 : Buffers) (
           unmoved = makes.unmoved;
           marker = stands_over k.table t2 k.marker core.layers.marker makes.region_count words
               (λ j lt. previous.tops j (rw makes.region_count lt)) (λ j lt. next.tops j (rw makes.region_count lt)) still still_words
-              (follows_of (new (register_place (places_of k.config) m to.number)) _ core.footing.snapshot shows keeps);
+              (follows_of (new (register_place (root_counts_of k.config) m to.number)) _ core.footing.snapshot shows keeps);
           above_previous = previous;
           above_next = next;
           room = core.layers.room;
@@ -183,24 +185,25 @@ module _ (k : CoreState) (m : ℕ) (to : Register) (t2 : Table) (b1 : Buffers) (
               (some_words k core) makes.wide core.layers.wide;
         };
         cards = core.cards;
-        remembers = remembers_new k (new (register_place (places_of k.config) m to.number)) a (new_object k.next p weak d)
-            (register_place (places_of k.config) m to.number) refl words refl refl (added (register_place (places_of k.config) m to.number))
+        remembers = remembers_new k (new (register_place (root_counts_of k.config) m to.number)) a (new_object k.next p weak d)
+            (register_place (root_counts_of k.config) m to.number) refl words refl refl (added (register_place (root_counts_of k.config) m
+            to.number))
             (λ i b e. nil_fields k.next p weak d i b e) core.remembers;
         room = core.room;
         rows = core.rows;
-        places = length-set k.roots (register_place (places_of k.config) m to.number) (Some a) ∙ core.places;
+        places = length-set k.roots (register_place (root_counts_of k.config) m to.number) (Some a) ∙ core.places;
         names = (let old = core.names in omega arith);
         footing = record {
-          graph = with_object g (fresh p weak d) (register_place (places_of k.config) m to.number);
+          graph = with_object g (fresh p weak d) (register_place (root_counts_of k.config) m to.number);
           snapshot = core.footing.snapshot;
         };
         rests = record {
           shows = shows;
           keeps = keeps;
-          sound = object_sound g (fresh p weak d) (register_place (places_of k.config) m to.number) core.rests.sound
+          sound = object_sound g (fresh p weak d) (register_place (root_counts_of k.config) m to.number) core.rests.sound
               (λ i n e. nil_fields k.next p weak d i n e);
           unreached = unreached_object core.footing.snapshot g core.rests.unreached (fresh p weak d)
-              (register_place (places_of k.config) m to.number)
+              (register_place (root_counts_of k.config) m to.number)
               (let next = core.rests.shows.next in let early = core.rests.keeps.earlier in omega (arith, next, early));
         };
       }

@@ -12,7 +12,7 @@ use Rattle.regions.proofs.Words.Access.{has_pointer}
 use Rattle.regions.proofs.Words.Fields.{with_pointer}
 use Rattle.regions.proofs.Words.Values.{has_value, with_value}
 use Rattle.alloc_buffers.specs.Placement.{Buffers}
-use Rattle.graph_runs.specs.State.{register_place, places_of}
+use Rattle.graph_runs.specs.State.{register_place, root_counts_of}
 use Rattle.heap_steps.specs.declared.step.Action.{Action}
 use Rattle.heap_steps.specs.declared.step.Action.TheVariants as actions
 use Rattle.heap_steps.specs.declared.step.Counts.{Counts}
@@ -39,17 +39,17 @@ values_are t a s e = ap object_values e
 
 -- a register holds what it took
 pub register_taken : (k : CoreState) (m : ℕ) (to : Register) (a : ℕ) → IsCore k → m < k.config.mutators → to.number < registers_of k.config
-    → slice_index_or (slice_set k.roots (register_place (places_of k.config) m to.number) (Some a))
-    (register_place (places_of k.config) m to.number) None ≡ Some a
+    → slice_index_or (slice_set k.roots (register_place (root_counts_of k.config) m to.number) (Some a))
+    (register_place (root_counts_of k.config) m to.number) None ≡ Some a
 register_taken k m to a core known inside =
-    let place : ℕ = register_place (places_of k.config) m to.number in
+    let place : ℕ = register_place (root_counts_of k.config) m to.number in
     let all = core.places in
     get_or-set_same k.roots place (Some a) None (omega (arith, register_inside k.config m to.number known inside, all))
 
 -- the register names the new object
 pub made_named : (k : CoreState) (m : ℕ) (to : Register) (t : Table) (b : Buffers) (a name p weak d : ℕ) → IsCore k
     → m < k.config.mutators → to.number < registers_of k.config → object_at t a ≡ Some (new_object name p weak d)
-    → NamesObject (with_new k t b (register_place (places_of k.config) m to.number) a) m to p weak d
+    → NamesObject (with_new k t b (register_place (root_counts_of k.config) m to.number) a) m to p weak d
 made_named k m to t b a name p weak d core known inside is = record {
   at = a;
   held = register_taken k m to a core known inside;

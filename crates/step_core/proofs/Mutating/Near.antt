@@ -6,7 +6,7 @@ use Rattle.std.proofs.lemmas.Grind.{common_steps}
 use Rattle.std.proofs.lemmas.Bool.Decides.{nat_tests}
 use Rattle.heap_words.specs.Configs.{globals_of, registers_of, card_words}
 use Rattle.heap_model.specs.Graph.{RootCounts}
-use Rattle.graph_runs.specs.State.{places_of, register_place}
+use Rattle.graph_runs.specs.State.{root_counts_of, register_place}
 use Rattle.cards.specs.Cards.{Cards, dirtied}
 use Rattle.regions.specs.Table.{pointers_at, values_at, set_pointer, set_value}
 use Rattle.refinement.specs.Remembering.{field_word}
@@ -32,20 +32,20 @@ use Rattle.step_core.proofs.Mutating.Noting.{keeps_noted, kept_noted, shown_note
 
 -- ---- a register's place, by where its mutator's registers begin
 pub row_place : (k c : CoreState) (m r row : ℕ) → k ≡ c → IsCore k
-    → globals_of c.config + row ≡ register_place (places_of c.config) m 0 → k.places.globals + (row + r) ≡ register_place k.places m r
+    → globals_of c.config + row ≡ register_place (root_counts_of c.config) m 0 → k.places.globals + (row + r) ≡ register_place k.places m r
 row_place k c m r row e core is =
     subst (λ (p : RootCounts). p.globals + (row + r) ≡ register_place p m r) (sym (placed_in k c e core)) (omega (arith, is))
 
 pub row_inside : (k c : CoreState) (m r row : ℕ) → k ≡ c → IsCore k → m < c.config.mutators → r < registers_of c.config
-    → globals_of c.config + row ≡ register_place (places_of c.config) m 0 → k.places.globals + (row + r) < length k.roots
+    → globals_of c.config + row ≡ register_place (root_counts_of c.config) m 0 → k.places.globals + (row + r) < length k.roots
 row_inside k c m r row e core known inside is =
-    let there = root_within k c (register_place (places_of c.config) m r) e core (register_inside c.config m r known inside) in
-    let same : register_place k.places m r ≡ register_place (places_of c.config) m r =
+    let there = root_within k c (register_place (root_counts_of c.config) m r) e core (register_inside c.config m r known inside) in
+    let same : register_place k.places m r ≡ register_place (root_counts_of c.config) m r =
     ap (λ (p : RootCounts). register_place p m r) (placed_in k c e core) in
     omega (arith, there, same, row_place k c m r row e core is)
 
 pub row_of_core : (k c : CoreState) (m row : ℕ) → k ≡ c → IsCore k → k.places.globals + row ≡ register_place k.places m 0
-    → globals_of c.config + row ≡ register_place (places_of c.config) m 0
+    → globals_of c.config + row ≡ register_place (root_counts_of c.config) m 0
 row_of_core k c m row e core is =
     subst (λ (p : RootCounts). p.globals + row ≡ register_place p m 0) (placed_in k c e core) is
 

@@ -5,7 +5,7 @@ use Rattle.heap_words.specs.Configs.{registers_of}
 use Rattle.heap_model.specs.Graph.{Graph}
 use Rattle.heap_model.specs.Heap.{IsHeld, IsShown}
 use Rattle.root_table.specs.Roots.{RootTable}
-use Rattle.graph_runs.specs.State.{places_of, register_place, with_root}
+use Rattle.graph_runs.specs.State.{root_counts_of, register_place, with_root}
 use Rattle.heap_steps.specs.declared.step.Register.{Register}
 use Rattle.step_core.specs.Stands.{CoreState, IsCore, IsWordOf, ShowsGraph, heap_of}
 use Rattle.step_core.specs.Mutators.{with_root_word}
@@ -40,19 +40,19 @@ sets_as place w v c c' e s = record { keeps = s.keeps; after = s.after ∙ ap (w
 module _ (k c : CoreState) (e : k ≡ c) (core : IsCore k) (m : ℕ) (r : Register) (w : Option ℕ) (rs : RootTable)
     (is : rs ≡ record { places = k.places; words = slice_set k.roots (register_place k.places m r.number) w })
     (held : IsHeld (heap_of c) w) where
-  at : rs ≡ record { places = k.places; words = slice_set k.roots (register_place (places_of c.config) m r.number) w }
+  at : rs ≡ record { places = k.places; words = slice_set k.roots (register_place (root_counts_of c.config) m r.number) w }
   at = is ∙ ap (λ (p : ℕ). record { places = k.places; words = slice_set k.roots p w }) (register_at k c e core m r.number)
 
   pub register_core : IsWordOf (heap_of c) w → IsCore (record k { places = rs.places; roots = rs.words })
-  register_core = root_core k c e core (register_place (places_of c.config) m r.number) w rs at held
+  register_core = root_core k c e core (register_place (root_counts_of c.config) m r.number) w rs at held
 
-  pub register_sets : SetsRoot (register_place (places_of c.config) m r.number) w c (record k { places = rs.places; roots = rs.words })
-  register_sets = root_sets k c e core (register_place (places_of c.config) m r.number) w rs at held
+  pub register_sets : SetsRoot (register_place (root_counts_of c.config) m r.number) w c (record k { places = rs.places; roots = rs.words })
+  register_sets = root_sets k c e core (register_place (root_counts_of c.config) m r.number) w rs at held
 
   pub register_set_shows : (g : Graph) (v : Option ℕ) → ShowsGraph g c → IsShown (heap_of c) w v
       → ShowsGraph (with_root g (register_place g.places m r.number) v) (record k { places = rs.places; roots = rs.words })
   register_set_shows = register_shows c (record k { places = rs.places; roots = rs.words }) m r.number w
-      (root_set_shows k c e core (register_place (places_of c.config) m r.number) w rs at held)
+      (root_set_shows k c e core (register_place (root_counts_of c.config) m r.number) w rs at held)
 
 -- the word of a register, as the table of roots reads it
 pub register_word : (k c : CoreState) (m : ℕ) (r : Register) → k ≡ c → IsCore k → m < c.config.mutators → r.number < registers_of c.config

@@ -11,7 +11,7 @@ use Rattle.heap_model.proofs.Touched.{touched_invariant}
 use Rattle.heap_model.proofs.Unreached.{touched_next, unreached_root, unreached_touched}
 use Rattle.satb_log.specs.Logs.{log_of}
 use Rattle.root_table.specs.Roots.{RootTable}
-use Rattle.graph_runs.specs.State.{places_of, register_place}
+use Rattle.graph_runs.specs.State.{root_counts_of, register_place}
 use Rattle.heap_steps.specs.declared.step.Register.{Register}
 use Rattle.marker.specs.Views as views
 use Rattle.marker.specs.Stands.{MarkerStands, IsKept}
@@ -110,7 +110,7 @@ module _ (k : CoreState) (core : IsCore k) (place : ℕ) (w : Option ℕ) (m : M
 module _ (k c : CoreState) (e : k ≡ c) (core : IsCore k) (m : ℕ) (to : Register) (w : Option ℕ) (word : IsWordOf (heap_of c) w)
     (rs : RootTable) (is : rs ≡ record { places = k.places; words = slice_set k.roots (register_place k.places m to.number) w }) where
   abbrev place : ℕ
-  place = register_place (places_of c.config) m to.number
+  place = register_place (root_counts_of c.config) m to.number
 
   -- the core with the register and the marker changed
   abbrev pub after : Marker → CoreState

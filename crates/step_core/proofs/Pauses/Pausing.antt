@@ -35,7 +35,7 @@ use Rattle.evacuation.proofs.WholePause.ChosenReleased.{mark_gone, mark_left, to
 use Rattle.evacuation.specs.Evacuates.{CanEvacuate, HasEvacuated, IsLiveRow, IsNewSet, IsSameBut, MarksAfter, is_chosen, set_in}
 use Rattle.heap_words.specs.Configs.{card_words, object_limit}
 use Rattle.step_core.proofs.Mutating.Noting.{cards_a_region}
-use Rattle.step_core.specs.Stands.{places_of, CoreState, kept_of, heap_of, marking_of, ShowsGraph, KeepsFrom, LayersFit, IsCore}
+use Rattle.step_core.specs.Stands.{root_counts_of, CoreState, kept_of, heap_of, marking_of, ShowsGraph, KeepsFrom, LayersFit, IsCore}
 use Rattle.step_core.specs.Reclaimed.{IsReclaimed}
 use Rattle.step_core.specs.declared.candidates.Choice.{Choice}
 use Rattle.step_core.specs.Pause.{IsSetOf, IsRowOf, IsReady, AreForgotten, EvacuatesSet, HasMoved, layers_of}
@@ -378,7 +378,7 @@ still_shows : (c k : CoreState) → IsReady c k → (g : Graph) → ShowsGraph g
 unfolding kept_of
 still_shows c k ready g s = record {
   room = s.room ∙ sym (ap object_limit (ready_config c k ready));
-  places = s.places ∙ sym (ap places_of (ready_config c k ready));
+  places = s.places ∙ sym (ap root_counts_of (ready_config c k ready));
   next = s.next ∙ sym (ready_next c k ready);
   shows = rw (ready_table c k ready, ready_marker c k ready, ready_roots c k ready) s.shows;
 }

@@ -17,11 +17,13 @@ pub returns-clause-each : goal.returns-clause-each
 returns-clause-each c = λ g h.
     let pool : List ℕ = c.find_or_take-start.new.pool.items in
     let place : List ℕ = c.find_or_take-start.new.places.items in
-    let written = all_written c.find_or_take-start.new.pool.len c.fill_words.new.words pool (omega (arith, c.find_or_take-start.new.pool.ok.0))
+    let written = all_written c.find_or_take-start.new.pool.len c.fill_words.new.words pool
+    (omega (arith, c.find_or_take-start.new.pool.ok.0))
     (omega (arith, c.fill_words.ensures.len, c.deref_mut.ensures.len)) in
     let each = rw c.deref_mut.ensures.value at c.fill_words.ensures.each in
     ap (λ (l : List ℕ). paged_word place l g) written
     ∙ page_filled place pool c.fill_words.new.words c.args.len c.args.from c.args.to c.args.value c.find_or_take-start.result
-    c.find_or_take-start.ensures.pages c.requires.some c.requires.known c.requires.page c.find_or_take-start.ensures.taken c.find_or_take-start.ensures.place
+    c.find_or_take-start.ensures.pages c.requires.some c.requires.known c.requires.page c.find_or_take-start.ensures.taken
+    c.find_or_take-start.ensures.place
     each g h
     ∙ ap (λ (w : ℕ). if is_between c.args.from c.args.to g then c.args.value else w) (c.find_or_take-start.ensures.same g)

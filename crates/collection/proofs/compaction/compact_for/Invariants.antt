@@ -7,7 +7,8 @@ use Rattle.collection.proofs.compaction.compact_for.Given as goal
 
 abbrev pub invariant-compactions : goal.invariant-compactions
 invariant-compactions g l = record {
-  collects : CollectsWithin g.W.Watch.sees (ordinary_end l.initial.core.table - ordinary_end l.core.table) l.initial.core l.initial.watch l.core
+  collects : CollectsWithin g.W.Watch.sees (ordinary_end l.initial.core.table - ordinary_end l.core.table) l.initial.core l.initial.watch
+      l.core
       l.watch;
   falls : ordinary_end l.core.table ≤ ordinary_end l.initial.core.table;
   quiet : (s : State) → IsQuiet s l.initial.core → IsQuiet s l.core;

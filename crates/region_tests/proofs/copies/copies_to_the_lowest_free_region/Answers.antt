@@ -26,6 +26,7 @@ first_tile-requires g c =
     let can = can_copy _ _ c.in_ok-table.ensures c.new-object.ensures in
     let there = stored_there _ _ c.in_ok-table.ensures c.new-object.ensures in
     let copies = c.copy.ensures.copies copied there in
-    let changes = c.copy.ensures.changes copied copies.region there (ap (λ (d : Destinations). d.last) copies.places_are ∙ copies.opens.last) in
+    let changes = c.copy.ensures.changes copied copies.region there (ap (λ (d : Destinations). d.last) copies.places_are
+    ∙ copies.opens.last) in
     let all = product _ _ (changes.count ∙ can.count) (changes.size ∙ can.size) in
     omega (arith, all, c.new-2.ensures)

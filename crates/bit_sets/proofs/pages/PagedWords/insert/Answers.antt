@@ -16,7 +16,8 @@ pub returns-then-word-bit-eq1-clause-came : goal.returns-then-word-bit-eq1-claus
 returns-then-word-bit-eq1-clause-came c =
     let pool = c.find_or_take-place.new.pool in
     let view = words_same _ _ _ pool.items _ (λ g _. c.find_or_take-place.ensures.same g) ∙ c.self.view_is in
-    let w = word_at _ _ pool.items _ c.args.group _ c.find_or_take-place.ensures.pages view c.requires.known c.find_or_take-place.ensures.taken
+    let w = word_at _ _ pool.items _ c.args.group _ c.find_or_take-place.ensures.pages view c.requires.known
+    c.find_or_take-place.ensures.taken
     c.find_or_take-place.ensures.place in
     let word = get_or_read pool.items _ _ w.inside c.index-word.ensures 0 ∙ w.read in
     sym (ap not (ap (λ (x : ℕ). eqb (bit_at x c.args.bit) 1) (sym word)
@@ -24,7 +25,8 @@ returns-then-word-bit-eq1-clause-came c =
 
 pub returns-then-word-bit-eq1-clause-same : goal.returns-then-word-bit-eq1-clause-same
 returns-then-word-bit-eq1-clause-same c =
-    λ _. words_same _ _ c.find_or_take-place.new.places.items c.find_or_take-place.new.pool.items _ (λ g _. c.find_or_take-place.ensures.same g) ∙ c.self.view_is
+    λ _. words_same _ _ c.find_or_take-place.new.places.items c.find_or_take-place.new.pool.items _
+    (λ g _. c.find_or_take-place.ensures.same g) ∙ c.self.view_is
 
 pub invariant_of-self-2 : goal.invariant_of-self-2
 invariant_of-self-2 c = (
@@ -37,7 +39,8 @@ pub returns-clause-came : goal.returns-clause-came
 returns-clause-came c =
     let pool = c.find_or_take-place.new.pool in
     let view = words_same _ _ _ pool.items _ (λ g _. c.find_or_take-place.ensures.same g) ∙ c.self.view_is in
-    let w = word_at _ _ pool.items _ c.args.group _ c.find_or_take-place.ensures.pages view c.requires.known c.find_or_take-place.ensures.taken
+    let w = word_at _ _ pool.items _ c.args.group _ c.find_or_take-place.ensures.pages view c.requires.known
+    c.find_or_take-place.ensures.taken
     c.find_or_take-place.ensures.place in
     let word = get_or_read pool.items _ _ w.inside c.index-word.ensures 0 ∙ w.read in
     sym (ap not (ap (λ (x : ℕ). eqb (bit_at x c.args.bit) 1) (sym word)
@@ -48,7 +51,8 @@ pub returns-clause-set : goal.returns-clause-set
 returns-clause-set c = λ _.
     let pool = c.find_or_take-place.new.pool in
     let view = words_same _ _ _ pool.items _ (λ g _. c.find_or_take-place.ensures.same g) ∙ c.self.view_is in
-    let w = word_at _ _ pool.items _ c.args.group _ c.find_or_take-place.ensures.pages view c.requires.known c.find_or_take-place.ensures.taken
+    let w = word_at _ _ pool.items _ c.args.group _ c.find_or_take-place.ensures.pages view c.requires.known
+    c.find_or_take-place.ensures.taken
     c.find_or_take-place.ensures.place in
     w.written _ ∙ ap (λ (x : ℕ). set c.args.self.now c.args.group (bit_or x (1 * 2 ^ c.args.bit % 2 ^ 64)))
     (get_or_read pool.items _ _ w.inside c.index-word.ensures 0 ∙ w.read)

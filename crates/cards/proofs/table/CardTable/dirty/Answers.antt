@@ -47,7 +47,8 @@ invariant_of-self c =
     c.requires.mutator now (omega arith)
     (c.set.ensures ∙ ap (λ n. set c.self.inside.dirty n true) c.number.ensures)
     (ap (λ l. set c.self.inside.logs.items c.args.mutator l) c.move_to.ensures.emptied) c.move_to.ensures.queue in
-    IsCardTable-dirtied c.self.inside after c.args.self.now c.args.mutator c.args.card c.self.view_is c.self.invariant view c.requires.mutator
+    IsCardTable-dirtied c.self.inside after c.args.self.now c.args.mutator c.args.card c.self.view_is c.self.invariant view
+    c.requires.mutator
     c.requires.card c.move_to.ensures.capacity
 
 pub invariant_of-self-else-len-eq-LOG_LEN : goal.invariant_of-self-else-len-eq-LOG_LEN
@@ -64,5 +65,6 @@ invariant_of-self-else-len-eq-LOG_LEN c =
     let view = stays_view c.self.inside after c.args.self.now c.args.mutator c.args.card c.push.new.self c.self.view_is clean
     c.requires.mutator now (λ four. c.if-len-eq-LOG_LEN.false (c.len.ensures.value ∙ four))
     (c.set.ensures ∙ ap (λ n. set c.self.inside.dirty n true) c.number.ensures) refl refl in
-    IsCardTable-dirtied c.self.inside after c.args.self.now c.args.mutator c.args.card c.self.view_is c.self.invariant view c.requires.mutator
+    IsCardTable-dirtied c.self.inside after c.args.self.now c.args.mutator c.args.card c.self.view_is c.self.invariant view
+    c.requires.mutator
     c.requires.card refl

@@ -6,7 +6,8 @@ use Rattle.regions.proofs.Cards.Written.{cards_reached, end_written, entries_put
 use Rattle.regions.proofs.first_tiles.FirstTiles.cut_here.Goals as goal
 
 pub zero_below-requires-clause-within : goal.zero_below-requires-clause-within
-zero_below-requires-clause-within c = cards_reached (c.args.at + c.args.filler) c.self.inside.shift c.self.inside.cards _ c.card_from.ensures
+zero_below-requires-clause-within c = cards_reached (c.args.at + c.args.filler) c.self.inside.shift c.self.inside.cards _
+    c.card_from.ensures
     (rw (← c.self.view_is, length_all c.self.inside.starts.items c.self.inside.cards c.self.invariant.1, c.self.invariant.0.is)
     at c.requires.within)
 

@@ -64,7 +64,8 @@ invariant_of-self c =
     c.self.invariant.table c.self.view_is e c.requires.positive c.requires.covers c.requires.tight (omega arith) (omega arith) (omega arith)
     bottom size number (rw c.zero_below.ensures.all at c.write_object.ensures.all) rows in
     let flags = c.add.ensures
-    ∙ ap (λ (n : ℕ). start_added c.self.inside.weak_starts (c.number-number.result * c.self.inside.words_per_region) n) c.from-weaks.ensures in
+    ∙ ap (λ (n : ℕ). start_added c.self.inside.weak_starts (c.number-number.result * c.self.inside.words_per_region) n)
+    c.from-weaks.ensures in
     run_sound _ _ _ _ _ _ _ _ _ c.self.invariant c.self.view_is _ _ _ _ _ _ c.args.first c.args.count _ _ c.args.counts.weaks
     (new_object c.args.name c.args.counts.pointers c.args.counts.weaks c.args.counts.values) c.requires.positive c.requires.lowest
     (ap (λ (k : ℕ). k * c.self.inside.words_per_region) c.number-number.ensures

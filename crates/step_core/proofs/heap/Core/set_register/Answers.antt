@@ -10,7 +10,8 @@ set_register-requires-clause-mutator c =
 
 pub set_register-requires-clause-register : goal.set_register-requires-clause-register
 set_register-requires-clause-register c =
-    subst (λ (p : RootCounts). c.args.register.number < p.registers) (sym (placed_in _ _ c.self.view_is c.self.invariant)) c.requires.register
+    subst (λ (p : RootCounts). c.args.register.number < p.registers) (sym (placed_in _ _ c.self.view_is c.self.invariant))
+    c.requires.register
 
 pub invariant_of-self : goal.invariant_of-self
 invariant_of-self c = register_core _ _ c.self.view_is c.self.invariant c.args.mutator c.args.register c.args.value _
