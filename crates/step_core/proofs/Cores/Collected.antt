@@ -45,7 +45,7 @@ table_stays A t t' i e r = kinds_stay A t t' i (ap (λ (x : Table). kind_of x i)
 
 -- d is the core by its fields
 refused : (k k' : CollectorStep) (why : Refusal) (b : Bool) (d c : CoreState) → k ≡ k' → IsCollectorReply k' (replies.Refused why)
-    → ((s : State) → run.Collects s k' (replies.Refused why) s) → (why ≡ refusals.Full → ⊥)
+    → ((s : State) → run.ChangesState s k' (replies.Refused why) s) → (why ≡ refusals.Full → ⊥)
     → ((c.marker.running ≡ b) × IsRefused why (replies.Refused why) c c → Collects k' (replies.Refused why) c c)
     → d ≡ c → d.marker.running ≡ b → Takes c (steps.Collector k) (replies.Refused why) c
 refused k k' why b d c e reply same not_full does same_core is = takes k k' (replies.Refused why) c c e (λ f. not_full cc)
