@@ -6,5 +6,5 @@ loop-mutator-init g c = ready_new _ _ _ _ _ _ c.in-Ok.ensures.made c.in-Ok.ensur
     (c.in_ok-buffers.ensures.stand _)
 
 pub loop-mutator-preserved : goal.loop-mutator-preserved
-loop-mutator-preserved g c = ready_after c.place.result _ _ _ _ _ _ _ _ _ c.loop-mutator.invariant c.place.ensures.placed
-    c.place.ensures.table_same c.place.ensures.buffers_same
+loop-mutator-preserved g c = ready_after c.allocate.result _ _ _ _ _ _ _ _ _ c.loop-mutator.invariant c.allocate.ensures.placed
+    c.allocate.ensures.table_same c.allocate.ensures.buffers_same

@@ -3,7 +3,7 @@ use Rattle.step_core.proofs.mutator.make_in_place.Goals as goal
 
 pub returns-clause-made : goal.returns-clause-made
 returns-clause-made c = (
-  record { place = c.in-Ok.place; table = c.place.new.table; buffers = c.place.new.self },
+  record { place = c.in-Ok.place; table = c.allocate.new.table; buffers = c.allocate.new.self },
   record {
     place = c.in-Ok.ensures.place;
     at = c.make.ensures.at;
