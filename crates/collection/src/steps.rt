@@ -9,10 +9,10 @@ ghost use Rattle.heap_steps.specs.declared.step.Event.{Event};
 ghost use Rattle.heap_steps.specs.declared.step.Step.TheVariants as steps;
 ghost use Rattle.step_core.specs.Stands.{Stands, IsCore};
 ghost use Rattle.step_core.specs.Answers.{Follows, IsWithin};
-ghost use Rattle.step_core.specs.Cycle.{Collects as CollectsStep};
+ghost use Rattle.step_core.specs.Cycle.{Collects};
 ghost use Rattle.step_core.specs.Making.{HasMade};
 ghost use Rattle.step_core.specs.Mutators.{ActsOn};
-ghost use Rattle.collection.specs.Steps.{Collects, CollectsSome, TakesOwn};
+ghost use Rattle.collection.specs.Steps.{CollectsWithin, CollectsSome, TakesOwn};
 
 use crate::numbers::Policy;
 use heap_steps::{Actor, CollectorStep, Event, Op, Reply, Step};
@@ -46,9 +46,9 @@ pub(crate) fn take<W: Watch>(
     watch: &mut W,
 ) -> Reply
     requires known { HasCollection core.old.config.format step }
-    ensures collects { Collects W.sees 1 core.old watch.old core.new watch.new }
+    ensures collects { CollectsWithin W.sees 1 core.old watch.old core.new watch.new }
     ensures some { CollectsSome W.sees 1 core.old watch.old core.new watch.new }
-    ensures does { CollectsStep step result core.old core.new }
+    ensures does { Collects step result core.old core.new }
     ensures follows { (s : State) → Stands s core.old → Follows s (steps.Collector step) result core.new }
     ensures config { core.new.config ≡ core.old.config }
     ensures before { IsCore core.old }
