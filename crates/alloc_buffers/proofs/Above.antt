@@ -1,12 +1,8 @@
 -- Which addresses lie at or above limits when objects are placed and regions are released.
-use Rattle.std.proofs.Common.{◌≡◌, ◌≢◌, ℕ, ◌+◌, ◌*◌, ◌/◌, ◌<◌, ◌≤◌, ◌⊎◌, Some, length, sym, ◌∙◌, ap, subst, arith, inl, inr}
-use Rattle.std.specs.Prelude.{slice_get}
-use Rattle.std.proofs.lemmas.Bool.{cases_lt, cases_eq}
-use Rattle.regions.specs.Tiles.{Tile, Filler, tile_size}
+use Rattle.regions.proofs.Common.{◌≡◌, ◌≢◌, ℕ, ◌+◌, ◌*◌, ◌/◌, ◌<◌, ◌≤◌, ◌⊎◌, Some, length, sym, ◌∙◌, ap, subst, arith, inl, inr, slice_get}
+use Rattle.regions.proofs.Common.{cases_lt, cases_eq, Tile, Filler, tile_size, AreFitting, IsShaped, Table, used_of, top_of, kind_of}
+use Rattle.regions.proofs.Common.{tile_in, released}
 use Rattle.regions.specs.declared.row.Kind.TheVariants as kinds
-use Rattle.regions.specs.Walks.{AreFitting}
-use Rattle.regions.specs.Shaped.{IsShaped}
-use Rattle.regions.specs.Table.{Table, used_of, top_of, kind_of, tile_in, released}
 use Rattle.regions.proofs.Tiles.Placing.{Pushed}
 use Rattle.regions.proofs.Tiles.Released.{region_released, used_stays, kind_stays, row_within, tile_below_top, filler_within}
 use Rattle.alloc_buffers.specs.declared.buffers.Buffer.{Buffer}

@@ -1,18 +1,12 @@
 -- What a placement changes.
-use Rattle.std.proofs.Common.{◌≡◌, ◌≢◌, ◌+◌, ◌-◌, ◌*◌, ◌<◌, ◌≤◌, ◌⊎◌, ◌∷◌, ◌∙◌}
-use Rattle.std.proofs.Common.{ℕ, zero, suc, Option, Some, None, List, [], length, refl, sym, ap, subst, arith, inl, inr}
-use Rattle.std.specs.Prelude.{slice_get, slice_set, slice_index_or}
-use Rattle.std.proofs.lemmas.Bool.Decides.{leb_tells}
-use Rattle.std.proofs.lemmas.List.{length-set, set-set, get_or-set_other}
-use Rattle.std.proofs.lemmas.Option.{slice_get-get_or}
-use Rattle.std.proofs.Common.{replicate}
-use Rattle.std.proofs.lemmas.Bool.{cases_lt, cases_eq, le-leb}
+use Rattle.regions.proofs.Common.{◌≡◌, ◌≢◌, ◌+◌, ◌-◌, ◌*◌, ◌<◌, ◌≤◌, ◌⊎◌, ◌∷◌, ◌∙◌, ℕ, zero, suc, Option, Some, None, List, [], length}
+use Rattle.regions.proofs.Common.{refl, sym, ap, subst, arith, inl, inr, slice_get, leb_tells, length-set, set-set, get_or-set_other}
+use Rattle.regions.proofs.Common.{slice_get-get_or, replicate, cases_lt, cases_eq, le-leb, Tile, Filler, Object, tile_at, total_size}
+use Rattle.regions.proofs.Common.{AreFitting, Table, Free, Ordinary, nth_region, region_kind, used_of, top_of, kind_of, first_free, taken}
+use Rattle.regions.proofs.Common.{push_tile, replace_tile, remainder, tile_in, object_at, HasNoForwarded, tile_object, new_object}
+use Rattle.std.specs.Prelude.{slice_set, slice_index_or}
 use Rattle.heap_model.proofs.Lists.{get-set_cases, get-set_same, get-set_other}
-use Rattle.regions.specs.Tiles.{Tile, Filler, Object, tile_at, total_size}
 use Rattle.regions.specs.declared.row.Kind.TheVariants as kinds
-use Rattle.regions.specs.Walks.{AreFitting}
-use Rattle.regions.specs.Table.{Table, Free, Ordinary, nth_region, region_kind, used_of, top_of, kind_of, first_free, taken, push_tile}
-use Rattle.regions.specs.Table.{replace_tile, remainder, tile_in, object_at, HasNoForwarded, tile_object, new_object}
 use Rattle.regions.proofs.Tiles.Placing.{remainder_total, remainder_positive, remainder_unmoved, Replaces, filler_replaced, Pushed}
 use Rattle.regions.proofs.Tiles.Placing.{filler_push, region_taken}
 use Rattle.regions.proofs.Tiles.Changes.{object_same}

@@ -1,10 +1,8 @@
 -- Runs are made and released: tables, open buffers and limits.
-use Rattle.std.proofs.Common.{◌≡◌, ◌≢◌, ℕ, ◌+◌, ◌*◌, ◌/◌, ◌<◌, ◌≤◌, Some, None, refl, sym, ◌∙◌, ap, subst, arith, inl, inr}
-use Rattle.heap_model.specs.Heap.{Stored}
+use Rattle.regions.proofs.Common.{◌≡◌, ◌≢◌, ℕ, ◌+◌, ◌*◌, ◌/◌, ◌<◌, ◌≤◌, Some, None, refl, sym, ◌∙◌, ap, subst, arith, inl, inr, Stored}
+use Rattle.regions.proofs.Common.{IsShaped, Table, Region, Free, Ordinary, First, Rest, region_kind, nth_region, region_used, used_of}
+use Rattle.regions.proofs.Common.{kind_of, tile_in, is_free, first_run, with_regions, run_regions}
 use Rattle.regions.specs.declared.row.Kind.TheVariants as kinds
-use Rattle.regions.specs.Shaped.{IsShaped}
-use Rattle.regions.specs.Table.{Table, Region, Free, Ordinary, First, Rest, region_kind, nth_region, region_used, used_of, kind_of, tile_in}
-use Rattle.regions.specs.Table.{is_free, first_run, with_regions, run_regions}
 use Rattle.regions.proofs.Tiles.Spliced.{IsOutside}
 use Rattle.regions.proofs.LongRuns.Blocks.{block_cases}
 use Rattle.regions.proofs.LongRuns.RunMade.{length-run_regions}

@@ -1,10 +1,8 @@
 -- How many flags are set, as one comes or goes.
-use Rattle.std.proofs.Common.{◌≡◌, ℕ, ◌+◌, ◌^◌, ◌<◌, Bool, true, false, cond, List, length, replicate, set}
-use Rattle.std.proofs.Common.{inl, inr, sym, ap, ◌∙◌, arith, length-set}
-use Rattle.std.proofs.lemmas.Bool.{cases_Bool, cases_lt}
-use Rattle.std.proofs.lemmas.List.{ext_get_or, get_or-replicate, length-replicate, set-get_or}
-use Rattle.std.proofs.lemmas.List.Sums.{sum_by-set, count_by-le-length}
-use Rattle.bit_sets.specs.Bits.{has, HasNone}
+use Rattle.regions.proofs.Common.{◌≡◌, ℕ, ◌+◌, ◌^◌, ◌<◌, Bool, true, false, cond, List, length, replicate, set, inl, inr, sym, ap, ◌∙◌}
+use Rattle.regions.proofs.Common.{arith, length-set, cases_Bool, cases_lt, get_or-replicate, length-replicate, set-get_or, sum_by-set}
+use Rattle.regions.proofs.Common.{count_by-le-length, has, HasNone}
+use Rattle.std.proofs.lemmas.List.{ext_get_or}
 use Rattle.bit_sets.proofs.BitWords.{has_past}
 use Rattle.mark_bitmap.specs.Marks.{marked_count}
 use Rattle.mark_bitmap.proofs.Counts.{marked_count-set}

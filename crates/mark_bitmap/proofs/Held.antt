@@ -1,12 +1,10 @@
 -- The held object, the stack and the fingers: what they tell of grey objects as one more is grey, as one is scanned, and with fewer marks.
-use Rattle.std.proofs.Common.{◌≡◌, ◌≢◌, ◌<◌, ◌≤◌, ◌+◌, ◌/◌, ◌∙◌, ◌⊎◌, ◌∷◌, inl, inr, ℕ, Bool, true, false, List, [], length, set, sym, ap}
-use Rattle.std.proofs.Common.{arith, refl, Option, Some, None, min, max, get_or-set_same, get_or-set_other, get_or, subst}
+use Rattle.regions.proofs.Common.{◌≡◌, ◌≢◌, ◌<◌, ◌≤◌, ◌+◌, ◌/◌, ◌∙◌, ◌⊎◌, ◌∷◌, inl, inr, ℕ, Bool, true, false, List, [], length, set, sym}
+use Rattle.regions.proofs.Common.{ap, arith, refl, Option, Some, None, min, max, get_or-set_same, get_or-set_other, get_or, subst}
+use Rattle.regions.proofs.Common.{length-append, not, ◌&&◌, MatchOption, and_parts, cases_eq, cases_lt, cases_Bool, has}
 use Rattle.std.proofs.Math.ListN.{get_or-append}
 use Rattle.std.proofs.Math.Seq.{get_or-append_seam}
-use Rattle.std.proofs.lemmas.List.{length-append}
-use Rattle.std.specs.Prelude.{not, ◌&&◌, MatchOption}
-use Rattle.std.proofs.lemmas.Bool.{and_parts, and_from, and_right, cases_eq, cases_lt, cases_Bool}
-use Rattle.bit_sets.specs.Bits.{has}
+use Rattle.std.proofs.lemmas.Bool.{and_from, and_right}
 use Rattle.mark_bitmap.specs.Marks.{is_marked, HasNone, IsLowest}
 use Rattle.mark_bitmap.specs.Stack.{Stack, AreApart, IsOn, with_object}
 use Rattle.mark_bitmap.specs.Grey.{Scans, HasFingers, HasNoFinger, HoldsNext, IsLowestBeside, OfStack, OfFingers, finger_of, is_grey}

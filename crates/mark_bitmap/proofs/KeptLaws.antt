@@ -1,14 +1,10 @@
 -- What is kept when regions lose their objects, and when marking is over.
-use Rattle.std.proofs.Common.{◌≡◌, ◌⊎◌, ◌/◌, ◌<◌, ◌≤◌, ◌∙◌}
-use Rattle.std.proofs.Common.{inl, inr, ℕ, Bool, true, false, List, Option, None, get_or, refl, ap, arith, ⊎_elim}
-use Rattle.std.specs.Prelude.{if◌then◌else◌}
-use Rattle.std.proofs.lemmas.Bool.{cases_lt, cases_Bool, le-ltb, lt-ltb}
+use Rattle.regions.proofs.Common.{◌≡◌, ◌⊎◌, ◌/◌, ◌<◌, ◌≤◌, ◌∙◌, inl, inr, ℕ, Bool, true, false, List, Option, None, get_or, refl, ap, arith}
+use Rattle.regions.proofs.Common.{⊎_elim, if◌then◌else◌, cases_lt, cases_Bool, le-ltb, lt-ltb, Stored, Table, object_at}
 use Rattle.heap_model.specs.Graph.{Graph, IsReachable, next_name}
-use Rattle.heap_model.specs.Heap.{Stored}
 use Rattle.heap_model.specs.Marking.{KeepsSnapshot}
 use Rattle.heap_model.specs.Weak.{cleared_object, cleared_after}
 use Rattle.heap_model.proofs.Kept.{kept_by_marks}
-use Rattle.regions.specs.Table.{Table, object_at}
 use Rattle.mark_bitmap.specs.Marks.{is_marked}
 use Rattle.mark_bitmap.specs.Tops.{Tops, is_in_region, is_below, below_previous, below_next, with_bottom, exchanged, AreNewer}
 use Rattle.mark_bitmap.specs.Grey.{Scans}

@@ -1,7 +1,6 @@
 -- The marked addresses as a list.
-use Rattle.std.proofs.Common.{◌≡◌, ℕ, zero, suc, ◌+◌, ◌≤◌, Bool, true, false, List, [], ◌∷◌, Some, length, refl, ap, arith}
-use Rattle.std.specs.Prelude.{slice_get, if◌then◌else◌}
-use Rattle.std.proofs.lemmas.List.Sums.{sum_by-cons}
+use Rattle.regions.proofs.Common.{◌≡◌, ℕ, zero, suc, ◌+◌, ◌≤◌, Bool, true, false, List, [], ◌∷◌, Some, length, refl, ap, arith, slice_get}
+use Rattle.regions.proofs.Common.{if◌then◌else◌, sum_by-cons}
 use Rattle.heap_model.specs.Count.{ListsMarked}
 use Rattle.mark_bitmap.specs.Marks.{is_marked, marked_count}
 

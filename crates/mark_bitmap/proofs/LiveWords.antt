@@ -1,14 +1,9 @@
 -- The words of marked and of kept objects.
-use Rattle.std.proofs.Common.{◌≡◌, ◌+◌, ◌-◌, ◌*◌, ◌/◌, ◌%◌, ◌<◌, ◌≤◌, ◌∙◌, inl, inr, ℕ, zero, suc, Bool, true, false, List, None, length}
-use Rattle.std.proofs.Common.{get_or, refl, sym, ap, arith}
-use Rattle.std.specs.Prelude.{if◌then◌else◌}
-use Rattle.std.proofs.lemmas.Bool.{cases_lt, cases_Bool, le-leb, lt-ltb, le-ltb, and_parts, ltb-true, leb-true}
-use Rattle.std.proofs.lemmas.List.{get_or_past}
-use Rattle.regions.specs.Tiles.{total_size}
-use Rattle.regions.specs.Table.{Table, Region, Free, Ordinary, First, Rest, region_tile, region_at, nth_region, region_kind, kind_of}
-use Rattle.regions.specs.Table.{region_used, used_of, top_of, tile_in, tile_object, object_at, stored_size, object_words}
-use Rattle.regions.specs.Walks.{region_tiles, tiles_of}
-use Rattle.regions.specs.Shaped.{IsShaped}
+use Rattle.regions.proofs.Common.{◌≡◌, ◌+◌, ◌-◌, ◌*◌, ◌/◌, ◌%◌, ◌<◌, ◌≤◌, ◌∙◌, inl, inr, ℕ, zero, suc, Bool, true, false, List, None}
+use Rattle.regions.proofs.Common.{length, get_or, refl, sym, ap, arith, if◌then◌else◌, cases_lt, cases_Bool, le-leb, lt-ltb, le-ltb}
+use Rattle.regions.proofs.Common.{and_parts, ltb-true, leb-true, get_or_past, total_size, Table, Region, Free, Ordinary, First, Rest}
+use Rattle.regions.proofs.Common.{region_tile, region_at, nth_region, region_kind, kind_of, region_used, used_of, top_of, tile_in}
+use Rattle.regions.proofs.Common.{tile_object, object_at, stored_size, object_words, region_tiles, tiles_of, IsShaped}
 use Rattle.regions.specs.declared.row.Kind.TheVariants as kinds
 use Rattle.mark_bitmap.specs.Marks.{is_marked}
 use Rattle.mark_bitmap.specs.Tops.{Tops, is_in_region}

@@ -1,13 +1,9 @@
 -- What keeps marks at objects, and tops at mark start in their regions.
-use Rattle.std.proofs.Common.{◌≡◌, ◌≢◌, ◌*◌, ◌<◌, ◌≤◌, ◌∙◌, inl, inr, ℕ, suc, Bool, true, false, List, Some, length, get_or, set, replicate}
-use Rattle.std.proofs.Common.{ltb, sym, ap, arith, ⊎_elim, get_or-set_same, get_or-set_other, length-set}
-use Rattle.std.specs.Prelude.{not}
-use Rattle.std.proofs.lemmas.Bool.{and_parts, cases_lt, cases_eq, cases_Bool, ltb-true, lt-ltb}
-use Rattle.std.proofs.lemmas.List.{get_or-replicate, length-replicate, get_or_past}
-use Rattle.std.proofs.lemmas.List.FromFn.{length-map-range_with_len, get_or-map-range_with_len}
-use Rattle.std.proofs.lemmas.Nat.{mul-le}
-use Rattle.heap_model.specs.Heap.{Stored}
-use Rattle.regions.specs.Table.{Table, Free, free_table, object_at, top_of, used_of}
+use Rattle.regions.proofs.Common.{◌≡◌, ◌≢◌, ◌*◌, ◌<◌, ◌≤◌, ◌∙◌, inl, inr, ℕ, suc, Bool, true, false, List, Some, length, get_or, set}
+use Rattle.regions.proofs.Common.{replicate, ltb, sym, ap, arith, ⊎_elim, get_or-set_same, get_or-set_other, length-set, not, and_parts}
+use Rattle.regions.proofs.Common.{cases_lt, cases_eq, cases_Bool, ltb-true, lt-ltb, get_or-replicate, length-replicate, get_or_past}
+use Rattle.regions.proofs.Common.{length-map-range_with_len, get_or-map-range_with_len, mul-le, Stored, Table, Free, free_table, object_at}
+use Rattle.regions.proofs.Common.{top_of, used_of}
 use Rattle.mark_bitmap.specs.Marks.{is_marked, is_only}
 use Rattle.mark_bitmap.specs.Tops.{bottoms, is_in_region, is_below}
 use Rattle.mark_bitmap.specs.Kept.{MarksObjects}

@@ -1,9 +1,7 @@
 -- Which addresses lie in a region, and below its top.
-use Rattle.std.proofs.Common.{◌≡◌, ◌≢◌, ◌+◌, ◌-◌, ◌*◌, ◌/◌, ◌%◌, ◌<◌, ◌≤◌, ◌∙◌, ℕ, true, false, List, length, get_or, set, ltb, leb, refl}
-use Rattle.std.proofs.Common.{sym, ap, arith, ⊎_elim, get_or-set_same, get_or-set_other}
-use Rattle.std.proofs.lemmas.Bool.{cases_lt, and_parts, ltb-true, leb-true, le-leb, lt-ltb}
-use Rattle.std.proofs.lemmas.List.{get_or_past}
-use Rattle.std.proofs.lemmas.Nat.{div-mul-add}
+use Rattle.regions.proofs.Common.{◌≡◌, ◌≢◌, ◌+◌, ◌-◌, ◌*◌, ◌/◌, ◌%◌, ◌<◌, ◌≤◌, ◌∙◌, ℕ, true, false, List, length, get_or, set, ltb, leb}
+use Rattle.regions.proofs.Common.{refl, sym, ap, arith, ⊎_elim, get_or-set_same, get_or-set_other, cases_lt, and_parts, ltb-true, leb-true}
+use Rattle.regions.proofs.Common.{le-leb, lt-ltb, get_or_past, div-mul-add}
 use Rattle.mark_bitmap.specs.Tops.{is_in_region, is_below, LiesBelow}
 
 -- k * n ≤ a < k * n + n says that a / n is k

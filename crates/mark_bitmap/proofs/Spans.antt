@@ -1,14 +1,9 @@
 -- Where the objects of an ordinary region end, and that none starts within another.
-use Rattle.std.proofs.Common.{◌≡◌, ◌⊎◌, ◌+◌, ◌-◌, ◌*◌, ◌/◌, ◌%◌, ◌<◌, ◌≤◌, ◌∷◌, ◌∙◌}
-use Rattle.std.proofs.Common.{inl, inr, ℕ, zero, suc, Option, Some, None, List, [], get_or, refl, sym, ap, arith}
-use Rattle.std.proofs.lemmas.Bool.{le-leb}
-use Rattle.std.proofs.lemmas.Bool.Decides.{leb_tells}
-use Rattle.heap_model.specs.Heap.{Stored}
-use Rattle.regions.specs.Tiles.{Tile, Object, tile_size, total_size, tile_at}
-use Rattle.regions.specs.Table.{Table, Region, Free, Ordinary, First, Rest, region_tile, region_at, nth_region, region_kind, kind_of}
-use Rattle.regions.specs.Table.{region_used, used_of, top_of, tile_in, tile_object, object_at, stored_size}
-use Rattle.regions.specs.Walks.{region_tiles, tiles_of}
-use Rattle.regions.specs.Shaped.{IsShaped}
+use Rattle.regions.proofs.Common.{◌≡◌, ◌⊎◌, ◌+◌, ◌-◌, ◌*◌, ◌/◌, ◌%◌, ◌<◌, ◌≤◌, ◌∷◌, ◌∙◌, inl, inr, ℕ, zero, suc, Option, Some, None, List}
+use Rattle.regions.proofs.Common.{[], get_or, refl, sym, ap, arith, le-leb, leb_tells, Stored, Tile, Object, tile_size, total_size, tile_at}
+use Rattle.regions.proofs.Common.{Table, Region, Free, Ordinary, First, Rest, region_tile, region_at, nth_region, region_kind, kind_of}
+use Rattle.regions.proofs.Common.{region_used, used_of, top_of, tile_in, tile_object, object_at, stored_size, region_tiles, tiles_of}
+use Rattle.regions.proofs.Common.{IsShaped}
 use Rattle.regions.specs.declared.row.Kind.TheVariants as kinds
 use Rattle.regions.proofs.Tiles.Laws.{object_tile}
 use Rattle.regions.proofs.Words.Parse.{past}

@@ -1,12 +1,9 @@
 -- Sets with a summary above them.
-use Rattle.std.proofs.Common.{◌≡◌, ◌≢◌, ◌+◌, ◌*◌, ◌/◌, ◌<◌, ◌∙◌, ℕ, Bool, true, false, List, length, set, replicate, refl, sym, ap, arith}
-use Rattle.std.proofs.Common.{⊎_elim, Option, Some, None, get_or-set_same, get_or-set_other, length-set}
-use Rattle.std.specs.Prelude.{MatchOption, IfSome, IsSome}
-use Rattle.std.proofs.lemmas.Bool.{cases_eq, cases_lt}
-use Rattle.std.proofs.lemmas.List.{get_or-replicate, length-replicate}
-use Rattle.bit_sets.specs.Bits.{has, HasNone, HasNoneBelow, IsLowest}
+use Rattle.regions.proofs.Common.{◌≡◌, ◌≢◌, ◌+◌, ◌*◌, ◌/◌, ◌<◌, ◌∙◌, ℕ, Bool, true, false, List, length, set, replicate, refl, sym, ap}
+use Rattle.regions.proofs.Common.{arith, ⊎_elim, Option, Some, None, get_or-set_same, get_or-set_other, length-set, MatchOption, IfSome}
+use Rattle.regions.proofs.Common.{IsSome, cases_eq, cases_lt, get_or-replicate, length-replicate, has, HasNone, HasNoneBelow, IsLowest}
+use Rattle.regions.proofs.Common.{div_ceil}
 use Rattle.bit_sets.proofs.BitWords.{has_past}
-use Rattle.std.specs.Int.{div_ceil}
 use Rattle.mark_bitmap.specs.Summary.{HasMember, HasNoMember, IsMember, IsSummary, AreLevels}
 
 pub false_by : (b c : Bool) → (b ≡ true → c ≡ true) → c ≡ false → b ≡ false

@@ -1,22 +1,15 @@
 -- Tables that tests build: each pointer leads to an object.
-use Rattle.std.proofs.Common.{◌≡◌, ◌≢◌, ◌+◌, ◌-◌, ◌*◌, ◌/◌, ◌%◌, ◌<◌, ◌≤◌, ◌∷◌, ◌++◌, ◌∙◌}
-use Rattle.std.proofs.Common.{inl, inr, ℕ, zero, suc, true, false, List, [], Option, Some, None, length, get_or, set, replicate, refl, sym}
-use Rattle.std.proofs.Common.{ap, subst, arith, get_or-set_same, get_or-set_other, length-set}
-use Rattle.std.specs.Prelude.{slice_get, IsSome}
-use Rattle.std.proofs.lemmas.Bool.{cases_lt, cases_eq}
-use Rattle.std.proofs.lemmas.Bool.Decides.{leb_tells}
-use Rattle.std.proofs.lemmas.List.{get_or-replicate, length-replicate, get_or_past}
-use Rattle.std.proofs.lemmas.Option.{slice_get_within, slice_get_read, get_or_from_slice_get}
-use Rattle.heap_model.specs.Heap.{Stored, IsClosed, fields, with_field}
+use Rattle.regions.proofs.Common.{◌≡◌, ◌≢◌, ◌+◌, ◌-◌, ◌*◌, ◌/◌, ◌%◌, ◌<◌, ◌≤◌, ◌∷◌, ◌++◌, ◌∙◌, inl, inr, ℕ, zero, suc, true, false, List}
+use Rattle.regions.proofs.Common.{[], Option, Some, None, length, get_or, set, replicate, refl, sym, ap, subst, arith, get_or-set_same}
+use Rattle.regions.proofs.Common.{get_or-set_other, length-set, slice_get, IsSome, cases_lt, cases_eq, leb_tells, get_or-replicate}
+use Rattle.regions.proofs.Common.{length-replicate, get_or_past, slice_get_within, slice_get_read, get_or_from_slice_get, Stored, fields}
+use Rattle.regions.proofs.Common.{with_field, Tile, Object, Filler, tile_size, tile_at, Region, Free, Table, region_tile, region_at}
+use Rattle.regions.proofs.Common.{tile_in, tile_object, object_at, stored_size, object_words, free_table, taken, first_free, set_field}
+use Rattle.regions.proofs.Common.{push_tile, replace_tile, new_object, remainder, used_of, top_of, kind_of, HasObject, IsShaped, IsHolder}
+use Rattle.heap_model.specs.Heap.{IsClosed}
 use Rattle.heap_model.proofs.Fields.{field_set}
 use Rattle.heap_model.proofs.Lists.{get-set_cases, get-append_cases}
-use Rattle.regions.specs.Tiles.{Tile, Object, Filler, tile_size, tile_at}
-use Rattle.regions.specs.Table.{Region, Free, Table, region_tile, region_at, tile_in, tile_object, object_at, stored_size}
-use Rattle.regions.specs.Table.{object_words, free_table, taken, first_free, set_field, push_tile, replace_tile, new_object}
-use Rattle.regions.specs.Table.{remainder, used_of, top_of, kind_of, HasObject}
 use Rattle.regions.specs.declared.row.Kind.TheVariants as kinds
-use Rattle.regions.specs.Shaped.{IsShaped}
-use Rattle.regions.specs.Walks.{IsHolder}
 use Rattle.regions.proofs.Tiles.Changes.{WritesObject, field_put, field_size, object_same}
 use Rattle.regions.proofs.Tiles.Placing.{region_taken, Pushed, filler_push, Replaces, filler_replaced}
 use Rattle.mark_bitmap.specs.Tops.{is_below, below_previous}

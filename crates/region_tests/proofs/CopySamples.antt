@@ -1,9 +1,6 @@
 -- The table that the tests copy from.
-use Rattle.std.proofs.Common.{◌≡◌, ℕ, ◌/◌, ◌<◌, ◌∙◌, Some, length, ap, refl, arith}
-use Rattle.std.specs.Prelude.{IsSome}
-use Rattle.regions.specs.Tiles.{Object}
-use Rattle.regions.specs.Table.{Table, kind_of, object_at, object_words, fields_at, weaks_at}
-use Rattle.regions.specs.Table.{put_object, region_at, nth_region, set_field, tile_in, tile_object}
+use Rattle.regions.proofs.Common.{◌≡◌, ℕ, ◌/◌, ◌<◌, ◌∙◌, Some, length, ap, refl, arith, IsSome, Object, Table, kind_of, object_at}
+use Rattle.regions.proofs.Common.{object_words, fields_at, weaks_at, put_object, region_at, nth_region, set_field, tile_in, tile_object}
 use Rattle.regions.specs.declared.row.Kind.TheVariants as kinds
 use Rattle.regions.proofs.Tiles.Changes.{object_of_tile}
 use Rattle.region_tests.specs.Samples.{one_object}

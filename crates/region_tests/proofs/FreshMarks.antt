@@ -1,9 +1,6 @@
 -- Tables and marks that tests build.
-use Rattle.std.proofs.Common.{◌≡◌, ◌*◌, ◌<◌, ◌∙◌}
-use Rattle.std.proofs.Common.{ℕ, Bool, false, List, length, get_or, replicate, ap, arith}
-use Rattle.std.proofs.lemmas.List.{length-replicate}
-use Rattle.std.proofs.lemmas.List.FromFn.{length-map-range_with_len, get_or-map-range_with_len}
-use Rattle.regions.specs.Table.{Table}
+use Rattle.regions.proofs.Common.{◌≡◌, ◌*◌, ◌<◌, ◌∙◌, ℕ, Bool, false, List, length, get_or, replicate, ap, arith, length-replicate}
+use Rattle.regions.proofs.Common.{length-map-range_with_len, get_or-map-range_with_len, Table}
 use Rattle.mark_bitmap.specs.Tops.{bottoms}
 use Rattle.mark_bitmap.specs.Kept.{MarksObjects}
 use Rattle.mark_bitmap.proofs.ObjectLaws.{none_marked}

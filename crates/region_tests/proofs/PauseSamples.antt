@@ -1,13 +1,9 @@
 -- The heaps that the tests evacuate.
-use Rattle.std.proofs.Common.{◌≡◌, ◌∙◌, ◌-◌, ◌*◌, ◌/◌, ◌%◌, ◌<◌, ◌≤◌, ◌⊎◌, ◌∷◌}
-use Rattle.std.proofs.Common.{ℕ, zero, suc, Bool, true, false, List, [], Option, Some, None}
-use Rattle.std.proofs.Common.{length, get_or, refl, sym, ap, subst, inl, inr, arith}
-use Rattle.std.specs.Prelude.{All, slice_get, nat_le, if◌then◌else◌}
-use Rattle.std.proofs.lemmas.List.{length-replicate}
-use Rattle.heap_model.specs.Heap.{Stored, fields}
-use Rattle.regions.specs.Tiles.{Object, tile_size, tile_at}
-use Rattle.regions.specs.Table.{Table, Free, Ordinary, AreHalves, HasNoForwarded, free_count, kind_of, object_at, region_at}
-use Rattle.regions.specs.Table.{nth_region, region_tile, tile_in, tile_object, used_of}
+use Rattle.regions.proofs.Common.{◌≡◌, ◌∙◌, ◌-◌, ◌*◌, ◌/◌, ◌%◌, ◌<◌, ◌≤◌, ◌⊎◌, ◌∷◌, ℕ, zero, suc, Bool, true, false, List, [], Option, Some}
+use Rattle.regions.proofs.Common.{None, length, get_or, refl, sym, ap, subst, inl, inr, arith, All, slice_get, nat_le, if◌then◌else◌}
+use Rattle.regions.proofs.Common.{length-replicate, Stored, fields, Object, tile_size, tile_at, Table, Free, Ordinary, HasNoForwarded}
+use Rattle.regions.proofs.Common.{free_count, kind_of, object_at, region_at, nth_region, region_tile, tile_in, tile_object, used_of}
+use Rattle.regions.specs.Table.{AreHalves}
 use Rattle.regions.specs.declared.row.Kind.TheVariants as kinds
 use Rattle.mark_bitmap.specs.Tops.{bottoms, is_below}
 use Rattle.mark_bitmap.specs.Live.{live_bound_of}

@@ -1,8 +1,7 @@
 -- How the tests make their tables.
-use Rattle.std.proofs.Common.{◌≡◌, ℕ, ◌+◌, ◌-◌, ◌<◌, [], ◌∷◌, Option, Some, None, length, refl, arith}
-use Rattle.regions.specs.Tiles.{Object, Filler}
-use Rattle.regions.specs.Table.{Table, Free, Ordinary, fields_at, first_free, weaks_at, kind_of, object_at, put_object, push_tile}
-use Rattle.regions.specs.Table.{region_at, nth_region, replace_tile, set_field, set_weak, taken, tile_in, used_of, new_object, remainder}
+use Rattle.regions.proofs.Common.{◌≡◌, ℕ, ◌+◌, ◌-◌, ◌<◌, [], ◌∷◌, Option, Some, None, length, refl, arith, Object, Filler, Table, Free}
+use Rattle.regions.proofs.Common.{Ordinary, fields_at, first_free, weaks_at, kind_of, object_at, put_object, push_tile, region_at}
+use Rattle.regions.proofs.Common.{nth_region, replace_tile, set_field, set_weak, taken, tile_in, used_of, new_object, remainder}
 use Rattle.region_tests.proofs.TableSamples.{IsUsable}
 use Rattle.region_tests.specs.Samples.{one_object}
 use Rattle.region_tests.specs.Evacuated.{by_weak_slot, held, holder, itself, sample_of}

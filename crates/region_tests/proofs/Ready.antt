@@ -1,8 +1,7 @@
 -- A table and buffers that a test places in.
-use Rattle.std.proofs.Common.{◌≡◌, ℕ, Result, Ok, Err, length, sym, ◌∙◌, ap, subst}
+use Rattle.regions.proofs.Common.{◌≡◌, ℕ, length, sym, ◌∙◌, ap, subst, length-replicate, Table, HasNoForwarded, free_table}
+use Rattle.std.proofs.Common.{Result, Ok, Err}
 use Rattle.std.specs.Prelude.{IfOk, OnErr}
-use Rattle.std.proofs.lemmas.List.{length-replicate}
-use Rattle.regions.specs.Table.{Table, HasNoForwarded, free_table}
 use Rattle.alloc_buffers.specs.Placement.{Buffers, BuffersStand, IsAllocation, closed}
 use Rattle.alloc_buffers.specs.declared.placement.Allocation.{Allocation}
 use Rattle.alloc_buffers.specs.declared.placement.Allocation.TheVariants as allocations

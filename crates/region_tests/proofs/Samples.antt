@@ -1,25 +1,15 @@
 -- Tables that tests build: each pointer leads into a region.
-use Rattle.std.proofs.Common.{◌≡◌, ◌≢◌, ◌+◌, ◌-◌, ◌*◌, ◌/◌, ◌%◌, ◌<◌, ◌≤◌, ◌∷◌, ◌∙◌}
-use Rattle.std.proofs.Common.{inl, inr, ℕ, zero, suc, Bool, List, [], Option, Some, None, length}
-use Rattle.std.proofs.Common.{get_or, set, replicate, refl, sym, ap, subst, arith}
-use Rattle.std.specs.Prelude.{slice_get, IsSome, IfSome}
-use Rattle.std.proofs.lemmas.Bool.{cases_lt, cases_eq}
-use Rattle.std.proofs.lemmas.Bool.Decides.{leb_tells}
-use Rattle.std.proofs.lemmas.List.{get_or-replicate, length-replicate, get_or_past}
+use Rattle.regions.proofs.Common.{◌≡◌, ◌≢◌, ◌+◌, ◌-◌, ◌*◌, ◌/◌, ◌%◌, ◌<◌, ◌≤◌, ◌∷◌, ◌∙◌, inl, inr, ℕ, zero, suc, Bool, List, [], Option}
+use Rattle.regions.proofs.Common.{Some, None, length, get_or, set, replicate, refl, sym, ap, subst, arith, slice_get, IsSome, IfSome}
+use Rattle.regions.proofs.Common.{cases_lt, cases_eq, leb_tells, get_or-replicate, length-replicate, get_or_past, slice_get_within}
+use Rattle.regions.proofs.Common.{get_or_from_slice_get, Stored, fields, with_field, Tile, Object, Filler, Forwarded, tile_size, tile_at}
+use Rattle.regions.proofs.Common.{Region, Free, First, Table, nth_region, first_run, is_free, with_run, region_tile, region_at, tile_in}
+use Rattle.regions.proofs.Common.{tile_object, object_at, free_table, taken, first_free, set_field, push_tile, replace_tile, new_object}
+use Rattle.regions.proofs.Common.{remainder, used_of, top_of, kind_of, fields_at, IsShaped, tile_shape, IsHolder, Shape}
 use Rattle.std.proofs.lemmas.Nat.{div_below}
-use Rattle.std.proofs.lemmas.Option.{slice_get_within, get_or_from_slice_get}
-use Rattle.heap_model.specs.Heap.{Stored, fields, with_field}
 use Rattle.heap_model.proofs.Fields.{field_set}
 use Rattle.heap_model.proofs.Lists.{get-append_cases}
-use Rattle.regions.specs.Tiles.{Tile, Object, Filler, Forwarded, tile_size, tile_at}
-use Rattle.regions.specs.Table.{Region, Free, First, Table, nth_region, first_run, is_free, with_run, region_tile, region_at, tile_in}
-use Rattle.regions.specs.Table.{tile_object, object_at, free_table, taken, first_free, set_field, push_tile, replace_tile, new_object}
-use Rattle.regions.specs.Table.{remainder, used_of, top_of, kind_of, fields_at}
 use Rattle.regions.specs.declared.row.Kind.TheVariants as kinds
-use Rattle.regions.specs.Shaped.{IsShaped}
-use Rattle.regions.specs.Shapes.{tile_shape}
-use Rattle.regions.specs.Walks.{IsHolder}
-use Rattle.regions.specs.declared.row.Shape.{Shape}
 use Rattle.regions.specs.declared.row.Shape.TheVariants as shapes
 use Rattle.regions.proofs.Tiles.Changes.{field_put, object_same}
 use Rattle.regions.proofs.Tiles.Placing.{region_taken, Pushed, filler_push, Replaces, filler_replaced}

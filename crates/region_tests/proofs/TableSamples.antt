@@ -1,13 +1,10 @@
 -- The tables that the tests go through.
-use Rattle.std.proofs.Common.{◌≡◌, ◌≢◌, ℕ, zero, suc, ◌+◌, ◌-◌, ◌*◌, ◌/◌, ◌<◌, ◌≤◌, ◌++◌, Option, Some, None}
-use Rattle.std.proofs.Common.{List, [], ◌∷◌, length, refl, ap, ◌∙◌, arith}
-use Rattle.std.specs.Prelude.{IsSome}
-use Rattle.heap_model.specs.Heap.{Stored}
-use Rattle.regions.specs.Tiles.{Tile, Object, Filler, Forwarded}
-use Rattle.regions.specs.Table.{Table, Region, Free, Ordinary, First, Rest, region_at, tile_in, object_at, pointers_at, fields_at}
-use Rattle.regions.specs.Table.{values_at, put_object, set_pointer, set_field, set_value, EachForwardedIn, object_words, IsOrdinary}
-use Rattle.regions.specs.Table.{is_free, first_free, taken, nth_region, used_of, push_tile, new_object, kind_of, free_table, replace_tile}
-use Rattle.regions.specs.Table.{remainder, first_run, with_run, IsReleasable, released}
+use Rattle.regions.proofs.Common.{◌≡◌, ◌≢◌, ℕ, zero, suc, ◌+◌, ◌-◌, ◌*◌, ◌/◌, ◌<◌, ◌≤◌, ◌++◌, Option, Some, None, List, [], ◌∷◌, length}
+use Rattle.regions.proofs.Common.{refl, ap, ◌∙◌, arith, IsSome, Stored, Tile, Object, Filler, Forwarded, Table, Region, Free, Ordinary}
+use Rattle.regions.proofs.Common.{First, Rest, region_at, tile_in, object_at, pointers_at, fields_at, values_at, put_object, set_pointer}
+use Rattle.regions.proofs.Common.{set_field, set_value, EachForwardedIn, object_words, IsOrdinary, is_free, first_free, taken, nth_region}
+use Rattle.regions.proofs.Common.{used_of, push_tile, new_object, kind_of, free_table, replace_tile, remainder, first_run, with_run}
+use Rattle.regions.proofs.Common.{IsReleasable, released}
 use Rattle.region_tests.specs.Filled.{moving, stepped, twice}
 use Rattle.region_tests.specs.Samples.{one_object}
 use Rattle.regions.specs.declared.row.Kind.TheVariants as kinds

@@ -1,10 +1,7 @@
 -- The tables that the test of weak slots goes through.
-use Rattle.std.proofs.Common.{◌≡◌, ℕ, ◌-◌, ◌<◌, Option, Some, None, [], ◌∷◌, length, refl, arith}
-use Rattle.std.specs.Prelude.{IsSome}
-use Rattle.heap_model.specs.Heap.{Stored}
-use Rattle.regions.specs.Tiles.{Object}
-use Rattle.regions.specs.Table.{Table, Free, Ordinary, region_at, tile_in, object_at, pointers_at, weaks_at, fields_at, values_at}
-use Rattle.regions.specs.Table.{put_object, set_weak, set_field, set_value, nth_region, kind_of}
+use Rattle.regions.proofs.Common.{◌≡◌, ℕ, ◌-◌, ◌<◌, Option, Some, None, [], ◌∷◌, length, refl, arith, IsSome, Stored, Object, Table, Free}
+use Rattle.regions.proofs.Common.{Ordinary, region_at, tile_in, object_at, pointers_at, weaks_at, fields_at, values_at, put_object}
+use Rattle.regions.proofs.Common.{set_weak, set_field, set_value, nth_region, kind_of}
 use Rattle.region_tests.proofs.TableSamples.{sample, CanRelease}
 use Rattle.region_tests.specs.Filled.{slotted}
 use Rattle.region_tests.specs.Samples.{one_object}

@@ -1,14 +1,7 @@
 -- Where the search for a word's tile begins.
-use Rattle.std.proofs.Common.{◌≡◌, ℕ, ◌*◌, ◌/◌, ◌<◌, ◌≤◌, List, length, inl, inr, sym, ap, ◌∙◌, subst, arith}
-use Rattle.std.proofs.lemmas.Bool.{cases_lt}
-use Rattle.std.proofs.lemmas.Nat.{mul-le}
-use Rattle.regions.specs.Table.{Table, top_of}
-use Rattle.regions.specs.WeakStarts.{Starts}
-use Rattle.heap_words.specs.Memory.{Memory}
-use Rattle.regions.specs.Rows.{table_of, IsTable, IsRegionTable, sizes_in}
-use Rattle.regions.specs.FirstTiles.{Entries, AreEntries, start_in}
-use Rattle.regions.specs.Walks.{IsHolder}
-use Rattle.regions.specs.declared.row.Row.{Row}
+use Rattle.regions.proofs.Common.{◌≡◌, ℕ, ◌*◌, ◌/◌, ◌<◌, ◌≤◌, List, length, inl, inr, sym, ap, ◌∙◌, subst, arith, cases_lt, mul-le, Table}
+use Rattle.regions.proofs.Common.{top_of, Starts, Memory, table_of, IsTable, IsRegionTable, sizes_in, Entries, AreEntries, start_in}
+use Rattle.regions.proofs.Common.{IsHolder, Row}
 use Rattle.regions.proofs.Tiles.Making.{length-regions_of}
 use Rattle.regions.proofs.Tiles.ShapedMade.{shaped_of}
 use Rattle.regions.proofs.Words.Divides.{card_region, div_low}

@@ -1,30 +1,20 @@
 -- First tiles over each change of the table.
-use Rattle.std.proofs.Common.{◌≡◌, ◌≢◌, ◌+◌, ◌-◌, ◌*◌, ◌/◌, ◌%◌, ◌<◌, ◌≤◌, ◌∷◌, ◌∙◌, ℕ, zero, suc, Bool, true, false, Some, None, Option}
-use Rattle.std.proofs.Common.{List, [], length, length-set, get_or, replicate, inl, inr, refl, sym, ap, subst, arith, leb, ltb}
-use Rattle.std.specs.Prelude.{if◌then◌else◌, ◌&&◌, ◌==◌}
-use Rattle.std.proofs.lemmas.Bool.{cases_lt, le-leb, lt-leb, lt-ltb, le-ltb}
-use Rattle.std.proofs.lemmas.List.{length-replicate}
-use Rattle.std.proofs.lemmas.Nat.{div-mul-add}
-use Rattle.bit_sets.specs.Bits.{is_between}
-use Rattle.heap_model.specs.Heap.{Stored}
-use Rattle.regions.specs.Tiles.{Tile, Object, Filler, Forwarded, tile_size, tile_at, total_size}
-use Rattle.regions.specs.Table.{Table, Region, Free, Ordinary, First, Rest, nth_region, region_tile, tile_in, object_at}
-use Rattle.regions.specs.Table.{new_object, pointers_at, weaks_at, fields_at, values_at, set_pointer, set_weak, set_field}
-use Rattle.regions.specs.Table.{set_value, remainder, is_free, first_free, taken, replace_tile, push_tile, IsOrdinary}
-use Rattle.regions.specs.Table.{region_at, with_regions, run_regions, first_run, released, run_length, kind_of, used_of, top_of}
-use Rattle.regions.specs.Table.{free_table, EachForwarded, IsReleasable, object_words}
-use Rattle.heap_words.specs.Memory.{Memory}
-use Rattle.regions.specs.Rows.{table_of, IsRegionTable, AreTilesWritten, AreUsedBelow, free_row_count, sizes_in}
-use Rattle.regions.specs.FirstTiles.{Entries, AreEntries, entry_of, last_card}
-use Rattle.regions.specs.Shaped.{IsShaped}
+use Rattle.regions.proofs.Common.{◌≡◌, ◌≢◌, ◌+◌, ◌-◌, ◌*◌, ◌/◌, ◌%◌, ◌<◌, ◌≤◌, ◌∷◌, ◌∙◌, ℕ, zero, suc, Bool, true, false, Some, None}
+use Rattle.regions.proofs.Common.{Option, List, [], length, length-set, get_or, replicate, inl, inr, refl, sym, ap, subst, arith, leb, ltb}
+use Rattle.regions.proofs.Common.{if◌then◌else◌, ◌&&◌, ◌==◌, cases_lt, le-leb, lt-leb, lt-ltb, le-ltb, length-replicate, div-mul-add}
+use Rattle.regions.proofs.Common.{is_between, Stored, Tile, Object, Filler, Forwarded, tile_size, tile_at, total_size, Table, Region, Free}
+use Rattle.regions.proofs.Common.{Ordinary, First, Rest, nth_region, region_tile, tile_in, object_at, new_object, pointers_at, weaks_at}
+use Rattle.regions.proofs.Common.{fields_at, values_at, set_pointer, set_weak, set_field, set_value, remainder, is_free, first_free, taken}
+use Rattle.regions.proofs.Common.{replace_tile, push_tile, IsOrdinary, region_at, with_regions, run_regions, first_run, released}
+use Rattle.regions.proofs.Common.{run_length, kind_of, used_of, top_of, free_table, EachForwarded, IsReleasable, object_words, Memory}
+use Rattle.regions.proofs.Common.{table_of, IsRegionTable, AreTilesWritten, AreUsedBelow, free_row_count, sizes_in, Entries, AreEntries}
+use Rattle.regions.proofs.Common.{entry_of, last_card, IsShaped, Row, Starts, AreStarts, HasWeaks, start_added, forgotten}
 use Rattle.regions.specs.declared.row.Kind.TheVariants as kinds
-use Rattle.regions.specs.declared.row.Row.{Row}
 use Rattle.regions.proofs.Tiles.Targets.{IsWrittenTable}
 use Rattle.regions.proofs.Tiles.Making.{length-regions_of}
 use Rattle.regions.proofs.Tiles.ShapedMade.{shaped_of, first_object, kind_at}
 use Rattle.regions.proofs.Tiles.Laws.{object_tile}
 use Rattle.regions.proofs.Tiles.Changes.{WritesObject, pointer_put, weak_put, field_put, field_size, field_weaks, value_put}
-use Rattle.regions.specs.WeakStarts.{Starts, AreStarts, HasWeaks, start_added, forgotten}
 use Rattle.regions.proofs.Tiles.WeakStarts.{tile_weaks, Notes, notes, Forgets, forgets, Clears, none_there, none_in, free_void, run_later}
 use Rattle.regions.proofs.Tiles.WeakStarts.{starts_same, starts_written, starts_added, starts_cut, starts_forwarded, starts_released}
 use Rattle.regions.proofs.Words.Access.{has_pointer, has_weak}

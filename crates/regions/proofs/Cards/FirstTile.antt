@@ -1,16 +1,8 @@
 -- The search for the tile that holds a word.
-use Rattle.heap_words.specs.Configs.{max_words}
-use Rattle.std.proofs.Common.{◌≡◌, ℕ, ◌+◌, ◌-◌, ◌*◌, ◌/◌, ◌<◌, ◌≤◌, min, Some, List, [], ◌∷◌, inl, inr, refl, sym, ap, ◌∙◌, arith}
-use Rattle.std.proofs.lemmas.Bool.{cases_lt}
-use Rattle.std.proofs.lemmas.Nat.{mul-le}
-use Rattle.heap_words.specs.declared.addr.Addr.{Addr}
-use Rattle.regions.specs.Tiles.{Tile, Object, tile_size, total_size}
-use Rattle.regions.specs.Table.{Table, Region, Free, Ordinary, First, Rest, nth_region, region_kind}
-use Rattle.regions.specs.Table.{region_used, kind_of, used_of, top_of, tile_in}
-use Rattle.regions.specs.Shapes.{tile_shape, size_of_shape}
-use Rattle.regions.specs.Walks.{tiles_of, placed, walk_rest, IsCut, IsHolder, IsRunStart}
-use Rattle.regions.specs.Shaped.{IsShaped, IsLater}
-use Rattle.regions.specs.declared.row.Shape.{Shape}
+use Rattle.regions.proofs.Common.{max_words, ◌≡◌, ℕ, ◌+◌, ◌-◌, ◌*◌, ◌/◌, ◌<◌, ◌≤◌, min, Some, List, [], ◌∷◌, inl, inr, refl, sym, ap, ◌∙◌}
+use Rattle.regions.proofs.Common.{arith, cases_lt, mul-le, Addr, Tile, Object, tile_size, total_size, Table, Region, Free, Ordinary, First}
+use Rattle.regions.proofs.Common.{Rest, nth_region, region_kind, region_used, kind_of, used_of, top_of, tile_in, tile_shape, size_of_shape}
+use Rattle.regions.proofs.Common.{tiles_of, placed, walk_rest, IsCut, IsHolder, IsRunStart, IsShaped, IsLater, Shape}
 use Rattle.regions.specs.declared.row.Kind.TheVariants as kinds
 use Rattle.regions.proofs.Walks.WalkLaws.{cut_none, cut_step}
 use Rattle.regions.proofs.Walks.WalkMade.{cut_tile, shape_size_is, positive_at}

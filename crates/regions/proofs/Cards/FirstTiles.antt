@@ -1,18 +1,11 @@
 -- The entries of first tiles: how they are written, and that they stay right.
-use Rattle.std.proofs.Common.{◌≡◌, ◌≢◌, ◌+◌, ◌-◌, ◌*◌, ◌/◌, ◌%◌, ◌<◌, ◌≤◌, ◌⊎◌, ◌∙◌, ℕ, suc, Bool, true, false, Some, List, subst, length}
-use Rattle.std.proofs.Common.{length-set, get_or, set, inl, inr, refl, sym, ap, arith, leb, ltb, eqb}
-use Rattle.std.specs.Prelude.{if◌then◌else◌, ◌&&◌, ◌==◌}
-use Rattle.std.proofs.lemmas.Bool.{cases_lt, cases_eq, le-leb, lt-leb, lt-ltb, le-ltb, eqb-false, eq-eqb, ne_eqb}
-use Rattle.std.proofs.lemmas.List.{get_or-set_same, get_or-set_other}
-use Rattle.std.proofs.lemmas.Grind.{div_ceil_times}
-use Rattle.std.proofs.lemmas.Nat.{mul-le}
-use Rattle.std.specs.Int.{div_ceil}
-use Rattle.bit_sets.specs.Bits.{is_between}
-use Rattle.regions.specs.Tiles.{Tile, Object, Filler, Forwarded, tile_size}
-use Rattle.regions.specs.Table.{Table, tile_in}
-use Rattle.regions.specs.Walks.{IsHolder}
-use Rattle.regions.specs.Shaped.{IsShaped}
-use Rattle.regions.specs.FirstTiles.{Entries, AreEntries, entry_of, last_card, start_in}
+use Rattle.regions.proofs.Common.{◌≡◌, ◌≢◌, ◌+◌, ◌-◌, ◌*◌, ◌/◌, ◌%◌, ◌<◌, ◌≤◌, ◌⊎◌, ◌∙◌, ℕ, suc, Bool, true, false, Some, List, subst}
+use Rattle.regions.proofs.Common.{length, length-set, get_or, set, inl, inr, refl, sym, ap, arith, leb, ltb, if◌then◌else◌, ◌&&◌, ◌==◌}
+use Rattle.regions.proofs.Common.{cases_lt, cases_eq, le-leb, lt-leb, lt-ltb, le-ltb, get_or-set_same, get_or-set_other, div_ceil_times}
+use Rattle.regions.proofs.Common.{mul-le, div_ceil, is_between, Tile, Object, Filler, Forwarded, tile_size, Table, tile_in, IsHolder}
+use Rattle.regions.proofs.Common.{IsShaped, Entries, AreEntries, entry_of, last_card, start_in}
+use Rattle.std.proofs.Common.{eqb}
+use Rattle.std.proofs.lemmas.Bool.{eqb-false, eq-eqb, ne_eqb}
 use Rattle.regions.proofs.Words.Divides.{div_is, div_low}
 use Rattle.regions.proofs.Tiles.Holders.{one_holder}
 

@@ -1,18 +1,11 @@
 -- Reads and writes of several data words of an object, one after another.
-use Rattle.std.proofs.Common.{◌≡◌, ◌+◌, ◌-◌, ◌<◌, ◌≤◌, ◌∷◌, ◌∙◌}
-use Rattle.std.proofs.Common.{ℕ, zero, suc, Some, List, [], length, take, drop, get_or, set, refl, sym, ap, ap₂, subst, arith}
-use Rattle.std.proofs.lemmas.List.{length-set, get_or-set_other, drop-drop, drop-take, take-take}
-use Rattle.std.specs.Prelude.{IsSome}
-use Rattle.heap_words.specs.Headers.{header_of}
-use Rattle.heap_words.specs.Contents.{put, counts_of, field_count}
-use Rattle.heap_words.specs.Memory.{Memory}
+use Rattle.regions.proofs.Common.{◌≡◌, ◌+◌, ◌-◌, ◌<◌, ◌≤◌, ◌∷◌, ◌∙◌, ℕ, zero, suc, Some, List, [], length, take, drop, get_or, set, refl}
+use Rattle.regions.proofs.Common.{sym, ap, subst, arith, length-set, get_or-set_other, drop-drop, drop-take, take-take, IsSome, header_of}
+use Rattle.regions.proofs.Common.{put, counts_of, field_count, Memory, Stored, Table, object_at, object_values, values_at, set_value}
+use Rattle.regions.proofs.Common.{table_of, IsRegionTable, IsTable, AreTilesWritten, Entries, Starts, Row}
+use Rattle.std.proofs.Common.{ap₂}
 use Rattle.heap_words.proofs.Blocks.{put_none}
-use Rattle.heap_model.specs.Heap.{Stored}
-use Rattle.regions.specs.Table.{Table, object_at, object_values, values_at, set_value, set_values}
-use Rattle.regions.specs.Rows.{table_of, IsRegionTable, IsTable, AreTilesWritten}
-use Rattle.regions.specs.FirstTiles.{Entries}
-use Rattle.regions.specs.WeakStarts.{Starts}
-use Rattle.regions.specs.declared.row.Row.{Row}
+use Rattle.regions.specs.Table.{set_values}
 use Rattle.regions.proofs.Words.ObjectWords.{object_there, there}
 use Rattle.regions.proofs.Words.Values.{has_value, value_written, with_value}
 use Rattle.regions.proofs.Tiles.Changes.{value_put}

@@ -1,11 +1,8 @@
 -- Entries of which the first are written: the others are 0.
-use Rattle.std.proofs.Common.{◌≡◌, ◌+◌, ◌-◌, ◌*◌, ◌^◌, ◌≤◌, ◌++◌, ◌∙◌, ℕ, List, length, get_or, replicate, take, refl, sym, ap, arith}
-use Rattle.std.proofs.Common.{⊎_elim}
-use Rattle.std.proofs.lemmas.Bool.{cases_lt}
-use Rattle.std.specs.Int.{div_ceil}
-use Rattle.std.proofs.lemmas.Grind.{div_ceil_times}
-use Rattle.std.proofs.lemmas.Nat.{mul-le, pow_pos}
-use Rattle.std.proofs.lemmas.List.{length-append, length-replicate, get_or-append_right, get_or_append_left, get_or_past, take_at}
+use Rattle.regions.proofs.Common.{◌≡◌, ◌+◌, ◌-◌, ◌*◌, ◌^◌, ◌≤◌, ◌++◌, ◌∙◌, ℕ, List, length, get_or, replicate, take, refl, sym, ap, arith}
+use Rattle.regions.proofs.Common.{⊎_elim, cases_lt, div_ceil, div_ceil_times, mul-le, pow_pos, length-append, length-replicate}
+use Rattle.regions.proofs.Common.{get_or_append_left, get_or_past, take_at}
+use Rattle.std.proofs.lemmas.List.{get_or-append_right}
 use Rattle.heap_words.specs.Memory.{memory}
 use Rattle.bit_sets.proofs.BitWords.{all_zeros}
 use Rattle.regions.proofs.Cards.FirstTiles.{cards_fit}

@@ -1,20 +1,14 @@
 -- The regions of a run belong together, and any other region is by itself. They are released together.
-use Rattle.std.proofs.Common.{◌≡◌, ◌≢◌, ◌+◌, ◌-◌, ◌*◌, ◌/◌, ◌%◌, ◌<◌, ◌≤◌, ◌⊎◌, ◌∷◌, ◌++◌, ◌∙◌, ℕ, zero, suc, Bool, true, false, cond, Some}
-use Rattle.std.proofs.Common.{None, List, [], length, take, drop, get_or, replicate, refl, sym, ap, subst, arith, inl, inr}
+use Rattle.regions.proofs.Common.{◌≡◌, ◌≢◌, ◌+◌, ◌-◌, ◌*◌, ◌/◌, ◌%◌, ◌<◌, ◌≤◌, ◌⊎◌, ◌∷◌, ◌++◌, ◌∙◌, ℕ, zero, suc, Bool, true, false, cond}
+use Rattle.regions.proofs.Common.{Some, None, List, [], length, take, drop, get_or, replicate, refl, sym, ap, subst, arith, inl, inr}
+use Rattle.regions.proofs.Common.{cases_lt, cases_eq, row_fits, length-drop, length-take, length-replicate, get_or-drop, get_or_past}
+use Rattle.regions.proofs.Common.{drop-drop, sum_by, sum_by-append, sum_by-take-drop, sum_by-cons, sum_by-replicate, Stored, Object, Filler}
+use Rattle.regions.proofs.Common.{tile_size, IsShaped, Table, Region, Free, Ordinary, First, Rest, nth_region, region_kind, region_used}
+use Rattle.regions.proofs.Common.{region_tile, region_at, tile_in, tile_object, kind_of, used_of, top_of, object_at, HasNoForwarded}
+use Rattle.regions.proofs.Common.{EachForwardedIn, is_free, is_rest, front_count, run_length, with_region, with_regions, without_run}
+use Rattle.regions.proofs.Common.{released}
 use Rattle.std.specs.Prelude.{count_by}
-use Rattle.std.proofs.lemmas.Bool.{cases_lt, cases_eq}
-use Rattle.std.proofs.lemmas.Nat.{row_fits}
-use Rattle.std.proofs.lemmas.List.{length-drop, length-take, length-replicate, get_or-drop, get_or_past, drop-drop}
-use Rattle.std.specs.List.{sum_by}
-use Rattle.std.proofs.lemmas.List.Sums.{sum_by-append, sum_by-take-drop, sum_by-cons}
-use Rattle.std.proofs.lemmas.List.Folds.{sum_by-replicate}
-use Rattle.heap_model.specs.Heap.{Stored}
-use Rattle.regions.specs.Tiles.{Object, Filler, tile_size}
-use Rattle.regions.specs.Shaped.{IsShaped}
 use Rattle.regions.specs.declared.row.Kind.TheVariants as kinds
-use Rattle.regions.specs.Table.{Table, Region, Free, Ordinary, First, Rest, nth_region, region_kind, region_used, region_tile, region_at}
-use Rattle.regions.specs.Table.{tile_in, tile_object, kind_of, used_of, top_of, object_at, HasNoForwarded, EachForwardedIn, is_free}
-use Rattle.regions.specs.Table.{is_rest, front_count, run_length, with_region, with_regions, without_run, released}
 use Rattle.regions.proofs.Tiles.Spliced.{IsOutside}
 use Rattle.regions.proofs.Rows.Fronts.{front_le, front_passes}
 use Rattle.regions.proofs.LongRuns.RunGone.{splice_one}

@@ -1,22 +1,15 @@
 -- A run's regions become free.
-use Rattle.heap_words.specs.Configs.{max_words}
-use Rattle.std.proofs.Common.{◌≡◌, ◌≢◌, ◌+◌, ◌-◌, ◌*◌, ◌/◌, ◌%◌, ◌<◌, ◌≤◌, ◌∷◌, ◌++◌, ◌∙◌, ℕ, zero, suc, Bool, true, false, Some, None}
-use Rattle.std.proofs.Common.{List, [], length, take, drop, get_or, set, refl, sym, ap, subst, arith, inl, inr, replicate, drop-cons}
-use Rattle.std.proofs.lemmas.List.{length-append, length-take, length-drop, append_assoc}
-use Rattle.std.proofs.lemmas.List.{drop-drop, get_or-drop, length-replicate, take_all}
-use Rattle.std.proofs.lemmas.List.Edits.{paste_more}
-use Rattle.std.proofs.lemmas.Bool.{cases_lt, cases_eq}
-use Rattle.std.proofs.lemmas.Nat.{row_fits}
-use lib.Seq.{paste}
+use Rattle.regions.proofs.Common.{max_words, ◌≡◌, ◌≢◌, ◌+◌, ◌-◌, ◌*◌, ◌/◌, ◌%◌, ◌<◌, ◌≤◌, ◌∷◌, ◌++◌, ◌∙◌, ℕ, zero, suc, Bool, true, false}
+use Rattle.regions.proofs.Common.{Some, None, List, [], length, take, drop, get_or, set, refl, sym, ap, subst, arith, inl, inr, replicate}
+use Rattle.regions.proofs.Common.{drop-cons, length-append, length-take, length-drop, append_assoc, drop-drop, get_or-drop}
+use Rattle.regions.proofs.Common.{length-replicate, take_all, paste_more, cases_lt, cases_eq, row_fits, paste, nth_region, region_kind}
+use Rattle.regions.proofs.Common.{with_region, released, released_as, IsReleasable, Region, Free, Ordinary, First, Rest, Table, region_tile}
+use Rattle.regions.proofs.Common.{region_at, tile_in, object_at, kind_of, EachForwardedIn, HasObject, with_regions, front_count, is_rest}
+use Rattle.regions.proofs.Common.{run_length, without_run, left_by, region_by, regions_of, IsRow, IsRestRow, AreRows, free_row, sizes_in}
+use Rattle.regions.proofs.Common.{table_of, table_by, IsTable, Row, Kind}
 use Rattle.regions.proofs.Rows.Fronts.{front_passes}
 use Rattle.regions.proofs.LongRuns.RunMade.{with_rows}
-use Rattle.regions.specs.Table.{nth_region, region_kind, with_region, released, released_as, IsReleasable, Region, Free, Ordinary}
-use Rattle.regions.specs.Table.{First, Rest, Table, region_tile, region_at, tile_in, object_at, kind_of, EachForwardedIn, HasObject}
-use Rattle.regions.specs.Table.{with_regions, front_count, is_rest, run_length, without_run}
-use Rattle.regions.specs.Rows.{left_by, region_by, regions_of, IsRow, IsRestRow, AreRows, free_row}
-use Rattle.regions.specs.Rows.{kind_is_rest, sizes_in, table_of, table_by, IsTable}
-use Rattle.regions.specs.declared.row.Row.{Row}
-use Rattle.regions.specs.declared.row.Kind.{Kind}
+use Rattle.regions.specs.Rows.{kind_is_rest}
 use Rattle.regions.proofs.Rows.RowLemmas.{start_at, rest_is}
 use Rattle.regions.proofs.LongRuns.RunRows.{rows_front, regions_of-drop}
 use Rattle.regions.proofs.Tiles.Spliced.{IsOutside, spliced_kept}

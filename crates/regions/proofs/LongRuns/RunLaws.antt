@@ -1,13 +1,10 @@
 -- Which tiles a table has once a run is made or regions are released. No word is in it.
-use Rattle.std.proofs.Common.{◌≡◌, ◌≢◌, ◌+◌, ◌-◌, ◌*◌, ◌/◌, ◌%◌, ◌<◌, ◌≤◌, ◌∷◌, ◌++◌, ◌∙◌, ℕ, zero, suc, true, Some, None, List, [], length}
-use Rattle.std.proofs.Common.{take, drop, get_or, refl, sym, ap, subst, arith, inl, inr, replicate}
-use Rattle.std.proofs.lemmas.List.{length-append, length-take, length-drop, length-replicate, get_or-drop}
-use Rattle.std.proofs.lemmas.Bool.{cases_lt, cases_eq}
-use Rattle.heap_model.specs.Heap.{Stored}
-use Rattle.regions.specs.Tiles.{Tile, Object, tile_size}
-use Rattle.regions.specs.Table.{Table, Region, Free, Ordinary, First, Rest, region_tile, region_at, nth_region, region_kind, kind_of}
-use Rattle.regions.specs.Table.{tile_in, HasNoForwarded, EachForwardedIn, with_region, with_regions, run_regions, rests, first_run}
-use Rattle.regions.specs.Table.{is_free, is_rest, run_length, released, without_run}
+use Rattle.regions.proofs.Common.{◌≡◌, ◌≢◌, ◌+◌, ◌-◌, ◌*◌, ◌/◌, ◌%◌, ◌<◌, ◌≤◌, ◌∷◌, ◌++◌, ◌∙◌, ℕ, zero, suc, true, Some, None, List, []}
+use Rattle.regions.proofs.Common.{length, take, drop, get_or, refl, sym, ap, subst, arith, inl, inr, replicate, length-append, length-take}
+use Rattle.regions.proofs.Common.{length-drop, length-replicate, get_or-drop, cases_lt, cases_eq, Stored, Tile, Object, tile_size, Table}
+use Rattle.regions.proofs.Common.{Region, Free, Ordinary, First, Rest, region_tile, region_at, nth_region, region_kind, kind_of, tile_in}
+use Rattle.regions.proofs.Common.{HasNoForwarded, EachForwardedIn, with_region, with_regions, run_regions, rests, first_run, is_free}
+use Rattle.regions.proofs.Common.{is_rest, run_length, released, without_run}
 use Rattle.regions.specs.declared.row.Kind.TheVariants as kinds
 use Rattle.regions.proofs.Tiles.Spliced.{IsOutside, get_or-spliced, EachForwardedIn-append, EachForwardedIn-take, EachForwardedIn-drop}
 use Rattle.regions.proofs.LongRuns.RunMade.{length-run_regions}

@@ -1,23 +1,18 @@
 -- A humongous object is made in a run of free regions, or goes with its run.
-use Rattle.std.proofs.Common.{◌≡◌, ◌≢◌, ◌+◌, ◌-◌, ◌*◌, ◌/◌, ◌^◌, ◌<◌, ◌≤◌, ◌∷◌, ◌++◌, ◌∙◌, ℕ, zero, suc, min, true, Option, Some, None}
-use Rattle.std.proofs.Common.{List, [], length, take, drop, get_or, set, refl, sym, ap, subst, arith, inl, inr, zero-add, replicate}
-use Rattle.std.proofs.lemmas.List.{length-append, length-take, length-drop, append_assoc, drop-drop, get_or-drop, length-replicate}
-use Rattle.std.proofs.lemmas.List.{take_all, drop_all, append-nil, take-append-drop}
-use Rattle.std.proofs.lemmas.Bool.{cases_lt}
+use Rattle.regions.proofs.Common.{◌≡◌, ◌≢◌, ◌+◌, ◌-◌, ◌*◌, ◌/◌, ◌^◌, ◌<◌, ◌≤◌, ◌∷◌, ◌++◌, ◌∙◌, ℕ, zero, suc, min, true, Option, Some, None}
+use Rattle.regions.proofs.Common.{List, [], length, take, drop, get_or, set, refl, sym, ap, subst, arith, inl, inr, zero-add, replicate}
+use Rattle.regions.proofs.Common.{length-append, length-take, length-drop, append_assoc, drop-drop, get_or-drop, length-replicate, take_all}
+use Rattle.regions.proofs.Common.{take-append-drop, cases_lt, header_of, header_word, Stored, Object, tile_size, stored_of, put, Region}
+use Rattle.regions.proofs.Common.{Free, Table, region_at, tile_in, object_at, EachForwardedIn, HasObject, rests, run_regions, with_regions}
+use Rattle.regions.proofs.Common.{new_object, first_run, is_free, object_size, sizes_in, first_stored, region_by, regions_of}
+use Rattle.regions.proofs.Common.{IsObjectHeader, AreRows, free_row, kind_is_free, run_row, run_rows, table_of, table_by, IsTable, Row}
+use Rattle.regions.proofs.Common.{Kind, paste, paste_more}
+use Rattle.std.proofs.lemmas.List.{drop_all, append-nil}
 use Rattle.heap_words.specs.declared.header.Header.TheVariants as headers
-use Rattle.heap_words.specs.Headers.{header_of, header_word}
 use Rattle.heap_words.proofs.Codec.{header_of-word}
-use Rattle.heap_model.specs.Heap.{Stored}
-use Rattle.regions.specs.Tiles.{Object, tile_size, stored_of}
-use Rattle.heap_words.specs.Contents.{put}
-use Rattle.regions.specs.Table.{Region, Free, Table, region_at, tile_in, object_at, EachForwardedIn, HasObject, rests}
-use Rattle.regions.specs.Table.{run_regions, with_regions, new_object, first_run, is_free}
 use Rattle.regions.proofs.Rows.Search.{free, run_found, first_run-is}
 use Rattle.regions.proofs.Words.Parse.{stored_of-append}
-use Rattle.regions.specs.Rows.{object_size, sizes_in, first_stored, region_by, regions_of, IsObjectHeader, AreRows, free_row, kind_is_free}
-use Rattle.regions.specs.Rows.{run_kind, run_row, run_rows, table_of, table_by, IsTable}
-use Rattle.regions.specs.declared.row.Row.{Row}
-use Rattle.regions.specs.declared.row.Kind.{Kind}
+use Rattle.regions.specs.Rows.{run_kind}
 use Rattle.regions.proofs.Rows.RowLemmas.{regions-at}
 use Rattle.regions.proofs.LongRuns.RunRows.{rows_front, FreeFront, regions_of-drop, run_is, rows_behind}
 use Rattle.regions.proofs.Tiles.Spliced.{IsOutside, spliced_kept}
@@ -25,8 +20,6 @@ use Rattle.regions.proofs.Tiles.Targets.{IsWrittenTable, written_table}
 use Rattle.regions.proofs.Tiles.Making.{targets_of, length-regions_of}
 use Rattle.regions.proofs.Words.Puts.{put_is}
 use Rattle.regions.proofs.Tiles.Pushes.{stored_of-new}
-use lib.Seq.{paste}
-use Rattle.std.proofs.lemmas.List.Edits.{paste_more}
 use Rattle.regions.specs.declared.row.Kind.TheVariants as kinds
 
 length-rests : (size s i m : ℕ) → length (rests size s i m) ≡ m

@@ -1,14 +1,8 @@
 -- Runs of regions: how rows and regions change with them.
-use Rattle.std.proofs.Common.{◌≡◌, ◌+◌, ◌-◌, ◌*◌, ◌<◌, ◌≤◌, ◌∷◌, ◌++◌, ◌∙◌}
-use Rattle.std.proofs.Common.{ℕ, zero, suc, min, true, List, [], length, take, drop, get_or, refl, sym, ap, arith}
-use Rattle.std.proofs.lemmas.List.{length-drop, drop-drop, drop-take}
-use Rattle.heap_words.specs.Headers.{header_of}
-use Rattle.heap_model.specs.Heap.{Stored}
-use Rattle.regions.specs.Tiles.{Object, tile_size}
-use Rattle.regions.specs.Table.{Region, First, Rest, rests, run_regions}
-use Rattle.regions.specs.Rows.{object_size, first_stored, regions_of, IsObjectHeader, left_by, AreRows, free_row, kind_is_free, run_rows}
-use Rattle.regions.specs.declared.row.Row.{Row}
-use Rattle.regions.specs.declared.row.Kind.{Kind}
+use Rattle.regions.proofs.Common.{◌≡◌, ◌+◌, ◌-◌, ◌*◌, ◌<◌, ◌≤◌, ◌∷◌, ◌++◌, ◌∙◌, ℕ, zero, suc, min, true, List, [], length, take, drop}
+use Rattle.regions.proofs.Common.{get_or, refl, sym, ap, arith, length-drop, drop-drop, drop-take, header_of, Stored, Object, tile_size}
+use Rattle.regions.proofs.Common.{Region, First, Rest, rests, run_regions, object_size, first_stored, regions_of, IsObjectHeader, left_by}
+use Rattle.regions.proofs.Common.{AreRows, free_row, kind_is_free, run_rows, Row, Kind}
 use Rattle.regions.proofs.Rows.RowLemmas.{start_at, rest_is}
 use Rattle.regions.proofs.Rows.RowWrites.{same_row, same_rest}
 use Rattle.regions.specs.declared.row.Kind.TheVariants as kinds

@@ -1,12 +1,7 @@
 -- What a write behind the header of a humongous object does to the table.
-use Rattle.std.proofs.Common.{◌≡◌, ◌+◌, ◌-◌, ◌*◌, ◌<◌, ◌≤◌, ◌∷◌, ◌∙◌}
-use Rattle.std.proofs.Common.{ℕ, zero, suc, List, [], length, take, drop, get_or, set, refl, sym, ap, subst, arith}
-use Rattle.std.proofs.lemmas.List.{length-drop, drop-drop, drop-take}
-use Rattle.heap_words.specs.Headers.{header_of}
-use Rattle.regions.specs.Table.{First}
-use Rattle.regions.specs.Rows.{object_size, first_stored, region_by, regions_of, IsRow, left_by, AreRows}
-use Rattle.regions.specs.declared.row.Row.{Row}
-use Rattle.regions.specs.declared.row.Kind.{Kind}
+use Rattle.regions.proofs.Common.{◌≡◌, ◌+◌, ◌-◌, ◌*◌, ◌<◌, ◌≤◌, ◌∷◌, ◌∙◌, ℕ, zero, suc, List, [], length, take, drop, get_or, set, refl}
+use Rattle.regions.proofs.Common.{sym, ap, subst, arith, length-drop, drop-drop, drop-take, header_of, First, object_size, first_stored}
+use Rattle.regions.proofs.Common.{region_by, regions_of, IsRow, left_by, AreRows, Row, Kind}
 use Rattle.regions.proofs.Rows.RowLemmas.{start_at, rest_is}
 use Rattle.regions.proofs.Rows.RowWrites.{same_row, same_rest}
 use Rattle.regions.specs.declared.row.Kind.TheVariants as kinds

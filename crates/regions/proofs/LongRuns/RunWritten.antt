@@ -1,21 +1,15 @@
 -- What a write to a humongous object does to the table.
-use Rattle.heap_words.specs.Headers.{header_of}
+use Rattle.regions.proofs.Common.{header_of, EachForwardedIn, Region, Free, First, region_at, with_object, put_object, object_size}
+use Rattle.regions.proofs.Common.{sizes_in, first_stored, regions_of, table_of, table_by, IsTable, free_row, Stored, Object, stored_of, Row}
+use Rattle.regions.proofs.Common.{◌≡◌, ◌+◌, ◌*◌, ◌/◌, ◌%◌, ◌<◌, ◌≤◌, ◌∷◌, ◌∙◌, ℕ, suc, Some, List, [], length, take, drop, get_or, set}
+use Rattle.regions.proofs.Common.{refl, sym, ap, arith, length-drop, length-set, drop-drop, drop-set-add, drop-set-lt, take-set-le}
+use Rattle.regions.proofs.Common.{get_or-drop, get_or-set_other, row_fits}
 use Rattle.heap_words.specs.declared.header.Header.TheVariants as headers
 use Rattle.regions.proofs.Words.Fields.{Turns}
 use Rattle.regions.proofs.Words.Places.{table_right, InFirst, in_first}
 use Rattle.regions.proofs.Rows.RowLemmas.{regions-at}
 use Rattle.regions.proofs.Tiles.Targets.{IsWrittenTable, written_table}
 use Rattle.regions.proofs.Tiles.Kept.{IsKept}
-use Rattle.regions.specs.Table.{EachForwardedIn, Region, Free, First, region_at, with_object, put_object}
-use Rattle.regions.specs.Rows.{object_size, sizes_in, first_stored, regions_of, table_of, table_by, IsTable, free_row}
-use Rattle.heap_model.specs.Heap.{Stored}
-use Rattle.regions.specs.Tiles.{Object, stored_of}
-use Rattle.regions.specs.declared.row.Row.{Row}
-use Rattle.std.proofs.Common.{◌≡◌, ◌+◌, ◌*◌, ◌/◌, ◌%◌, ◌<◌, ◌≤◌, ◌∷◌, ◌∙◌}
-use Rattle.std.proofs.Common.{ℕ, suc, Some, List, [], length, take, drop, get_or, set, refl, sym, ap, arith}
-use Rattle.std.proofs.lemmas.List.{length-drop, length-set, drop-drop, drop-set-add}
-use Rattle.std.proofs.lemmas.List.{drop-set-lt, take-set-le, get_or-drop, get_or-set_other}
-use Rattle.std.proofs.lemmas.Nat.{row_fits}
 use Rattle.regions.proofs.LongRuns.RunWrites.{run_written}
 
 run_stored : (ws : List ℕ) (j v : ℕ) (s s' : Stored)

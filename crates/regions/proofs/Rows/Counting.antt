@@ -1,15 +1,11 @@
 -- How many rows are free: the same as regions are, and what each change of rows does to it.
-use Rattle.std.proofs.Common.{◌≡◌, ◌+◌, ◌<◌, ◌≤◌, ◌∷◌, ◌++◌, ◌∙◌, ℕ, zero, suc, Bool, true, false, List, [], length, take, drop, get_or}
-use Rattle.std.proofs.Common.{set, replicate, refl, sym, ap, arith, cond}
-use Rattle.std.specs.List.{sum_by, count_by}
-use Rattle.std.proofs.lemmas.List.{length-append, length-take, length-drop, length-replicate, drop-drop, take_all}
-use Rattle.std.proofs.lemmas.List.Sums.{count_by-le-length, sum_by-append, sum_by-cons, sum_by-set, sum_by-take-drop}
-use Rattle.std.proofs.lemmas.List.Folds.{sum_by-replicate}
-use lib.Seq.{paste}
-use Rattle.regions.specs.Table.{Table, Region, is_free, free_count, front_count, kind_of, IsReleasable}
-use Rattle.regions.specs.Rows.{region_of, regions_of, table_of, sizes_in, free_row, free_row_count, run_rows, run_row, kind_is_free}
-use Rattle.regions.specs.declared.row.Row.{Row}
-use Rattle.regions.specs.declared.row.Kind.{Kind}
+use Rattle.regions.proofs.Common.{◌≡◌, ◌+◌, ◌<◌, ◌≤◌, ◌∷◌, ◌++◌, ◌∙◌, ℕ, zero, suc, Bool, true, false, List, [], length, take, drop, get_or}
+use Rattle.regions.proofs.Common.{set, replicate, refl, sym, ap, arith, cond, sum_by, length-append, length-take, length-drop}
+use Rattle.regions.proofs.Common.{length-replicate, drop-drop, take_all, count_by-le-length, sum_by-append, sum_by-cons, sum_by-set}
+use Rattle.regions.proofs.Common.{sum_by-take-drop, sum_by-replicate, paste, Table, Region, is_free, free_count, front_count, kind_of}
+use Rattle.regions.proofs.Common.{IsReleasable, region_of, regions_of, table_of, sizes_in, free_row, free_row_count, run_rows, run_row}
+use Rattle.regions.proofs.Common.{kind_is_free, Row, Kind}
+use Rattle.std.specs.List.{count_by}
 use Rattle.regions.specs.declared.row.Kind.TheVariants as kinds
 use Rattle.regions.proofs.Rows.Search.{free}
 use Rattle.regions.proofs.Tiles.Making.{free_by, IsKnown, kind_is}

@@ -1,8 +1,6 @@
 -- How many elements pass at the front of a list, and the first place where enough do.
-use Rattle.std.proofs.Common.{◌≡◌, ◌<◌, ◌≤◌, ◌∷◌, ℕ, zero, suc, Bool, true, false, Option, Some, None, List, [], length, drop, get_or, refl}
-use Rattle.std.proofs.Common.{arith, cond, inl, inr}
-use Rattle.std.proofs.lemmas.Bool.Decides.{leb_tells}
-use Rattle.regions.specs.Table.{front_count, behind_one, first_run}
+use Rattle.regions.proofs.Common.{◌≡◌, ◌<◌, ◌≤◌, ◌∷◌, ℕ, zero, suc, Bool, true, false, Option, Some, None, List, [], length, drop, get_or}
+use Rattle.regions.proofs.Common.{refl, arith, cond, inl, inr, leb_tells, front_count, behind_one, first_run}
 
 pub front_le : {A : Type 0} (p : A → Bool) (xs : List A) → front_count p xs ≤ length xs
 front_le p [] = omega arith

@@ -1,11 +1,7 @@
 -- How the regions of a table change with its words.
 -- the region at a number
-use Rattle.std.proofs.Common.{◌≡◌, ℕ, zero, suc, ◌+◌, ◌-◌, ◌*◌, ◌<◌, ◌≤◌, List, [], ◌∷◌, length, drop, get_or, refl, arith}
-use Rattle.std.proofs.lemmas.List.{drop-drop}
-use Rattle.regions.specs.Table.{Free}
-use Rattle.regions.specs.Rows.{region_of, regions_of, IsRow, IsRestRow, left_by, AreRows}
-use Rattle.regions.specs.declared.row.Row.{Row}
-use Rattle.regions.specs.declared.row.Kind.{Kind}
+use Rattle.regions.proofs.Common.{◌≡◌, ℕ, zero, suc, ◌+◌, ◌-◌, ◌*◌, ◌<◌, ◌≤◌, List, [], ◌∷◌, length, drop, get_or, refl, arith, drop-drop}
+use Rattle.regions.proofs.Common.{Free, region_of, regions_of, IsRow, IsRestRow, left_by, AreRows, Row, Kind}
 use Rattle.regions.specs.declared.row.Kind.TheVariants as kinds
 
 pub regions-at : (sizes : ℕ → ℕ) (size : ℕ) (rows : List Row) (k n : ℕ) (ws : List ℕ) (d : Row) → n ≡ k * size → k < length rows

@@ -1,17 +1,10 @@
 -- What a change of one region's words and row does to the table.
 -- a region whose words are its own
-use Rattle.std.proofs.Common.{◌≡◌, ◌+◌, ◌-◌, ◌*◌, ◌<◌, ◌≤◌, ◌∷◌, ◌++◌, ◌∙◌}
-use Rattle.std.proofs.Common.{ℕ, zero, suc, Option, Some, None, List, [], length, take, drop, get_or, set, refl, sym, ap, arith}
-use Rattle.std.proofs.lemmas.List.{length-take, length-drop, take-take, drop-drop, take-append-drop, drop-take, get_or-take}
-use Rattle.heap_words.specs.declared.header.Header.{Header}
+use Rattle.regions.proofs.Common.{◌≡◌, ◌+◌, ◌-◌, ◌*◌, ◌<◌, ◌≤◌, ◌∷◌, ◌++◌, ◌∙◌, ℕ, zero, suc, Option, Some, None, List, [], length, take}
+use Rattle.regions.proofs.Common.{drop, get_or, set, refl, sym, ap, arith, length-take, length-drop, take-take, drop-drop, take-append-drop}
+use Rattle.regions.proofs.Common.{drop-take, get_or-take, Header, header_of, stored_of, First, object_size, stored_by, first_stored}
+use Rattle.regions.proofs.Common.{region_by, region_of, regions_of, IsObjectHeader, IsRow, IsRestRow, left_by, AreRows, Row, Kind}
 use Rattle.heap_words.specs.declared.header.Header.TheVariants as headers
-use Rattle.heap_words.specs.Headers.{header_of}
-use Rattle.regions.specs.Tiles.{stored_of}
-use Rattle.regions.specs.Table.{First}
-use Rattle.regions.specs.Rows.{object_size, stored_by, first_stored, region_by, region_of}
-use Rattle.regions.specs.Rows.{regions_of, IsObjectHeader, IsRow, IsRestRow, left_by, AreRows}
-use Rattle.regions.specs.declared.row.Row.{Row}
-use Rattle.regions.specs.declared.row.Kind.{Kind}
 use Rattle.regions.proofs.Words.Parse.{stored_of-append}
 use Rattle.regions.proofs.Rows.RowLemmas.{start_at, rest_is}
 use Rattle.regions.specs.declared.row.Kind.TheVariants as kinds

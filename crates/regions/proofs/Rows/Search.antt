@@ -1,11 +1,8 @@
 -- The search for a run of free regions.
-use Rattle.std.proofs.Common.{◌≡◌, ◌≢◌, ◌+◌, ◌-◌, ◌<◌, ◌≤◌, ◌∷◌, ◌∙◌, ℕ, zero, suc, Bool, true, false, Option, Some, None, List, [], length}
-use Rattle.std.proofs.Common.{drop, get_or, refl, sym, ap, subst, arith, cond, leb, add-zero, zero-add}
-use Rattle.std.proofs.lemmas.Bool.{le-leb, lt-leb}
-use Rattle.std.proofs.lemmas.List.{get_or-drop, drop-drop, length-drop}
-use Rattle.regions.specs.Table.{Table, is_free, front_count, behind_one, first_run}
-use Rattle.regions.specs.Rows.{regions_of, free_row, kind_is_free, table_of}
-use Rattle.regions.specs.declared.row.Row.{Row}
+use Rattle.regions.proofs.Common.{◌≡◌, ◌≢◌, ◌+◌, ◌-◌, ◌<◌, ◌≤◌, ◌∷◌, ◌∙◌, ℕ, zero, suc, Bool, true, false, Option, Some, None, List, []}
+use Rattle.regions.proofs.Common.{length, drop, get_or, refl, sym, ap, subst, arith, cond, leb, add-zero, zero-add, le-leb, lt-leb}
+use Rattle.regions.proofs.Common.{get_or-drop, drop-drop, length-drop, Table, is_free, front_count, behind_one, first_run, regions_of}
+use Rattle.regions.proofs.Common.{free_row, kind_is_free, table_of, Row}
 use Rattle.regions.proofs.Rows.Fronts.{front_le, run_passes}
 use Rattle.regions.proofs.Tiles.Making.{free_by}
 use Rattle.regions.proofs.LongRuns.RunRows.{FreeFront}

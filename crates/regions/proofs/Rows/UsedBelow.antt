@@ -1,14 +1,9 @@
 -- The number below which no row is free: the search for free rows begins there.
-use Rattle.std.proofs.Common.{◌≡◌, ◌+◌, ◌<◌, ◌≤◌, ◌++◌, ◌∷◌, ◌∙◌, ℕ, zero, suc, true, false, Some, None, List, [], length, take, drop}
-use Rattle.std.proofs.Common.{get_or, set, refl, sym, ap, subst, arith, position, not, inl, inr, ⊎_elim, add-zero}
-use Rattle.std.proofs.lemmas.Bool.{cases_lt, cases_eq, lt-ltb, le-ltb}
-use Rattle.std.proofs.lemmas.List.{get_or-set_same, get_or-set_other, get_or-take, get_or-drop}
-use Rattle.std.proofs.lemmas.List.{get_or_append_left, length-take, length-append}
+use Rattle.regions.proofs.Common.{◌≡◌, ◌+◌, ◌<◌, ◌≤◌, ◌++◌, ◌∷◌, ◌∙◌, ℕ, zero, suc, true, false, Some, None, List, [], length, take, drop}
+use Rattle.regions.proofs.Common.{get_or, set, refl, sym, ap, subst, arith, position, not, inl, inr, ⊎_elim, add-zero, cases_lt, cases_eq}
+use Rattle.regions.proofs.Common.{lt-ltb, le-ltb, get_or-set_same, get_or-set_other, get_or-take, get_or-drop, get_or_append_left}
+use Rattle.regions.proofs.Common.{length-take, length-append, position_or_len, paste, free_row, AreUsedBelow, Row}
 use Rattle.std.proofs.lemmas.List.Sums.{prefix_len_is}
-use Rattle.std.specs.List.{position_or_len}
-use lib.Seq.{paste}
-use Rattle.regions.specs.Rows.{free_row, AreUsedBelow}
-use Rattle.regions.specs.declared.row.Row.{Row}
 use Rattle.regions.proofs.LongRuns.RunRows.{FreeFront}
 use Rattle.regions.proofs.Rows.Search.{free, IsScanned, scan_init, scan_past}
 

@@ -1,13 +1,8 @@
 -- An object and the words above the top of an ordinary region have none in common.
-use Rattle.std.proofs.Common.{◌≡◌, ◌⊎◌, ◌+◌, ◌-◌, ◌*◌, ◌/◌, ◌%◌, ◌<◌, ◌≤◌, ◌∙◌, ℕ, List, Some, inl, inr, sym, ap, subst, arith, get_or}
-use Rattle.std.proofs.lemmas.Nat.{mul-le}
-use Rattle.std.proofs.lemmas.Bool.{cases_lt}
-use Rattle.heap_model.specs.Heap.{Stored}
-use Rattle.regions.specs.Tiles.{Tile, Object, tile_at, tile_size, total_size}
-use Rattle.regions.specs.Table.{Table, Region, Free, Ordinary, First, region_kind, nth_region, kind_of, used_of}
-use Rattle.regions.specs.Table.{tile_in, region_at, object_at}
-use Rattle.regions.specs.Walks.{tiles_of, region_tiles}
-use Rattle.regions.specs.Shaped.{IsShaped}
+use Rattle.regions.proofs.Common.{◌≡◌, ◌⊎◌, ◌+◌, ◌-◌, ◌*◌, ◌/◌, ◌%◌, ◌<◌, ◌≤◌, ◌∙◌, ℕ, List, Some, inl, inr, sym, ap, subst, arith, get_or}
+use Rattle.regions.proofs.Common.{mul-le, cases_lt, Stored, Tile, Object, tile_at, tile_size, total_size, Table, Region, Free, Ordinary}
+use Rattle.regions.proofs.Common.{First, region_kind, nth_region, kind_of, used_of, tile_in, region_at, object_at, tiles_of, region_tiles}
+use Rattle.regions.proofs.Common.{IsShaped}
 use Rattle.regions.specs.declared.row.Kind.TheVariants as kinds
 use Rattle.regions.proofs.Tiles.Placing.{tile_at-end}
 use Rattle.regions.proofs.Tiles.Steps.{used_total}

@@ -1,13 +1,10 @@
 -- What a write to an object changes, with no word in it.
-use Rattle.std.proofs.Common.{◌≡◌, ◌≢◌, ℕ, ◌+◌, ◌/◌, ◌%◌, ◌<◌, Option, Some, length, get_or, arith, refl, sym, ◌∙◌, ap, subst, inl, inr}
-use Rattle.std.proofs.lemmas.List.{get_or-set_same, get_or-set_other, length-set, length-append}
-use Rattle.std.proofs.lemmas.Bool.{cases_eq}
-use Rattle.regions.specs.Tiles.{Object, tile_size}
-use Rattle.heap_model.specs.Heap.{Stored, fields, with_field}
+use Rattle.regions.proofs.Common.{◌≡◌, ◌≢◌, ℕ, ◌+◌, ◌/◌, ◌%◌, ◌<◌, Option, Some, length, get_or, arith, refl, sym, ◌∙◌, ap, subst, inl, inr}
+use Rattle.regions.proofs.Common.{get_or-set_same, get_or-set_other, length-set, length-append, cases_eq, Object, tile_size, Stored, fields}
+use Rattle.regions.proofs.Common.{with_field, Region, Free, Ordinary, First, Rest, Table, region_at, nth_region, tile_in, tile_object}
+use Rattle.regions.proofs.Common.{object_at, with_object, put_object, set_pointer, set_weak, set_field, set_value, kind_of, region_kind}
+use Rattle.regions.proofs.Common.{used_of, HasNoForwarded}
 use Rattle.heap_model.proofs.Fields.{field_set}
-use Rattle.regions.specs.Table.{Region, Free, Ordinary, First, Rest, Table, region_at, nth_region, tile_in}
-use Rattle.regions.specs.Table.{tile_object, object_at, with_object, put_object, set_pointer, set_weak, set_field}
-use Rattle.regions.specs.Table.{set_value, kind_of, region_kind, used_of, HasNoForwarded}
 use Rattle.regions.proofs.Tiles.Laws.{object_tile, known_region, object_at-put_same, tile_in-put_other}
 use Rattle.regions.proofs.Words.Fields.{with_pointer, with_weak}
 use Rattle.regions.proofs.Words.Values.{with_value, set_value-is}

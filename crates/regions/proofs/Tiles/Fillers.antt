@@ -1,9 +1,11 @@
 -- Fillers: one more at a region's top, and one split in two.
-use Rattle.heap_words.specs.Headers.{header_word}
+use Rattle.regions.proofs.Common.{header_word, put, sizes_in, first_stored, table_of, IsTable, free_row, put_remainder, Table, tile_in}
+use Rattle.regions.proofs.Common.{kind_of, used_of, top_of, push_tile, replace_tile, remainder, Tile, Object, Filler, tiles, Row, ◌≡◌, ◌+◌}
+use Rattle.regions.proofs.Common.{◌*◌, ◌/◌, ◌^◌, ◌<◌, ◌≤◌, ◌∷◌, ◌++◌, ◌∙◌, ℕ, zero, suc, Some, List, [], length, take, drop, get_or, set}
+use Rattle.regions.proofs.Common.{refl, sym, ap, subst, arith, inl, inr, add-zero, length-append, length-take, length-drop, append_assoc}
 use Rattle.heap_words.specs.declared.header.Header.TheVariants as headers
 use Rattle.heap_words.proofs.Codec.{header_of-word}
 use Rattle.heap_words.proofs.Blocks.{put_none, put_more}
-use Rattle.heap_words.specs.Contents.{put}
 use Rattle.regions.proofs.Tiles.Making.{known, targets_of}
 use Rattle.regions.proofs.Words.Parse.{tiles-append, IsTiled-append}
 use Rattle.regions.proofs.Words.Places.{place_of}
@@ -11,14 +13,7 @@ use Rattle.regions.proofs.Words.Puts.{put_extend}
 use Rattle.regions.proofs.Tiles.Replaced.{IsBlock, IsFilled, one_filler, filler_quiet, spared_filler, tile_fits, tile_short, tile_replaced}
 use Rattle.regions.proofs.Words.Copies.{filler_pushed}
 use Rattle.regions.proofs.Tiles.Targets.{IsWrittenTable}
-use Rattle.regions.specs.Rows.{sizes_in, first_stored, table_of, IsTable, free_row, put_remainder}
-use Rattle.regions.specs.Table.{Table, tile_in, kind_of, used_of, top_of, push_tile, replace_tile, remainder}
-use Rattle.regions.specs.Tiles.{Tile, Object, Filler, tiles}
 use Rattle.regions.specs.declared.row.Kind.TheVariants as kinds
-use Rattle.regions.specs.declared.row.Row.{Row}
-use Rattle.std.proofs.Common.{◌≡◌, ◌+◌, ◌*◌, ◌/◌, ◌^◌, ◌<◌, ◌≤◌, ◌∷◌, ◌++◌, ◌∙◌, ℕ, zero, suc, Some, List, [], length, take, drop, get_or}
-use Rattle.std.proofs.Common.{set, refl, sym, ap, subst, arith, inl, inr, add-zero}
-use Rattle.std.proofs.lemmas.List.{length-append, length-take, length-drop, append_assoc}
 
 -- a filler's header is its words
 pub filler_set : (sizes : ℕ → ℕ) (words : List ℕ) (x n : ℕ) → x + suc n ≤ length words → suc n < 2 ^ 24

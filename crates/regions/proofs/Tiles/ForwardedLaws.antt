@@ -1,15 +1,10 @@
 -- What a moved tile tells of its new place.
-use Rattle.std.proofs.Common.{◌≡◌, ◌-◌, ◌/◌, ◌%◌, ◌∷◌, ◌∙◌, ℕ, zero, suc, Option, Some, None, List, [], get_or, refl, sym, ap, subst}
-use Rattle.std.specs.Prelude.{IsSome}
-use Rattle.heap_words.specs.declared.header.Header.{Header}
+use Rattle.regions.proofs.Common.{◌≡◌, ◌-◌, ◌/◌, ◌%◌, ◌∷◌, ◌∙◌, ℕ, zero, suc, Option, Some, None, List, [], get_or, refl, sym, ap, subst}
+use Rattle.regions.proofs.Common.{IsSome, Header, header_of, Tile, Object, Filler, Forwarded, tile_size, tile_at, Region, Free, Ordinary}
+use Rattle.regions.proofs.Common.{First, Rest, Table, region_tile, region_at, tile_in, EachForwarded, EachForwardedIn, HasObject, moved_to}
+use Rattle.regions.proofs.Common.{sizes_in, table_of, IsTable, header_target, shape_by, tile_shape, Row}
 use Rattle.heap_words.specs.declared.header.Header.TheVariants as headers
-use Rattle.heap_words.specs.Headers.{header_of}
-use Rattle.regions.specs.Tiles.{Tile, Object, Filler, Forwarded, tile_size, tile_at}
-use Rattle.regions.specs.Table.{Region, Free, Ordinary, First, Rest, Table, region_tile, region_at, tile_in, EachForwarded}
-use Rattle.regions.specs.Table.{EachForwardedIn, HasObject, AreTargetsRight, moved_to}
-use Rattle.regions.specs.Rows.{sizes_in, table_of, IsTable, header_target}
-use Rattle.regions.specs.Shapes.{shape_by, tile_shape}
-use Rattle.regions.specs.declared.row.Row.{Row}
+use Rattle.regions.specs.Table.{AreTargetsRight}
 use Rattle.regions.proofs.Words.Parse.{past}
 use Rattle.regions.proofs.Words.Sizes.{EachForwardedIn-at}
 use Rattle.regions.proofs.Tiles.Making.{targets_of}

@@ -1,18 +1,10 @@
 -- An object becomes forwarded.
-use Rattle.std.proofs.Common.{◌≡◌, ◌≢◌, ◌+◌, ◌-◌, ◌<◌, ◌≤◌, ◌∷◌, ◌∙◌, ℕ, suc, Option, Some, None, List, [], length, take, drop, set, refl}
-use Rattle.std.proofs.Common.{sym, ap, subst, arith, inl, inr, add-zero}
-use Rattle.std.proofs.lemmas.List.{length-take, length-drop}
+use Rattle.regions.proofs.Common.{◌≡◌, ◌≢◌, ◌+◌, ◌-◌, ◌<◌, ◌≤◌, ◌∷◌, ◌∙◌, ℕ, suc, Option, Some, None, List, [], length, take, drop, set}
+use Rattle.regions.proofs.Common.{refl, sym, ap, subst, arith, inl, inr, add-zero, length-take, length-drop, IsSome, header_of, header_word}
+use Rattle.regions.proofs.Common.{Stored, Object, Forwarded, tile_size, put, Table, object_at, tile_in, region_at, IsOrdinary, HasObject}
+use Rattle.regions.proofs.Common.{object_words, stored_size, replace_tile, EachForwarded, EachForwardedIn, sizes_in, table_of, IsTable, Row}
 use Rattle.heap_words.specs.declared.header.Header.TheVariants as headers
-use Rattle.std.specs.Prelude.{IsSome}
 use Rattle.heap_words.proofs.Codec.{header_of-word}
-use Rattle.heap_words.specs.Headers.{header_of, header_word}
-use Rattle.heap_model.specs.Heap.{Stored}
-use Rattle.regions.specs.Tiles.{Object, Forwarded, tile_size}
-use Rattle.heap_words.specs.Contents.{put}
-use Rattle.regions.specs.Table.{Table, object_at, tile_in, region_at, IsOrdinary, HasObject, object_words}
-use Rattle.regions.specs.Table.{stored_size, replace_tile, EachForwarded, EachForwardedIn}
-use Rattle.regions.specs.Rows.{sizes_in, table_of, IsTable}
-use Rattle.regions.specs.declared.row.Row.{Row}
 use Rattle.regions.proofs.Words.Places.{object_place}
 use Rattle.regions.proofs.Words.Fields.{IsOne, IsTiled_none, tiles_none}
 use Rattle.heap_words.proofs.Blocks.{put_none, put_more}

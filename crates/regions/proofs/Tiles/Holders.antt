@@ -1,16 +1,9 @@
 -- Where the tile of a word starts.
-use Rattle.std.proofs.Common.{◌≡◌, ◌≢◌, ◌+◌, ◌-◌, ◌*◌, ◌/◌, ◌%◌, ◌<◌, ◌≤◌, ◌∷◌, ◌∙◌}
-use Rattle.std.proofs.Common.{inl, inr, ℕ, suc, min, Some, None, List, [], length, ⊎_elim, refl, sym, ap, subst, arith}
-use Rattle.std.proofs.lemmas.Bool.{cases_lt}
-use Rattle.std.proofs.lemmas.Nat.{mul-le}
-use Rattle.heap_words.specs.declared.addr.Addr.{Addr}
-use Rattle.heap_model.specs.Heap.{Stored}
-use Rattle.regions.specs.Tiles.{Tile, Object, tile_size, tile_at, total_size}
-use Rattle.regions.specs.Table.{Table, Region, Free, Ordinary, First, Rest, nth_region, region_used, kind_of, used_of, tile_in, top_of}
-use Rattle.regions.specs.Shapes.{tile_shape}
-use Rattle.regions.specs.Walks.{AllPositive, tiles_of, tiles_from, placed, walk_rest, IsHolder, IsRunStart}
-use Rattle.regions.specs.Shaped.{IsShaped}
-use Rattle.regions.specs.declared.row.Shape.{Shape}
+use Rattle.regions.proofs.Common.{◌≡◌, ◌≢◌, ◌+◌, ◌-◌, ◌*◌, ◌/◌, ◌%◌, ◌<◌, ◌≤◌, ◌∷◌, ◌∙◌, inl, inr, ℕ, suc, min, Some, None, List, []}
+use Rattle.regions.proofs.Common.{length, ⊎_elim, refl, sym, ap, subst, arith, cases_lt, mul-le, Addr, Stored, Tile, Object, tile_size}
+use Rattle.regions.proofs.Common.{tile_at, total_size, Table, Region, Free, Ordinary, First, Rest, nth_region, region_used, kind_of}
+use Rattle.regions.proofs.Common.{used_of, tile_in, top_of, tile_shape, AllPositive, tiles_of, tiles_from, placed, walk_rest, IsHolder}
+use Rattle.regions.proofs.Common.{IsRunStart, IsShaped, Shape}
 use Rattle.regions.specs.declared.row.Kind.TheVariants as kinds
 use Rattle.regions.proofs.Tiles.ShapedMade.{kind_at, tiles_at, first_object}
 use Rattle.regions.proofs.Walks.WalkFrom.{cut_at, tile_listed, listed_tile}

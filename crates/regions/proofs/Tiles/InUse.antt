@@ -1,14 +1,9 @@
 -- Every word of an object lies in a region that isn't free.
-use Rattle.std.proofs.Common.{◌≡◌, ◌+◌, ◌*◌, ◌/◌, ◌%◌, ◌<◌, ◌≤◌, ◌∙◌}
-use Rattle.std.proofs.Common.{ℕ, zero, suc, Option, Some, None, List, refl, ap, subst, arith, false, get_or, inl, inr}
-use Rattle.std.proofs.lemmas.Nat.{div-mul-add}
-use Rattle.std.proofs.lemmas.Bool.{cases_lt}
-use Rattle.heap_model.specs.Heap.{Stored}
-use Rattle.regions.specs.Tiles.{Tile, Object, Filler, Forwarded, tile_at, tile_size, total_size}
-use Rattle.regions.specs.Table.{Table, Region, Free, Ordinary, First, Rest, region_tile, region_at, nth_region, region_kind}
-use Rattle.regions.specs.Table.{kind_of, tile_in, tile_object, object_at, is_free}
-use Rattle.regions.specs.Walks.{tiles_of, region_tiles}
-use Rattle.regions.specs.Shaped.{IsShaped, AreInUse}
+use Rattle.regions.proofs.Common.{◌≡◌, ◌+◌, ◌*◌, ◌/◌, ◌%◌, ◌<◌, ◌≤◌, ◌∙◌, ℕ, zero, suc, Option, Some, None, List, refl, ap, subst, arith}
+use Rattle.regions.proofs.Common.{false, get_or, inl, inr, div-mul-add, cases_lt, Stored, Tile, Object, Filler, Forwarded, tile_at}
+use Rattle.regions.proofs.Common.{tile_size, total_size, Table, Region, Free, Ordinary, First, Rest, region_tile, region_at, nth_region}
+use Rattle.regions.proofs.Common.{region_kind, kind_of, tile_in, tile_object, object_at, is_free, tiles_of, region_tiles, IsShaped}
+use Rattle.regions.specs.Shaped.{AreInUse}
 use Rattle.regions.specs.declared.row.Kind.TheVariants as kinds
 use Rattle.regions.proofs.Tiles.Placing.{tile_at-end}
 

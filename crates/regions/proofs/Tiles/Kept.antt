@@ -1,15 +1,11 @@
 -- Which objects stay where they are when the table changes. No word is in it.
 -- an object stands at the address before and after, of one size
-use Rattle.std.proofs.Common.{◌≡◌, ◌≢◌, ◌+◌, ◌-◌, ◌/◌, ◌%◌, ◌<◌, ◌∷◌, ◌++◌, ◌∙◌}
-use Rattle.std.proofs.Common.{ℕ, zero, suc, Some, None, List, [], get_or, refl, sym, ap, arith, inl, inr}
-use Rattle.std.proofs.lemmas.List.{get_or-set_same, get_or-set_other}
-use Rattle.std.proofs.lemmas.Bool.{cases_eq, le-leb}
-use Rattle.heap_model.specs.Heap.{Stored}
-use Rattle.regions.specs.Tiles.{Tile, Object, Filler, Forwarded, tile_size, tile_at, replace, total_size}
-use Rattle.regions.specs.Table.{Region, Free, Ordinary, First, Rest, Table, region_tile, region_at, tile_in, object_at, with_object}
-use Rattle.regions.specs.Table.{put_object, with_region, region_with_tile, nth_region, push_tile, region_replaced, replace_tile}
-use Rattle.regions.specs.Table.{EachForwarded, EachForwardedIn, HasObject, HasTargets}
-use Rattle.regions.specs.Walks.{AllPositive}
+use Rattle.regions.proofs.Common.{◌≡◌, ◌≢◌, ◌+◌, ◌-◌, ◌/◌, ◌%◌, ◌<◌, ◌∷◌, ◌++◌, ◌∙◌, ℕ, zero, suc, Some, None, List, [], get_or, refl, sym}
+use Rattle.regions.proofs.Common.{ap, arith, inl, inr, get_or-set_same, get_or-set_other, cases_eq, le-leb, Stored, Tile, Object, Filler}
+use Rattle.regions.proofs.Common.{Forwarded, tile_size, tile_at, replace, total_size, Region, Free, Ordinary, First, Rest, Table}
+use Rattle.regions.proofs.Common.{region_tile, region_at, tile_in, object_at, with_object, put_object, with_region, region_with_tile}
+use Rattle.regions.proofs.Common.{nth_region, push_tile, region_replaced, replace_tile, EachForwarded, EachForwardedIn, HasObject}
+use Rattle.regions.proofs.Common.{HasTargets, AllPositive}
 use Rattle.regions.proofs.Words.Parse.{past}
 use Rattle.regions.proofs.Tiles.Laws.{object_tile, object_at-put_same, tile_in-put_other, same_place, known_region}
 use Rattle.regions.proofs.Words.Sizes.{EachForwardedIn-imp, EachForwardedIn-set, EachForwardedIn-at}

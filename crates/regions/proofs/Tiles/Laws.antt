@@ -1,13 +1,8 @@
 -- Laws of tables, with no word in them.
-use Rattle.std.proofs.Common.{◌≡◌, ◌≢◌, ◌+◌, ◌-◌, ◌*◌, ◌/◌, ◌%◌, ◌<◌, ◌∷◌, ◌∙◌}
-use Rattle.std.proofs.Common.{ℕ, zero, suc, Option, Some, None, List, [], length, get_or, refl, sym, ap, arith, inl, inr}
-use Rattle.std.proofs.lemmas.List.{get_or-set_same, get_or-set_other}
-use Rattle.std.proofs.lemmas.Bool.{cases_eq, le-leb}
-use Rattle.std.proofs.lemmas.Bool.Decides.{leb_tells}
-use Rattle.heap_model.specs.Heap.{Stored}
-use Rattle.regions.specs.Tiles.{Tile, Object, Filler, Forwarded, tile_size, tile_at, replace}
-use Rattle.regions.specs.Table.{Region, Free, Ordinary, First, Rest, Table, region_tile, region_at, tile_in}
-use Rattle.regions.specs.Table.{tile_object, object_at, with_object, put_object}
+use Rattle.regions.proofs.Common.{◌≡◌, ◌≢◌, ◌+◌, ◌-◌, ◌*◌, ◌/◌, ◌%◌, ◌<◌, ◌∷◌, ◌∙◌, ℕ, zero, suc, Option, Some, None, List, [], length}
+use Rattle.regions.proofs.Common.{get_or, refl, sym, ap, arith, inl, inr, get_or-set_same, get_or-set_other, cases_eq, le-leb, leb_tells}
+use Rattle.regions.proofs.Common.{Stored, Tile, Object, Filler, Forwarded, tile_size, tile_at, replace, Region, Free, Ordinary, First, Rest}
+use Rattle.regions.proofs.Common.{Table, region_tile, region_at, tile_in, tile_object, object_at, with_object, put_object}
 use Rattle.regions.proofs.Words.Parse.{past}
 
 pub tile_at-replace_same : (ts : List Tile) (o : ℕ) (t t' : Tile) → tile_at o ts ≡ Some t → tile_at o (replace o (t' ∷ []) ts) ≡ Some t'

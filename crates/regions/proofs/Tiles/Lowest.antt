@@ -1,10 +1,7 @@
 -- The lowest tile of a region.
-use Rattle.std.proofs.Common.{◌≡◌, ℕ, ◌+◌, ◌*◌, ◌/◌, ◌%◌, ◌<◌, ◌≤◌, Some, sym, ap, ◌∙◌, arith}
-use Rattle.std.proofs.lemmas.Nat.{div-mul-add}
-use Rattle.regions.specs.Tiles.{Tile, tile_size, tile_at, total_size}
-use Rattle.regions.specs.Table.{Table, tile_in}
-use Rattle.regions.specs.Walks.{tiles_of, IsWalk, StartsIn}
-use Rattle.regions.specs.Shaped.{IsShaped}
+use Rattle.regions.proofs.Common.{◌≡◌, ℕ, ◌+◌, ◌*◌, ◌/◌, ◌%◌, ◌<◌, ◌≤◌, Some, sym, ap, ◌∙◌, arith, div-mul-add, Tile, tile_size, tile_at}
+use Rattle.regions.proofs.Common.{total_size, Table, tile_in, tiles_of, IsWalk, IsShaped}
+use Rattle.regions.specs.Walks.{StartsIn}
 use Rattle.regions.proofs.Walks.WalkFrom.{cut_at, tile_listed, listed_tile}
 use Rattle.regions.proofs.Walks.WalkMade.{cut_tile, positive_at}
 

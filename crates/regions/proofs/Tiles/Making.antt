@@ -1,24 +1,18 @@
 -- Regions as a whole: made, taken, released, asked for.
-use Rattle.heap_words.specs.Configs.{max_words, max_region_words}
-use Rattle.std.proofs.Common.{◌≡◌, ◌+◌, ◌-◌, ◌*◌, ◌<◌, ◌≤◌, ◌∷◌, ◌∙◌, ℕ, zero, suc, Some, None, List, [], length, take, drop, get_or, set}
-use Rattle.std.proofs.Common.{refl, sym, ap, subst, arith, true, replicate, position}
-use Rattle.regions.specs.Table.{Region, Free, Ordinary, First, Rest, Table, with_region, is_free, first_free}
-use Rattle.regions.specs.Table.{taken, region_used, nth_region, used_of, region_kind, kind_of, free_table}
-use Rattle.regions.specs.Table.{HasNoForwarded, EachForwarded, EachForwardedIn, HasTargets}
-use Rattle.std.proofs.lemmas.List.{length-take, length-drop, length-replicate, get_or_read}
-use Rattle.heap_words.specs.Headers.{header_of}
-use Rattle.regions.specs.Tiles.{Tile, Object, Filler, Forwarded, total_size, size_by, tiles, IsTiled}
-use Rattle.regions.specs.Rows.{sizes_in, region_by, region_of, regions_of, IsRow, AreRows, table_of, IsTable, free_row, kind_is_free}
-use Rattle.regions.specs.declared.row.Row.{Row}
-use Rattle.regions.specs.declared.row.Kind.{Kind}
+use Rattle.regions.proofs.Common.{max_words, ◌≡◌, ◌+◌, ◌-◌, ◌*◌, ◌<◌, ◌≤◌, ◌∷◌, ◌∙◌, ℕ, zero, suc, Some, None, List, [], length, take, drop}
+use Rattle.regions.proofs.Common.{get_or, set, refl, sym, ap, subst, arith, true, replicate, position, Region, Free, Ordinary, First, Rest}
+use Rattle.regions.proofs.Common.{Table, with_region, is_free, first_free, taken, region_used, nth_region, used_of, region_kind, kind_of}
+use Rattle.regions.proofs.Common.{free_table, HasNoForwarded, EachForwarded, EachForwardedIn, HasTargets, length-take, length-drop}
+use Rattle.regions.proofs.Common.{length-replicate, header_of, Tile, Object, Filler, Forwarded, total_size, size_by, tiles, IsTiled}
+use Rattle.regions.proofs.Common.{sizes_in, region_by, region_of, regions_of, IsRow, AreRows, table_of, IsTable, free_row, kind_is_free}
+use Rattle.regions.proofs.Common.{Row, Kind, row_fits, position_or_len, position-Some}
+use Rattle.heap_words.specs.Configs.{max_region_words}
+use Rattle.std.proofs.lemmas.List.{get_or_read}
 use Rattle.regions.proofs.Words.Parse.{skip_le, tile_size-by}
 use Rattle.regions.proofs.Rows.RowLemmas.{regions-at, start_at}
 use Rattle.regions.proofs.Rows.RowWrites.{IsPlain}
 use Rattle.regions.proofs.Tiles.Targets.{IsWrittenTable}
 use Rattle.regions.proofs.Tiles.Kept.{IsKept, was_free_kept}
-use Rattle.std.proofs.lemmas.Nat.{row_fits}
-use Rattle.std.specs.List.{position_or_len}
-use Rattle.std.proofs.lemmas.List.Quantifiers.{position-Some}
 use Rattle.regions.proofs.Words.Written.{region_changed}
 use Rattle.regions.specs.declared.row.Kind.TheVariants as kinds
 

@@ -1,16 +1,11 @@
 -- Where tiles stand once fillers are made, split and filled, with no word in it.
-use Rattle.std.proofs.Common.{◌≡◌, ◌≢◌, ◌+◌, ◌-◌, ◌*◌, ◌/◌, ◌%◌, ◌<◌, ◌≤◌, ◌⊎◌, ◌∷◌, ◌++◌, ◌∙◌}
-use Rattle.std.proofs.Common.{ℕ, zero, suc, Some, None, List, [], length, get_or, set, refl, sym, ap, subst, arith, true, inl, inr}
-use Rattle.std.proofs.lemmas.List.{get_or-set_same, get_or-set_other, length-set}
-use Rattle.std.proofs.lemmas.List.Quantifiers.{position-Some}
-use Rattle.std.proofs.lemmas.Bool.{cases_lt, cases_eq, le-leb, lt-leb}
-use Rattle.std.proofs.lemmas.Bool.Decides.{leb_tells}
-use Rattle.std.proofs.lemmas.Nat.{div-mul-add}
-use Rattle.regions.specs.Tiles.{Tile, Filler, tile_size, tile_at, replace, total_size}
-use Rattle.regions.specs.Table.{Region, Free, Ordinary, First, Rest, Table, region_tile, region_at, nth_region, tile_in, kind_of}
-use Rattle.regions.specs.Table.{region_kind, HasNoForwarded, EachForwarded, replace_tile, region_replaced, push_tile, region_with_tile}
-use Rattle.regions.specs.Table.{used_of, region_used, top_of, taken, first_free, is_free, remainder}
-use Rattle.regions.specs.Walks.{AllPositive, AreFitting, tiles_of, region_tiles}
+use Rattle.regions.proofs.Common.{◌≡◌, ◌≢◌, ◌+◌, ◌-◌, ◌*◌, ◌/◌, ◌%◌, ◌<◌, ◌≤◌, ◌⊎◌, ◌∷◌, ◌++◌, ◌∙◌, ℕ, zero, suc, Some, None, List, []}
+use Rattle.regions.proofs.Common.{length, get_or, set, refl, sym, ap, subst, arith, true, inl, inr, get_or-set_same, get_or-set_other}
+use Rattle.regions.proofs.Common.{length-set, position-Some, cases_lt, cases_eq, le-leb, lt-leb, leb_tells, div-mul-add, Tile, Filler}
+use Rattle.regions.proofs.Common.{tile_size, tile_at, replace, total_size, Region, Free, Ordinary, First, Rest, Table, region_tile}
+use Rattle.regions.proofs.Common.{region_at, nth_region, tile_in, kind_of, region_kind, HasNoForwarded, EachForwarded, replace_tile}
+use Rattle.regions.proofs.Common.{region_replaced, push_tile, region_with_tile, used_of, region_used, top_of, taken, first_free, is_free}
+use Rattle.regions.proofs.Common.{remainder, AllPositive, AreFitting, tiles_of, region_tiles}
 use Rattle.regions.proofs.Tiles.Laws.{known_region}
 use Rattle.regions.proofs.Words.Parse.{past}
 use Rattle.regions.proofs.Tiles.Totals.{total-append, total-replace}

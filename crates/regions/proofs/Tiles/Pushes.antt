@@ -1,19 +1,14 @@
 -- One more tile at a region's top.
 -- the change of words that a push makes
-use Rattle.heap_words.specs.Headers.{pointer_of}
+use Rattle.regions.proofs.Common.{pointer_of, HasObject, Ordinary, Table, nth_region, used_of, kind_of, EachForwarded, push_tile}
+use Rattle.regions.proofs.Common.{region_with_tile, new_object, sizes_in, region_of, IsRow, table_of, IsTable, free_row, Tile, stored_of}
+use Rattle.regions.proofs.Common.{tiles, Kind, Row, ◌≡◌, ◌+◌, ◌-◌, ◌*◌, ◌<◌, ◌≤◌, ◌∷◌, ◌++◌, ◌∙◌, ℕ, zero, suc, None, List, [], length}
+use Rattle.regions.proofs.Common.{take, drop, map, get_or, set, refl, sym, ap, subst, arith, replicate, take-take, drop-drop, drop-take}
 use Rattle.regions.proofs.Rows.RowLemmas.{start_at}
 use Rattle.regions.proofs.Tiles.Targets.{IsWrittenTable}
 use Rattle.regions.proofs.Tiles.Kept.{push_kept}
-use Rattle.regions.specs.Table.{HasObject, Ordinary, Table, nth_region, used_of, kind_of}
-use Rattle.regions.specs.Table.{EachForwarded, push_tile, region_with_tile, new_object}
 use Rattle.regions.proofs.Words.Written.{region_changed, IsChange}
-use Rattle.regions.specs.Rows.{sizes_in, region_of, IsRow, table_of, IsTable, free_row}
-use Rattle.regions.specs.Tiles.{Tile, stored_of, tiles}
-use Rattle.regions.specs.declared.row.Kind.{Kind}
-use Rattle.regions.specs.declared.row.Row.{Row}
-use Rattle.std.proofs.Common.{◌≡◌, ◌+◌, ◌-◌, ◌*◌, ◌<◌, ◌≤◌, ◌∷◌, ◌++◌, ◌∙◌}
-use Rattle.std.proofs.Common.{ℕ, zero, suc, None, List, [], length, take, drop, map, get_or, set, refl, sym, ap, subst, arith, replicate}
-use Rattle.std.proofs.lemmas.List.{take-take, drop-drop, drop-take, take-replicate, drop-replicate}
+use Rattle.std.proofs.lemmas.List.{take-replicate, drop-replicate}
 use Rattle.regions.proofs.Words.Fields.{IsOne}
 use Rattle.regions.proofs.Words.Parse.{tiles-append, IsTiled-append}
 use Rattle.regions.proofs.Tiles.Making.{targets_of, known, kind_is, top_is, plain_from}

@@ -1,13 +1,9 @@
 -- What a release changes: its region alone.
-use Rattle.std.proofs.Common.{◌≡◌, ◌≢◌, ◌+◌, ◌-◌, ◌*◌, ◌/◌, ◌%◌, ◌<◌, ◌≤◌, ◌⊎◌, ◌∙◌}
-use Rattle.std.proofs.Common.{ℕ, Some, None, length, get_or, set, refl, sym, ap, subst, arith, inl, inr}
-use Rattle.std.proofs.lemmas.List.{get_or-set_same, get_or-set_other, length-set}
-use Rattle.std.proofs.lemmas.Nat.{div-mul-add}
-use Rattle.regions.specs.Tiles.{Tile, Filler, tile_size, tile_at, total_size}
-use Rattle.regions.specs.Table.{Region, Free, Table, region_tile, region_at, nth_region, region_used, region_kind, used_of, top_of, kind_of}
-use Rattle.regions.specs.Table.{tile_in, with_region, released, released_as, HasNoForwarded, EachForwardedIn}
-use Rattle.regions.specs.Walks.{AreFitting, tiles_of, region_tiles}
-use Rattle.regions.specs.Shaped.{IsShaped}
+use Rattle.regions.proofs.Common.{◌≡◌, ◌≢◌, ◌+◌, ◌-◌, ◌*◌, ◌/◌, ◌%◌, ◌<◌, ◌≤◌, ◌⊎◌, ◌∙◌, ℕ, Some, None, length, get_or, set, refl, sym, ap}
+use Rattle.regions.proofs.Common.{subst, arith, inl, inr, get_or-set_same, get_or-set_other, length-set, div-mul-add, Tile, Filler}
+use Rattle.regions.proofs.Common.{tile_size, tile_at, total_size, Region, Free, Table, region_tile, region_at, nth_region, region_used}
+use Rattle.regions.proofs.Common.{region_kind, used_of, top_of, kind_of, tile_in, with_region, released, released_as, HasNoForwarded}
+use Rattle.regions.proofs.Common.{EachForwardedIn, AreFitting, tiles_of, region_tiles, IsShaped}
 use Rattle.regions.specs.declared.row.Kind.TheVariants as kinds
 use Rattle.regions.proofs.Words.Sizes.{EachForwardedIn-set, EachForwardedIn-imp}
 use Rattle.regions.proofs.Tiles.Placing.{ordinary_at, tile_at-end, filler_region}

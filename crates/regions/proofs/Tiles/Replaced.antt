@@ -1,6 +1,12 @@
 -- A tile of an ordinary region gives way to others.
 -- the words of a tile are others, which say these tiles
-use Rattle.heap_words.specs.Headers.{header_of, header_word}
+use Rattle.regions.proofs.Common.{header_of, header_word, HasObject, HasTargets, new_object, Free, Ordinary, Table, region_at, with_region}
+use Rattle.regions.proofs.Common.{EachForwarded, EachForwardedIn, object_at, tile_in, tile_object, region_replaced, replace_tile, remainder}
+use Rattle.regions.proofs.Common.{AllPositive, sizes_in, first_stored, region_of, regions_of, IsRow, table_of, IsTable, free_row}
+use Rattle.regions.proofs.Common.{put_remainder, Tile, Object, Filler, tile_size, total_size, tiles, IsTiled, put, Kind, Row, ◌≡◌, ◌≢◌, ◌+◌}
+use Rattle.regions.proofs.Common.{◌-◌, ◌*◌, ◌/◌, ◌%◌, ◌^◌, ◌<◌, ◌≤◌, ◌∷◌, ◌++◌, ◌∙◌, ℕ, zero, suc, Some, None, List, [], length, take, drop}
+use Rattle.regions.proofs.Common.{get_or, refl, sym, ap, subst, arith, inl, inr, replicate, length-append, length-take, length-drop}
+use Rattle.regions.proofs.Common.{append_assoc, length-replicate, set-get_or, row_fits}
 use Rattle.heap_words.specs.declared.header.Header.TheVariants as headers
 use Rattle.regions.proofs.Words.Fields.{IsOne, one_object, IsTiled_none, tiles_none}
 use Rattle.regions.proofs.Tiles.Making.{targets_of, tiles_total, plain_from}
@@ -10,20 +16,8 @@ use Rattle.regions.proofs.Rows.RowLemmas.{regions-at, start_at}
 use Rattle.regions.proofs.Words.Sizes.{EachForwardedIn-imp}
 use Rattle.regions.proofs.Tiles.Targets.{IsWrittenTable}
 use Rattle.regions.proofs.Tiles.Kept.{IsKept, replace_kept, EachForwardedIn-both}
-use Rattle.regions.specs.Table.{HasObject, HasTargets, new_object, Free, Ordinary, Table, region_at, with_region, EachForwarded}
-use Rattle.regions.specs.Table.{EachForwardedIn, object_at, tile_in, tile_object, region_replaced, replace_tile, remainder}
-use Rattle.regions.specs.Walks.{AllPositive}
 use Rattle.regions.proofs.Walks.WalkMade.{tiles_positive}
 use Rattle.regions.proofs.Words.Written.{region_changed, IsChange}
-use Rattle.regions.specs.Rows.{sizes_in, first_stored, region_of, regions_of, IsRow, table_of, IsTable, free_row, put_remainder}
-use Rattle.regions.specs.Tiles.{Tile, Object, Filler, tile_size, total_size, tiles, IsTiled}
-use Rattle.heap_words.specs.Contents.{put}
-use Rattle.regions.specs.declared.row.Kind.{Kind}
-use Rattle.regions.specs.declared.row.Row.{Row}
-use Rattle.std.proofs.Common.{◌≡◌, ◌≢◌, ◌+◌, ◌-◌, ◌*◌, ◌/◌, ◌%◌, ◌^◌, ◌<◌, ◌≤◌, ◌∷◌, ◌++◌, ◌∙◌, ℕ, zero, suc, Some, None, List, [], length}
-use Rattle.std.proofs.Common.{take, drop, get_or, refl, sym, ap, subst, arith, inl, inr, replicate}
-use Rattle.std.proofs.lemmas.List.{length-append, length-take, length-drop, append_assoc, length-replicate, set-get_or}
-use Rattle.std.proofs.lemmas.Nat.{row_fits}
 use Rattle.heap_words.proofs.Codec.{header_of-word}
 use Rattle.regions.proofs.Words.Puts.{put_is, put_drop, put_take, put_extend}
 use Rattle.heap_words.proofs.Blocks.{put_more}

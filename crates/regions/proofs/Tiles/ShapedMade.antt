@@ -1,18 +1,11 @@
 -- The shape of every table, from its words and rows.
-use Rattle.std.proofs.Common.{◌≡◌, ◌+◌, ◌-◌, ◌*◌, ◌/◌, ◌%◌, ◌<◌, ◌≤◌, ◌⊎◌, ◌∷◌, ◌∙◌}
-use Rattle.std.proofs.Common.{ℕ, zero, suc, min, Some, List, [], length, take, drop, get_or, refl, sym, ap, subst, arith, inl, inr}
-use Rattle.std.proofs.lemmas.List.{length-take, length-drop, get_or-drop}
-use Rattle.std.proofs.lemmas.Nat.{row_fits, div-mul-add, mod-mul-add}
-use Rattle.heap_model.specs.Heap.{Stored}
-use Rattle.heap_words.specs.Headers.{header_of}
-use Rattle.regions.specs.Tiles.{Tile, Object, tile_size}
-use Rattle.regions.specs.Table.{Region, Free, Ordinary, First, Rest, Table, region_at, nth_region, region_kind, kind_of, tile_in, object_at}
-use Rattle.regions.specs.Walks.{tiles_of, region_tiles, IsFitting}
-use Rattle.regions.specs.Shaped.{IsShaped, IsLater}
-use Rattle.regions.specs.Rows.{object_size, sizes_in, region_by, IsRow, IsRestRow, left_by}
-use Rattle.regions.specs.Rows.{AreRows, table_of, IsTable, free_row, first_stored}
-use Rattle.regions.specs.declared.row.Row.{Row}
-use Rattle.regions.specs.declared.row.Kind.{Kind}
+use Rattle.regions.proofs.Common.{◌≡◌, ◌+◌, ◌-◌, ◌*◌, ◌/◌, ◌%◌, ◌<◌, ◌≤◌, ◌⊎◌, ◌∷◌, ◌∙◌, ℕ, zero, suc, min, Some, List, [], length, take}
+use Rattle.regions.proofs.Common.{drop, get_or, refl, sym, ap, subst, arith, inl, inr, length-take, length-drop, get_or-drop, row_fits}
+use Rattle.regions.proofs.Common.{div-mul-add, mod-mul-add, Stored, header_of, Tile, Object, tile_size, Region, Free, Ordinary, First, Rest}
+use Rattle.regions.proofs.Common.{Table, region_at, nth_region, region_kind, kind_of, tile_in, object_at, tiles_of, region_tiles, IsShaped}
+use Rattle.regions.proofs.Common.{IsLater, object_size, sizes_in, region_by, IsRow, IsRestRow, left_by, AreRows, table_of, IsTable}
+use Rattle.regions.proofs.Common.{free_row, first_stored, Row, Kind}
+use Rattle.regions.specs.Walks.{IsFitting}
 use Rattle.regions.specs.declared.row.Kind.TheVariants as kinds
 use Rattle.regions.proofs.Words.Parse.{tile_at-tiles}
 use Rattle.regions.proofs.Rows.RowLemmas.{start_at, rest_is}

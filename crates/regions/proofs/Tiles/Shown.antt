@@ -1,20 +1,13 @@
 -- What the tile at an address is.
-use Rattle.heap_words.specs.Headers.{header_of}
+use Rattle.regions.proofs.Common.{header_of, Header, sizes_in, first_stored, IsRow, table_of, IsTable, free_row, Table, tile_in, Tile}
+use Rattle.regions.proofs.Common.{Object, tile_size, stored_of, tile_by, size_by, IsTiled, Kind, Row, ◌≡◌, ◌+◌, ◌-◌, ◌*◌, ◌/◌, ◌%◌, ◌<◌}
+use Rattle.regions.proofs.Common.{◌≤◌, ◌∷◌, ◌++◌, ◌∙◌, ℕ, suc, Option, Some, None, List, [], length, take, drop, get_or, refl, sym, ap}
+use Rattle.regions.proofs.Common.{subst, arith, inl, inr, length-append, length-take, length-drop, length-map, IsSome, IfSome, tile_shape}
+use Rattle.regions.proofs.Common.{shape_by}
 use Rattle.heap_words.specs.declared.header.Header.TheVariants as headers
-use Rattle.heap_words.specs.declared.header.Header.{Header}
 use Rattle.regions.proofs.Words.Parse.{skip_le, first_tile, tile_at-tiles}
 use Rattle.regions.proofs.Words.Places.{table_right, InOrdinary, InFirst, place_of, split_at, front_word, in_first}
 use Rattle.regions.proofs.Rows.RowLemmas.{start_at}
-use Rattle.regions.specs.Rows.{sizes_in, first_stored, IsRow, table_of, IsTable, free_row}
-use Rattle.regions.specs.Table.{Table, tile_in}
-use Rattle.regions.specs.Tiles.{Tile, Object, tile_size, stored_of, tile_by, size_by, IsTiled}
-use Rattle.regions.specs.declared.row.Kind.{Kind}
-use Rattle.regions.specs.declared.row.Row.{Row}
-use Rattle.std.proofs.Common.{◌≡◌, ◌+◌, ◌-◌, ◌*◌, ◌/◌, ◌%◌, ◌<◌, ◌≤◌, ◌∷◌, ◌++◌, ◌∙◌}
-use Rattle.std.proofs.Common.{ℕ, suc, Option, Some, None, List, [], length, take, drop, get_or, refl, sym, ap, subst, arith, inl, inr}
-use Rattle.std.proofs.lemmas.List.{length-append, length-take, length-drop, length-map}
-use Rattle.std.specs.Prelude.{IsSome, IfSome}
-use Rattle.regions.specs.Shapes.{tile_shape, shape_by}
 use Rattle.regions.specs.declared.row.Kind.TheVariants as kinds
 
 shape_tile : (f : ℕ → ℕ) (o : Option Header) (ws : List ℕ) → size_by f o - 1 ≤ length ws → tile_shape (tile_by f ws o) ≡ shape_by f o

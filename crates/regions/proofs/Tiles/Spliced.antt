@@ -1,9 +1,7 @@
 -- Regions in a row give way to others: which objects stay.
-use Rattle.std.proofs.Common.{◌≡◌, ◌+◌, ◌/◌, ◌<◌, ◌≤◌, ◌⊎◌, ◌∷◌, ◌++◌}
-use Rattle.std.proofs.Common.{ℕ, zero, suc, Some, List, [], length, take, drop, get_or, refl, arith, inl, inr}
-use Rattle.heap_model.specs.Heap.{Stored}
-use Rattle.regions.specs.Table.{Region, Free, Ordinary, First, Rest, Table, region_at, tile_in}
-use Rattle.regions.specs.Table.{object_at, with_regions, EachForwardedIn, HasObject}
+use Rattle.regions.proofs.Common.{◌≡◌, ◌+◌, ◌/◌, ◌<◌, ◌≤◌, ◌⊎◌, ◌∷◌, ◌++◌, ℕ, zero, suc, Some, List, [], length, take, drop, get_or, refl}
+use Rattle.regions.proofs.Common.{arith, inl, inr, Stored, Region, Free, Ordinary, First, Rest, Table, region_at, tile_in, object_at}
+use Rattle.regions.proofs.Common.{with_regions, EachForwardedIn, HasObject}
 use Rattle.regions.proofs.Tiles.Kept.{IsKept, same_object, each_kept}
 
 pub EachForwardedIn-append : (P : ℕ → Type 0) (rs qs : List Region) → EachForwardedIn P rs

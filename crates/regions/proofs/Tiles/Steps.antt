@@ -1,13 +1,9 @@
 -- From a tile of a region to the one behind it.
-use Rattle.std.proofs.Common.{◌≡◌, ◌≢◌, ◌+◌, ◌-◌, ◌*◌, ◌/◌, ◌%◌, ◌<◌, ◌≤◌, ◌∙◌}
-use Rattle.std.proofs.Common.{ℕ, suc, zero, Option, Some, None, refl, sym, ap, subst, arith}
-use Rattle.std.specs.Prelude.{IsSome}
-use Rattle.std.proofs.lemmas.Nat.{div-mul-add}
-use Rattle.regions.specs.Tiles.{Tile, tile_size, total_size}
-use Rattle.regions.specs.Table.{Region, Free, Ordinary, First, Rest, Table, region_at, region_kind, nth_region, region_tile}
-use Rattle.regions.specs.Table.{region_used, kind_of, used_of, top_of, tile_in}
-use Rattle.regions.specs.Walks.{tiles_of, region_tiles, IsNextTile, IsLast}
-use Rattle.regions.specs.Shaped.{IsShaped}
+use Rattle.regions.proofs.Common.{◌≡◌, ◌≢◌, ◌+◌, ◌-◌, ◌*◌, ◌/◌, ◌%◌, ◌<◌, ◌≤◌, ◌∙◌, ℕ, suc, zero, Option, Some, None, refl, sym, ap, subst}
+use Rattle.regions.proofs.Common.{arith, IsSome, div-mul-add, Tile, tile_size, total_size, Region, Free, Ordinary, First, Rest, Table}
+use Rattle.regions.proofs.Common.{region_at, region_kind, nth_region, region_tile, region_used, kind_of, used_of, top_of, tile_in, tiles_of}
+use Rattle.regions.proofs.Common.{region_tiles, IsNextTile, IsShaped}
+use Rattle.regions.specs.Walks.{IsLast}
 use Rattle.regions.specs.declared.row.Kind.TheVariants as kinds
 use Rattle.regions.proofs.Tiles.Placing.{ordinary_at}
 use Rattle.regions.proofs.Tiles.Released.{tile_below_top, used_within}

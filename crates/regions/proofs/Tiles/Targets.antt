@@ -1,8 +1,6 @@
 -- While each moved object's new place holds an object, a change that keeps the objects' places and sizes keeps the tiles.
-use Rattle.std.proofs.Common.{◌≡◌, ℕ, List, length, sym, ◌∙◌, ap, subst}
-use Rattle.regions.specs.Table.{Region, Table, EachForwardedIn, HasObject, HasTargets}
-use Rattle.regions.specs.Rows.{object_size, sizes_in, table_of, table_by, IsTable, IsTableBy, AreRows}
-use Rattle.regions.specs.declared.row.Row.{Row}
+use Rattle.regions.proofs.Common.{◌≡◌, ℕ, List, length, sym, ◌∙◌, ap, subst, Region, Table, EachForwardedIn, HasObject, HasTargets}
+use Rattle.regions.proofs.Common.{object_size, sizes_in, table_of, table_by, IsTable, IsTableBy, AreRows, Row}
 use Rattle.regions.proofs.Words.Places.{table_right, object_is_in}
 use Rattle.regions.proofs.Words.Sizes.{AgreeIn, EachForwardedIn-imp, regions-agree, AreRows-agree}
 use Rattle.regions.proofs.Tiles.Kept.{IsKept}

@@ -1,11 +1,8 @@
 -- Which tiles a table has once an object is forwarded. No word is in it.
-use Rattle.std.proofs.Common.{◌≡◌, ◌≢◌, ℕ, ◌/◌, ◌%◌, ◌<◌, Some, List, [], ◌∷◌, length, get_or, refl, ◌∙◌, ap, inl, inr}
-use Rattle.std.proofs.lemmas.List.{get_or-set_same, get_or-set_other, length-set}
-use Rattle.std.proofs.lemmas.Bool.{cases_eq}
-use Rattle.heap_model.specs.Heap.{Stored}
-use Rattle.regions.specs.Tiles.{Object, Forwarded, Tile, tile_size}
-use Rattle.regions.specs.Table.{Region, Free, Ordinary, First, Rest, Table, region_tile, region_at, tile_in, nth_region, region_replaced}
-use Rattle.regions.specs.Table.{replace_tile, IsOrdinary, region_kind, kind_of}
+use Rattle.regions.proofs.Common.{◌≡◌, ◌≢◌, ℕ, ◌/◌, ◌%◌, ◌<◌, Some, List, [], ◌∷◌, length, get_or, refl, ◌∙◌, ap, inl, inr, get_or-set_same}
+use Rattle.regions.proofs.Common.{get_or-set_other, length-set, cases_eq, Stored, Object, Forwarded, Tile, tile_size, Region, Free}
+use Rattle.regions.proofs.Common.{Ordinary, First, Rest, Table, region_tile, region_at, tile_in, nth_region, region_replaced, replace_tile}
+use Rattle.regions.proofs.Common.{IsOrdinary, region_kind, kind_of}
 use Rattle.regions.proofs.Tiles.Laws.{tile_at-replace_same, tile_at-replace_other, same_place, known_region}
 
 replaced_same : (r : Region) (o : ℕ) (old new : Tile) → IsOrdinary r → region_tile r o ≡ Some old

@@ -1,14 +1,7 @@
 -- How many words of a region are handed out, whatever its kind.
-use Rattle.std.proofs.Common.{◌≡◌, ℕ, ◌*◌, ◌<◌, ◌≤◌, min, List, length, drop, get_or, refl, sym, ◌∙◌, ap, subst, arith}
-use Rattle.std.proofs.lemmas.Nat.{row_fits}
-use Rattle.heap_model.specs.Heap.{Stored}
-use Rattle.heap_words.specs.Headers.{header_of}
-use Rattle.std.proofs.lemmas.List.{get_or-drop}
-use Rattle.regions.specs.Tiles.{Object, tile_size}
-use Rattle.regions.specs.Table.{Region, Free, First, Rest, Table, region_used, nth_region, used_of}
-use Rattle.regions.specs.Rows.{object_size, sizes_in, first_stored, IsRow, table_of, IsTable, free_row}
-use Rattle.regions.specs.declared.row.Row.{Row}
-use Rattle.regions.specs.declared.row.Kind.{Kind}
+use Rattle.regions.proofs.Common.{◌≡◌, ℕ, ◌*◌, ◌<◌, ◌≤◌, min, List, length, drop, get_or, refl, sym, ◌∙◌, ap, subst, arith, row_fits}
+use Rattle.regions.proofs.Common.{Stored, header_of, get_or-drop, Object, tile_size, Region, Free, First, Rest, Table, region_used}
+use Rattle.regions.proofs.Common.{nth_region, used_of, object_size, sizes_in, first_stored, IsRow, table_of, IsTable, free_row, Row, Kind}
 use Rattle.regions.specs.declared.row.Kind.TheVariants as kinds
 use Rattle.regions.proofs.Rows.RowLemmas.{start_at}
 use Rattle.regions.proofs.Tiles.Making.{known, kind_is, top_is, IsTop}

@@ -1,12 +1,8 @@
 -- How many words of a region are handed out when tiles give way to others.
-use Rattle.std.proofs.Common.{◌≡◌, ◌+◌, ◌-◌, ◌/◌, ◌%◌, ◌∷◌, ◌++◌, ◌∙◌}
-use Rattle.std.proofs.Common.{ℕ, zero, suc, min, Some, List, [], get_or, refl, sym, ap, arith, inl, inr}
-use Rattle.std.proofs.lemmas.List.{get_or-set_same, get_or-set_other}
-use Rattle.std.proofs.lemmas.Bool.{cases_eq}
-use Rattle.heap_model.specs.Heap.{Stored}
-use Rattle.regions.specs.Tiles.{Tile, Object, tile_size, tile_at, replace, total_size}
-use Rattle.regions.specs.Table.{Region, Free, Ordinary, First, Rest, Table, region_tile, region_used, nth_region, used_of, with_region}
-use Rattle.regions.specs.Table.{with_object, region_at, tile_in, object_at, put_object}
+use Rattle.regions.proofs.Common.{◌≡◌, ◌+◌, ◌-◌, ◌/◌, ◌%◌, ◌∷◌, ◌++◌, ◌∙◌, ℕ, zero, suc, min, Some, List, [], get_or, refl, sym, ap, arith}
+use Rattle.regions.proofs.Common.{inl, inr, get_or-set_same, get_or-set_other, cases_eq, Stored, Tile, Object, tile_size, tile_at, replace}
+use Rattle.regions.proofs.Common.{total_size, Region, Free, Ordinary, First, Rest, Table, region_tile, region_used, nth_region, used_of}
+use Rattle.regions.proofs.Common.{with_region, with_object, region_at, tile_in, object_at, put_object}
 use Rattle.regions.proofs.Words.Parse.{past}
 use Rattle.regions.proofs.Tiles.Laws.{object_tile, known_region}
 

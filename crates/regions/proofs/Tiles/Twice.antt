@@ -1,12 +1,8 @@
 -- A tile that gives way to others, of which the first gives way at once.
-use Rattle.std.proofs.Common.{◌≡◌, ◌-◌, ◌/◌, ◌%◌, ◌<◌, ◌∷◌, ◌++◌, ◌∙◌}
-use Rattle.std.proofs.Common.{ℕ, zero, suc, Some, List, [], get_or, set, refl, sym, ap, subst, arith, inl, inr}
-use Rattle.std.proofs.lemmas.List.{get_or-set_same, get_or-set_other, set-set}
-use Rattle.std.proofs.lemmas.Bool.{cases_eq}
-use Rattle.regions.specs.Tiles.{Tile, Filler, tile_size, total_size, replace}
-use Rattle.regions.specs.Table.{Region, Free, Ordinary, First, Rest, Table, region_at, region_replaced, replace_tile, tile_in}
-use Rattle.regions.specs.Table.{EachForwarded, nth_region, kind_of}
-use Rattle.regions.specs.Walks.{AllPositive, AreFitting, tiles_of, region_tiles}
+use Rattle.regions.proofs.Common.{◌≡◌, ◌-◌, ◌/◌, ◌%◌, ◌<◌, ◌∷◌, ◌++◌, ◌∙◌, ℕ, zero, suc, Some, List, [], get_or, set, refl, sym, ap, subst}
+use Rattle.regions.proofs.Common.{arith, inl, inr, get_or-set_same, get_or-set_other, set-set, cases_eq, Tile, Filler, tile_size}
+use Rattle.regions.proofs.Common.{total_size, replace, Region, Free, Ordinary, First, Rest, Table, region_at, region_replaced, replace_tile}
+use Rattle.regions.proofs.Common.{tile_in, EachForwarded, nth_region, kind_of, AllPositive, AreFitting, tiles_of, region_tiles}
 use Rattle.regions.specs.declared.row.Kind.TheVariants as kinds
 use Rattle.regions.proofs.Tiles.Laws.{known_region}
 use Rattle.regions.proofs.Tiles.Placing.{filler_replaced}

@@ -1,17 +1,12 @@
 -- Where objects with weak slots start, over each change of the table.
-use Rattle.std.proofs.Common.{◌≡◌, ◌≢◌, ◌+◌, ◌-◌, ◌*◌, ◌/◌, ◌%◌, ◌<◌, ◌≤◌, ◌⊎◌, ◌∷◌, ◌∙◌, ℕ, zero, suc, Bool, true, false, Some, None, List}
-use Rattle.std.proofs.Common.{length, length-set, drop, get_or, replicate, inl, inr, refl, sym, ap, subst, arith}
-use Rattle.std.specs.Prelude.{if◌then◌else◌}
-use Rattle.std.proofs.lemmas.Bool.{cases_lt, cases_eq}
-use Rattle.std.proofs.lemmas.List.{get_or-set_same, get_or-set_other, get_or-drop}
-use Rattle.std.proofs.lemmas.Nat.{div-mul-add, mul-le, row_fits}
-use Rattle.bit_sets.specs.Bits.{has, is_between, HasNone, HasNoneBelow, IsLowest}
-use Rattle.heap_model.specs.Heap.{Stored}
-use Rattle.regions.specs.Tiles.{Tile, Object, Filler, Forwarded, tile_size, tile_at}
-use Rattle.regions.specs.Table.{Table, Region, Free, Ordinary, First, Rest, kind_of, region_kind, tile_in, tile_object, object_at}
-use Rattle.regions.specs.Table.{remainder, free_table, region_at, region_tile, nth_region, is_rest, run_length}
+use Rattle.regions.proofs.Common.{◌≡◌, ◌≢◌, ◌+◌, ◌-◌, ◌*◌, ◌/◌, ◌%◌, ◌<◌, ◌≤◌, ◌⊎◌, ◌∷◌, ◌∙◌, ℕ, zero, suc, Bool, true, false, Some, None}
+use Rattle.regions.proofs.Common.{List, length, length-set, drop, get_or, replicate, inl, inr, refl, sym, ap, subst, arith, if◌then◌else◌}
+use Rattle.regions.proofs.Common.{cases_lt, cases_eq, get_or-set_same, get_or-set_other, get_or-drop, div-mul-add, mul-le, row_fits, has}
+use Rattle.regions.proofs.Common.{is_between, HasNone, HasNoneBelow, IsLowest, Stored, Tile, Object, Filler, Forwarded, tile_size, tile_at}
+use Rattle.regions.proofs.Common.{Table, Region, Free, Ordinary, First, Rest, kind_of, region_kind, tile_in, tile_object, object_at}
+use Rattle.regions.proofs.Common.{remainder, free_table, region_at, region_tile, nth_region, is_rest, run_length, Starts, AreRegions}
+use Rattle.regions.proofs.Common.{HasWeaks, AreStarts, start_added, forgotten}
 use Rattle.regions.specs.declared.row.Kind.TheVariants as kinds
-use Rattle.regions.specs.WeakStarts.{Starts, AreRegions, HasWeaks, AreStarts, start_added, forgotten}
 use Rattle.regions.proofs.Words.Parse.{past}
 use Rattle.regions.proofs.Tiles.Laws.{object_tile}
 use Rattle.regions.proofs.Tiles.Changes.{WritesObject, object_same}

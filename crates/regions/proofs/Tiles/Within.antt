@@ -1,23 +1,15 @@
 -- Each tile stands in the words that are written: what follows for its words, and that each change of the table keeps it.
-use Rattle.std.proofs.Common.{◌≡◌, ◌≢◌, ◌+◌, ◌-◌, ◌*◌, ◌/◌, ◌%◌, ◌<◌, ◌≤◌, ◌∷◌, ◌∙◌}
-use Rattle.std.proofs.Common.{ℕ, Some, None, List, get_or, refl, sym, ap, subst, arith, inl, inr}
-use Rattle.std.proofs.lemmas.Bool.{cases_lt, cases_eq}
-use Rattle.heap_model.specs.Heap.{Stored}
-use Rattle.heap_words.specs.Headers.{header_of}
-use Rattle.regions.specs.Tiles.{Tile, Object, Filler, Forwarded, tile_size, tile_at}
-use Rattle.regions.specs.Table.{Table, Region, Free, Ordinary, First, Rest, region_kind, region_tile, nth_region, kind_of}
-use Rattle.regions.specs.Table.{tile_in, region_at, object_at, free_table, remainder, moved_to, HasObject}
-use Rattle.regions.specs.Rows.{AreTilesWritten, IsBelow, IsTable, header_target, table_of}
-use Rattle.regions.specs.declared.row.Row.{Row}
+use Rattle.regions.proofs.Common.{◌≡◌, ◌≢◌, ◌+◌, ◌-◌, ◌*◌, ◌/◌, ◌%◌, ◌<◌, ◌≤◌, ◌∷◌, ◌∙◌, ℕ, Some, None, List, get_or, refl, sym, ap, subst}
+use Rattle.regions.proofs.Common.{arith, inl, inr, cases_lt, cases_eq, Stored, header_of, Tile, Object, Filler, Forwarded, tile_size}
+use Rattle.regions.proofs.Common.{tile_at, Table, Region, Free, Ordinary, First, Rest, region_kind, region_tile, nth_region, kind_of}
+use Rattle.regions.proofs.Common.{tile_in, region_at, object_at, free_table, remainder, moved_to, HasObject, AreTilesWritten, IsTable}
+use Rattle.regions.proofs.Common.{header_target, table_of, Row, IsShaped, tiles_of, IsSome, counts_of}
+use Rattle.regions.specs.Rows.{IsBelow}
 use Rattle.regions.specs.declared.row.Kind.TheVariants as kinds
-use Rattle.regions.specs.Shaped.{IsShaped}
-use Rattle.regions.specs.Walks.{tiles_of}
 use Rattle.regions.proofs.Tiles.Laws.{object_tile}
 use Rattle.regions.proofs.Tiles.Placing.{Replaces, remainder_total, tile_at-end}
 use Rattle.regions.proofs.Words.Places.{IsInObject}
 use Rattle.regions.proofs.Words.ObjectWords.{header_in, object_there, is_counted}
-use Rattle.std.specs.Prelude.{IsSome}
-use Rattle.heap_words.specs.Contents.{counts_of}
 use Rattle.regions.proofs.Tiles.Making.{targets_of}
 use Rattle.regions.proofs.Tiles.ForwardedLaws.{target_is, moved_in}
 use Rattle.regions.proofs.Tiles.ShapedMade.{shaped_of, first_object}

@@ -1,16 +1,9 @@
 -- Walks of any region, and those that begin at a tile.
-use Rattle.std.proofs.Common.{◌≡◌, ◌+◌, ◌-◌, ◌*◌, ◌/◌, ◌%◌, ◌<◌, ◌≤◌, ◌∷◌, ◌∙◌}
-use Rattle.std.proofs.Common.{ℕ, zero, suc, Option, Some, None, List, [], length, get_or, refl, ap, arith}
-use Rattle.std.specs.Prelude.{IsSome}
-use Rattle.std.proofs.lemmas.Nat.{div-mul-add, mod-mul-add}
-use Rattle.heap_model.specs.Heap.{Stored}
-use Rattle.regions.specs.Tiles.{Tile, Object, tile_size, tile_at, total_size}
-use Rattle.regions.specs.Table.{Table, Region, Free, Ordinary, First, Rest, region_at}
-use Rattle.regions.specs.Table.{region_tile, nth_region, region_kind, kind_of, tile_in}
-use Rattle.regions.specs.Walks.{AllPositive, IsCut, IsWalk, tiles_of, region_tiles}
-use Rattle.regions.specs.Shaped.{IsShaped}
-use Rattle.regions.specs.Rows.{sizes_in, table_of, IsTable}
-use Rattle.regions.specs.declared.row.Row.{Row}
+use Rattle.regions.proofs.Common.{◌≡◌, ◌+◌, ◌-◌, ◌*◌, ◌/◌, ◌%◌, ◌<◌, ◌≤◌, ◌∷◌, ◌∙◌, ℕ, zero, suc, Option, Some, None, List, [], length}
+use Rattle.regions.proofs.Common.{get_or, refl, ap, arith, IsSome, div-mul-add, mod-mul-add, Stored, Tile, Object, tile_size, tile_at}
+use Rattle.regions.proofs.Common.{total_size, Table, Region, Free, Ordinary, First, Rest, region_at, region_tile, nth_region, region_kind}
+use Rattle.regions.proofs.Common.{kind_of, tile_in, AllPositive, IsCut, IsWalk, tiles_of, region_tiles, IsShaped, sizes_in, table_of}
+use Rattle.regions.proofs.Common.{IsTable, Row}
 use Rattle.regions.specs.declared.row.Kind.TheVariants as kinds
 use Rattle.regions.proofs.Words.Parse.{past}
 use Rattle.regions.proofs.Tiles.Laws.{known_region}

@@ -1,19 +1,11 @@
 -- A walk over the words of a region.
-use Rattle.heap_words.specs.Headers.{header_of}
+use Rattle.regions.proofs.Common.{header_of, sizes_in, IsRow, table_of, IsTable, free_row, tile_shape, size_of_shape, Table, kind_of, Tile}
+use Rattle.regions.proofs.Common.{Object, Filler, Forwarded, tile_size, tile_at, total_size, size_by, tiles, IsTiled, Kind, Row, ◌≡◌, ◌+◌}
+use Rattle.regions.proofs.Common.{◌-◌, ◌*◌, ◌<◌, ◌≤◌, ◌∷◌, ◌∙◌, ℕ, zero, suc, Some, List, [], length, take, drop, get_or, refl, sym, ap}
+use Rattle.regions.proofs.Common.{subst, arith, length-take, length-drop, IsCut, IsWalk, AllPositive, tiles_of, region_tiles, le-leb}
 use Rattle.regions.proofs.Tiles.Making.{known, kind_is, top_is, tiles_total}
 use Rattle.regions.proofs.Words.Parse.{skip_le, tile_size-by, past}
 use Rattle.regions.proofs.Rows.RowLemmas.{start_at}
-use Rattle.regions.specs.Rows.{sizes_in, IsRow, table_of, IsTable, free_row}
-use Rattle.regions.specs.Shapes.{tile_shape, size_of_shape}
-use Rattle.regions.specs.Table.{Table, kind_of}
-use Rattle.regions.specs.Tiles.{Tile, Object, Filler, Forwarded, tile_size, tile_at, total_size, size_by, tiles, IsTiled}
-use Rattle.regions.specs.declared.row.Kind.{Kind}
-use Rattle.regions.specs.declared.row.Row.{Row}
-use Rattle.std.proofs.Common.{◌≡◌, ◌+◌, ◌-◌, ◌*◌, ◌<◌, ◌≤◌, ◌∷◌, ◌∙◌}
-use Rattle.std.proofs.Common.{ℕ, zero, suc, Some, List, [], length, take, drop, get_or, refl, sym, ap, subst, arith}
-use Rattle.std.proofs.lemmas.List.{length-take, length-drop}
-use Rattle.regions.specs.Walks.{IsCut, IsWalk, AllPositive, tiles_of, region_tiles}
-use Rattle.std.proofs.lemmas.Bool.{le-leb}
 use Rattle.regions.specs.declared.row.Kind.TheVariants as kinds
 
 pub tiles_positive : (f : ℕ → ℕ) (k : ℕ) (ws : List ℕ) → IsTiled f k ws → AllPositive (tiles f k ws)

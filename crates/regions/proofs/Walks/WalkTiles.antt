@@ -1,11 +1,8 @@
 -- What a walk goes over: tiles of the table, and all of its region's from where it begins.
-use Rattle.std.proofs.Common.{◌≡◌, ◌+◌, ◌-◌, ◌*◌, ◌/◌, ◌%◌, ◌<◌, ◌≤◌, ◌∷◌, ◌∙◌}
-use Rattle.std.proofs.Common.{ℕ, zero, suc, Some, List, [], inl, inr, ⊎_elim, refl, sym, ap, subst, arith}
-use Rattle.std.proofs.lemmas.Bool.{le-leb}
-use Rattle.regions.specs.Tiles.{Tile, tile_size, tile_at}
-use Rattle.regions.specs.Table.{Table, tile_in}
-use Rattle.regions.specs.Walks.{AllPositive, IsCut, tiles_of, tiles_from, placed, walk_rest, IsAmong, ArePlaced}
-use Rattle.regions.specs.Shaped.{IsShaped}
+use Rattle.regions.proofs.Common.{◌≡◌, ◌+◌, ◌-◌, ◌*◌, ◌/◌, ◌%◌, ◌<◌, ◌≤◌, ◌∷◌, ◌∙◌, ℕ, zero, suc, Some, List, [], inl, inr, ⊎_elim, refl}
+use Rattle.regions.proofs.Common.{sym, ap, subst, arith, le-leb, Tile, tile_size, tile_at, Table, tile_in, AllPositive, IsCut, tiles_of}
+use Rattle.regions.proofs.Common.{tiles_from, placed, walk_rest, IsShaped}
+use Rattle.regions.specs.Walks.{IsAmong, ArePlaced}
 use Rattle.regions.proofs.Words.Parse.{past}
 use Rattle.regions.proofs.Walks.WalkFrom.{cut_at, tile_listed, listed_tile}
 

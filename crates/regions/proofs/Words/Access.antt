@@ -1,21 +1,15 @@
 -- What a read or a write of a field does, as callers see the table.
 -- the object whose pointer is asked for
-use Rattle.std.proofs.Common.{◌≡◌, ◌+◌, ◌*◌, ◌/◌, ◌<◌, ◌≤◌, ◌∙◌}
-use Rattle.std.proofs.Common.{ℕ, suc, Option, Some, None, List, length, take, drop, map, get_or, set, refl, ap, arith, inl, inr}
-use Rattle.std.proofs.lemmas.List.{length-take, length-drop, length-map, length-set, drop-drop, get_or-drop, get_or-take, get_or-map}
-use Rattle.heap_words.specs.Headers.{header_of, pointer_of}
-use Rattle.std.specs.Prelude.{IsSome}
-use Rattle.heap_words.specs.Contents.{pointer_count, counts_of}
-use Rattle.heap_model.specs.Heap.{Stored}
-use Rattle.regions.specs.Tiles.{Tile, Object, tile_size}
-use Rattle.regions.specs.Table.{First, Table, region_at, object_at, object_pointers, object_weaks, pointers_at}
-use Rattle.regions.specs.Table.{weaks_at, put_object, set_pointer, set_weak, IsOrdinary}
-use Rattle.regions.specs.Rows.{sizes_in, first_stored, region_of, table_of, IsTable, free_row}
-use Rattle.regions.specs.declared.row.Row.{Row}
+use Rattle.regions.proofs.Common.{◌≡◌, ◌+◌, ◌*◌, ◌/◌, ◌<◌, ◌≤◌, ◌∙◌, ℕ, suc, Option, Some, None, List, length, take, drop, map, get_or, set}
+use Rattle.regions.proofs.Common.{refl, ap, arith, inl, inr, length-take, length-drop, length-map, length-set, drop-drop, get_or-drop}
+use Rattle.regions.proofs.Common.{get_or-take, header_of, pointer_of, IsSome, pointer_count, counts_of, Stored, Tile, Object, tile_size}
+use Rattle.regions.proofs.Common.{First, Table, region_at, object_at, object_pointers, object_weaks, pointers_at, weaks_at, put_object}
+use Rattle.regions.proofs.Common.{set_pointer, set_weak, IsOrdinary, sizes_in, first_stored, region_of, table_of, IsTable, free_row, Row}
+use Rattle.regions.proofs.Common.{slice_get-get_or}
+use Rattle.std.proofs.lemmas.List.{get_or-map}
 use Rattle.regions.proofs.Rows.RowLemmas.{regions-at}
 use Rattle.regions.proofs.Words.Places.{table_right, IsInObject, InFirst, object_place, IsIn, object_is_in}
 use Rattle.std.specs.List.{slice_get}
-use Rattle.std.proofs.lemmas.Option.{slice_get-get_or}
 use Rattle.regions.proofs.Tiles.Kept.{put_kept}
 use Rattle.regions.proofs.Tiles.Targets.{IsWrittenTable}
 use Rattle.regions.proofs.Words.Written.{write_ordinary}

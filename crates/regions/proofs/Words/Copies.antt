@@ -1,15 +1,10 @@
 -- Tiles put at a top: an object's copy, a filler.
 -- one tile's words, put at a region's top
-use Rattle.std.proofs.Common.{◌≡◌, ℕ, zero, suc, ◌+◌, ◌*◌, ◌<◌, ◌≤◌, Some, List, [], ◌∷◌, length, take, drop, get_or, set, ◌∙◌, ap, arith}
-use Rattle.std.proofs.lemmas.List.{length-take, length-drop}
+use Rattle.regions.proofs.Common.{◌≡◌, ℕ, zero, suc, ◌+◌, ◌*◌, ◌<◌, ◌≤◌, Some, List, [], ◌∷◌, length, take, drop, get_or, set, ◌∙◌, ap}
+use Rattle.regions.proofs.Common.{arith, length-take, length-drop, header_of, Stored, Tile, Object, Filler, tile_size, put, Table}
+use Rattle.regions.proofs.Common.{object_at, kind_of, used_of, top_of, push_tile, HasObject, object_words, EachForwarded, sizes_in}
+use Rattle.regions.proofs.Common.{table_of, IsTable, free_row, Row}
 use Rattle.heap_words.specs.declared.header.Header.TheVariants as headers
-use Rattle.heap_words.specs.Headers.{header_of}
-use Rattle.heap_model.specs.Heap.{Stored}
-use Rattle.regions.specs.Tiles.{Tile, Object, Filler, tile_size}
-use Rattle.heap_words.specs.Contents.{put}
-use Rattle.regions.specs.Table.{Table, object_at, kind_of, used_of, top_of, push_tile, HasObject, object_words, EachForwarded}
-use Rattle.regions.specs.Rows.{sizes_in, table_of, IsTable, free_row}
-use Rattle.regions.specs.declared.row.Row.{Row}
 use Rattle.regions.proofs.Words.Fields.{IsOne}
 use Rattle.regions.proofs.Tiles.Making.{known, top_is}
 use Rattle.regions.proofs.Words.Puts.{put_is}

@@ -1,7 +1,6 @@
 -- Division by a variable, and cards within regions.
-use Rattle.std.proofs.Common.{◌≡◌, ℕ, zero, suc, ◌+◌, ◌-◌, ◌*◌, ◌/◌, ◌%◌, ◌<◌, ◌≤◌, ⊎_elim, refl, sym, ap, ◌∙◌, arith}
-use Rattle.std.proofs.lemmas.Bool.{cases_lt}
-use Rattle.std.proofs.lemmas.Nat.{div-mul-add, mul-le}
+use Rattle.regions.proofs.Common.{◌≡◌, ℕ, zero, suc, ◌+◌, ◌-◌, ◌*◌, ◌/◌, ◌%◌, ◌<◌, ◌≤◌, ⊎_elim, refl, sym, ap, ◌∙◌, arith, cases_lt}
+use Rattle.regions.proofs.Common.{div-mul-add, mul-le}
 
 -- k * n ≤ a < k * n + n says that a / n is k
 pub div_is : (a n k : ℕ) → k * n ≤ a → a < k * n + n → a / n ≡ k

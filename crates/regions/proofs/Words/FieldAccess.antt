@@ -1,17 +1,11 @@
 -- Fields: pointers, and weak slots behind them.
-use Rattle.std.proofs.Common.{◌≡◌, ◌+◌, ◌-◌, ◌<◌, ◌∷◌, ◌++◌, ◌∙◌}
-use Rattle.std.proofs.Common.{ℕ, zero, suc, Option, Some, List, [], length, get_or, set, refl, sym, ap, arith, inl, inr}
-use Rattle.std.proofs.lemmas.List.{length-append}
-use Rattle.std.proofs.lemmas.Bool.{cases_lt, lt-ltb}
+use Rattle.regions.proofs.Common.{◌≡◌, ◌+◌, ◌-◌, ◌<◌, ◌∷◌, ◌++◌, ◌∙◌, ℕ, zero, suc, Option, Some, List, [], length, get_or, set, refl, sym}
+use Rattle.regions.proofs.Common.{ap, arith, inl, inr, length-append, cases_lt, lt-ltb, header_of, pointer_of, pointer_count, field_count}
+use Rattle.regions.proofs.Common.{Stored, fields, with_field, Table, object_at, object_pointers, object_weaks, pointers_at, weaks_at}
+use Rattle.regions.proofs.Common.{fields_at, set_pointer, set_weak, set_field, put_object, table_of, IsTable, Row}
 use Rattle.std.specs.List.{slice_get}
-use Rattle.heap_words.specs.Headers.{header_of, pointer_of}
-use Rattle.heap_words.specs.Contents.{pointer_count, field_count}
-use Rattle.heap_model.specs.Heap.{Stored, fields, with_field}
 use Rattle.heap_model.proofs.Fields.{ltb_above}
-use Rattle.regions.specs.Table.{Table, object_at, object_pointers, object_weaks, object_fields, pointers_at, weaks_at, fields_at}
-use Rattle.regions.specs.Table.{set_pointer, set_weak, set_field, set_field_of, put_object}
-use Rattle.regions.specs.Rows.{table_of, IsTable}
-use Rattle.regions.specs.declared.row.Row.{Row}
+use Rattle.regions.specs.Table.{object_fields, set_field_of}
 use Rattle.regions.proofs.Words.Places.{IsInObject}
 use Rattle.regions.proofs.Words.ObjectWords.{there, IsThere}
 use Rattle.regions.proofs.Tiles.Targets.{IsWrittenTable}

@@ -1,14 +1,11 @@
 -- What a write behind an object's header does to the tiles.
 -- the words of one tile
-use Rattle.std.proofs.Common.{◌≡◌, ◌+◌, ◌-◌, ◌<◌, ◌≤◌, ◌∷◌, ◌++◌, ◌∙◌}
-use Rattle.std.proofs.Common.{ℕ, zero, suc, Option, Some, List, [], length, take, drop, map, set, refl, sym, ap, arith, zero-add}
-use Rattle.std.proofs.lemmas.List.{length-take, length-set, take-append-drop, drop-set-lt}
-use Rattle.std.proofs.lemmas.List.{drop-set-add, take-set-le, set-append_left, map-set}
+use Rattle.regions.proofs.Common.{◌≡◌, ◌+◌, ◌-◌, ◌<◌, ◌≤◌, ◌∷◌, ◌++◌, ◌∙◌, ℕ, zero, suc, Option, Some, List, [], length, take, drop, map}
+use Rattle.regions.proofs.Common.{set, refl, sym, ap, arith, zero-add, length-take, length-set, take-append-drop, drop-set-lt, drop-set-add}
+use Rattle.regions.proofs.Common.{take-set-le, header_of, pointer_of, Stored, Tile, Object, tile_at, replace, stored_of, size_by, tiles}
+use Rattle.regions.proofs.Common.{IsTiled, put}
+use Rattle.std.proofs.lemmas.List.{set-append_left, map-set}
 use Rattle.heap_words.specs.declared.header.Header.TheVariants as headers
-use Rattle.heap_words.specs.Headers.{header_of, pointer_of}
-use Rattle.heap_model.specs.Heap.{Stored}
-use Rattle.regions.specs.Tiles.{Tile, Object, tile_at, replace, stored_of, size_by, tiles, IsTiled}
-use Rattle.heap_words.specs.Contents.{put}
 use Rattle.regions.proofs.Words.Parse.{skip_le, stored_of-append, first_tile, tile_at-tiles, tiles-put, IsTiled-put}
 use Rattle.regions.proofs.Words.Places.{live_by}
 

@@ -1,16 +1,10 @@
 -- The words of an object of the table.
-use Rattle.std.proofs.Common.{◌≡◌, ◌+◌, ◌≤◌, ◌∷◌, ◌++◌, ◌∙◌}
-use Rattle.std.proofs.Common.{Option, None, ℕ, suc, Some, List, length, take, drop, get_or, refl, sym, ap, subst, arith, drop-cons}
-use Rattle.std.proofs.lemmas.List.{length-take, length-drop, take-append-drop, get_or-drop}
-use Rattle.heap_model.specs.Heap.{Stored}
-use Rattle.regions.specs.Tiles.{Object, tile_size, stored_of}
-use Rattle.regions.specs.Table.{Table, object_at, object_words, stored_size, object_pointers, object_weaks}
-use Rattle.regions.specs.Table.{object_values, pointers_at, weaks_at, values_at}
-use Rattle.std.specs.Prelude.{IsSome}
-use Rattle.heap_words.specs.Headers.{header_of}
-use Rattle.heap_words.specs.Contents.{pointer_count, counts_of}
-use Rattle.regions.specs.Rows.{weak_count, value_count, object_size, sizes_in, table_of, IsTable}
-use Rattle.regions.specs.declared.row.Row.{Row}
+use Rattle.regions.proofs.Common.{◌≡◌, ◌+◌, ◌≤◌, ◌∷◌, ◌++◌, ◌∙◌, Option, None, ℕ, suc, Some, List, length, take, drop, get_or, refl, sym}
+use Rattle.regions.proofs.Common.{ap, subst, arith, drop-cons, length-take, length-drop, take-append-drop, get_or-drop, Stored, Object}
+use Rattle.regions.proofs.Common.{tile_size, stored_of, Table, object_at, object_words, stored_size, object_pointers, object_weaks}
+use Rattle.regions.proofs.Common.{object_values, pointers_at, weaks_at, values_at, IsSome, header_of, pointer_count, counts_of, object_size}
+use Rattle.regions.proofs.Common.{sizes_in, table_of, IsTable, Row}
+use Rattle.regions.specs.Rows.{weak_count, value_count}
 use Rattle.regions.proofs.Words.Parse.{stored_of-append}
 use Rattle.regions.proofs.Words.Places.{table_right, IsInObject, IsIn, object_is_in}
 use Rattle.regions.proofs.Words.Fields.{IsOne, one_object}

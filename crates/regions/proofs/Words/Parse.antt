@@ -1,15 +1,11 @@
 -- How the tiles of words change with the words.
 -- the tile that began before the words ends in them
-use Rattle.std.proofs.Common.{◌≡◌, ◌+◌, ◌-◌, ◌<◌, ◌≤◌, ◌∷◌, ◌++◌, ℕ, zero, suc, Option, Some, None, List, [], length, take, drop, get_or}
-use Rattle.std.proofs.Common.{refl, sym, ap, arith, cond, leb, inl, inr}
-use Rattle.std.proofs.lemmas.List.{length-take, length-drop, length-map, take-append-le}
-use Rattle.std.proofs.lemmas.List.{drop-append-le, take-append-drop, get_or_append_left}
-use Rattle.std.proofs.lemmas.Bool.Decides.{leb_tells}
-use Rattle.heap_words.specs.declared.header.Header.{Header}
+use Rattle.regions.proofs.Common.{◌≡◌, ◌+◌, ◌-◌, ◌<◌, ◌≤◌, ◌∷◌, ◌++◌, ℕ, zero, suc, Option, Some, None, List, [], length, take, drop}
+use Rattle.regions.proofs.Common.{get_or, refl, sym, ap, arith, cond, leb, inl, inr, length-take, length-drop, length-map, drop-append-le}
+use Rattle.regions.proofs.Common.{take-append-drop, get_or_append_left, leb_tells, Header, header_of, Tile, Object, Filler, tile_size}
+use Rattle.regions.proofs.Common.{tile_at, replace, stored_of, tile_by, size_by, tiles, IsTiled, put}
+use Rattle.std.proofs.lemmas.List.{take-append-le}
 use Rattle.heap_words.specs.declared.header.Header.TheVariants as headers
-use Rattle.heap_words.specs.Headers.{header_of}
-use Rattle.regions.specs.Tiles.{Tile, Object, Filler, tile_size, tile_at, replace, stored_of, tile_by, size_by, tiles, IsTiled}
-use Rattle.heap_words.specs.Contents.{put}
 
 pub skip_le : (sizes : ℕ → ℕ) (k : ℕ) (ws : List ℕ) → IsTiled sizes k ws → k ≤ length ws
 skip_le sizes k [] h = omega arith

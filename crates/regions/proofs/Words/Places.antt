@@ -1,19 +1,11 @@
 -- Where a tile of the table lies in the words, at any sizes of moved objects.
-use Rattle.std.proofs.Common.{◌≡◌, ◌+◌, ◌-◌, ◌*◌, ◌/◌, ◌%◌, ◌<◌, ◌≤◌, ◌⊎◌, ◌∷◌, ◌++◌, ◌∙◌, ℕ, zero, suc, Option, Some, None, List, []}
-use Rattle.std.proofs.Common.{length, take, drop, get_or, refl, sym, ap, subst, arith, inl, inr, add-zero}
-use Rattle.std.proofs.lemmas.List.{length-append, length-take, length-drop, length-map}
-use Rattle.std.proofs.lemmas.List.{drop-append-le, drop-drop, take-append-drop, get_or-drop}
-use Rattle.std.proofs.lemmas.Bool.{cases_lt}
-use Rattle.heap_words.specs.declared.header.Header.{Header}
+use Rattle.regions.proofs.Common.{◌≡◌, ◌+◌, ◌-◌, ◌*◌, ◌/◌, ◌%◌, ◌<◌, ◌≤◌, ◌⊎◌, ◌∷◌, ◌++◌, ◌∙◌, ℕ, zero, suc, Option, Some, None, List, []}
+use Rattle.regions.proofs.Common.{length, take, drop, get_or, refl, sym, ap, subst, arith, inl, inr, add-zero, length-append, length-take}
+use Rattle.regions.proofs.Common.{length-drop, length-map, drop-append-le, drop-drop, take-append-drop, get_or-drop, cases_lt, Header}
+use Rattle.regions.proofs.Common.{header_of, Stored, Tile, Object, tile_size, tile_at, stored_of, tile_by, size_by, tiles, IsTiled, Table}
+use Rattle.regions.proofs.Common.{region_tile, region_at, tile_in, object_at, object_size, stored_by, first_stored, region_by}
+use Rattle.regions.proofs.Common.{IsObjectHeader, IsRow, left_by, AreRows, free_row, table_by, IsTableBy, IsTable, sizes_in, Row, Kind}
 use Rattle.heap_words.specs.declared.header.Header.TheVariants as headers
-use Rattle.heap_words.specs.Headers.{header_of}
-use Rattle.heap_model.specs.Heap.{Stored}
-use Rattle.regions.specs.Tiles.{Tile, Object, tile_size, tile_at, stored_of, tile_by, size_by, tiles, IsTiled}
-use Rattle.regions.specs.Table.{Table, region_tile, region_at, tile_in, object_at}
-use Rattle.regions.specs.Rows.{object_size, stored_by, first_stored, region_by, IsObjectHeader, IsRow, left_by, AreRows}
-use Rattle.regions.specs.Rows.{free_row, table_by, IsTableBy, IsTable, sizes_in}
-use Rattle.regions.specs.declared.row.Row.{Row}
-use Rattle.regions.specs.declared.row.Kind.{Kind}
 use Rattle.regions.proofs.Tiles.Laws.{object_tile}
 use Rattle.regions.proofs.Words.Parse.{skip_le, first_tile, tile_at-tiles, stored_of-append}
 use Rattle.regions.proofs.Rows.RowLemmas.{regions-at, regions-past, start_at, left_le}

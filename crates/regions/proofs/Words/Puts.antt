@@ -1,9 +1,8 @@
 -- Words written in the place of others.
-use Rattle.std.proofs.Common.{◌≡◌, ◌+◌, ◌-◌, ◌≤◌, ◌∷◌, ◌++◌, ◌∙◌}
-use Rattle.std.proofs.Common.{ℕ, zero, suc, List, [], length, take, drop, refl, sym, ap, arith, zero-add}
-use Rattle.std.proofs.lemmas.List.{length-append, length-take, length-drop, append_assoc, drop-drop}
-use Rattle.std.proofs.lemmas.List.{take-append-drop, take_at, drop_at, drop-take}
-use Rattle.heap_words.specs.Contents.{put}
+use Rattle.regions.proofs.Common.{◌≡◌, ◌+◌, ◌-◌, ◌≤◌, ◌∷◌, ◌++◌, ◌∙◌, ℕ, zero, suc, List, [], length, take, drop, refl, sym, ap, arith}
+use Rattle.regions.proofs.Common.{zero-add, length-append, length-take, length-drop, append_assoc, drop-drop, take-append-drop, take_at}
+use Rattle.regions.proofs.Common.{drop-take, put}
+use Rattle.std.proofs.lemmas.List.{drop_at}
 
 pub record IsPut (ws : List ℕ) (n : ℕ) (block : List ℕ) : Type 0 where
   pub length_is : length (put ws n block) ≡ length ws

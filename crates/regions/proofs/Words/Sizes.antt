@@ -1,14 +1,10 @@
 -- The sizes of moved objects are read at their new places: what keeps those headers keeps the tiles.
 -- the two give one size to each moved tile
-use Rattle.std.proofs.Common.{◌≡◌, ℕ, zero, suc, ◌-◌, Option, Some, None, List, [], ◌∷◌, ◌++◌, take, drop, get_or, set, refl, ap}
-use Rattle.heap_words.specs.declared.header.Header.{Header}
+use Rattle.regions.proofs.Common.{◌≡◌, ℕ, zero, suc, ◌-◌, Option, Some, None, List, [], ◌∷◌, ◌++◌, take, drop, get_or, set, refl, ap}
+use Rattle.regions.proofs.Common.{Header, header_of, Tile, Object, Filler, Forwarded, tile_size, replace, tile_by, size_by, tiles, IsTiled}
+use Rattle.regions.proofs.Common.{Region, Free, Ordinary, First, Rest, EachForwarded, EachForwardedIn, region_by, regions_of, IsRow}
+use Rattle.regions.proofs.Common.{AreRows, Row, Kind}
 use Rattle.heap_words.specs.declared.header.Header.TheVariants as headers
-use Rattle.heap_words.specs.Headers.{header_of}
-use Rattle.regions.specs.Tiles.{Tile, Object, Filler, Forwarded, tile_size, replace, tile_by, size_by, tiles, IsTiled}
-use Rattle.regions.specs.Table.{Region, Free, Ordinary, First, Rest, EachForwarded, EachForwardedIn}
-use Rattle.regions.specs.Rows.{region_by, regions_of, IsRow, AreRows}
-use Rattle.regions.specs.declared.row.Row.{Row}
-use Rattle.regions.specs.declared.row.Kind.{Kind}
 use Rattle.regions.specs.declared.row.Kind.TheVariants as kinds
 
 abbrev pub AgreeOn : (ℕ → ℕ) → (ℕ → ℕ) → List Tile → Type 0

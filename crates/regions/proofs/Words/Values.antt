@@ -1,16 +1,9 @@
 -- Reads and writes of an object's data.
-use Rattle.std.proofs.Common.{◌≡◌, ◌+◌, ◌<◌, ◌≤◌, ◌∷◌, ◌∙◌, ℕ, suc, Some, List, [], length, take, drop, get_or, set, refl, sym, ap, arith}
-use Rattle.std.proofs.lemmas.List.{length-set, drop-drop, drop-set-add, take-set-le, get_or-drop, get_or-take}
+use Rattle.regions.proofs.Common.{◌≡◌, ◌+◌, ◌<◌, ◌≤◌, ◌∷◌, ◌∙◌, ℕ, suc, Some, List, [], length, take, drop, get_or, set, refl, sym, ap}
+use Rattle.regions.proofs.Common.{arith, length-set, drop-drop, drop-set-add, take-set-le, get_or-drop, get_or-take, slice_get-get_or}
+use Rattle.regions.proofs.Common.{header_of, Stored, stored_of, Table, object_at, values_at, object_values, set_value, put_object, table_of}
+use Rattle.regions.proofs.Common.{IsTable, IsSome, counts_of, field_count, Row}
 use Rattle.std.specs.List.{slice_get}
-use Rattle.std.proofs.lemmas.Option.{slice_get-get_or}
-use Rattle.heap_words.specs.Headers.{header_of}
-use Rattle.heap_model.specs.Heap.{Stored}
-use Rattle.regions.specs.Tiles.{stored_of}
-use Rattle.regions.specs.Table.{Table, object_at, values_at, object_values, set_value, put_object}
-use Rattle.regions.specs.Rows.{table_of, IsTable}
-use Rattle.std.specs.Prelude.{IsSome}
-use Rattle.heap_words.specs.Contents.{counts_of, field_count}
-use Rattle.regions.specs.declared.row.Row.{Row}
 use Rattle.regions.proofs.Words.Places.{IsInObject, IsIn}
 use Rattle.regions.proofs.Words.Access.{HasPart, has_part, part_written}
 use Rattle.regions.proofs.Words.Fields.{Turns, take_set}

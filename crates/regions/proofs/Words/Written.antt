@@ -1,14 +1,9 @@
 -- What a write to an object does to the table.
 -- the words of region k change, and its row
-use Rattle.std.proofs.Common.{◌≡◌, ◌+◌, ◌*◌, ◌/◌, ◌%◌, ◌<◌, ◌≤◌, ◌∙◌}
-use Rattle.std.proofs.Common.{ℕ, suc, List, length, take, drop, get_or, set, refl, sym, ap, subst, arith}
-use Rattle.std.proofs.lemmas.List.{length-take, length-set, drop-set-add, drop-set-lt, take-set-le, set-get_or}
-use Rattle.heap_model.specs.Heap.{Stored}
-use Rattle.regions.specs.Tiles.{Object, tiles}
-use Rattle.regions.specs.Table.{Region, Free, Ordinary, Table, region_at, with_object, put_object, with_region, EachForwardedIn}
-use Rattle.regions.specs.Rows.{sizes_in, region_of, regions_of, IsRow, table_of, table_by, IsTable, free_row}
-use Rattle.regions.specs.declared.row.Row.{Row}
-use Rattle.regions.specs.declared.row.Kind.{Kind}
+use Rattle.regions.proofs.Common.{◌≡◌, ◌+◌, ◌*◌, ◌/◌, ◌%◌, ◌<◌, ◌≤◌, ◌∙◌, ℕ, suc, List, length, take, drop, get_or, set, refl, sym, ap}
+use Rattle.regions.proofs.Common.{subst, arith, length-take, length-set, drop-set-add, drop-set-lt, take-set-le, set-get_or, Stored, Object}
+use Rattle.regions.proofs.Common.{tiles, Region, Free, Ordinary, Table, region_at, with_object, put_object, with_region, EachForwardedIn}
+use Rattle.regions.proofs.Common.{sizes_in, region_of, regions_of, IsRow, table_of, table_by, IsTable, free_row, Row, Kind, row_fits}
 use Rattle.regions.proofs.Words.Parse.{tile_at-tiles}
 use Rattle.regions.proofs.Rows.RowLemmas.{regions-at, start_at}
 use Rattle.regions.proofs.Words.Places.{InOrdinary}
@@ -16,7 +11,6 @@ use Rattle.regions.proofs.Rows.RowWrites.{IsPlain, rows_written}
 use Rattle.regions.proofs.Words.Fields.{take_set, Turns, object_set}
 use Rattle.regions.proofs.Tiles.Targets.{IsWrittenTable, written_table}
 use Rattle.regions.proofs.Tiles.Kept.{IsKept}
-use Rattle.std.proofs.lemmas.Nat.{row_fits}
 use Rattle.regions.specs.declared.row.Kind.TheVariants as kinds
 
 pub record IsChange (size : ℕ) (words words' : List ℕ) (n : ℕ) : Type 0 where

@@ -1,5 +1,4 @@
-use Rattle.std.specs.Prelude.{◌≡◌, ℕ, length, Some, slice_get}
-use Rattle.regions.specs.Table.{HasObject}
+use Rattle.regions.proofs.Common.{◌≡◌, ℕ, length, Some, slice_get, HasObject}
 use Rattle.marking_tests.specs.Samples.{IsLinked}
 use Rattle.marking_tests.proofs.cycles.build.Given as goal
 

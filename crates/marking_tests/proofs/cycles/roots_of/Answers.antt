@@ -1,5 +1,4 @@
-use Rattle.std.proofs.Common.{sym, ◌∙◌, subst, List, Option, ℕ, ap}
-use Rattle.std.proofs.lemmas.Option.{slice_get_read}
+use Rattle.regions.proofs.Common.{sym, ◌∙◌, subst, List, Option, ℕ, ap, slice_get_read}
 use Rattle.root_table.specs.Roots.{RootTable}
 use Rattle.marking_tests.specs.Samples.{LeadToObjects}
 use Rattle.marking_tests.proofs.Samples.{set_leads}

@@ -1,5 +1,4 @@
-use Rattle.std.proofs.Common.{◌≡◌, ◌∙◌, ℕ, subst}
-use Rattle.regions.specs.Table.{HasObject}
+use Rattle.regions.proofs.Common.{◌≡◌, ◌∙◌, ℕ, subst, HasObject}
 use Rattle.marking_tests.proofs.Samples.{object_read}
 use Rattle.marking_tests.proofs.cycles.save.Goals as goal
 

@@ -1,5 +1,4 @@
-use Rattle.std.proofs.Common.{◌∙◌, ap, rules, false, length, List, Bool}
-use Rattle.std.proofs.lemmas.List.{length-replicate}
+use Rattle.regions.proofs.Common.{◌∙◌, ap, rules, false, length, List, Bool, length-replicate}
 use Rattle.mark_bitmap.specs.Marks.{is_marked}
 use Rattle.mark_bitmap.specs.Grey.{Scans, nothing_scanned}
 use Rattle.mark_bitmap.proofs.ObjectLaws.{none_marked}

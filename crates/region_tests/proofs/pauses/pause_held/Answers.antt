@@ -1,6 +1,5 @@
-use Rattle.std.proofs.Common.{◌∙◌, ℕ, [], ◌∷◌, length, sym, ap, subst}
+use Rattle.regions.proofs.Common.{◌∙◌, ℕ, [], ◌∷◌, length, sym, ap, subst, Table}
 use Rattle.remembered_sets.specs.Sets.{card_count}
-use Rattle.regions.specs.Table.{Table}
 use Rattle.evacuation.specs.Rooms.{RoomSizes}
 use Rattle.evacuation.specs.Evacuates.{Layers, CanEvacuate}
 use Rattle.region_tests.specs.Evacuated.{IsFresh, by_weak_slot, two_cards}

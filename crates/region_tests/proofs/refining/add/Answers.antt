@@ -1,5 +1,4 @@
-use Rattle.std.proofs.Common.{◌≡◌, ◌+◌, ◌<◌, ◌≤◌, length, arith, rules}
-use Rattle.regions.specs.Table.{used_of, kind_of}
+use Rattle.regions.proofs.Common.{◌≡◌, ◌+◌, ◌<◌, ◌≤◌, length, arith, rules, used_of, kind_of}
 use Rattle.regions.specs.declared.row.Kind.TheVariants as kinds
 use Rattle.region_tests.proofs.Samples.{add_there, add_sample}
 use Rattle.region_tests.proofs.refining.add.Goals as goal

@@ -1,5 +1,4 @@
-use Rattle.std.proofs.Common.{◌≡◌, ◌∙◌, Bool, List, false, true, length, length-set, ap}
-use Rattle.std.proofs.lemmas.List.{length-replicate}
+use Rattle.regions.proofs.Common.{◌≡◌, ◌∙◌, Bool, List, false, true, length, length-set, ap, length-replicate}
 use Rattle.remembered_sets.specs.Sets.{Sets, empty_set}
 use Rattle.region_tests.proofs.Samples.{sample_scans}
 use Rattle.region_tests.proofs.refining.over.Goals as goal

@@ -1,5 +1,4 @@
-use Rattle.std.proofs.Common.{◌^◌, ◌∙◌}
-use Rattle.std.proofs.lemmas.Nat.{pow_pos}
+use Rattle.regions.proofs.Common.{◌^◌, ◌∙◌, pow_pos}
 use Rattle.regions.proofs.Cards.FirstTiles.{cards_between, cards_fit}
 use Rattle.regions.proofs.first_tiles.write_entries.Goals as goal
 

@@ -1,5 +1,4 @@
-use Rattle.std.proofs.Common.{◌≡◌, ◌^◌, ◌+◌, ◌-◌, ◌*◌, ◌%◌, sym, arith}
-use Rattle.std.proofs.lemmas.Nat.{pow_pos}
+use Rattle.regions.proofs.Common.{◌≡◌, ◌^◌, ◌+◌, ◌-◌, ◌*◌, ◌%◌, sym, arith, pow_pos}
 use Rattle.regions.proofs.Cards.FirstTiles.{card_before, cards_fit, filler_put, none_between}
 use Rattle.regions.proofs.first_tiles.write_filler.Goals as goal
 

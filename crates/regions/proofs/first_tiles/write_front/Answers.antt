@@ -1,7 +1,4 @@
-use Rattle.std.proofs.Common.{◌^◌, ◌*◌, ◌∙◌, ℕ, ap}
-use Rattle.std.specs.Prelude.{if◌then◌else◌, ◌&&◌, ◌==◌}
-use Rattle.bit_sets.specs.Bits.{is_between}
-use Rattle.regions.specs.FirstTiles.{last_card}
+use Rattle.regions.proofs.Common.{◌^◌, ◌*◌, ◌∙◌, ℕ, ap, if◌then◌else◌, ◌&&◌, ◌==◌, is_between, last_card}
 use Rattle.regions.proofs.first_tiles.write_front.Goals as goal
 
 pub returns-clause-entries : goal.returns-clause-entries

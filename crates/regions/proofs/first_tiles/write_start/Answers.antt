@@ -1,5 +1,4 @@
-use Rattle.std.proofs.Common.{◌^◌, arith}
-use Rattle.std.proofs.lemmas.Nat.{pow_pos}
+use Rattle.regions.proofs.Common.{◌^◌, arith, pow_pos}
 use Rattle.regions.proofs.Cards.FirstTiles.{cards_fit, start_put, start_stays}
 use Rattle.regions.proofs.first_tiles.write_start.Goals as goal
 

@@ -1,6 +1,4 @@
-use Rattle.std.proofs.Common.{◌≡◌}
-use lib.Seq.{paste}
-use Rattle.regions.specs.Rows.{run_rows}
+use Rattle.regions.proofs.Common.{◌≡◌, paste, run_rows}
 use Rattle.regions.proofs.runs.write_run.Given as goal
 
 abbrev pub invariant-loop-i : goal.invariant-loop-i

@@ -1,6 +1,4 @@
-use Rattle.std.proofs.Common.{◌≡◌, replicate}
-use lib.Seq.{paste}
-use Rattle.regions.specs.Rows.{free_row}
+use Rattle.regions.proofs.Common.{◌≡◌, replicate, paste, free_row}
 use Rattle.regions.proofs.updates.write_free.Given as goal
 
 abbrev pub invariant-loop-i : goal.invariant-loop-i

@@ -1,5 +1,4 @@
-use Rattle.std.proofs.Common.{arith}
-use Rattle.regions.specs.Tiles.{Filler}
+use Rattle.regions.proofs.Common.{arith, Filler}
 use Rattle.alloc_buffers.proofs.buffers.AllocBuffers.cut.Goals as goal
 
 pub overflow_add-buffer : goal.overflow_add-buffer

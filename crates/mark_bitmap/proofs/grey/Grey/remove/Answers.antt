@@ -1,5 +1,4 @@
-use Rattle.std.proofs.Common.{ap, ◌∙◌, ◌≡◌, ◌≤◌, ◌<◌, set, true, length, sym, subst, List, Bool}
-use Rattle.bit_sets.specs.Bits.{has}
+use Rattle.regions.proofs.Common.{ap, ◌∙◌, ◌≡◌, ◌≤◌, ◌<◌, set, true, length, sym, subst, List, Bool, has}
 use Rattle.mark_bitmap.specs.Grey.{Scans}
 use Rattle.mark_bitmap.specs.Marks.{is_only}
 use Rattle.mark_bitmap.proofs.Held.{scanned_held, next_after}

@@ -1,5 +1,4 @@
-use Rattle.std.proofs.Common.{Some}
-use Rattle.bit_sets.specs.Bits.{has}
+use Rattle.regions.proofs.Common.{Some, has}
 use Rattle.mark_bitmap.proofs.Summaries.{lowest_member, found_within}
 use Rattle.mark_bitmap.proofs.summary.Summary.lowest.Goals as goal
 

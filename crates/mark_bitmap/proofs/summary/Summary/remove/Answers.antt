@@ -1,5 +1,4 @@
-use Rattle.std.proofs.Common.{false}
-use Rattle.bit_sets.specs.Bits.{has}
+use Rattle.regions.proofs.Common.{false, has}
 use Rattle.mark_bitmap.proofs.Summaries.{leave_others, has_set_there}
 use Rattle.mark_bitmap.proofs.summary.Summary.remove.Goals as goal
 

@@ -1,6 +1,4 @@
-use Rattle.std.proofs.Common.{◌+◌, ◌*◌, ◌^◌, ℕ, arith}
-use Rattle.std.specs.Prelude.{if◌then◌else◌}
-use Rattle.bit_sets.specs.Bits.{is_between}
+use Rattle.regions.proofs.Common.{◌+◌, ◌*◌, ◌^◌, ℕ, arith, if◌then◌else◌, is_between}
 use Rattle.regions.proofs.Cards.Written.{cards_reached, end_written, entries_put, length_all}
 use Rattle.regions.proofs.first_tiles.FirstTiles.put_object.Goals as goal
 

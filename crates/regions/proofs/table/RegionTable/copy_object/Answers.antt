@@ -1,5 +1,5 @@
-use Rattle.std.proofs.Common.{arith, ◌≡◌, ℕ, sym, ap, ◌∙◌, refl, List, Option, length}
-use Rattle.regions.specs.declared.row.Row.{Row}
+use Rattle.regions.proofs.Common.{arith, ◌≡◌, ℕ, sym, ap, ◌∙◌, refl, List, Option, length, Row, start_added, Object, tile_size}
+use Rattle.regions.proofs.Common.{object_words}
 use Rattle.regions.proofs.Tiles.Making.{known, known_top, top_at, row_read}
 use Rattle.regions.proofs.Words.ObjectWords.{object_there}
 use Rattle.regions.proofs.Words.Copies.{copy_pushed}
@@ -7,9 +7,6 @@ use Rattle.regions.proofs.Rows.UsedBelow.{used_set}
 use Rattle.regions.proofs.Rows.Counting.{count_kept, row_used}
 use Rattle.regions.proofs.Cards.Entries.{push_sound}
 use Rattle.regions.proofs.Words.FieldAccess.{weaks_are}
-use Rattle.regions.specs.WeakStarts.{start_added}
-use Rattle.regions.specs.Tiles.{Object, tile_size}
-use Rattle.regions.specs.Table.{object_words}
 use Rattle.regions.proofs.Tiles.Within.{object_within}
 use Rattle.regions.proofs.Tiles.Apart.{object_apart}
 use Rattle.regions.proofs.Tiles.ShapedMade.{shaped_of}

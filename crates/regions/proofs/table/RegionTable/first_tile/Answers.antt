@@ -1,7 +1,4 @@
-use Rattle.std.proofs.Common.{arith, ap, subst, ◌≡◌, ◌<◌, ◌*◌, ◌/◌, ℕ, ◌∙◌}
-use Rattle.regions.specs.Table.{Table, top_of}
-use Rattle.regions.specs.FirstTiles.{start_in}
-use Rattle.regions.specs.Walks.{IsHolder}
+use Rattle.regions.proofs.Common.{arith, ap, subst, ◌≡◌, ◌<◌, ◌*◌, ◌/◌, ℕ, ◌∙◌, Table, top_of, start_in, IsHolder}
 use Rattle.regions.proofs.Cards.CardStarts.{card_known, card_start}
 use Rattle.regions.proofs.table.RegionTable.first_tile.Goals as goal
 

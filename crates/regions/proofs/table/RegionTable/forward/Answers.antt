@@ -1,5 +1,4 @@
-use Rattle.std.proofs.Common.{arith, ◌≡◌, ℕ, List, Option, length, ap, ◌∙◌}
-use Rattle.regions.specs.WeakStarts.{forgotten}
+use Rattle.regions.proofs.Common.{arith, ◌≡◌, ℕ, List, Option, length, ap, ◌∙◌, forgotten}
 use Rattle.regions.proofs.Words.FieldAccess.{weaks_are}
 use Rattle.regions.proofs.Words.ObjectWords.{header_in, object_there}
 use Rattle.regions.proofs.Tiles.Forwards.{forwarded}

@@ -1,8 +1,5 @@
-use Rattle.std.proofs.Common.{◌≡◌, ◌≢◌, ◌/◌, ◌^◌, ◌<◌, ◌≤◌, ℕ, true, false, nat_le, ap, arith, subst}
-use Rattle.std.proofs.lemmas.Grind.{common_steps}
+use Rattle.regions.proofs.Common.{◌≡◌, ◌≢◌, ◌/◌, ◌^◌, ◌<◌, ◌≤◌, ℕ, true, false, nat_le, ap, arith, subst, common_steps, bit_xor, Table}
 use Rattle.std.proofs.lemmas.Bool.Decides.{nat_tests}
-use lib.Bits.{bit_xor}
-use Rattle.regions.specs.Table.{Table}
 use Rattle.regions.proofs.Blocks.{other_block, same_block}
 use Rattle.regions.proofs.table.RegionTable.leads_out.Goals as goal
 

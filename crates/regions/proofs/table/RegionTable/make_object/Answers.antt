@@ -1,11 +1,8 @@
-use Rattle.std.proofs.Common.{arith, ◌≡◌, ◌+◌, ◌-◌, ℕ, Option, None, ap, ◌∙◌}
-use Rattle.std.proofs.lemmas.List.{length-replicate}
-use Rattle.regions.specs.WeakStarts.{start_added}
+use Rattle.regions.proofs.Common.{arith, ◌≡◌, ◌+◌, ◌-◌, ℕ, Option, None, ap, ◌∙◌, length-replicate, start_added, Object, tile_size}
+use Rattle.regions.proofs.Common.{new_object}
 use Rattle.regions.proofs.Tiles.Replaced.{filler_fits, filler_filled}
 use Rattle.regions.proofs.Tiles.Within.{tile_within}
 use Rattle.regions.proofs.Cards.Entries.{front_sound, new_size, object_cut}
-use Rattle.regions.specs.Tiles.{Object, tile_size}
-use Rattle.regions.specs.Table.{new_object}
 use Rattle.regions.proofs.table.RegionTable.make_object.Goals as goal
 
 pub write_object-requires : goal.write_object-requires

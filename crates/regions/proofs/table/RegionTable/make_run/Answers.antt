@@ -1,12 +1,9 @@
-use Rattle.std.proofs.Common.{arith, ◌≡◌, ◌+◌, ◌*◌, ◌≤◌, length, Option, None, ap, ◌∙◌, ℕ}
-use Rattle.std.proofs.lemmas.List.{length-replicate}
-use Rattle.regions.specs.WeakStarts.{start_added}
+use Rattle.regions.proofs.Common.{arith, ◌≡◌, ◌+◌, ◌*◌, ◌≤◌, length, Option, None, ap, ◌∙◌, ℕ, length-replicate, start_added, new_object}
 use Rattle.regions.proofs.LongRuns.RunMade.{run_taken, run_there}
 use Rattle.regions.proofs.Tiles.Making.{size_is_of}
 use Rattle.regions.proofs.Rows.UsedBelow.{used_written, used_le, front_free}
 use Rattle.regions.proofs.Rows.Counting.{count_run, run_counted}
 use Rattle.regions.proofs.Cards.Entries.{run_sound, new_size}
-use Rattle.regions.specs.Table.{new_object}
 use Rattle.regions.proofs.table.RegionTable.make_run.Goals as goal
 
 pub overflow_mul-bottom : goal.overflow_mul-bottom

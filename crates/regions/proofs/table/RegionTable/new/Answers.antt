@@ -1,13 +1,8 @@
-use Rattle.std.proofs.Common.{arith, sym, subst, ◌≡◌, ◌*◌, ◌/◌, replicate, length, ℕ, Bool, false, List, refl, ap, ◌∙◌}
-use Rattle.std.proofs.lemmas.List.{length-replicate}
+use Rattle.regions.proofs.Common.{arith, sym, subst, ◌≡◌, ◌*◌, ◌/◌, replicate, length, ℕ, Bool, false, List, refl, ap, ◌∙◌}
+use Rattle.regions.proofs.Common.{length-replicate, Memory, AreTilesWritten, Table, HasNoForwarded, Entries, AreEntries, Starts, AreStarts}
 use Rattle.heap_words.specs.Configs.{card_words}
 use Rattle.heap_words.proofs.Limits.{small_region, small_heap, card_power, region_cards, card_between}
-use Rattle.heap_words.specs.Memory.{Memory}
-use Rattle.regions.specs.Rows.{AreTilesWritten}
-use Rattle.regions.specs.Table.{Table, HasNoForwarded}
-use Rattle.regions.specs.FirstTiles.{Entries, AreEntries}
 use Rattle.regions.proofs.Cards.Entries.{free_entries}
-use Rattle.regions.specs.WeakStarts.{Starts, AreStarts}
 use Rattle.regions.proofs.Tiles.WeakStarts.{starts_free}
 use Rattle.regions.proofs.Tiles.Within.{free_within}
 use Rattle.regions.proofs.Tiles.Making.{new_table, free_table-unmoved}

@@ -1,8 +1,5 @@
-use Rattle.std.proofs.Common.{◌≡◌, ◌∙◌, ℕ, Some, ap, sym, subst, arith, ◌+◌, ◌/◌}
-use Rattle.heap_model.specs.Heap.{Stored}
-use Rattle.regions.specs.Tiles.{Object, tile_size}
-use Rattle.regions.specs.Table.{Table, top_of, object_at, tile_in}
-use Rattle.regions.specs.Walks.{IsNextTile}
+use Rattle.regions.proofs.Common.{◌≡◌, ◌∙◌, ℕ, Some, ap, sym, subst, arith, ◌+◌, ◌/◌, Stored, Object, tile_size, Table, top_of, object_at}
+use Rattle.regions.proofs.Common.{tile_in, IsNextTile}
 use Rattle.regions.proofs.Words.ObjectWords.{some_object, words_of}
 use Rattle.regions.proofs.Walks.WalkFrom.{tile_region}
 use Rattle.regions.proofs.Tiles.Laws.{object_tile}

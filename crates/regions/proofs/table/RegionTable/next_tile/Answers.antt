@@ -1,11 +1,8 @@
-use Rattle.std.proofs.Common.{◌≡◌, ◌∙◌, sym, ap, subst, arith, ◌+◌, ◌/◌, inl, inr}
-use Rattle.regions.specs.Tiles.{tile_size}
-use Rattle.regions.specs.Table.{top_of, kind_of}
-use Rattle.regions.specs.Shapes.{tile_shape, size_of_shape}
+use Rattle.regions.proofs.Common.{◌≡◌, ◌∙◌, sym, ap, subst, arith, ◌+◌, ◌/◌, inl, inr, tile_size, top_of, kind_of, tile_shape}
+use Rattle.regions.proofs.Common.{size_of_shape, IsNextTile}
 use Rattle.regions.specs.declared.row.Kind.TheVariants as kinds
 use Rattle.regions.proofs.Walks.WalkFrom.{tile_region}
 use Rattle.regions.proofs.Walks.WalkMade.{shape_size_is}
-use Rattle.regions.specs.Walks.{IsNextTile}
 use Rattle.regions.proofs.Tiles.Steps.{next_is, last_is, last_else, tile_there}
 use Rattle.regions.proofs.table.RegionTable.next_tile.Goals as goal
 

@@ -1,11 +1,9 @@
-use Rattle.std.proofs.Common.{arith, ◌<◌, ap, ◌∙◌, refl}
-use Rattle.regions.specs.declared.row.Row.{Row}
+use Rattle.regions.proofs.Common.{arith, ◌<◌, ap, ◌∙◌, refl, Row, Filler}
 use Rattle.regions.proofs.Tiles.Making.{known, known_top, top_at, row_read}
 use Rattle.regions.proofs.Tiles.Fillers.{filler_added}
 use Rattle.regions.proofs.Rows.UsedBelow.{used_set}
 use Rattle.regions.proofs.Rows.Counting.{count_kept, row_used}
 use Rattle.regions.proofs.Cards.Entries.{push_sound, filler_written}
-use Rattle.regions.specs.Tiles.{Filler}
 use Rattle.regions.proofs.table.RegionTable.push_filler.Goals as goal
 
 pub overflow_add-end : goal.overflow_add-end

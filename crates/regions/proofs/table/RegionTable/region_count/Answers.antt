@@ -1,6 +1,4 @@
-use Rattle.std.proofs.Common.{◌≡◌, arith, length, sym, ap, ◌∙◌}
-use Rattle.regions.specs.Table.{Table}
-use Rattle.regions.specs.Rows.{sizes_in}
+use Rattle.regions.proofs.Common.{◌≡◌, arith, length, sym, ap, ◌∙◌, Table, sizes_in}
 use Rattle.regions.proofs.Tiles.Making.{length-regions_of}
 use Rattle.regions.proofs.table.RegionTable.region_count.Goals as goal
 

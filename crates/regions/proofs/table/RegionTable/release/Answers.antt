@@ -1,6 +1,4 @@
-use Rattle.std.proofs.lemmas.Nat.{row_fits}
-use Rattle.std.proofs.Common.{arith, ◌≡◌, suc, ◌+◌, length, drop}
-use Rattle.regions.specs.Table.{front_count}
+use Rattle.regions.proofs.Common.{row_fits, arith, ◌≡◌, suc, ◌+◌, length, drop, front_count}
 use Rattle.regions.proofs.LongRuns.RunGone.{rest, rests_counted, release_by, release_room, rows_small}
 use Rattle.regions.proofs.Rows.UsedBelow.{used_written}
 use Rattle.regions.proofs.Tiles.Making.{known}

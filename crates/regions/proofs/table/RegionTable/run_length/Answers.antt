@@ -1,5 +1,4 @@
-use Rattle.std.proofs.Common.{arith, ◌≡◌, suc, ◌+◌, drop, sym, ap, ◌∙◌}
-use Rattle.std.proofs.lemmas.List.{length-drop}
+use Rattle.regions.proofs.Common.{arith, ◌≡◌, suc, ◌+◌, drop, sym, ap, ◌∙◌, length-drop}
 use Rattle.regions.proofs.Rows.Fronts.{front_le}
 use Rattle.regions.proofs.Tiles.Making.{known}
 use Rattle.regions.proofs.LongRuns.RunGone.{rests_counted, rest, rows_small, run_length-is}

@@ -1,5 +1,4 @@
-use Rattle.std.proofs.Common.{arith, sym, ap, ◌∙◌, inl, inr}
-use Rattle.regions.specs.declared.row.Row.{Row}
+use Rattle.regions.proofs.Common.{arith, sym, ap, ◌∙◌, inl, inr, Row}
 use Rattle.regions.proofs.Tiles.Making.{row_read, known, kind_is}
 use Rattle.regions.proofs.Walks.WalkFrom.{walk_first, walk_free, walk_rests}
 use Rattle.regions.proofs.Tiles.Within.{first_stands}

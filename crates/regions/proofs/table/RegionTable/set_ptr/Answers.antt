@@ -1,5 +1,4 @@
-use Rattle.std.proofs.Common.{arith, refl, ◌∙◌}
-use Rattle.heap_words.specs.Headers.{pointer_word, pointer_of}
+use Rattle.regions.proofs.Common.{arith, refl, ◌∙◌, pointer_word, pointer_of}
 use Rattle.regions.proofs.Words.Access.{pointer_read, pointer_written}
 use Rattle.regions.proofs.Cards.Entries.{pointer_sound}
 use Rattle.regions.proofs.Tiles.Within.{word_within}

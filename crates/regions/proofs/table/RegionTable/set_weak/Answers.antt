@@ -1,5 +1,4 @@
-use Rattle.std.proofs.Common.{refl, ◌∙◌, arith}
-use Rattle.heap_words.specs.Headers.{pointer_word, pointer_of}
+use Rattle.regions.proofs.Common.{refl, ◌∙◌, arith, pointer_word, pointer_of}
 use Rattle.regions.proofs.Cards.Entries.{weak_sound}
 use Rattle.regions.proofs.Words.Access.{weak_read, weak_written}
 use Rattle.regions.proofs.Tiles.Within.{word_within}

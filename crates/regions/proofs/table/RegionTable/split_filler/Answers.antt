@@ -1,9 +1,8 @@
-use Rattle.std.proofs.Common.{arith, refl, ◌≡◌, ◌+◌, ◌-◌, ◌∙◌, ◌<◌}
+use Rattle.regions.proofs.Common.{arith, refl, ◌≡◌, ◌+◌, ◌-◌, ◌∙◌, ◌<◌, Filler}
 use Rattle.regions.proofs.Tiles.Replaced.{filler_fits}
 use Rattle.regions.proofs.Tiles.Within.{tile_within}
 use Rattle.regions.proofs.Tiles.Fillers.{filler_cut}
 use Rattle.regions.proofs.Cards.Entries.{front_sound, filler_written, written_twice}
-use Rattle.regions.specs.Tiles.{Filler}
 use Rattle.regions.proofs.table.RegionTable.split_filler.Goals as goal
 
 pub write_filler-requires : goal.write_filler-requires

@@ -1,5 +1,4 @@
-use Rattle.std.proofs.Common.{arith, ◌≡◌, ◌+◌, ◌*◌, refl, ap, ◌∙◌}
-use Rattle.regions.specs.Shapes.{size_of_shape}
+use Rattle.regions.proofs.Common.{arith, ◌≡◌, ◌+◌, ◌*◌, refl, ap, ◌∙◌, size_of_shape}
 use Rattle.regions.proofs.Tiles.Within.{tile_starts, target_within}
 use Rattle.regions.proofs.Walks.WalkFrom.{behind_is}
 use Rattle.regions.proofs.Walks.WalkMade.{shape_size_is}

@@ -1,7 +1,5 @@
-use Rattle.std.proofs.Common.{arith, ◌≡◌, sym, ap, ◌∙◌, inl, inr}
-use Rattle.regions.specs.declared.row.Row.{Row}
+use Rattle.regions.proofs.Common.{arith, ◌≡◌, sym, ap, ◌∙◌, inl, inr, Row, kind_of}
 use Rattle.regions.specs.declared.row.Kind.TheVariants as kinds
-use Rattle.regions.specs.Table.{kind_of}
 use Rattle.regions.proofs.Tiles.Making.{row_read, known, kind_is}
 use Rattle.regions.proofs.Walks.WalkMade.{walk_ordinary}
 use Rattle.regions.proofs.table.RegionTable.tile_words.Goals as goal

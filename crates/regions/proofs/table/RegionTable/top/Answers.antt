@@ -1,5 +1,4 @@
-use Rattle.std.proofs.Common.{arith, refl, ap, ◌∙◌}
-use Rattle.regions.specs.declared.row.Row.{Row}
+use Rattle.regions.proofs.Common.{arith, refl, ap, ◌∙◌, Row}
 use Rattle.regions.proofs.Tiles.Making.{row_read, known}
 use Rattle.regions.proofs.Tiles.Tops.{top_all}
 use Rattle.regions.proofs.table.RegionTable.top.Goals as goal

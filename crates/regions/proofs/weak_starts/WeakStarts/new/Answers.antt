@@ -1,7 +1,4 @@
-use Rattle.std.proofs.Common.{◌≡◌, ◌*◌, ◌<◌, ℕ, zero, suc, true, false, replicate, ap, sym, ◌∙◌}
-use Rattle.std.proofs.lemmas.List.{length-replicate}
-use Rattle.bit_sets.specs.Bits.{has}
-use Rattle.regions.specs.WeakStarts.{AreRegions}
+use Rattle.regions.proofs.Common.{◌≡◌, ◌*◌, ◌<◌, ℕ, zero, suc, true, false, replicate, ap, sym, ◌∙◌, length-replicate, has, AreRegions}
 use Rattle.regions.proofs.weak_starts.WeakStarts.new.Goals as goal
 
 no_flag : (n a : ℕ) → has (replicate n false) a ≡ true → ⊥

@@ -1,5 +1,4 @@
-use Rattle.std.proofs.Common.{◌-◌, ◌*◌, length}
-use Rattle.bit_sets.specs.Bits.{has, HasNoneBelow}
+use Rattle.regions.proofs.Common.{◌-◌, ◌*◌, length, has, HasNoneBelow}
 use Rattle.regions.proofs.weak_starts.WeakStarts.next.Given as goal
 
 abbrev pub invariant-loop-region : goal.invariant-loop-region
