@@ -30,9 +30,8 @@ unfolding object_at
 object_none t y n e = rw e refl
 
 alone_void : (n j : ℕ) → tile_object (tile_at j (remainder n)) ≡ None
-alone_void zero j = refl
-alone_void (suc n) zero = refl
 alone_void (suc n) (suc j) = elim (leb_tells (suc n) (suc j)) [ inl q ↦ rw q.0 refl | inr q ↦ rw q.0 refl ]
+alone_void _ _ = refl
 
 -- in a part of a filler that is split is no object
 parts_void : (s r j : ℕ) → tile_object (tile_at j (Filler s ∷ remainder r)) ≡ None
@@ -44,11 +43,10 @@ unfolding object_at
 object_by t y o e v = ap tile_object e ∙ v
 
 second_part : (s r : ℕ) → 0 < s → 0 < r → tile_at s (Filler s ∷ remainder r) ≡ Some (Filler r)
-second_part zero r p q = absurd (omega arith)
-second_part (suc s) zero p q = absurd (omega arith)
 second_part (suc s) (suc r) p q =
     let z : suc s - suc s ≡ 0 = omega arith in
     elim (leb_tells (suc s) (suc s)) [ inl k ↦ rw (k.0, z) refl | inr k ↦ absurd (let lt = k.1 in omega arith) ]
+second_part _ _ p q = absurd (omega arith)
 
 set_cases : {A : Type 0} (xs : List A) (i j : ℕ) (v w : A) → slice_get (slice_set xs i v) j ≡ Some w
     → ((j ≡ i) × (w ≡ v)) ⊎ ((j ≢ i) × (slice_get xs j ≡ Some w))
@@ -379,9 +377,8 @@ in_new_is t t1 u t' c b m n k size a next v e same is at push split next_is v_is
     ∙ rw (v_is, next_is, split, push, at, same) refl
 
 none_open : (n m : ℕ) (x : Buffer) → slice_get (replicate {A = Option Buffer} n None) m ≡ Some (Some x) → ⊥
-none_open zero m x e = cc
-none_open (suc n) zero x e = cc
 none_open (suc n) (suc m) x e = none_open n m x e
+none_open _ _ x e = cc
 
 -- where no buffer is open and no region is current, buffers stand in every table
 pub closed_stand : (t : Table) (words mutators : ℕ) → BuffersStand t (closed words mutators)

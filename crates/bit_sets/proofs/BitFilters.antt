@@ -1,8 +1,7 @@
 -- The numbers of a group that pass a filter, by one word of each.
 use Rattle.std.proofs.Common.{◌≡◌, ◌≢◌, ◌⊎◌, ◌+◌, ◌*◌, ◌/◌, ◌%◌, ◌<◌, ◌≤◌, ◌∙◌, min, max, ℕ, Bool, true, false, List, length, set, eqb}
-use Rattle.std.proofs.Common.{bit_or, bit_and, slice_index, inl, inr, refl, sym, ap, ap₂, arith, ⊎_elim}
+use Rattle.std.proofs.Common.{bit_or, bit_and, slice_index, inl, inr, refl, sym, ap, ap₂, arith, ⊎_elim, ◌&&◌, ◌||◌}
 use Rattle.std.proofs.lemmas.Bool.{cases_lt, cases_eq}
-use Rattle.std.specs.Prelude.{◌&&◌, ◌||◌}
 use Rattle.std.specs.Int.{bit_at}
 use Rattle.std.proofs.lemmas.Nat.Bits.{bit_at-lt, bit_at_and, bit_at_or}
 use Rattle.bit_sets.specs.Bits.{is_between, is_passing, has}

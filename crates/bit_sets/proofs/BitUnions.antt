@@ -1,8 +1,7 @@
 -- The members of a range of another set that come into a set, word by word.
 use Rattle.std.proofs.Common.{◌≡◌, ◌+◌, ◌*◌, ◌%◌, ◌<◌, ◌≤◌, ◌∙◌, min, ℕ, Bool, true, false, List, length, set, eqb, bit_or, bit_and}
-use Rattle.std.proofs.Common.{slice_index, inl, inr, refl, sym, subst, ap, ap₂, arith, ⊎_elim}
+use Rattle.std.proofs.Common.{slice_index, inl, inr, refl, sym, subst, ap, ap₂, arith, ⊎_elim, ◌&&◌, ◌||◌}
 use Rattle.std.proofs.lemmas.Bool.{cases_lt}
-use Rattle.std.specs.Prelude.{◌&&◌, ◌||◌}
 use Rattle.std.specs.Int.{bit_at}
 use Rattle.std.specs.Int.Bits.{or_zero_r}
 use Rattle.std.proofs.lemmas.List.{set-get_or}

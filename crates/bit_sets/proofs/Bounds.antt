@@ -1,8 +1,7 @@
 -- Sets of numbers with bounds of their members.
 use Rattle.std.proofs.Common.{◌≡◌, ◌+◌, ◌<◌, ◌≤◌, ◌∙◌, ℕ, max, Bool, true, false, List, length, length-set, set, replicate}
-use Rattle.std.proofs.Common.{get_or-set_other, inl, inr, refl, sym, ap, arith}
-use Rattle.std.specs.Prelude.{if◌then◌else◌}
-use Rattle.std.proofs.lemmas.List.{ext_get_or, length-replicate, get_or-replicate}
+use Rattle.std.proofs.Common.{get_or-set_other, inl, inr, refl, sym, ap, arith, if◌then◌else◌, ext_get_or}
+use Rattle.std.proofs.lemmas.List.{length-replicate, get_or-replicate}
 use Rattle.std.proofs.lemmas.Bool.{cases_lt, cases_eq}
 use Rattle.bit_sets.specs.Bits.{has, is_between}
 use Rattle.bit_sets.specs.Bounded.{AreWithin}

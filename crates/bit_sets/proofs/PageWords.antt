@@ -1,10 +1,9 @@
 -- Words in pages: what a page that is taken, and a word that is written, make of them.
-use Rattle.std.proofs.Common.{◌≡◌, ◌≢◌, ◌+◌, ◌-◌, ◌*◌, ◌/◌, ◌^◌, ◌<◌, ◌≤◌, ◌⊎◌, ◌∙◌, ◌++◌}
-use Rattle.std.proofs.Common.{max, zero, suc, [], ◌∷◌, ℕ, Bool, true, false, List, length, slice_index, set, replicate, eqb, bit_and}
-use Rattle.std.proofs.Common.{inl, inr, refl, sym, ap, arith, get_or-set_other, get_or-set_same, length-set}
-use Rattle.std.proofs.lemmas.Bool.{cases_lt, cases_eq, ne_eqb}
-use Rattle.std.specs.Prelude.{if◌then◌else◌}
-use Rattle.std.proofs.lemmas.List.{get_or_past, get_or-replicate, length-replicate, get_or-take, get_or-drop}
+use Rattle.std.proofs.Common.{◌≡◌, ◌≢◌, ◌+◌, ◌-◌, ◌*◌, ◌/◌, ◌^◌, ◌<◌, ◌≤◌, ◌⊎◌, ◌∙◌, ◌++◌, max, zero, suc, [], ◌∷◌, ℕ, Bool, true, false}
+use Rattle.std.proofs.Common.{List, length, slice_index, set, replicate, eqb, bit_and, inl, inr, refl, sym, ap, arith, get_or-set_other}
+use Rattle.std.proofs.Common.{get_or-set_same, length-set, ne_eqb, if◌then◌else◌, get_or-take, get_or-drop}
+use Rattle.std.proofs.lemmas.Bool.{cases_lt, cases_eq}
+use Rattle.std.proofs.lemmas.List.{get_or_past, get_or-replicate, length-replicate}
 use Rattle.std.proofs.Math.ListN.{take, drop}
 use Rattle.std.proofs.Math.Seq.{take-append_seam}
 use Rattle.std.specs.Int.Bits.{and_zero_l}

@@ -1,9 +1,7 @@
 -- A mutator makes a card dirty: what is where, by cases, and what that keeps.
-use Rattle.std.proofs.Common.{◌≡◌, ◌≢◌, ◌+◌, ◌<◌, if◌then◌else◌, ◌∷◌, ◌++◌, ◌∙◌}
-use Rattle.std.proofs.Common.{ℕ, true, false, eqb, List, [], length, set, All, lit<, refl, sym, ap, arith, get_or-set_same, length-set}
-use Rattle.std.proofs.Common.{length-append}
-use Rattle.std.proofs.lemmas.Bool.{eq-eqb, ne_eqb, eqb-true, eqb-false}
-use Rattle.std.proofs.lemmas.List.{set-set}
+use Rattle.std.proofs.Common.{◌≡◌, ◌≢◌, ◌+◌, ◌<◌, if◌then◌else◌, ◌∷◌, ◌++◌, ◌∙◌, ℕ, true, false, eqb, List, [], length, set, All, lit<}
+use Rattle.std.proofs.Common.{refl, sym, ap, arith, get_or-set_same, length-set, length-append, eq-eqb, ne_eqb, eqb-true, set-set}
+use Rattle.std.proofs.lemmas.Bool.{eqb-false}
 use Rattle.std.proofs.lemmas.List.Elements.{All-set}
 use Rattle.cards.specs.Cards.{Cards, is_dirty, log_of, entered, sent, sent_if_full, dirtied}
 use Rattle.cards.specs.Inside.{IsCounted}

@@ -1,10 +1,9 @@
 -- Flags of which the first are written: the others are clear.
 use Rattle.std.proofs.Common.{◌≡◌, ◌+◌, ◌-◌, ◌<◌, ◌≤◌, ◌++◌, ◌∙◌, ℕ, Bool, false, List, length, get_or, set, replicate, refl, sym, ap}
-use Rattle.std.proofs.Common.{arith}
-use Rattle.std.proofs.Common.{⊎_elim, length-set}
+use Rattle.std.proofs.Common.{arith, ⊎_elim, length-set, length-append, ext_get_or}
 use Rattle.std.proofs.lemmas.Bool.{cases_lt}
-use Rattle.std.proofs.lemmas.List.{length-append, length-replicate, get_or-append_right, get_or_append_left, get_or_past, get_or-replicate}
-use Rattle.std.proofs.lemmas.List.{set-append_left, ext_get_or}
+use Rattle.std.proofs.lemmas.List.{length-replicate, get_or-append_right, get_or_append_left, get_or_past, get_or-replicate}
+use Rattle.std.proofs.lemmas.List.{set-append_left}
 use Rattle.cards.specs.Flags.{flags_of}
 
 all_clear : (k i : ℕ) → get_or (replicate k false) i false ≡ false

@@ -1,10 +1,9 @@
 -- Logs that go to the queue one after another.
-use Rattle.std.proofs.Common.{◌≡◌, ◌+◌, ◌<◌, ◌≤◌, ◌∷◌, ◌++◌, ◌∙◌}
-use Rattle.std.proofs.Common.{ℕ, List, [], length, get_or, set, take, drop, replicate, zero, suc, refl, sym, ap, arith, add-one}
-use Rattle.std.proofs.Common.{append_assoc, length-append}
+use Rattle.std.proofs.Common.{◌≡◌, ◌+◌, ◌<◌, ◌≤◌, ◌∷◌, ◌++◌, ◌∙◌, ℕ, List, [], length, get_or, set, take, drop, replicate, zero, suc, refl}
+use Rattle.std.proofs.Common.{sym, ap, arith, add-one, append_assoc, length-append, append-nil, length-drop}
 use Rattle.std.specs.List.{concat}
 use Rattle.std.proofs.Math.Seq.{drop-length, take-length}
-use Rattle.std.proofs.lemmas.List.{append-nil, length-drop, length-replicate}
+use Rattle.std.proofs.lemmas.List.{length-replicate}
 use Rattle.cards.specs.Cards.{Cards, sent, flushed}
 
 -- the first n logs went to the queue

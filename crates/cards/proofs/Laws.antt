@@ -1,9 +1,8 @@
 -- Which cards are dirty after each change, and that the dirty cards are those that are listed.
-use Rattle.std.proofs.Common.{◌≡◌, ◌⊎◌, ◌||◌, ◌&&◌, ◌<◌, ◌≤◌, ◌∷◌, ◌∙◌}
-use Rattle.std.proofs.Common.{inl, inr, not, ℕ, Bool, true, false, cond, eqb, List, [], length, get_or, set, sum_by, ⊎_elim, refl, ap}
-use Rattle.std.proofs.Common.{arith, get_or-set_same, get_or-set_other}
+use Rattle.std.proofs.Common.{◌≡◌, ◌⊎◌, ◌||◌, ◌&&◌, ◌<◌, ◌≤◌, ◌∷◌, ◌∙◌, inl, inr, not, ℕ, Bool, true, false, cond, eqb, List, [], length}
+use Rattle.std.proofs.Common.{get_or, set, sum_by, ⊎_elim, refl, ap, arith, get_or-set_same, get_or-set_other, eq-eqb, ne_eqb}
 use Rattle.std.specs.List.{Contains, concat}
-use Rattle.std.proofs.lemmas.Bool.{cases_eq, cases_lt, eq-eqb, ne_eqb}
+use Rattle.std.proofs.lemmas.Bool.{cases_eq, cases_lt}
 use Rattle.std.proofs.lemmas.List.Elements.{Contains-append_right, Contains-append_cases, Contains-push_cases}
 use Rattle.std.proofs.lemmas.List.Sums.{sum_by-cons, sum_by-append}
 use Rattle.cards.specs.Cards.{Cards, is_dirty, times_in, ListsDirtyOnce, entered, dirtied}

@@ -1,7 +1,6 @@
 -- A mutator's steps, in the graph and in the heap.
-use Rattle.std.proofs.Common.{◌≡◌, ◌<◌, ◌≤◌, ◌-◌, ◌⊎◌, ◌∷◌, ◌++◌, ◌∙◌}
-use Rattle.std.proofs.Common.{ℕ, [], length, Option, Some, None, refl, sym, ap, subst, inl, inr, arith}
-use Rattle.std.specs.Prelude.{slice_set, slice_get}
+use Rattle.std.proofs.Common.{◌≡◌, ◌<◌, ◌≤◌, ◌-◌, ◌⊎◌, ◌∷◌, ◌++◌, ◌∙◌, ℕ, [], length, Option, Some, None, refl, sym, ap, subst, inl, inr}
+use Rattle.std.proofs.Common.{arith, slice_set, slice_get}
 use Rattle.std.specs.List.{AllZip}
 use Rattle.std.proofs.lemmas.Bool.{cases_eq, cases_lt}
 use Rattle.heap_model.specs.Graph.{Graph, Object, object_named, next_name, with_root, with_object, with_changed}
@@ -48,9 +47,8 @@ rooted_same g j n v = refl
 shown_in : (h h' : Heap) → ((a : ℕ) (x : Stored) → h.kept a ≡ Some x → (y : Stored) × (h'.kept a ≡ Some y) × (y.name ≡ x.name))
     → (w v : Option ℕ) → IsShown h w v → IsShown h' w v
 shown_in h h' f None None s = tt
-shown_in h h' f None (Some n) s = absurd s
-shown_in h h' f (Some a) None s = absurd s
 shown_in h h' f (Some a) (Some n) s = let (y, at, named) = f a s.0 s.1 in (y, at, named ∙ s.2)
+shown_in h h' f _ _ s = absurd s
 
 module _ (g : Graph) (h h' : Heap) (shows : Shows g h) where
   module _ (place : ℕ) (w v : Option ℕ) (shown : IsShown h w v) (step : RootSet h h' place w) where

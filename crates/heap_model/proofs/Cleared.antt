@@ -1,9 +1,8 @@
 -- The clearing of weak slots at the end of marking.
-use Rattle.std.proofs.Common.{◌≡◌, ◌-◌, ◌<◌, ◌≤◌, ◌⊎◌, ◌∷◌, ◌∙◌}
-use Rattle.std.proofs.Common.{ℕ, zero, suc, Bool, true, false, List, [], Option, Some, None, refl, sym, ap, subst, inl, inr, arith}
-use Rattle.std.specs.Prelude.{slice_get, map}
+use Rattle.std.proofs.Common.{◌≡◌, ◌-◌, ◌<◌, ◌≤◌, ◌⊎◌, ◌∷◌, ◌∙◌, ℕ, zero, suc, Bool, true, false, List, [], Option, Some, None, refl, sym}
+use Rattle.std.proofs.Common.{ap, subst, inl, inr, arith, slice_get, map, lt-ltb}
 use Rattle.std.specs.List.{AllZip}
-use Rattle.std.proofs.lemmas.Bool.{cases_eq, cases_lt, lt-ltb}
+use Rattle.std.proofs.lemmas.Bool.{cases_eq, cases_lt}
 use Rattle.heap_model.specs.Graph.{Graph, Object, object_named, next_name, IsReachable, FromRoot, FromObject}
 use Rattle.heap_model.specs.Heap.{Heap, Stored, IsShown, IsObjectShown, Shows}
 use Rattle.heap_model.specs.Marking.{Marking, IsFound, ByRoot, KeepsSnapshot, IsDone, kept_after}
@@ -68,9 +67,8 @@ module _ (s g g' : Graph) (h : Heap) (m : Marking) (i : KeepsSnapshot s h m) (do
   shown_after : (w v : Option ℕ) → ((a : ℕ) → w ≡ Some a → IsFound (IsReachable s) h m a) → IsShown h w v → IsShown after w v
   unfolding after
   shown_after None None f z = tt
-  shown_after None (Some n) f z = absurd z
-  shown_after (Some a) None f z = absurd z
   shown_after (Some a) (Some n) f z = (cleared m z.0, cleared_is h m a z.0 (found_kept s g h m i done shows a z.0 z.1 (f a refl)), z.2)
+  shown_after _ _ f z = absurd z
 
   -- an old target that isn't to be marked is unmarked
   unmarked : (a : ℕ) (x : Stored) → h.kept a ≡ Some x → (IsReachable s x.name → ⊥) → m.marked a ≡ false
@@ -93,8 +91,6 @@ module _ (s g g' : Graph) (h : Heap) (m : Marking) (i : KeepsSnapshot s h m) (do
   unfolding after
   weak_after None None None z q = tt
   weak_after None None (Some k) z q = absurd q
-  weak_after None (Some n) v' z q = absurd z
-  weak_after (Some a) None v' z q = absurd z
   weak_after (Some a) (Some n) None z q =
       let old = is_old a z.0 z.1 (subst (λ k. k < next_name s) (sym z.2) q.0) in
       let un = unmarked a z.0 z.1 (λ r. q.1 (subst (IsReachable s) z.2 r)) in
@@ -112,6 +108,7 @@ module _ (s g g' : Graph) (h : Heap) (m : Marking) (i : KeepsSnapshot s h m) (do
             let is = cleared_is h m a z.0 (new_kept a z.0 z.1 new) in
             rw new (cleared m z.0, is, z.2 ∙ sym q.0)
       ]
+  weak_after _ _ v' z q = absurd z
 
   weaks_after : (ws vs vs' : List (Option ℕ)) → AllZip (IsShown h) ws vs → AllZip (IsClearedSlot s) vs vs'
       → AllZip (IsShown after) (map (cleared_word m) ws) vs'
@@ -201,13 +198,12 @@ module _ (s : Graph) (k : ℕ) (count : IsReachableCount s k) where
 
 module _ (s : Graph) where
   slot_once : (v a b : Option ℕ) → IsClearedSlot s v a → IsClearedSlot s v b → a ≡ b
-  slot_once None None None p q = refl
   slot_once None None (Some k) p q = absurd q
   slot_once None (Some k) b p q = absurd p
-  slot_once (Some n) None None p q = refl
   slot_once (Some n) None (Some k) p q = absurd (elim q.1 [ inl r ↦ p.1 r | inr above ↦ let below = p.0 in omega arith ])
   slot_once (Some n) (Some k) None p q = absurd (elim p.1 [ inl r ↦ q.1 r | inr above ↦ let below = q.0 in omega arith ])
   slot_once (Some n) (Some k) (Some l) p q = ap Some (p.0 ∙ sym q.0)
+  slot_once _ None None p q = refl
 
   slots_once : (vs us ws : List (Option ℕ)) → AllZip (IsClearedSlot s) vs us → AllZip (IsClearedSlot s) vs ws → us ≡ ws
   slots_once [] [] [] p q = refl

@@ -1,7 +1,6 @@
 -- The turns of the copying.
-use Rattle.std.proofs.Common.{◌≡◌, ◌⊎◌, ◌↔◌, ◌∷◌, ◌∙◌}
-use Rattle.std.proofs.Common.{ℕ, zero, suc, Bool, true, false, List, [], length, Option, Some, None, refl, sym, ap, subst, inl, inr}
-use Rattle.std.specs.Prelude.{slice_set, slice_get}
+use Rattle.std.proofs.Common.{◌≡◌, ◌⊎◌, ◌↔◌, ◌∷◌, ◌∙◌, ℕ, zero, suc, Bool, true, false, List, [], length, Option, Some, None, refl, sym, ap}
+use Rattle.std.proofs.Common.{subst, inl, inr, slice_set, slice_get}
 use Rattle.std.specs.List.{AllZip}
 use Rattle.std.proofs.lemmas.Bool.{cases_eq}
 use Rattle.heap_model.specs.Heap.{Heap, Stored, fields, HasField, IsRoot, IsClosed, RootSet, ObjectSet}
@@ -22,11 +21,10 @@ clean_moved : (set : ℕ → Bool) (forward : ℕ → Option ℕ) (w w' : Option
     → IsWord (place_after set forward) w w' → IsMoved (place_after set forward) w w'
 clean_moved set forward w w' clean (inr m) = m
 clean_moved set forward None None clean (inl e) = tt
-clean_moved set forward None (Some b) clean (inl e) = cc
-clean_moved set forward (Some a) None clean (inl e) = cc
 clean_moved set forward (Some a) (Some b) clean (inl e) =
     let same : a ≡ b = cc in
     rw same (placed_outside set forward b (clean b refl))
+clean_moved set forward _ _ clean (inl e) = cc
 
 -- nothing is there at the start
 pub start : (set : ℕ → Bool) (h : Heap) → IsEvacuating set h (λ a. None) h
@@ -247,9 +245,8 @@ module _ (set : ℕ → Bool) (h : Heap) (forward : ℕ → Option ℕ) (now : H
     word_grows : (w w' : Option ℕ) → IsWord (place_after set forward) w w' → IsWord (place_after set forward') w w'
     word_grows w w' (inl e) = inl e
     word_grows None None (inr m) = inr tt
-    word_grows None (Some d) (inr m) = absurd m
-    word_grows (Some c) None (inr m) = absurd m
     word_grows (Some c) (Some d) (inr m) = inr (grows c d m)
+    word_grows _ _ (inr m) = absurd m
 
     same_words : (ws : List (Option ℕ)) → AllZip (IsWord (place_after set forward')) ws ws
     same_words [] = tt

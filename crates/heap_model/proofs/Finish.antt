@@ -1,6 +1,5 @@
 -- The end of marking.
-use Rattle.std.proofs.Common.{◌≡◌, ℕ, ◌≤◌, ◌⊎◌, true, false, Some, refl, sym, ap, ◌∙◌, subst, inl, inr, arith}
-use Rattle.std.specs.Prelude.{slice_get}
+use Rattle.std.proofs.Common.{◌≡◌, ℕ, ◌≤◌, ◌⊎◌, true, false, Some, refl, sym, ap, ◌∙◌, subst, inl, inr, arith, slice_get}
 use Rattle.heap_model.specs.Graph.{Graph, next_name, IsReachable}
 use Rattle.heap_model.specs.Heap.{Heap, Stored, Shows}
 use Rattle.heap_model.specs.Marking.{Marking, Pending, FromGrey, FromLogged, Through, IsFound, ByLive, ByNew, KeepsSnapshot, IsDone}

@@ -21,11 +21,10 @@ moved_to place a (Some b) s = (b, refl, s)
 module _ (place : ℕ → Option ℕ) (g : Graph) (h h' : Heap) (shows : Shows g h) (r : Relocates place h h') where
   shown_moved : (w v w' : Option ℕ) → IsShown h w v → IsMoved place w w' → IsShown h' w' v
   shown_moved None None None s t = tt
-  shown_moved None None (Some b) s t = absurd t
   shown_moved None (Some n) w' s t = absurd s
   shown_moved (Some a) None w' s t = absurd s
-  shown_moved (Some a) (Some n) None s t = absurd t
   shown_moved (Some a) (Some n) (Some b) s t = let c = r.kept a b s.0 s.1 t in (c.copy, c.at, c.name ∙ s.2)
+  shown_moved _ _ _ s t = absurd t
 
   -- the copy that is at b, and the object that it came from
   pub record Origin (b : ℕ) (y : Stored) : Type 0 where

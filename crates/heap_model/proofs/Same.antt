@@ -1,6 +1,5 @@
 -- The invariant reads heaps and marking at each address alone.
-use Rattle.std.proofs.Common.{ℕ, refl, sym, ap, ◌∙◌, inl, inr}
-use Rattle.std.specs.Prelude.{slice_get}
+use Rattle.std.proofs.Common.{ℕ, refl, sym, ap, ◌∙◌, inl, inr, slice_get}
 use Rattle.heap_model.specs.Heap.{Heap, Points, SameHeap}
 use Rattle.heap_model.specs.Marking.{Marking, MarkingInvariant, IsFound, ByRoot, ByLive, ByNew, SameMarking}
 use Rattle.heap_model.proofs.Advance.{invariant_after}

@@ -1,6 +1,5 @@
 -- What the heap shows of the graph.
-use Rattle.std.proofs.Common.{◌≡◌, ℕ, Option, Some, None, refl, sym, ap, ◌∙◌}
-use Rattle.std.specs.Prelude.{slice_get}
+use Rattle.std.proofs.Common.{◌≡◌, ℕ, Option, Some, None, refl, sym, ap, ◌∙◌, slice_get}
 use Rattle.heap_model.specs.Graph.{Graph, Object, object_named, object_fields, IsReachable, FromRoot, FromObject}
 use Rattle.std.specs.List.{AllZip}
 use Rattle.heap_model.specs.Heap.{Heap, Stored, Points, IsRoot, IsShown, IsObjectShown, Shows, StandsOnce, IsClosed, fields}

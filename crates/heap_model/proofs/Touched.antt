@@ -1,6 +1,5 @@
 -- What a mutator reads from a weak slot while marking runs: its target is saved, its name touched.
-use Rattle.std.proofs.Common.{◌≡◌, ℕ, ◌<◌, ◌≤◌, ◌⊎◌, true, Option, Some, None, refl, sym, ap, ◌∙◌, subst, inl, inr, arith}
-use Rattle.std.specs.Prelude.{slice_get}
+use Rattle.std.proofs.Common.{◌≡◌, ℕ, ◌<◌, ◌≤◌, ◌⊎◌, true, Option, Some, None, refl, sym, ap, ◌∙◌, subst, inl, inr, arith, slice_get}
 use Rattle.heap_model.specs.Graph.{Graph, Object, object_named, next_name, IsReachable, FromRoot, FromObject}
 use Rattle.heap_model.specs.Heap.{Heap, Stored, Points, IsShown, Shows, RootSet}
 use Rattle.heap_model.specs.Marking.{Marking, Pending, FromGrey, FromLogged, Through, WillBeMarked, IsOldLive, IsFound, ByRoot, ByLive}
@@ -16,9 +15,8 @@ use Rattle.heap_model.proofs.Unreached.{sound_reaches}
 shown_target : (h : Heap) (w v : Option ℕ) (k : ℕ) → IsShown h w v → v ≡ Some k
     → (a : ℕ) × (w ≡ Some a) × (x : Stored) × (h.kept a ≡ Some x) × (x.name ≡ k)
 shown_target h None None k sh e = cc
-shown_target h None (Some n) k sh e = absurd sh
-shown_target h (Some a) None k sh e = absurd sh
 shown_target h (Some a) (Some n) k sh e = (a, refl, sh.0, sh.1, sh.2 ∙ (let q : n ≡ k = cc in q))
+shown_target h _ _ k sh e = absurd sh
 
 -- the two that follow are over plain variables: in a proof with a whole heap in scope a tactic reads all of it
 same_some : {A : Type 0} (m : Option A) (x y : A) → m ≡ Some x → m ≡ Some y → x ≡ y

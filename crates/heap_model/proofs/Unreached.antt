@@ -1,8 +1,7 @@
 -- Names below the next one, and pointers that stay as they were in the snapshot: laws of graphs alone.
-use Rattle.std.proofs.Common.{◌≡◌, ◌<◌, ◌≤◌, ◌-◌, ◌⊎◌, ◌∷◌, ◌∙◌}
-use Rattle.std.proofs.Common.{ℕ, zero, suc, List, false, Option, Some, None, refl, sym, ap, subst, inl, inr, arith}
-use Rattle.std.specs.Prelude.{slice_get}
-use Rattle.std.proofs.lemmas.Bool.{cases_eq, cases_lt, lt-ltb, ltb-true}
+use Rattle.std.proofs.Common.{◌≡◌, ◌<◌, ◌≤◌, ◌-◌, ◌⊎◌, ◌∷◌, ◌∙◌, ℕ, zero, suc, List, false, Option, Some, None, refl, sym, ap, subst, inl}
+use Rattle.std.proofs.Common.{inr, arith, slice_get, lt-ltb, ltb-true}
+use Rattle.std.proofs.lemmas.Bool.{cases_eq, cases_lt}
 use Rattle.std.proofs.Math.Dec.{ltb}
 use Rattle.heap_model.specs.Graph.{Graph, Object, object_named, object_fields, next_name, IsReachable, FromRoot, FromObject, IsSound}
 use Rattle.heap_model.specs.Graph.{with_root, with_object, with_changed}
@@ -103,10 +102,9 @@ touched_sound s (Some n) k = elim (touched_cases s n) [
 
 -- a slot that is cleared holds what it held, or nil
 slot_was : (s : Graph) (v v' : Option ℕ) (k : ℕ) → IsClearedSlot s v v' → v' ≡ Some k → v ≡ Some k
-slot_was s None None k c e = cc
 slot_was s None (Some l) k c e = absurd c
-slot_was s (Some n) None k c e = cc
 slot_was s (Some n) (Some l) k c e = let same = c.0 in cc
+slot_was s _ None k c e = cc
 
 pub cleared_sound : (s g g' : Graph) → Clears s g g' → IsSound g → IsSound g'
 cleared_sound s g g' c k =

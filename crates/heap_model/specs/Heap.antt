@@ -29,9 +29,8 @@ pub record Heap : Type 0 where
 -- the word is nil where the value is nil, else it is where a kept object of that name is
 abbrev pub IsShown : Heap → Option ℕ → Option ℕ → Type 0
 IsShown h None None = ⊤
-IsShown h None (Some n) = ⊥
-IsShown h (Some a) None = ⊥
 IsShown h (Some a) (Some n) = (x : Stored) × (h.kept a ≡ Some x) × (x.name ≡ n)
+IsShown h _ _ = ⊥
 
 -- the stored object has the contents that the graph gives its name
 pub record IsObjectShown (g : Graph) (h : Heap) (x : Stored) : Type 0 where

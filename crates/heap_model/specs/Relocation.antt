@@ -7,9 +7,8 @@ use Rattle.heap_model.specs.Marking.{Marking}
 -- the word after the move: where `place` puts its target
 abbrev pub IsMoved : (ℕ → Option ℕ) → Option ℕ → Option ℕ → Type 0
 IsMoved place None None = ⊤
-IsMoved place None (Some b) = ⊥
-IsMoved place (Some a) None = ⊥
 IsMoved place (Some a) (Some b) = place a ≡ Some b
+IsMoved place _ _ = ⊥
 
 -- at b is what x became: the same, but that its fields name the new places
 pub record IsCopy (place : ℕ → Option ℕ) (h' : Heap) (x : Stored) (b : ℕ) : Type 0 where

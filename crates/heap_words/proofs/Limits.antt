@@ -1,6 +1,5 @@
 -- What is known of sizes that suit: the limits of all formats, and that a region is a whole number of cards.
-use Rattle.std.proofs.Common.{◌≡◌, ℕ, ◌*◌, ◌/◌, ◌≤◌, ◌<◌, ◌+◌, zero, suc, refl, subst, ◌∙◌, arith, inl, inr}
-use Rattle.std.specs.Prelude.{◌%◌, IsTrue, count_ones}
+use Rattle.std.proofs.Common.{◌≡◌, ℕ, ◌*◌, ◌/◌, ◌≤◌, ◌<◌, ◌+◌, zero, suc, refl, subst, ◌∙◌, arith, inl, inr, ◌%◌, IsTrue, count_ones}
 use Rattle.std.specs.Int.{is_power_of_two}
 use Rattle.std.proofs.lemmas.Nat.{zero_from_ones}
 use Rattle.std.proofs.lemmas.Bool.{cases_eq}
@@ -11,8 +10,8 @@ use lib.Count.{ones_step}
 use Rattle.heap_words.specs.declared.config.Config.{Config}
 use Rattle.heap_words.specs.declared.config.Format.{Format}
 use Rattle.heap_words.specs.declared.config.Format.TheVariants.{V1, V2, V3}
-use Rattle.heap_words.specs.Configs.{max_region_words, max_words, max_mutators, region_limit, heap_limit, mutator_limit}
-use Rattle.heap_words.specs.Configs.{card_words, card_limit, Suits}
+use Rattle.heap_words.specs.Configs.{max_region_words, max_words, max_mutators, region_limit, heap_limit, mutator_limit, card_words}
+use Rattle.heap_words.specs.Configs.{card_limit, Suits}
 
 below_limits : (f : Format) → (region_limit f ≤ max_region_words) × (heap_limit f ≤ max_words)
 below_limits V1 = (omega arith, omega arith)

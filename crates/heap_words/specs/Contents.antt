@@ -18,20 +18,16 @@ counts_of (Some (headers.Forwarded to)) = None
 
 -- how many pointers a header's object has
 abbrev pub pointer_count : Option Header → ℕ
-pointer_count None = 0
 pointer_count (Some (headers.Object p w d)) = p
-pointer_count (Some (headers.Filler n)) = 0
-pointer_count (Some (headers.Forwarded to)) = 0
+pointer_count _ = 0
 
 abbrev pub pointer_count_at : List ℕ → ℕ → ℕ
 pointer_count_at words at = pointer_count (header_at words at)
 
 -- how many fields it has: pointers, and weak slots behind them
 abbrev pub field_count : Option Header → ℕ
-field_count None = 0
 field_count (Some (headers.Object p w d)) = p + w
-field_count (Some (headers.Filler n)) = 0
-field_count (Some (headers.Forwarded to)) = 0
+field_count _ = 0
 
 abbrev pub field_count_at : List ℕ → ℕ → ℕ
 field_count_at words at = field_count (header_at words at)

@@ -13,9 +13,8 @@ use Rattle.mark_bitmap.proofs.Ranges.{below_set_other}
 
 none_either_way : (object : Option Stored) (below marked : Bool) → object ≡ None
     → (if below then (if marked then object else None) else object) ≡ None
-none_either_way object true true e = e
 none_either_way object true false e = refl
-none_either_way object false marked e = e
+none_either_way object _ _ e = e
 
 pub gone_kept : (t t' : Table) (tops tops' : Tops) (previous previous' : List Bool) (gone : ℕ → Bool)
     → ((a : ℕ) → object_at t' a ≡ (if gone a then None else object_at t a))

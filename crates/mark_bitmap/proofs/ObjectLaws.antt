@@ -1,9 +1,8 @@
 -- What keeps marks at objects, and tops at mark start in their regions.
-use Rattle.regions.proofs.Common.{◌≡◌, ◌≢◌, ◌*◌, ◌<◌, ◌≤◌, ◌∙◌, inl, inr, ℕ, suc, Bool, true, false, List, Some, length, get_or, set}
-use Rattle.regions.proofs.Common.{replicate, ltb, sym, ap, arith, ⊎_elim, get_or-set_same, get_or-set_other, length-set, not, and_parts}
-use Rattle.regions.proofs.Common.{cases_lt, cases_eq, cases_Bool, ltb-true, lt-ltb, get_or-replicate, length-replicate, get_or_past}
-use Rattle.regions.proofs.Common.{length-map-range_with_len, get_or-map-range_with_len, mul-le, Stored, Table, Free, free_table, object_at}
-use Rattle.regions.proofs.Common.{top_of, used_of}
+use Rattle.regions.proofs.Common.{length-map-range_with_len, get_or-map-range_with_len, get_or-set_other, get_or-replicate, get_or-set_same}
+use Rattle.regions.proofs.Common.{length-replicate, get_or_past, length-set, cases_Bool, free_table, replicate, and_parts, object_at, false}
+use Rattle.regions.proofs.Common.{cases_lt, cases_eq, ltb-true, used_of, length, get_or, ⊎_elim, lt-ltb, mul-le, Stored, top_of, arith, ◌≡◌}
+use Rattle.regions.proofs.Common.{Table, Bool, true, List, Some, Free, ◌≢◌, ◌*◌, ◌<◌, ◌≤◌, ◌∙◌, inl, inr, suc, set, ltb, sym, not, ap, ℕ}
 use Rattle.mark_bitmap.specs.Marks.{is_marked, is_only}
 use Rattle.mark_bitmap.specs.Tops.{bottoms, is_in_region, is_below}
 use Rattle.mark_bitmap.specs.Kept.{MarksObjects}

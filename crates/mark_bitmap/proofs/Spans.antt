@@ -1,14 +1,13 @@
 -- Where the objects of an ordinary region end, and that none starts within another.
-use Rattle.regions.proofs.Common.{◌≡◌, ◌⊎◌, ◌+◌, ◌-◌, ◌*◌, ◌/◌, ◌%◌, ◌<◌, ◌≤◌, ◌∷◌, ◌∙◌, inl, inr, ℕ, zero, suc, Option, Some, None, List}
-use Rattle.regions.proofs.Common.{[], get_or, refl, sym, ap, arith, le-leb, leb_tells, Stored, Tile, Object, tile_size, total_size, tile_at}
-use Rattle.regions.proofs.Common.{Table, Region, Free, Ordinary, First, Rest, region_tile, region_at, nth_region, region_kind, kind_of}
-use Rattle.regions.proofs.Common.{region_used, used_of, top_of, tile_in, tile_object, object_at, stored_size, region_tiles, tiles_of}
-use Rattle.regions.proofs.Common.{IsShaped}
-use Rattle.regions.specs.declared.row.Kind.TheVariants as kinds
+use Rattle.regions.proofs.Common.{region_tiles, region_tile, region_kind, region_used, tile_object, stored_size, total_size, nth_region, []}
+use Rattle.regions.proofs.Common.{leb_tells, tile_size, region_at, object_at, Ordinary, tiles_of, IsShaped, tile_at, kind_of, used_of, zero}
+use Rattle.regions.proofs.Common.{tile_in, Option, get_or, le-leb, Stored, Object, Region, top_of, arith, Table, First, Some, None, List, ℕ}
+use Rattle.regions.proofs.Common.{refl, Tile, Free, Rest, ◌≡◌, ◌⊎◌, ◌+◌, ◌-◌, ◌*◌, ◌/◌, ◌%◌, ◌<◌, ◌≤◌, ◌∷◌, ◌∙◌, inl, inr, suc, sym, ap}
 use Rattle.regions.proofs.Tiles.Laws.{object_tile}
 use Rattle.regions.proofs.Words.Parse.{past}
 use Rattle.regions.proofs.Tiles.Placing.{tile_at-end}
 use Rattle.mark_bitmap.proofs.Ranges.{div_is}
+use Rattle.regions.specs.declared.row.Kind.TheVariants as kinds
 
 -- no tile starts within another
 none_inside : (ts : List Tile) (o p : ℕ) (u : Tile) → tile_at o ts ≡ Some u → o < p → p < o + tile_size u → tile_at p ts ≡ None

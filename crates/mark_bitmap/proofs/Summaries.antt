@@ -1,8 +1,7 @@
 -- Sets with a summary above them.
-use Rattle.regions.proofs.Common.{◌≡◌, ◌≢◌, ◌+◌, ◌*◌, ◌/◌, ◌<◌, ◌∙◌, ℕ, Bool, true, false, List, length, set, replicate, refl, sym, ap}
-use Rattle.regions.proofs.Common.{arith, ⊎_elim, Option, Some, None, get_or-set_same, get_or-set_other, length-set, MatchOption, IfSome}
-use Rattle.regions.proofs.Common.{IsSome, cases_eq, cases_lt, get_or-replicate, length-replicate, has, HasNone, HasNoneBelow, IsLowest}
-use Rattle.regions.proofs.Common.{div_ceil}
+use Rattle.regions.proofs.Common.{get_or-set_other, get_or-replicate, length-replicate, get_or-set_same, HasNoneBelow, MatchOption, HasNone}
+use Rattle.regions.proofs.Common.{length-set, replicate, cases_eq, cases_lt, IsLowest, div_ceil, length, ⊎_elim, Option, IfSome, IsSome, ap}
+use Rattle.regions.proofs.Common.{false, arith, Bool, true, List, refl, Some, None, ◌≡◌, ◌≢◌, ◌+◌, ◌*◌, ◌/◌, ◌<◌, ◌∙◌, set, sym, has, ℕ}
 use Rattle.bit_sets.proofs.BitWords.{has_past}
 use Rattle.mark_bitmap.specs.Summary.{HasMember, HasNoMember, IsMember, IsSummary, AreLevels}
 

@@ -1,35 +1,30 @@
 -- Tables that tests build: each pointer leads to an object.
-use Rattle.regions.proofs.Common.{◌≡◌, ◌≢◌, ◌+◌, ◌-◌, ◌*◌, ◌/◌, ◌%◌, ◌<◌, ◌≤◌, ◌∷◌, ◌++◌, ◌∙◌, inl, inr, ℕ, zero, suc, true, false, List}
-use Rattle.regions.proofs.Common.{[], Option, Some, None, length, get_or, set, replicate, refl, sym, ap, subst, arith, get_or-set_same}
-use Rattle.regions.proofs.Common.{get_or-set_other, length-set, slice_get, IsSome, cases_lt, cases_eq, leb_tells, get_or-replicate}
-use Rattle.regions.proofs.Common.{length-replicate, get_or_past, slice_get_within, slice_get_read, get_or_from_slice_get, Stored, fields}
-use Rattle.regions.proofs.Common.{with_field, Tile, Object, Filler, tile_size, tile_at, Region, Free, Table, region_tile, region_at}
-use Rattle.regions.proofs.Common.{tile_in, tile_object, object_at, stored_size, object_words, free_table, taken, first_free, set_field}
-use Rattle.regions.proofs.Common.{push_tile, replace_tile, new_object, remainder, used_of, top_of, kind_of, HasObject, IsShaped, IsHolder}
+use Rattle.regions.proofs.Common.{◌≡◌, ◌+◌, ◌-◌, ◌*◌, ◌/◌, ◌%◌, ◌<◌, ◌≤◌, ◌∷◌, ◌++◌, ◌∙◌, inl, inr, ℕ, zero, suc, true, false, List, []}
+use Rattle.regions.proofs.Common.{Option, Some, None, length, get_or, set, refl, sym, ap, subst, arith, get_or-set_same, get_or-set_other}
+use Rattle.regions.proofs.Common.{length-set, slice_get, cases_eq, length-replicate, slice_get_within, slice_get_read}
+use Rattle.regions.proofs.Common.{get_or_from_slice_get, Stored, fields, with_field, Object, Filler, Region, Free, Table, region_tile}
+use Rattle.regions.proofs.Common.{region_at, tile_in, tile_object, object_at, stored_size, object_words, free_table, taken, first_free}
+use Rattle.regions.proofs.Common.{set_field, push_tile, replace_tile, new_object, remainder, used_of, top_of, kind_of, HasObject, IsShaped}
 use Rattle.heap_model.specs.Heap.{IsClosed}
 use Rattle.heap_model.proofs.Fields.{field_set}
-use Rattle.heap_model.proofs.Lists.{get-set_cases, get-append_cases}
-use Rattle.regions.specs.declared.row.Kind.TheVariants as kinds
+use Rattle.heap_model.proofs.Lists.{get-set_cases}
 use Rattle.regions.proofs.Tiles.Changes.{WritesObject, field_put, field_size, object_same}
-use Rattle.regions.proofs.Tiles.Placing.{region_taken, Pushed, filler_push, Replaces, filler_replaced}
+use Rattle.regions.proofs.Tiles.Placing.{region_taken}
 use Rattle.mark_bitmap.specs.Tops.{is_below, below_previous}
 use Rattle.marker.specs.Views.{heap_of}
 use Rattle.marker.specs.Stands.{IsKept, CanFollow, MarkerStands}
 use Rattle.marking_tests.specs.Samples.{IsLinked, LeadToObjects, KeepsTable}
 use Rattle.marker.specs.declared.marker.Marker.{Marker}
 use Rattle.marker.proofs.Forgotten.{table_stands}
-
-free_region : (n k : ℕ) → get_or (replicate n Free) k Free ≡ Free
-free_region n k = elim (cases_lt k n) [
-  | inl h ↦ get_or-replicate n k Free Free h
-  | inr h ↦ get_or_past (replicate n Free) k Free (omega (arith, h, length-replicate {A = Region} n Free))
-]
+use Rattle.regions.proofs.LongRuns.RunLaws.{frees}
+use Rattle.regions.proofs.Tiles.Made.{IsMade, nil_fields, object_made}
+use Rattle.regions.specs.declared.row.Kind.TheVariants as kinds
 
 pub free_linked : (t : Table) (count size : ℕ) → t ≡ free_table count size → IsLinked t
 unfolding object_at tile_in region_at free_table
 free_linked t count size e a i b x o f =
     let none : object_at t a ≡ None =
-    ap (λ (u : Table). object_at u a) e ∙ ap (λ (r : Region). tile_object (region_tile r (a % size))) (free_region count (a / size)) in
+    ap (λ (u : Table). object_at u a) e ∙ ap (λ (r : Region). tile_object (region_tile r (a % size))) (frees count (a / size)) in
     absurd (cc)
 
 pub free_size : (t : Table) (count size : ℕ) → t ≡ free_table count size → (length t.regions ≡ count) × (t.words_per_region ≡ size)
@@ -125,15 +120,6 @@ module _ (t : Table) (x i b : ℕ) (z : 0 < t.words_per_region) (from : HasObjec
         words = link_words;
       })
 
-nil_alone : (n i b : ℕ) → slice_get (replicate n None) i ≡ Some (Some b) → ⊥
-nil_alone n i b e =
-    let inside : i < n =
-    let h = slice_get_within (replicate n None) i (Some b) e in
-    omega (arith, h, length-replicate {A = Option ℕ} n None) in
-    let read : get_or (replicate n None) i None ≡ Some b = get_or_from_slice_get (replicate n None) i (Some b) None e in
-    let none : get_or (replicate n None) i None ≡ None = get_or-replicate {A = Option ℕ} n i None None inside in
-    cc
-
 pub set_leads : (t : Table) (words : List (Option ℕ)) (k a : ℕ) → LeadToObjects t words → HasObject t a
     → LeadToObjects t (set words k (Some a))
 set_leads t words k a l h i b e =
@@ -161,108 +147,40 @@ linked_closed t roots m linked leads none =
       field = λ b i a y e f. let h = linked b i a y (sym (kept b) ∙ e) f in (h.object, kept a ∙ h.is);
     }
 
-nil_fields : (name n weak i b : ℕ) → slice_get (fields (new_object name n weak 0)) i ≡ Some (Some b) → ⊥
-nil_fields name n weak i b e = elim (get-append_cases (replicate n None) (replicate weak None) i (Some b) e) [
-  | inl q ↦ nil_alone n i b q
-  | inr q ↦ nil_alone weak q.0 b q.1
-]
-
-alone : (t : Tile) (j : ℕ) → 0 < j → tile_at j (t ∷ []) ≡ None
-alone t zero h = absurd (omega arith)
-alone t (suc j) h = elim (leb_tells (tile_size t) (suc j)) [ inl q ↦ rw q.0 refl | inr q ↦ rw q.0 refl ]
-
 -- an object with nil fields is made where a filler was pushed
 module _ (t t' t'' : Table) (k a n p weak name : ℕ) (shape : IsShaped t) (shape' : IsShaped t') (known : k < length t.regions)
     (ordinary : kind_of t k ≡ kinds.Ordinary) (room : used_of t k + n ≤ t.words_per_region) (size : n ≡ 2 + p + weak)
     (at : a ≡ top_of t k) (e : t' ≡ push_tile t k (Filler n))
     (e' : t'' ≡ replace_tile t' a (Object (new_object name p weak 0) ∷ remainder (n - (2 + p + weak + 0)))) where
-  abbrev new : Stored
-  new = new_object name p weak 0
-
-  push : Pushed t t' k a (Filler n)
-  push = rw (e, at) (filler_push t k (Filler n) shape.positive shape.fitting known ordinary (omega (arith, size)) room tt)
-
-  whole : n - (2 + p + weak + 0) ≡ 0
-  whole = omega (arith, size)
-
-  words : tile_size (Object new) ≡ n
-  words = omega (arith, size, length-replicate {A = Option ℕ} p None, length-replicate {A = Option ℕ} weak None)
-
-  replaced : Replaces t' t'' a n (Object new ∷ [])
-  replaced =
-      let e2 : t'' ≡ replace_tile t' a (Object new ∷ []) = e' ∙ ap (λ (m : ℕ). replace_tile t' a (Object new ∷ remainder m)) whole in
-      subst (λ (u : Table). Replaces t' u a n (Object new ∷ [])) (sym e2)
-      (filler_replaced t' a n (Object new ∷ []) shape'.positive shape'.fitting push.is (omega (arith, size))
-      (omega (arith, words), tt) (omega (arith, words)) tt)
-
-  here : tile_in t'' a ≡ Some (Object new)
-  here = let z : a + 0 ≡ a = omega arith in ap (tile_in t'') (sym z) ∙ replaced.within 0 (omega (arith, size))
-
-  new_is : object_at t'' a ≡ Some new
-  unfolding object_at
-  new_is = ap tile_object here
-
-  middle : (y : ℕ) → y ≢ a → tile_in t'' y ≡ tile_in t' y
-  middle y apart = elim (cases_lt y a) [
-    | inl low ↦ replaced.others y (inl low)
-    | inr high ↦ elim (cases_lt y (a + n)) [
-      | inl inside ↦
-          let j : ℕ = y - a in
-          let y_is : a + j ≡ y = omega (arith, high) in
-          ap (tile_in t'') (sym y_is) ∙ replaced.within j (omega (arith, high, inside)) ∙ alone (Object new) j (omega (arith, high, apart))
-          ∙ sym (replaced.inside j (omega (arith, high, apart)) (omega (arith, high, inside))) ∙ ap (tile_in t') y_is
-      | inr past ↦ replaced.others y (inr past)
-    ]
-  ]
-
-  -- another object was there before, or there is none
-  other : (y : ℕ) → y ≢ a → object_at t'' y ≡ object_at t y
-  unfolding object_at
-  other y apart = ap tile_object (middle y apart ∙ push.others y apart)
-
-  was : object_at t a ≡ None
-  unfolding object_at
-  was = ap tile_object push.was
+  made : IsMade t t'' a (new_object name p weak 0)
+  made = object_made t t' t'' k a n p weak name shape shape' known ordinary room size at e e'
 
   add_stays : (y : ℕ) → HasObject t y → HasObject t'' y
   add_stays y h = elim (cases_eq y a) [
-    | inl same ↦ absurd (let o = sym (ap (object_at t) same) ∙ h.is in let w = was in cc)
-    | inr apart ↦ record { object = h.object; is = other y apart ∙ h.is }
+    | inl same ↦ absurd (let o = sym (ap (object_at t) same) ∙ h.is in let w = made.was in cc)
+    | inr apart ↦ record { object = h.object; is = made.others y apart ∙ h.is }
   ]
 
   pub add_keeps : KeepsTable t t''
   add_keeps = record {
-    count = replaced.count ∙ push.count;
-    size = replaced.size ∙ push.size;
+    count = made.count;
+    size = made.size;
     linked = λ l y i b x o f. elim (cases_eq y a) [
       | inl same ↦
-          let x_is : x ≡ new = let m = new_is in let o' = sym (ap (object_at t'') same) ∙ o in cc in
+          let x_is : x ≡ new_object name p weak 0 = let m = made.is in let o' = sym (ap (object_at t'') same) ∙ o in cc in
           absurd (nil_fields name p weak i b (ap (λ (q : Stored). slice_get (fields q) i) (sym x_is) ∙ f))
-      | inr apart ↦ add_stays b (l y i b x (sym (other y apart) ∙ o) f)
+      | inr apart ↦ add_stays b (l y i b x (sym (made.others y apart) ∙ o) f)
     ];
-    tops = λ j. top_stays t t'' j (replaced.size ∙ push.size) (elim (cases_eq j k) [
-      | inl same ↦
-          let used = push.used in
-          let now = ap (used_of t') same in
-          let was = ap (used_of t) same in
-          omega (arith, used, now, was, replaced.used j)
-      | inr apart ↦ omega (arith, push.used_others j apart, replaced.used j)
-    ]);
+    tops = λ j. top_stays t t'' j made.size (made.used j);
     stays = add_stays;
     words = λ y h. elim (cases_eq y a) [
-      | inl same ↦ absurd (let o = sym (ap (object_at t) same) ∙ h.is in let none = was in cc)
-      | inr apart ↦ same_size t t'' y y (other y apart)
+      | inl same ↦ absurd (let o = sym (ap (object_at t) same) ∙ h.is in let none = made.was in cc)
+      | inr apart ↦ same_size t t'' y y (made.others y apart)
     ];
   }
 
   pub add_made : HasObject t'' a
-  add_made = record { object = new; is = new_is }
-
-pub add_there : (t t' : Table) (k a n : ℕ) → IsShaped t → k < length t.regions → kind_of t k ≡ kinds.Ordinary
-    → used_of t k + n ≤ t.words_per_region → 0 < n → a ≡ top_of t k
-    → t' ≡ push_tile t k (Filler n) → tile_in t' a ≡ Some (Filler n)
-add_there t t' k a n shape known ordinary room z at e =
-    rw (e, at) (filler_push t k (Filler n) shape.positive shape.fitting known ordinary z room tt).is
+  add_made = record { object = new_object name p weak 0; is = made.is }
 
 pub each_push : (P : ℕ → Type 0) (items : List ℕ) (b : ℕ) → ((i a : ℕ) → slice_get items i ≡ Some a → P a) → P b → (i a : ℕ)
     → slice_get (items ++ b ∷ []) i ≡ Some a → P a
@@ -324,6 +242,3 @@ grown_stands t t' m st linked none k =
           logged_kept = λ a l. kept a (f.logged_kept a l);
           logged_below = λ a l. ap (λ (n : ℕ). is_below n m.tams.next a) k.size ∙ f.logged_below a l;
         }
-
-pub held : (t : Table) (a w : ℕ) → IsHolder t a w → IsSome (tile_in t a)
-held t a w h = rw h.tile_is refl

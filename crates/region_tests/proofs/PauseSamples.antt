@@ -28,8 +28,7 @@ the_row row P p = go
 
 single : (row : LiveRow) (i j : ℕ) (r o : LiveRow) → slice_get (row ∷ []) i ≡ Some r → slice_get (row ∷ []) j ≡ Some o → i ≡ j
 single row zero zero r o e f = refl
-single row zero (suc j) r o e f = absurd cc
-single row (suc i) j r o e f = absurd cc
+single row _ _ r o e f = absurd cc
 
 the_root : (j a : ℕ) → slice_get (Some 0 ∷ []) j ≡ Some (Some a) → 0 ≡ a
 the_root zero a e = cc
@@ -124,10 +123,7 @@ itself_at : (q o : ℕ) (y : Stored)
     → tile_object (region_tile (get_or (Ordinary (Object selfish ∷ []) ∷ Free ∷ Free ∷ Free ∷ []) q Free) o) ≡ Some y
     → (q ≡ 0) × (o ≡ 0) × (selfish ≡ y)
 itself_at zero o y e = let (n, s) = tile_alone selfish o y e in (refl, n, s)
-itself_at (suc zero) o y e = absurd cc
-itself_at (suc (suc zero)) o y e = absurd cc
-itself_at (suc (suc (suc zero))) o y e = absurd cc
-itself_at (suc (suc (suc (suc q)))) o y e = absurd cc
+itself_at (suc _) o y e = absurd cc
 
 itself_only : (a : ℕ) (y : Stored) → object_at itself a ≡ Some y → (a ≡ 0) × (selfish ≡ y)
 unfolding object_at tile_in region_at
@@ -138,9 +134,8 @@ unfolding object_at tile_in region_at
 itself_first = refl
 
 its_target : (i a : ℕ) → slice_get (fields selfish) i ≡ Some (Some a) → (i < 2) × (0 ≡ a)
-its_target zero a e = (omega arith, cc)
-its_target (suc zero) a e = (omega arith, cc)
 its_target (suc (suc i)) a e = absurd cc
+its_target _ a e = (omega arith, cc)
 
 below_none : is_below 16 (bottoms 4 16) 0 ≡ false
 unfolding is_below
@@ -184,9 +179,7 @@ weak_at : (q o : ℕ) (y : Stored) → tile_object (region_tile (get_or (Ordinar
     → ((q ≡ 0) × (o ≡ 0) × (holder (Some 16) ≡ y)) ⊎ ((q ≡ 1) × (o ≡ 0) × (held ≡ y))
 weak_at zero o y e = let (n, s) = tile_alone (holder (Some 16)) o y e in inl (refl, n, s)
 weak_at (suc zero) o y e = let (n, s) = tile_alone held o y e in inr (refl, n, s)
-weak_at (suc (suc zero)) o y e = absurd cc
-weak_at (suc (suc (suc zero))) o y e = absurd cc
-weak_at (suc (suc (suc (suc q)))) o y e = absurd cc
+weak_at (suc (suc _)) o y e = absurd cc
 
 weak_only : (a : ℕ) (y : Stored) → object_at by_weak_slot a ≡ Some y → ((a ≡ 0) × (holder (Some 16) ≡ y)) ⊎ ((a ≡ 16) × (held ≡ y))
 unfolding object_at tile_in region_at

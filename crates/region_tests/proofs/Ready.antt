@@ -1,7 +1,6 @@
 -- A table and buffers that a test places in.
 use Rattle.regions.proofs.Common.{◌≡◌, ℕ, length, sym, ◌∙◌, ap, subst, length-replicate, Table, HasNoForwarded, free_table}
-use Rattle.std.proofs.Common.{Result, Ok, Err}
-use Rattle.std.specs.Prelude.{IfOk, OnErr}
+use Rattle.std.proofs.Common.{Result, Ok, Err, IfOk, OnErr}
 use Rattle.alloc_buffers.specs.Placement.{Buffers, BuffersStand, IsAllocation, closed}
 use Rattle.alloc_buffers.specs.declared.placement.Allocation.{Allocation}
 use Rattle.alloc_buffers.specs.declared.placement.Allocation.TheVariants as allocations

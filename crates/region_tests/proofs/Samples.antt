@@ -1,19 +1,15 @@
 -- Tables that tests build: each pointer leads into a region.
-use Rattle.regions.proofs.Common.{◌≡◌, ◌≢◌, ◌+◌, ◌-◌, ◌*◌, ◌/◌, ◌%◌, ◌<◌, ◌≤◌, ◌∷◌, ◌∙◌, inl, inr, ℕ, zero, suc, Bool, List, [], Option}
-use Rattle.regions.proofs.Common.{Some, None, length, get_or, set, replicate, refl, sym, ap, subst, arith, slice_get, IsSome, IfSome}
-use Rattle.regions.proofs.Common.{cases_lt, cases_eq, leb_tells, get_or-replicate, length-replicate, get_or_past, slice_get_within}
-use Rattle.regions.proofs.Common.{get_or_from_slice_get, Stored, fields, with_field, Tile, Object, Filler, Forwarded, tile_size, tile_at}
-use Rattle.regions.proofs.Common.{Region, Free, First, Table, nth_region, first_run, is_free, with_run, region_tile, region_at, tile_in}
-use Rattle.regions.proofs.Common.{tile_object, object_at, free_table, taken, first_free, set_field, push_tile, replace_tile, new_object}
-use Rattle.regions.proofs.Common.{remainder, used_of, top_of, kind_of, fields_at, IsShaped, tile_shape, IsHolder, Shape}
+use Rattle.regions.proofs.Common.{◌≡◌, ◌+◌, ◌-◌, ◌*◌, ◌/◌, ◌%◌, ◌<◌, ◌≤◌, ◌∷◌, ◌∙◌, inl, inr, ℕ, zero, suc, Bool, List, Option, Some, None}
+use Rattle.regions.proofs.Common.{length, set, refl, sym, ap, subst, arith, slice_get, IsSome, IfSome, cases_eq, length-replicate, Stored}
+use Rattle.regions.proofs.Common.{fields, with_field, Tile, Object, Filler, Region, Free, First, Table, nth_region, first_run, is_free}
+use Rattle.regions.proofs.Common.{with_run, region_tile, region_at, tile_in, tile_object, object_at, free_table, taken, first_free}
+use Rattle.regions.proofs.Common.{set_field, push_tile, replace_tile, new_object, remainder, used_of, top_of, kind_of, fields_at, IsShaped}
+use Rattle.regions.proofs.Common.{tile_shape, Shape}
 use Rattle.std.proofs.lemmas.Nat.{div_below}
 use Rattle.heap_model.proofs.Fields.{field_set}
-use Rattle.heap_model.proofs.Lists.{get-append_cases}
-use Rattle.regions.specs.declared.row.Kind.TheVariants as kinds
-use Rattle.regions.specs.declared.row.Shape.TheVariants as shapes
 use Rattle.regions.proofs.Tiles.Changes.{field_put, object_same}
-use Rattle.regions.proofs.Tiles.Placing.{region_taken, Pushed, filler_push, Replaces, filler_replaced}
-use Rattle.regions.proofs.LongRuns.RunLaws.{TakesRun, run_made, tile_of_region}
+use Rattle.regions.proofs.Tiles.Placing.{region_taken}
+use Rattle.regions.proofs.LongRuns.RunLaws.{TakesRun, run_made, tile_of_region, frees}
 use Rattle.mark_bitmap.specs.Tops.{Tops}
 use Rattle.remembered_sets.specs.Sets.{Sets}
 use Rattle.refinement.specs.Refining.{CanScan}
@@ -21,12 +17,9 @@ use Rattle.region_tests.specs.Samples.{IsSample}
 use Rattle.regions.proofs.Words.Divides.{div_is}
 use Rattle.refinement.proofs.Holders.{field_at, kept_object}
 use Rattle.refinement.proofs.Remembered.{set_here, set_there}
-
-free_region : (n k : ℕ) → get_or (replicate n Free) k Free ≡ Free
-free_region n k = elim (cases_lt k n) [
-  | inl h ↦ get_or-replicate n k Free Free h
-  | inr h ↦ get_or_past (replicate n Free) k Free (omega (arith, h, length-replicate {A = Region} n Free))
-]
+use Rattle.regions.proofs.Tiles.Made.{nil_fields, object_made}
+use Rattle.regions.specs.declared.row.Kind.TheVariants as kinds
+use Rattle.regions.specs.declared.row.Shape.TheVariants as shapes
 
 pub free_sample : (t : Table) → t ≡ free_table 4 16 → IsSample t
 unfolding object_at tile_in region_at free_table
@@ -35,7 +28,7 @@ free_sample t e = record {
   words = ap (λ (u : Table). u.words_per_region) e;
   inside = λ a i b x o f.
       let none : object_at t a ≡ None =
-      ap (λ (u : Table). object_at u a) e ∙ ap (λ (r : Region). tile_object (region_tile r (a % 16))) (free_region 4 (a / 16)) in
+      ap (λ (u : Table). object_at u a) e ∙ ap (λ (r : Region). tile_object (region_tile r (a % 16))) (frees 4 (a / 16)) in
       absurd (cc);
 }
 
@@ -85,94 +78,24 @@ link_sample t t' a i b z known small e s =
       ]);
     })
 
-nil_alone : (n i b : ℕ) → slice_get (replicate n None) i ≡ Some (Some b) → ⊥
-nil_alone n i b e =
-    let inside : i < n =
-    let h = slice_get_within (replicate n None) i (Some b) e in
-    omega (arith, h, length-replicate {A = Option ℕ} n None) in
-    let read : get_or (replicate n None) i None ≡ Some b = get_or_from_slice_get (replicate n None) i (Some b) None e in
-    let none : get_or (replicate n None) i None ≡ None = get_or-replicate {A = Option ℕ} n i None None inside in
-    cc
-
-nil_fields : (name n weak i b : ℕ) → slice_get (fields (new_object name n weak 0)) i ≡ Some (Some b) → ⊥
-nil_fields name n weak i b e = elim (get-append_cases (replicate n None) (replicate weak None) i (Some b) e) [
-  | inl q ↦ nil_alone n i b q
-  | inr q ↦ nil_alone weak q.0 b q.1
-]
-
-alone : (t : Tile) (j : ℕ) → 0 < j → tile_at j (t ∷ []) ≡ None
-alone t zero h = absurd (omega arith)
-alone t (suc j) h = elim (leb_tells (tile_size t) (suc j)) [ inl q ↦ rw q.0 refl | inr q ↦ rw q.0 refl ]
-
 -- an object with nil fields is made where a filler was pushed
 module _ (t t' t'' : Table) (k a n p weak name : ℕ) (shape : IsShaped t) (shape' : IsShaped t') (known : k < length t.regions)
     (ordinary : kind_of t k ≡ kinds.Ordinary) (room : used_of t k + n ≤ t.words_per_region) (size : n ≡ 2 + p + weak)
     (at : a ≡ top_of t k) (e : t' ≡ push_tile t k (Filler n))
     (e' : t'' ≡ replace_tile t' a (Object (new_object name p weak 0) ∷ remainder (n - (2 + p + weak + 0)))) where
-  abbrev new : Stored
-  new = new_object name p weak 0
-
-  push : Pushed t t' k a (Filler n)
-  push = rw (e, at) (filler_push t k (Filler n) shape.positive shape.fitting known ordinary (omega (arith, size)) room tt)
-
-  whole : n - (2 + p + weak + 0) ≡ 0
-  whole = omega (arith, size)
-
-  words : tile_size (Object new) ≡ n
-  words = omega (arith, size, length-replicate {A = Option ℕ} p None, length-replicate {A = Option ℕ} weak None)
-
-  replaced : Replaces t' t'' a n (Object new ∷ [])
-  replaced =
-      let e2 : t'' ≡ replace_tile t' a (Object new ∷ []) = e' ∙ ap (λ (m : ℕ). replace_tile t' a (Object new ∷ remainder m)) whole in
-      subst (λ (u : Table). Replaces t' u a n (Object new ∷ [])) (sym e2)
-      (filler_replaced t' a n (Object new ∷ []) shape'.positive shape'.fitting push.is (omega (arith, size))
-      (omega (arith, words), tt) (omega (arith, words)) tt)
-
-  here : tile_in t'' a ≡ Some (Object new)
-  here = let z : a + 0 ≡ a = omega arith in ap (tile_in t'') (sym z) ∙ replaced.within 0 (omega (arith, size))
-
-  new_is : object_at t'' a ≡ Some new
-  unfolding object_at
-  new_is = ap tile_object here
-
-  middle : (y : ℕ) → y ≢ a → tile_in t'' y ≡ tile_in t' y
-  middle y apart = elim (cases_lt y a) [
-    | inl low ↦ replaced.others y (inl low)
-    | inr high ↦ elim (cases_lt y (a + n)) [
-      | inl inside ↦
-          let j : ℕ = y - a in
-          let y_is : a + j ≡ y = omega (arith, high) in
-          ap (tile_in t'') (sym y_is) ∙ replaced.within j (omega (arith, high, inside)) ∙ alone (Object new) j (omega (arith, high, apart))
-          ∙ sym (replaced.inside j (omega (arith, high, apart)) (omega (arith, high, inside))) ∙ ap (tile_in t') y_is
-      | inr past ↦ replaced.others y (inr past)
-    ]
-  ]
-
-  -- another object was there before, or there is none
-  other : (y : ℕ) → y ≢ a → object_at t'' y ≡ object_at t y
-  unfolding object_at
-  other y apart = ap tile_object (middle y apart ∙ push.others y apart)
-
   pub add_sample : IsSample t → IsSample t''
   add_sample s =
-      let count : length t''.regions ≡ length t.regions = replaced.count ∙ push.count in
-      let words_are : t''.words_per_region ≡ t.words_per_region = replaced.size ∙ push.size in
+      let m = object_made t t' t'' k a n p weak name shape shape' known ordinary room size at e e' in
       record {
-        count = count ∙ s.count;
-        words = words_are ∙ s.words;
+        count = m.count ∙ s.count;
+        words = m.size ∙ s.words;
         inside = λ y i b x o f. elim (cases_eq y a) [
           | inl same ↦
-              let x_is : x ≡ new = let m = new_is in let o' = sym (ap (object_at t'') same) ∙ o in cc in
+              let x_is : x ≡ new_object name p weak 0 = let is = m.is in let o' = sym (ap (object_at t'') same) ∙ o in cc in
               absurd (nil_fields name p weak i b (ap (λ (q : Stored). slice_get (fields q) i) (sym x_is) ∙ f))
-          | inr apart ↦ rw (count, words_are) (s.inside y i b x (sym (other y apart) ∙ o) f)
+          | inr apart ↦ rw (m.count, m.size) (s.inside y i b x (sym (m.others y apart) ∙ o) f)
         ];
       }
-
-pub add_there : (t t' : Table) (k a n : ℕ) → IsShaped t → k < length t.regions → kind_of t k ≡ kinds.Ordinary
-    → used_of t k + n ≤ t.words_per_region → 0 < n → a ≡ top_of t k
-    → t' ≡ push_tile t k (Filler n) → tile_in t' a ≡ Some (Filler n)
-add_there t t' k a n shape known ordinary room z at e =
-    rw (e, at) (filler_push t k (Filler n) shape.positive shape.fitting known ordinary z room tt).is
 
 -- an object of nil pointers in the first region of a run
 first_alone : (p name o : ℕ) (x : Stored) → tile_object (region_tile (First (new_object name p 0 0)) o) ≡ Some x → x ≡ new_object name p 0 0
@@ -219,15 +142,10 @@ sample_scans t tops previous sets s marks count cards = record {
 -- a tile with an object's shape is one
 object_tile_is : (o : Option Tile) (p weak d : ℕ) (shape : Shape) → IfSome o (λ u. shape ≡ tile_shape u) → IsSome o
     → shape ≡ shapes.Object p weak d → IsSome (tile_object o)
-object_tile_is None p weak d shape h some e = cc
 object_tile_is (Some (Object s)) p weak d shape h some e = refl
-object_tile_is (Some (Filler m)) p weak d shape h some e = cc
-object_tile_is (Some (Forwarded to m)) p weak d shape h some e = cc
+object_tile_is _ p weak d shape h some e = cc
 
 pub is_object : (t : Table) (a p weak d : ℕ) (shape : Shape) → IfSome (tile_in t a) (λ u. shape ≡ tile_shape u) → IsSome (tile_in t a)
     → shape ≡ shapes.Object p weak d → IsSome (object_at t a)
 unfolding object_at
 is_object t a p weak d shape h some e = object_tile_is (tile_in t a) p weak d shape h some e
-
-pub tile_some : (t : Table) (a w : ℕ) → IsHolder t a w → IsSome (tile_in t a)
-tile_some t a w h = rw h.tile_is refl

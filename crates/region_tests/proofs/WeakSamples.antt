@@ -1,5 +1,5 @@
 -- The tables that the test of weak slots goes through.
-use Rattle.regions.proofs.Common.{◌≡◌, ℕ, ◌-◌, ◌<◌, Option, Some, None, [], ◌∷◌, length, refl, arith, IsSome, Stored, Object, Table, Free}
+use Rattle.regions.proofs.Common.{◌≡◌, ℕ, ◌<◌, Option, Some, None, [], ◌∷◌, length, refl, arith, IsSome, Stored, Object, Table, Free}
 use Rattle.regions.proofs.Common.{Ordinary, region_at, tile_in, object_at, pointers_at, weaks_at, fields_at, values_at, put_object}
 use Rattle.regions.proofs.Common.{set_weak, set_field, set_value, nth_region, kind_of}
 use Rattle.region_tests.proofs.TableSamples.{sample, CanRelease}

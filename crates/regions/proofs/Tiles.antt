@@ -24,3 +24,4 @@ pub mod WeakStarts
 pub mod Within
 pub mod Apart
 pub mod Twice
+pub mod Made

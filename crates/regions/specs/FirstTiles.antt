@@ -1,6 +1,6 @@
 -- The entries that say where the tile of a card's first word starts.
 use Rattle.std.specs.Prelude.{◌≡◌, ℕ, ◌+◌, ◌-◌, ◌*◌, ◌/◌, ◌^◌, ◌<◌, ◌≤◌, Some, List, slice_index, nat_le, ◌==◌, if◌then◌else◌}
-use Rattle.regions.specs.Tiles.{Tile, Object, Filler, Forwarded, tile_size}
+use Rattle.regions.specs.Tiles.{Tile, Filler, tile_size}
 use Rattle.regions.specs.Table.{Table, tile_in}
 
 -- the first word of the last card that begins below an end
@@ -10,9 +10,8 @@ last_card card_words end = (end - 1) / card_words * card_words
 -- the entry of the card that begins at word w of the tile that starts at a: in a filler the last card that begins there, whose
 -- entry is the filler's start
 abbrev pub entry_of : ℕ → ℕ → Tile → ℕ → ℕ
-entry_of card_words a (Object s) w = a
 entry_of card_words a (Filler n) w = if w == last_card card_words (a + n) then a else last_card card_words (a + n)
-entry_of card_words a (Forwarded to n) w = a
+entry_of card_words a _ w = a
 
 -- an entry for each card, and how many words a card has
 pub record Entries : Type 0 where

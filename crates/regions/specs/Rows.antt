@@ -18,10 +18,8 @@ use Rattle.regions.specs.declared.row.Kind.TheVariants as kinds
 
 -- how many words the object of a header has, 1 where it is no object's
 abbrev pub object_size : Option Header → ℕ
-object_size None = 1
 object_size (Some (headers.Object p weak d)) = size_of p weak d
-object_size (Some (headers.Filler n)) = 1
-object_size (Some (headers.Forwarded to)) = 1
+object_size _ = 1
 
 -- the size of the object at an address
 abbrev pub sizes_in : List ℕ → ℕ → ℕ
@@ -36,10 +34,8 @@ header_target (Some (headers.Forwarded to)) = Some to
 
 -- the object of a header
 abbrev pub stored_by : List ℕ → Option Header → Stored
-stored_by ws None = stored_of 0 0 0 ws
 stored_by ws (Some (headers.Object p weak d)) = stored_of p weak d ws
-stored_by ws (Some (headers.Filler n)) = stored_of 0 0 0 ws
-stored_by ws (Some (headers.Forwarded to)) = stored_of 0 0 0 ws
+stored_by ws _ = stored_of 0 0 0 ws
 
 -- the object that words begin with
 abbrev pub first_stored : List ℕ → Stored
@@ -64,10 +60,8 @@ regions_of sizes size ws (row ∷ rows) = region_of sizes ws row ∷ regions_of 
 
 -- the header is an object's
 abbrev pub IsObjectHeader : Option Header → Type 0
-IsObjectHeader None = ⊥
 IsObjectHeader (Some (headers.Object p weak d)) = Unit {0}
-IsObjectHeader (Some (headers.Filler n)) = ⊥
-IsObjectHeader (Some (headers.Forwarded to)) = ⊥
+IsObjectHeader _ = ⊥
 
 -- a row that is no later one of a run says what the words of its region are
 abbrev pub IsRow : (ℕ → ℕ) → ℕ → List ℕ → ℕ → Kind → Type 0
@@ -79,17 +73,13 @@ IsRow sizes size ws used kinds.Rest = ⊥
 
 -- the row of a later region of a run, from whose start on `left` words are the object's
 abbrev pub IsRestRow : ℕ → ℕ → ℕ → Kind → Type 0
-IsRestRow size left used kinds.Free = ⊥
-IsRestRow size left used kinds.Ordinary = ⊥
-IsRestRow size left used kinds.First = ⊥
 IsRestRow size left used kinds.Rest = used ≡ min size left
+IsRestRow size left used _ = ⊥
 
 -- the words of a humongous object behind its first region
 abbrev pub left_by : ℕ → List ℕ → Kind → ℕ
-left_by size ws kinds.Free = 0
-left_by size ws kinds.Ordinary = 0
 left_by size ws kinds.First = object_size (header_of (slice_index ws 0)) - size
-left_by size ws kinds.Rest = 0
+left_by size ws _ = 0
 
 -- rows are right, the first `left` words belonging to an object that began before them
 abbrev pub AreRows : (ℕ → ℕ) → ℕ → ℕ → List ℕ → List Row → Type 0
@@ -125,9 +115,7 @@ pub record IsTable (size : ℕ) (words : List ℕ) (rows : List Row) : Type 0 wh
 -- whether a row is free
 abbrev pub kind_is_free : Kind → Bool
 kind_is_free kinds.Free = true
-kind_is_free kinds.Ordinary = false
-kind_is_free kinds.First = false
-kind_is_free kinds.Rest = false
+kind_is_free _ = false
 
 -- the row of a free region
 abbrev pub free_row : Row
@@ -179,10 +167,8 @@ run_rows size s i (suc m) = run_row size s i ∷ run_rows size s (suc i) m
 
 -- whether a row is a later one of a run
 abbrev pub kind_is_rest : Kind → Bool
-kind_is_rest kinds.Free = false
-kind_is_rest kinds.Ordinary = false
-kind_is_rest kinds.First = false
 kind_is_rest kinds.Rest = true
+kind_is_rest _ = false
 
 -- the words with a filler's header at n, unless it has no words
 abbrev pub put_remainder : List ℕ → ℕ → ℕ → List ℕ
@@ -191,17 +177,13 @@ put_remainder words n (suc m) = slice_set words n (header_word (headers.Filler (
 
 -- how many weak slots a header's object has
 abbrev pub weak_count : Option Header → ℕ
-weak_count None = 0
 weak_count (Some (headers.Object p weak d)) = weak
-weak_count (Some (headers.Filler n)) = 0
-weak_count (Some (headers.Forwarded to)) = 0
+weak_count _ = 0
 
 -- how many data words a header's object has
 abbrev pub value_count : Option Header → ℕ
-value_count None = 0
 value_count (Some (headers.Object p weak d)) = d
-value_count (Some (headers.Filler n)) = 0
-value_count (Some (headers.Forwarded to)) = 0
+value_count _ = 0
 
 -- the address, if there is one, is below the limit
 abbrev pub IsBelow : Option ℕ → ℕ → Type 0

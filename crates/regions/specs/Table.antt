@@ -21,11 +21,9 @@ pub record Table : Type 0 where
 
 -- the tile that starts at an offset from the region's bottom
 abbrev pub region_tile : Region → ℕ → Option Tile
-region_tile Free o = None
 region_tile (Ordinary ts) o = tile_at o ts
 region_tile (First s) zero = Some (Object s)
-region_tile (First s) (suc o) = None
-region_tile (Rest n) o = None
+region_tile _ _ = None
 
 -- the region of an address
 unfoldable pub region_at : Table → ℕ → Region
@@ -38,9 +36,7 @@ tile_in t a = region_tile (region_at t a) (a % t.words_per_region)
 -- the object that a tile is
 abbrev pub tile_object : Option Tile → Option Stored
 tile_object (Some (Object s)) = Some s
-tile_object (Some (Filler n)) = None
-tile_object (Some (Forwarded to n)) = None
-tile_object None = None
+tile_object _ = None
 
 -- the object that starts at an address
 unfoldable pub object_at : Table → ℕ → Option Stored
@@ -172,17 +168,13 @@ set_values t a i (v ∷ vs) = set_values (set_value t a i v) a (suc i) vs
 
 -- the region is ordinary
 abbrev pub IsOrdinary : Region → Type 0
-IsOrdinary Free = ⊥
 IsOrdinary (Ordinary ts) = Unit {0}
-IsOrdinary (First s) = ⊥
-IsOrdinary (Rest n) = ⊥
+IsOrdinary _ = ⊥
 
 -- whether a region is free
 abbrev pub is_free : Region → Bool
 is_free Free = true
-is_free (Ordinary ts) = false
-is_free (First s) = false
-is_free (Rest n) = false
+is_free _ = false
 
 -- the lowest free region
 abbrev pub first_free : Table → Option ℕ
@@ -303,10 +295,8 @@ with_run t m s (Some k) = with_regions t k m (run_regions t.words_per_region s m
 
 -- whether a region is a later one of a run
 abbrev pub is_rest : Region → Bool
-is_rest Free = false
-is_rest (Ordinary ts) = false
-is_rest (First s) = false
 is_rest (Rest n) = true
+is_rest _ = false
 
 -- how many regions the run that begins at k has
 abbrev pub run_length : Table → ℕ → ℕ
@@ -318,16 +308,14 @@ without_run t k = with_regions t k (run_length t k) (replicate (run_length t k) 
 
 -- what can be released: an ordinary region, or the first of a run
 abbrev pub IsReleasable : Kind → Type 0
-IsReleasable kinds.Free = ⊥
 IsReleasable kinds.Ordinary = Unit {0}
 IsReleasable kinds.First = Unit {0}
-IsReleasable kinds.Rest = ⊥
+IsReleasable _ = ⊥
 
 abbrev pub released_as : Region → Table → ℕ → Table
-released_as Free t k = t
 released_as (Ordinary ts) t k = with_region t k Free
 released_as (First s) t k = without_run t k
-released_as (Rest n) t k = t
+released_as _ t k = t
 
 -- the table once region k is released, and with a run's first all regions of the run
 unfoldable pub released : Table → ℕ → Table
@@ -339,10 +327,8 @@ top_of t k = k * t.words_per_region + used_of t k
 
 -- where a moved tile went
 abbrev pub moved_to : Option Tile → Option ℕ
-moved_to (Some (Object s)) = None
-moved_to (Some (Filler n)) = None
 moved_to (Some (Forwarded to n)) = Some to
-moved_to None = None
+moved_to _ = None
 
 -- each moved tile's new place is the start of an object, which has the tile's size
 abbrev pub AreTargetsRight : Table → Type 0

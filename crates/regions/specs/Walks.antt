@@ -3,16 +3,15 @@ use Rattle.std.specs.Prelude.{◌≡◌, ℕ, zero, suc, ◌+◌, ◌-◌, ◌*�
 use Rattle.regions.specs.declared.row.Shape.{Shape}
 use Rattle.regions.specs.Shapes.{tile_shape}
 use Rattle.regions.specs.Tiles.{Tile, Object, tile_size, total_size, tile_at}
-use Rattle.regions.specs.Table.{Region, Free, Ordinary, First, Rest, Table, nth_region, kind_of, tile_in}
+use Rattle.regions.specs.Table.{Region, Ordinary, First, Rest, Table, nth_region, kind_of, tile_in}
 use Rattle.regions.specs.declared.row.Kind.TheVariants as kinds
 use Rattle.heap_words.specs.declared.addr.Addr.{Addr}
 
 -- the tiles that start in a region: a run's first region has its one object
 abbrev pub region_tiles : Region → List Tile
-region_tiles Free = []
 region_tiles (Ordinary ts) = ts
 region_tiles (First s) = Object s ∷ []
-region_tiles (Rest n) = []
+region_tiles _ = []
 
 -- the tiles of region k
 unfoldable pub tiles_of : Table → ℕ → List Tile

@@ -1,16 +1,15 @@
 -- What a filter lets through as cards are added.
-use Rattle.std.proofs.Common.{◌≡◌, ◌+◌, ◌-◌, ◌*◌, ◌/◌, ◌%◌, ◌<◌, ◌≤◌, ◌∙◌}
-use Rattle.std.proofs.Common.{inl, inr, ℕ, Bool, true, false, eqb, length, get_or, set, List, ⊎_elim, refl, sym}
-use Rattle.std.proofs.Common.{ap, ap₂, subst, arith, get_or-set_same, get_or-set_other, length-set}
-use Rattle.std.specs.Prelude.{◌||◌, ◌&&◌, if◌then◌else◌}
-use Rattle.std.proofs.lemmas.Bool.{cases_lt, cases_eq, eq-eqb, ne_eqb, eqb-true, eqb-false, false≢true, and_from, and_parts}
+use Rattle.std.proofs.Common.{◌≡◌, ◌+◌, ◌-◌, ◌*◌, ◌/◌, ◌%◌, ◌<◌, ◌≤◌, ◌∙◌, inl, inr, ℕ, Bool, true, false, eqb, length, get_or, set, List}
+use Rattle.std.proofs.Common.{⊎_elim, refl, sym, ap, ap₂, subst, arith, get_or-set_same, get_or-set_other, length-set, ◌||◌, ◌&&◌}
+use Rattle.std.proofs.Common.{if◌then◌else◌, eq-eqb, ne_eqb, eqb-true}
+use Rattle.std.proofs.lemmas.Bool.{cases_lt, cases_eq, eqb-false, false≢true, and_from, and_parts}
 use Rattle.std.proofs.lemmas.List.{get_or_past, length-replicate, set-get_or}
 use Rattle.std.proofs.lemmas.Nat.{mul-add-lt, div-mul-add}
 use Rattle.std.proofs.Math.Nat.{pos_of_ne-zero}
 use Rattle.bit_sets.specs.Bits.{has, is_between}
 use Rattle.bit_sets.proofs.BitRanges.{between_yes, between_no_below, between_no_above, between_same}
-use Rattle.remembered_sets.specs.Sets.{CardFilter, IsFilter, lets_through, filter_with, taking, empty_filter, emptied_filter}
-use Rattle.remembered_sets.specs.Sets.{first_row, second_row, place_in}
+use Rattle.remembered_sets.specs.Sets.{CardFilter, IsFilter, lets_through, filter_with, taking, empty_filter, emptied_filter, first_row}
+use Rattle.remembered_sets.specs.Sets.{second_row, place_in}
 
 -- what is flagged stays so
 pub marks_grow : (flags : List Bool) (i k : ℕ) → get_or flags k false ≡ true → get_or (set flags i true) k false ≡ true

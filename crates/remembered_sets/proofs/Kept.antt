@@ -1,16 +1,14 @@
 -- The sets of all regions, each with its filter in the table that it shares with its neighbours'.
-use Rattle.std.proofs.Common.{◌≡◌, ◌≢◌, ◌*◌, ◌/◌, ◌%◌, ◌<◌, ◌≤◌, ◌∙◌}
-use Rattle.std.proofs.Common.{inl, inr, ℕ, Bool, true, false, eqb, ltb, length, get_or, set, replicate, List, [], refl, sym}
-use Rattle.std.proofs.Common.{ap, ap₂, subst, arith, get_or-set_same, get_or-set_other, length-set}
+use Rattle.std.proofs.Common.{◌≡◌, ◌≢◌, ◌*◌, ◌/◌, ◌%◌, ◌<◌, ◌≤◌, ◌∙◌, inl, inr, ℕ, Bool, true, false, eqb, ltb, length, get_or, set}
+use Rattle.std.proofs.Common.{replicate, List, [], refl, sym, ap, ap₂, subst, arith, get_or-set_same, get_or-set_other, length-set, not}
+use Rattle.std.proofs.Common.{if◌then◌else◌, eqb-true}
 use Rattle.std.specs.Int.{div_ceil}
-use Rattle.std.specs.Prelude.{not, if◌then◌else◌}
-use Rattle.std.proofs.lemmas.Bool.{cases_eq, cases_lt, eqb-true}
+use Rattle.std.proofs.lemmas.Bool.{cases_eq, cases_lt}
 use Rattle.std.proofs.lemmas.List.{get_or_past, get_or-replicate, length-replicate}
 use Rattle.std.proofs.lemmas.List.Elements.{All-replicate}
 use Rattle.std.proofs.lemmas.List.FromFn.{fill_by_all, length-map-range_with_len, get_or-map-range_with_len}
-use Rattle.remembered_sets.specs.Sets.{CardFilter, CardSet, AreSets, IsSet, empty_filter}
-use Rattle.remembered_sets.specs.Sets.{empty_sets}
-use Rattle.remembered_sets.specs.Sets.{empty_set, no_set, set_with, set_covers}
+use Rattle.remembered_sets.specs.Sets.{CardFilter, CardSet, AreSets, IsSet, empty_filter, empty_sets, empty_set, no_set, set_with}
+use Rattle.remembered_sets.specs.Sets.{set_covers}
 use Rattle.remembered_sets.specs.Sharing.{no_filter, filter_at, filter_of, with_filter, with_filters}
 use Rattle.remembered_sets.proofs.Covered.{IsSet-empty, inline_with, marked_with}
 

@@ -1,22 +1,21 @@
 -- What the sets of all regions cover, as cards are added and sets are emptied.
-use Rattle.std.proofs.Common.{◌≡◌, ◌≢◌, ◌⊎◌, ◌+◌, ◌*◌, ◌/◌, ◌%◌, ◌<◌, ◌≤◌, if◌then◌else◌, ◌∙◌}
-use Rattle.std.proofs.Common.{inl, inr, ℕ, Bool, true, false, eqb, refl, sym, subst, ap, ⊎_elim, arith}
-use Rattle.std.proofs.Common.{List, [], ◌∷◌, length, set, All, get_or-set_same, get_or-set_other, length-set}
-use Rattle.std.specs.Prelude.{◌&&◌}
+use Rattle.std.proofs.Common.{◌≡◌, ◌≢◌, ◌⊎◌, ◌+◌, ◌*◌, ◌/◌, ◌%◌, ◌<◌, ◌≤◌, if◌then◌else◌, ◌∙◌, inl, inr, ℕ, Bool, true, false, eqb, refl}
+use Rattle.std.proofs.Common.{sym, subst, ap, ⊎_elim, arith, List, [], ◌∷◌, length, set, All, get_or-set_same, get_or-set_other, length-set}
+use Rattle.std.proofs.Common.{◌&&◌, eq-eqb, ne_eqb}
 use Rattle.std.proofs.Math.Nat.{lt_of_mul-lt-mul_right, lt_irrefl}
-use Rattle.std.proofs.lemmas.Bool.{cases_eq, cases_lt, eq-eqb, ne_eqb, and_from, and_parts}
+use Rattle.std.proofs.lemmas.Bool.{cases_eq, cases_lt, and_from, and_parts}
 use Rattle.std.proofs.lemmas.List.Elements.{All-head, All-tail, All-set}
 use Rattle.std.proofs.lemmas.List.{get_or_past}
 use Rattle.std.proofs.lemmas.List.FromFn.{fill_by_all, length-map-range_with_len, get_or-map-range_with_len}
 use Rattle.bit_sets.specs.Bits.{has, is_between}
 use Rattle.bit_sets.proofs.BitRanges.{between_yes, between_no_below, between_no_above}
 use Rattle.remembered_sets.specs.Sets.{Sets, CardSet, set_of, set_after, set_covers, set_leads, emptied, no_set, covers, may_lead, added}
-use Rattle.remembered_sets.specs.Sets.{cleared, letting, lets_through}
-use Rattle.remembered_sets.specs.Sets.{without_region, card_count, IsSet, AreSets, Change, changed, after_all, LeavesSet}
+use Rattle.remembered_sets.specs.Sets.{cleared, letting, lets_through, without_region, card_count, IsSet, AreSets, Change, changed}
+use Rattle.remembered_sets.specs.Sets.{after_all, LeavesSet}
 use Rattle.remembered_sets.specs.Sets.Change.{Add, Clear}
 use Rattle.remembered_sets.proofs.Filters.{marks_grow, region_of}
-use Rattle.remembered_sets.proofs.Covered.{set_grows, set_covers-with, set_only, set_only_card, emptied_covers}
-use Rattle.remembered_sets.proofs.Covered.{IsSet-after, IsSet-emptied, set_lets_after, set_lets_still}
+use Rattle.remembered_sets.proofs.Covered.{set_grows, set_covers-with, set_only, set_only_card, emptied_covers, IsSet-after, IsSet-emptied}
+use Rattle.remembered_sets.proofs.Covered.{set_lets_after, set_lets_still}
 
 -- a card lies in one of the regions
 pub source_known : (card w n : ℕ) → 0 < w → card < n * w → card / w < n

@@ -1,8 +1,7 @@
 -- What one of the four filters of a table lets through.
-use Rattle.std.proofs.Common.{◌≡◌, ◌+◌, ◌*◌, ◌/◌, ◌%◌, ◌<◌, ◌≤◌, ◌∙◌}
-use Rattle.std.proofs.Common.{inl, inr, ℕ, zero, suc, Bool, true, false, length, set, List, refl, sym, ap, ap₂, arith}
-use Rattle.std.specs.Prelude.{◌||◌, ◌&&◌, if◌then◌else◌}
-use Rattle.std.proofs.lemmas.Bool.{cases_lt, eq-eqb, ne_eqb}
+use Rattle.std.proofs.Common.{◌≡◌, ◌+◌, ◌*◌, ◌/◌, ◌%◌, ◌<◌, ◌≤◌, ◌∙◌, inl, inr, ℕ, zero, suc, Bool, true, false, length, set, List, refl}
+use Rattle.std.proofs.Common.{sym, ap, ap₂, arith, ◌||◌, ◌&&◌, if◌then◌else◌, eq-eqb, ne_eqb}
+use Rattle.std.proofs.lemmas.Bool.{cases_lt}
 use Rattle.std.proofs.lemmas.List.{get_or_past}
 use Rattle.bit_sets.specs.Bits.{has, is_passing}
 use Rattle.remembered_sets.specs.Sets.{CardFilter, IsFilter, filter_with, lets_through, taking, first_row, second_row, place_in}

@@ -1,12 +1,11 @@
 -- A region's set and its filter as they are read, and put back.
 use Rattle.std.proofs.Common.{◌≡◌, ◌*◌, ◌/◌, ◌%◌, ◌<◌, ◌≤◌, ◌∙◌, ℕ, Bool, true, length, get_or, set, List, [], sym, ap, ap₂, subst, arith}
-use Rattle.std.proofs.Common.{◌≢◌, length-set}
-use Rattle.std.specs.Prelude.{◌&&◌}
+use Rattle.std.proofs.Common.{◌≢◌, length-set, ◌&&◌}
 use Rattle.std.proofs.lemmas.List.{get_or_read}
 use Rattle.bit_sets.specs.Bits.{has}
 use Rattle.remembered_sets.specs.Sets.{CardFilter, CardSet, Sets, AreSets, IsFilter, IsSet, no_set, emptied, emptied_filter, filter_with}
-use Rattle.remembered_sets.specs.Sets.{set_of, set_with, set_after, set_covers, set_leads, lets_through, may_lead}
-use Rattle.remembered_sets.specs.Sets.{added, cleared, without_region}
+use Rattle.remembered_sets.specs.Sets.{set_of, set_with, set_after, set_covers, set_leads, lets_through, may_lead, added, cleared}
+use Rattle.remembered_sets.specs.Sets.{without_region}
 use Rattle.remembered_sets.specs.Sharing.{filter_at, filter_of, with_filter, with_filters}
 use Rattle.remembered_sets.specs.Inside.{sets_of, IsSetTable}
 use Rattle.remembered_sets.specs.declared.sets.RememberedSets.TheInside.{Inside}

@@ -1,9 +1,7 @@
 -- The filters of four neighbouring regions in one table.
-use Rattle.std.proofs.Common.{◌≡◌, ◌≢◌, ◌+◌, ◌*◌, ◌/◌, ◌<◌, ◌∙◌}
-use Rattle.std.proofs.Common.{inl, inr, ℕ, Bool, true, false, eqb, length, set, replicate, List, refl, sym}
-use Rattle.std.proofs.Common.{ap, ap₂, subst, arith, get_or-set_same, get_or-set_other, length-set}
-use Rattle.std.specs.Prelude.{◌&&◌, if◌then◌else◌}
-use Rattle.std.proofs.lemmas.Bool.{cases_eq, eq-eqb, ne_eqb}
+use Rattle.std.proofs.Common.{get_or-set_other, get_or-set_same, if◌then◌else◌, length-set, replicate, length, eq-eqb, ne_eqb, false, subst}
+use Rattle.std.proofs.Common.{arith, Bool, true, List, refl, ◌&&◌, ◌≡◌, ◌≢◌, ◌+◌, ◌*◌, ◌/◌, ◌<◌, ◌∙◌, inl, inr, eqb, set, sym, ap₂, ap, ℕ}
+use Rattle.std.proofs.lemmas.Bool.{cases_eq}
 use Rattle.std.proofs.lemmas.List.{get_or-replicate, length-replicate}
 use Rattle.std.proofs.lemmas.List.FromFn.{fill_by_all, length-map-range_with_len, get_or-map-range_with_len}
 use Rattle.std.proofs.lemmas.Nat.{mul-add-lt, div-mul-add}

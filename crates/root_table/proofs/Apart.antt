@@ -1,7 +1,6 @@
 -- Globals and registers, each in a list of its own.
 use Rattle.std.proofs.Common.{◌≡◌, ◌<◌, ◌≤◌, ◌+◌, ◌-◌, ◌^◌, ◌++◌, ◌∙◌, ℕ, zero, suc, List, Option, None, length, get_or, set, replicate}
-use Rattle.std.proofs.Common.{refl, sym, ap, subst, arith, length-set}
-use Rattle.std.specs.Prelude.{IsSome}
+use Rattle.std.proofs.Common.{refl, sym, ap, subst, arith, length-set, IsSome}
 use Rattle.std.proofs.lemmas.Grind.{get_or_default_zero}
 use Rattle.std.proofs.lemmas.List.{get_or-replicate, length-replicate, replicate-append-replicate, set-append_left, set-append_right}
 use Rattle.heap_model.specs.Graph.{RootCounts, register_place, root_places, with_nils}

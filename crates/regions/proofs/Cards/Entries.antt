@@ -13,7 +13,7 @@ use Rattle.regions.specs.declared.row.Kind.TheVariants as kinds
 use Rattle.regions.proofs.Tiles.Targets.{IsWrittenTable}
 use Rattle.regions.proofs.Tiles.Making.{length-regions_of}
 use Rattle.regions.proofs.Tiles.ShapedMade.{shaped_of, first_object, kind_at}
-use Rattle.regions.proofs.Tiles.Laws.{object_tile}
+use Rattle.regions.proofs.Tiles.Laws.{tile_of}
 use Rattle.regions.proofs.Tiles.Changes.{WritesObject, pointer_put, weak_put, field_put, field_size, field_weaks, value_put}
 use Rattle.regions.proofs.Tiles.WeakStarts.{tile_weaks, Notes, notes, Forgets, forgets, Clears, none_there, none_in, free_void, run_later}
 use Rattle.regions.proofs.Tiles.WeakStarts.{starts_same, starts_written, starts_added, starts_cut, starts_forwarded, starts_released}
@@ -107,10 +107,6 @@ written_twice mid new cw len at end first e one two c =
     ∙ ap (λ (d : ℕ). if is_between at end (c * cw) && (c * cw == last_card cw end) then at else d) (one c)
 
 -- ---- an object is written
-tile_of : (t : Table) (a : ℕ) (s : Stored) → object_at t a ≡ Some s → tile_in t a ≡ Some (Object s)
-unfolding object_at
-tile_of t a s h = object_tile (tile_in t a) s h
-
 object_entries : (t t' : Table) (entries : Entries) (x : ℕ) (s s' : Stored) → WritesObject t t' x s s'
     → tile_size (Object s') ≡ tile_size (Object s) → AreEntries t entries → AreEntries t' entries
 object_entries t t' entries x s s' w size e =
@@ -407,9 +403,8 @@ module _ (size shift lowest free : ℕ) (entries : Entries) (starts : Starts) (m
       (rw (b_is, at_is, end_is) at written) n' more w
     where
       joined_unmoved : (u : Tile) (r : ℕ) → EachForwarded (λ _. ⊥) (u ∷ []) → EachForwarded (λ _. ⊥) (u ∷ remainder r)
-      joined_unmoved (Object o) r h = remainder_unmoved r
-      joined_unmoved (Filler m) r h = remainder_unmoved r
       joined_unmoved (Forwarded to m) r h = absurd h.0
+      joined_unmoved _ r h = remainder_unmoved r
 
   pub forwarded_sound : (starts' : Starts) (memory' : Memory) (a to weaks : ℕ) (o : Stored) → object_at t a ≡ Some o
       → IsOrdinary (region_at t a) → weaks ≡ length o.weaks → starts' ≡ forgotten starts a weaks

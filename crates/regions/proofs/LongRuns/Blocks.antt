@@ -5,14 +5,16 @@ use Rattle.regions.proofs.Common.{cases_lt, cases_eq, row_fits, length-drop, len
 use Rattle.regions.proofs.Common.{drop-drop, sum_by, sum_by-append, sum_by-take-drop, sum_by-cons, sum_by-replicate, Stored, Object, Filler}
 use Rattle.regions.proofs.Common.{tile_size, IsShaped, Table, Region, Free, Ordinary, First, Rest, nth_region, region_kind, region_used}
 use Rattle.regions.proofs.Common.{region_tile, region_at, tile_in, tile_object, kind_of, used_of, top_of, object_at, HasNoForwarded}
-use Rattle.regions.proofs.Common.{EachForwardedIn, is_free, is_rest, front_count, run_length, with_region, with_regions, without_run}
-use Rattle.regions.proofs.Common.{released}
-use Rattle.std.specs.Prelude.{count_by}
-use Rattle.regions.specs.declared.row.Kind.TheVariants as kinds
+use Rattle.regions.proofs.Common.{is_free, is_rest, front_count, run_length, with_region, with_regions, without_run, released, get_or-take}
+use Rattle.std.proofs.Common.{count_by}
 use Rattle.regions.proofs.Tiles.Spliced.{IsOutside}
 use Rattle.regions.proofs.Rows.Fronts.{front_le, front_passes}
-use Rattle.regions.proofs.LongRuns.RunGone.{splice_one}
-use Rattle.regions.proofs.LongRuns.RunLaws.{regions_spliced, frees}
+use Rattle.regions.proofs.LongRuns.RunGone.{one_freed}
+use Rattle.regions.proofs.LongRuns.RunLaws.{regions_spliced, frees, number_is, tile_of_region}
+use Rattle.regions.proofs.Tiles.Making.{no_targets}
+use Rattle.regions.specs.declared.row.Kind.TheVariants as kinds
+pub use Rattle.regions.proofs.LongRuns.RunLaws.{same_tile as tile_near}
+pub use Rattle.regions.proofs.Tiles.ShapedMade.{kind_at as kind_is}
 
 front_stops : {A : Type 0} (p : A → Bool) (xs : List A) (d : A) → front_count p xs < length xs → p (get_or xs (front_count p xs) d) ≡ false
 front_stops p [] d h = absurd (omega arith)
@@ -25,20 +27,14 @@ front_stops {A} p (x ∷ xs) d h = go (p x) refl h (front_stops p xs d)
     go false e l f = e
 
 rest_kind : (r : Region) → is_rest r ≡ true → region_kind r ≡ kinds.Rest
-rest_kind Free e = cc
-rest_kind (Ordinary ts) e = cc
-rest_kind (First s) e = cc
 rest_kind (Rest n) e = refl
+rest_kind _ e = cc
 
 kind_rest : (r : Region) → is_rest r ≡ false → region_kind r ≡ kinds.Rest → ⊥
 kind_rest Free e f = cc
 kind_rest (Ordinary ts) e f = cc
 kind_rest (First s) e f = cc
 kind_rest (Rest n) e f = cc
-
-pub kind_is : (t : Table) (q : ℕ) (r : Region) → nth_region t q ≡ r → kind_of t q ≡ region_kind r
-unfolding kind_of
-kind_is t q r e = ap region_kind e
 
 -- the regions behind one that belong to it are later ones of its run
 pub later_rest : (t : Table) (k j q : ℕ) → k + j ≡ q → 0 < j → j < run_length t k → kind_of t q ≡ kinds.Rest
@@ -170,28 +166,13 @@ none_free (x ∷ xs) h =
     let first = ap {B = ℕ} (λ b. cond b 1 0) (h 0 (omega arith)) in
     omega (arith, sum_by-cons bit x xs, first, none_free xs (λ j lt. h (suc j) (omega arith)))
 
-frees_unmoved : (m : ℕ) → EachForwardedIn (λ _. ⊥) (replicate m Free)
-frees_unmoved zero = tt
-frees_unmoved (suc m) = frees_unmoved m
-
-number_is : (t : Table) (q : ℕ) → nth_region t q ≡ get_or t.regions q Free
-unfolding nth_region
-number_is t q = refl
-
-get_or-take : (xs : List Region) (m j : ℕ) → j < m → get_or (take m xs) j Free ≡ get_or xs j Free
-get_or-take [] zero j lt = refl
-get_or-take [] (suc m) j lt = refl
-get_or-take (x ∷ xs) zero j lt = absurd (omega arith)
-get_or-take (x ∷ xs) (suc m) zero lt = refl
-get_or-take (x ∷ xs) (suc m) (suc j) lt = get_or-take xs m j (omega arith)
-
 more_free : (rs : List Region) (k m : ℕ) → k + m ≤ length rs → ((q : ℕ) → k ≤ q → q < k + m → is_free (get_or rs q Free) ≡ false)
     → sum_by bit (take k rs ++ (replicate m Free ++ drop (k + m) rs)) ≡ sum_by bit rs + m
 more_free rs k m fits used =
     let middle : List Region = take m (drop k rs) in
     let none : sum_by bit middle ≡ 0 = none_free middle (λ j lt.
     let less : j < m = (let len = length-take m (drop k rs) in omega arith) in
-    ap is_free (get_or-take (drop k rs) m j less ∙ get_or-drop k rs j Free) ∙ used (k + j) (omega arith) (omega arith)) in
+    ap is_free (get_or-take m (drop k rs) j Free less ∙ get_or-drop k rs j Free) ∙ used (k + j) (omega arith) (omega arith)) in
     let one : sum_by bit (replicate m Free) ≡ m = sum_by-replicate bit m Free ∙ omega arith in
     let all = sum_by-take-drop bit rs k in
     let inner = sum_by-take-drop bit (drop k rs) m in
@@ -218,7 +199,7 @@ block_frees t k m some fits used =
       known = fits;
       free = λ q low high. s.inside (q - k) q (omega arith) (omega arith) ∙ frees m (q - k);
       others = s.outside;
-      unmoved = λ none. s.unmoved (frees_unmoved m) none;
+      unmoved = λ none. s.unmoved (no_targets (λ _. ⊥) m) none;
       more = more_free t.regions k m fits
           (λ q low high.
           not_free (get_or t.regions q Free) (λ f. used q low high (kind_is t q (get_or t.regions q Free) (number_is t q) ∙ f)));
@@ -251,10 +232,7 @@ release_frees t k shaped known is = go (nth_region t k) refl is
     one o =
         let single : run_length t k ≡ 1 = alone t k shaped (λ f. let no : kinds.Ordinary ≡ kinds.First = sym o ∙ f in cc)
         (λ f. let no : kinds.Ordinary ≡ kinds.Rest = sym o ∙ f in cc) in
-        let next : k + 1 ≡ suc k = omega arith in
-        ap (λ (m : ℕ). with_regions t k m (replicate m Free)) single
-        ∙ ap (λ (rs : List Region). record { words_per_region = t.words_per_region; regions = rs })
-        (ap (λ (j : ℕ). take k t.regions ++ (Free ∷ drop j t.regions)) next ∙ splice_one t.regions k Free known)
+        ap (λ (m : ℕ). with_regions t k m (replicate m Free)) single ∙ one_freed t k known
 
     go : (r : Region) → nth_region t k ≡ r → (region_kind r ≡ kinds.Ordinary) ⊎ (region_kind r ≡ kinds.First)
         → Frees t (released t k) k (run_length t k)
@@ -292,20 +270,9 @@ block_cases k m q =
       | inr ge ↦ elim (cases_lt q (k + m)) [ inl lt ↦ inr (ge, lt) | inr past ↦ inl (inr past) ]
     ]
 
-pub tile_near : (t t' : Table) (a : ℕ) → t'.words_per_region ≡ t.words_per_region
-    → nth_region t' (a / t.words_per_region) ≡ nth_region t (a / t.words_per_region) → tile_in t' a ≡ tile_in t a
-unfolding tile_in region_at nth_region
-tile_near t t' a e h =
-    ap (λ (n : ℕ). region_tile (get_or t'.regions (a / n) Free) (a % n)) e ∙ ap (λ (q : Region). region_tile q (a % t.words_per_region)) h
-
-tile_is : (t : Table) (a : ℕ) (r : Region) → nth_region t (a / t.words_per_region) ≡ r
-    → tile_in t a ≡ region_tile r (a % t.words_per_region)
-unfolding tile_in region_at nth_region
-tile_is t a r h = ap (λ (q : Region). region_tile q (a % t.words_per_region)) h
-
 -- no tile starts in a later region of a run
 pub rest_void : (t : Table) (a : ℕ) → kind_of t (a / t.words_per_region) ≡ kinds.Rest → tile_in t a ≡ None
-rest_void t a f = let r = rest_number t (a / t.words_per_region) f in tile_is t a (Rest r.0) r.1
+rest_void t a f = let r = rest_number t (a / t.words_per_region) f in tile_of_region t a (Rest r.0) r.1
 
 pub first_number : (t : Table) (q : ℕ) → kind_of t q ≡ kinds.First → (s : Stored) × (nth_region t q ≡ First s)
 unfolding kind_of
@@ -331,7 +298,7 @@ first_void t a z f ne =
       | inl e ↦ absurd (ne (omega arith))
       | inr n ↦ omega arith
     ] in
-    tile_is t a (First r.0) r.1 ∙ off_bottom r.0 (a % t.words_per_region) off
+    tile_of_region t a (First r.0) r.1 ∙ off_bottom r.0 (a % t.words_per_region) off
 
 no_filler : (s : Stored) (o n : ℕ) → region_tile (First s) o ≡ Some (Filler n) → ⊥
 no_filler s zero n e = cc
@@ -340,7 +307,7 @@ no_filler s (suc o) n e = cc
 pub first_no_filler : (t : Table) (a n : ℕ) → kind_of t (a / t.words_per_region) ≡ kinds.First → tile_in t a ≡ Some (Filler n) → ⊥
 first_no_filler t a n f e =
     let r = first_number t (a / t.words_per_region) f in
-    no_filler r.0 (a % t.words_per_region) n (sym (tile_is t a (First r.0) r.1) ∙ e)
+    no_filler r.0 (a % t.words_per_region) n (sym (tile_of_region t a (First r.0) r.1) ∙ e)
 
 pub void_object : (t : Table) (a : ℕ) → tile_in t a ≡ None → object_at t a ≡ None
 unfolding object_at

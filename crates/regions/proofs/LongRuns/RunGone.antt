@@ -6,7 +6,7 @@ use Rattle.regions.proofs.Common.{length-replicate, take_all, paste_more, cases_
 use Rattle.regions.proofs.Common.{with_region, released, released_as, IsReleasable, Region, Free, Ordinary, First, Rest, Table, region_tile}
 use Rattle.regions.proofs.Common.{region_at, tile_in, object_at, kind_of, EachForwardedIn, HasObject, with_regions, front_count, is_rest}
 use Rattle.regions.proofs.Common.{run_length, without_run, left_by, region_by, regions_of, IsRow, IsRestRow, AreRows, free_row, sizes_in}
-use Rattle.regions.proofs.Common.{table_of, table_by, IsTable, Row, Kind}
+use Rattle.regions.proofs.Common.{table_of, table_by, IsTable, Row, Kind, mul-le}
 use Rattle.regions.proofs.Rows.Fronts.{front_passes}
 use Rattle.regions.proofs.LongRuns.RunMade.{with_rows}
 use Rattle.regions.specs.Rows.{kind_is_rest}
@@ -15,7 +15,7 @@ use Rattle.regions.proofs.LongRuns.RunRows.{rows_front, regions_of-drop}
 use Rattle.regions.proofs.Tiles.Spliced.{IsOutside, spliced_kept}
 use Rattle.regions.proofs.Tiles.Kept.{EachForwardedIn-both}
 use Rattle.regions.proofs.Tiles.Targets.{IsWrittenTable, written_table}
-use Rattle.regions.proofs.Tiles.Making.{targets_of, length-regions_of, known, kind_is}
+use Rattle.regions.proofs.Tiles.Making.{targets_of, length-regions_of, known, kind_is, no_targets}
 use Rattle.regions.specs.declared.row.Kind.TheVariants as kinds
 
 abbrev pub rest : Row → Bool
@@ -57,10 +57,8 @@ run_length-is size words rows t k e =
     ∙ ap suc (front-regions (sizes_in words) size (drop (suc k) rows) (drop (suc k * size) words))
 
 no_rest : (f : ℕ → ℕ) (size : ℕ) (ws : List ℕ) (used : ℕ) (kind : Kind) → IsRow f size ws used kind → kind_is_rest kind ≡ false
-no_rest f size ws used kinds.Free r = refl
-no_rest f size ws used kinds.Ordinary r = refl
-no_rest f size ws used kinds.First r = refl
 no_rest f size ws used kinds.Rest r = absurd r
+no_rest f size ws used _ r = refl
 
 all_rest : (size left used : ℕ) (kind : Kind) → IsRestRow size left used kind → kind_is_rest kind ≡ true
 all_rest size left used kind r = rw (rest_is size left used kind r) refl
@@ -98,15 +96,9 @@ frees-regions f size (suc m) n ws tail e =
     ap (λ (rs : List Region). Free ∷ rs)
     (k ∙ ap (λ (xs : List ℕ). replicate m Free ++ regions_of f size xs tail) (drop-drop (m * size) size ws ∙ sym (ap (λ j. drop j ws) at)))
 
-frees-moved : (P : ℕ → Type 0) (m : ℕ) → EachForwardedIn P (replicate m Free)
-frees-moved P zero = tt
-frees-moved P (suc m) = frees-moved P m
-
 pub rest_no_tile : (r : Region) (o : ℕ) → is_rest r ≡ true → region_tile r o ≡ None
-rest_no_tile Free o h = cc
-rest_no_tile (Ordinary ts) o h = cc
-rest_no_tile (First s) o h = cc
 rest_no_tile (Rest n) o h = refl
+rest_no_tile _ o h = cc
 
 no_object : (t : Table) (x q : ℕ) → q ≡ x / t.words_per_region → is_rest (get_or t.regions q Free) ≡ true → HasObject t x → ⊥
 unfolding object_at tile_in region_at
@@ -184,7 +176,7 @@ run_gone size words rows t k g e h begins apart =
     let count : length t.regions ≡ length rows = ap (λ (u : Table). length u.regions) (sym e) ∙ length-regions_of f size rows words in
     let both = EachForwardedIn-both (HasObject t) (λ to. k ≢ to / t.words_per_region) t.regions (targets_of size words rows t g e) apart in
     let kept = spliced_kept t k m block (λ to. HasObject t to × (k ≢ to / t.words_per_region)) (length-replicate {A = Region} m Free)
-    (omega arith) both (frees-moved _ m)
+    (omega arith) both (no_targets _ m)
     (λ x p. (p.0, subst (λ (j : ℕ). IsOutside k j (x / t.words_per_region)) long (outside t k x p.0 p.1))) in
     let length_is : length rows' ≡ length rows = simp (length-append, length-take, length-drop, length-replicate) (omega arith) in
     let done = written_table size words words rows rows' t (with_regions t k m block) g e refl length_is front.rows_are whole kept in
@@ -229,10 +221,17 @@ run_released size words rows t k at n number rows' g e h begins apart at_is n_is
     let whole = with_rows rows rows' number number_is count in
     subst (λ (rs : List Row). IsWrittenTable size words rs (without_run t k)) (sym (whole ∙ rows_are ∙ same)) w.written
 
-pub splice_one : (rs : List Region) (k : ℕ) (r : Region) → k < length rs → take k rs ++ (r ∷ drop (suc k) rs) ≡ set rs k r
+splice_one : (rs : List Region) (k : ℕ) (r : Region) → k < length rs → take k rs ++ (r ∷ drop (suc k) rs) ≡ set rs k r
 splice_one [] k r h = absurd (omega arith)
 splice_one (q ∷ rs) zero r h = refl
 splice_one (q ∷ rs) (suc k) r h = ap (λ (xs : List Region). q ∷ xs) (splice_one rs k r (omega arith))
+
+-- one region becomes free
+pub one_freed : (t : Table) (k : ℕ) → k < length t.regions → with_regions t k 1 (Free ∷ []) ≡ with_region t k Free
+one_freed t k h =
+    let next : k + 1 ≡ suc k = omega arith in
+    ap (λ (rs : List Region). record { words_per_region = t.words_per_region; regions = rs })
+    (ap (λ (j : ℕ). take k t.regions ++ (Free ∷ drop j t.regions)) next ∙ splice_one t.regions k Free h)
 
 -- no later region of a run lies behind an ordinary one
 ordinary_alone : (size : ℕ) (words : List ℕ) (rows : List Row) (t : Table) (k : ℕ) → IsTable size words rows → table_of size words rows ≡ t
@@ -260,12 +259,8 @@ released_is size words rows t k g e h can = go (nth_region t k) refl can
         → (without_run t k ≡ released_as (nth_region t k) t k) × (region_kind (nth_region t k) ≡ kinds.Rest → ⊥)
     go Free f c = absurd c
     go (Ordinary ts) f c =
-        let one = ordinary_alone size words rows t k g e h (ap region_kind f) in
-        let next : k + 1 ≡ suc k = omega arith in
-        let same : with_regions t k 1 (Free ∷ []) ≡ with_region t k Free =
-        ap (λ (rs : List Region). record { words_per_region = t.words_per_region; regions = rs })
-        (ap (λ (j : ℕ). take k t.regions ++ (Free ∷ drop j t.regions)) next ∙ splice_one t.regions k Free h) in (
-          ap (λ (n : ℕ). with_regions t k n (replicate n Free)) one ∙ same ∙ rw f refl,
+        let one = ordinary_alone size words rows t k g e h (ap region_kind f) in (
+          ap (λ (n : ℕ). with_regions t k n (replicate n Free)) one ∙ one_freed t k h ∙ rw f refl,
           λ q. let z : kinds.Ordinary ≡ kinds.Rest = sym (ap region_kind f) ∙ q in cc,
         )
     go (First s) f c = (rw f refl, λ q. let z : kinds.First ≡ kinds.Rest = sym (ap region_kind f) ∙ q in cc)
@@ -296,8 +291,5 @@ pub record IsCounted (rows : List Row) (from i : ℕ) : Type 0 where
 
 -- there are no more rows than words
 pub rows_small : (size : ℕ) (words : List ℕ) (rows : List Row) → IsTable size words rows → length rows ≤ max_words
-rows_small size words rows g = few (length rows) size (length words) g.region_size.0 (omega (arith, g.covers)) g.small
-  where
-    few : (k size l : ℕ) → 0 < size → k * size ≤ l → l ≤ max_words → k ≤ max_words
-    few k zero l z h s = absurd (omega arith)
-    few k (suc n) l z h s = let e : k * suc n ≡ k * n + k = omega arith in omega arith
+rows_small size words rows g =
+    let p = mul-le (length rows) 1 (length rows) size (omega arith) g.region_size.0 in omega (arith, p, g.covers, g.small)

@@ -1,5 +1,5 @@
 -- Which tiles a table has once a run is made or regions are released. No word is in it.
-use Rattle.regions.proofs.Common.{◌≡◌, ◌≢◌, ◌+◌, ◌-◌, ◌*◌, ◌/◌, ◌%◌, ◌<◌, ◌≤◌, ◌∷◌, ◌++◌, ◌∙◌, ℕ, zero, suc, true, Some, None, List, []}
+use Rattle.regions.proofs.Common.{◌≡◌, ◌≢◌, ◌+◌, ◌-◌, ◌*◌, ◌/◌, ◌%◌, ◌<◌, ◌≤◌, ◌∷◌, ◌++◌, ◌∙◌, ℕ, zero, suc, Some, None, List, []}
 use Rattle.regions.proofs.Common.{length, take, drop, get_or, refl, sym, ap, subst, arith, inl, inr, replicate, length-append, length-take}
 use Rattle.regions.proofs.Common.{length-drop, length-replicate, get_or-drop, cases_lt, cases_eq, Stored, Tile, Object, tile_size, Table}
 use Rattle.regions.proofs.Common.{Region, Free, Ordinary, First, Rest, region_tile, region_at, nth_region, region_kind, kind_of, tile_in}
@@ -7,10 +7,12 @@ use Rattle.regions.proofs.Common.{HasNoForwarded, EachForwardedIn, with_region, 
 use Rattle.regions.proofs.Common.{is_rest, run_length, released, without_run}
 use Rattle.regions.specs.declared.row.Kind.TheVariants as kinds
 use Rattle.regions.proofs.Tiles.Spliced.{IsOutside, get_or-spliced, EachForwardedIn-append, EachForwardedIn-take, EachForwardedIn-drop}
-use Rattle.regions.proofs.LongRuns.RunMade.{length-run_regions}
+use Rattle.regions.proofs.LongRuns.RunMade.{length-run_regions, run-moved}
 use Rattle.regions.proofs.Tiles.ShapedMade.{kind_at}
 use Rattle.regions.proofs.Rows.Fronts.{front_le, front_passes, run_passes}
-use Rattle.regions.proofs.LongRuns.RunGone.{splice_one}
+use Rattle.regions.proofs.LongRuns.RunGone.{one_freed}
+use Rattle.regions.proofs.Tiles.Making.{no_targets}
+use Rattle.regions.proofs.Tiles.Placing.{free_is}
 
 get_or-inside : (rs block : List Region) (k m j q : ℕ) → length block ≡ m → k + m ≤ length rs → j < m → q ≡ k + j
     → get_or (take k rs ++ (block ++ drop (k + m) rs)) q Free ≡ get_or block j Free
@@ -53,7 +55,7 @@ pub tile_of_region : (t : Table) (y : ℕ) (r : Region) → nth_region t (y / t.
 unfolding tile_in region_at nth_region
 tile_of_region t y r e = ap (λ (q : Region). region_tile q (y % t.words_per_region)) e
 
-same_tile : (t t' : Table) (y : ℕ) → t'.words_per_region ≡ t.words_per_region
+pub same_tile : (t t' : Table) (y : ℕ) → t'.words_per_region ≡ t.words_per_region
     → nth_region t' (y / t.words_per_region) ≡ nth_region t (y / t.words_per_region) → tile_in t' y ≡ tile_in t y
 unfolding tile_in region_at nth_region
 same_tile t t' y e h =
@@ -70,13 +72,8 @@ pub record Releases (t t' : Table) (k m : ℕ) : Type 0 where
   pub unmoved : HasNoForwarded t → HasNoForwarded t'
 
 pub frees : (m j : ℕ) → get_or (replicate m Free) j Free ≡ Free
-frees zero j = refl
-frees (suc m) zero = refl
 frees (suc m) (suc j) = frees m j
-
-frees_unmoved : (m : ℕ) → EachForwardedIn (λ _. ⊥) (replicate m Free)
-frees_unmoved zero = tt
-frees_unmoved (suc m) = frees_unmoved m
+frees _ _ = refl
 
 kinds_of : (t t' : Table) (q : ℕ) → nth_region t' q ≡ nth_region t q → kind_of t' q ≡ kind_of t q
 unfolding kind_of
@@ -94,7 +91,7 @@ regions_released t k m h =
       gone = λ y low high. tile_of_region (with_regions t k m (replicate m Free)) y Free (is (y / t.words_per_region) low high);
       kinds_same = λ q out. kinds_of t (with_regions t k m (replicate m Free)) q (s.outside q out);
       others = λ y out. same_tile t (with_regions t k m (replicate m Free)) y s.size (s.outside (y / t.words_per_region) out);
-      unmoved = λ none. s.unmoved (frees_unmoved m) none;
+      unmoved = λ none. s.unmoved (no_targets (λ _. ⊥) m) none;
     }
 
 released_as_first : (t : Table) (k : ℕ) (s : Stored) → nth_region t k ≡ First s → released t k ≡ without_run t k
@@ -110,18 +107,10 @@ pub ordinary_released : (t : Table) (k : ℕ) → k < length t.regions → kind_
 unfolding kind_of
 ordinary_released t k h o = go (nth_region t k) refl o
   where
-    one : with_regions t k 1 (Free ∷ []) ≡ with_region t k Free
-    one =
-        let next : k + 1 ≡ suc k = omega arith in
-        ap (λ (rs : List Region). record { words_per_region = t.words_per_region; regions = rs })
-        (ap (λ (j : ℕ). take k t.regions ++ (Free ∷ drop j t.regions)) next ∙ splice_one t.regions k Free h)
-
     go : (r : Region) → nth_region t k ≡ r → region_kind r ≡ kinds.Ordinary → Releases t (released t k) k 1
-    go Free e f = cc
     go (Ordinary ts) e f =
-        subst (λ (u : Table). Releases t u k 1) (one ∙ sym (released_as_ordinary t k ts e)) (regions_released t k 1 (omega arith))
-    go (First s) e f = cc
-    go (Rest n) e f = cc
+        subst (λ (u : Table). Releases t u k 1) (one_freed t k h ∙ sym (released_as_ordinary t k ts e)) (regions_released t k 1 (omega arith))
+    go _ e f = cc
 
 -- the first region of a run is released, and its other regions with it
 pub run_released : (t : Table) (k : ℕ) (s : Stored) → k < length t.regions → nth_region t k ≡ First s
@@ -143,12 +132,6 @@ pub record TakesRun (t t' : Table) (k m : ℕ) (s : Stored) : Type 0 where
   pub others : (y : ℕ) → y ≢ k * t.words_per_region → tile_in t' y ≡ tile_in t y
   pub unmoved : HasNoForwarded t → HasNoForwarded t'
 
-free_is : (r : Region) → is_free r ≡ true → r ≡ Free
-free_is Free h = refl
-free_is (Ordinary ts) h = cc
-free_is (First s) h = cc
-free_is (Rest n) h = cc
-
 rest_later : (size n i m j : ℕ) → j < m → region_kind (get_or (rests size n i m) j Free) ≡ kinds.Rest
 rest_later size n i zero j h = absurd (omega arith)
 rest_later size n i (suc m) zero h = refl
@@ -159,17 +142,8 @@ run_first size zero s h = absurd (omega arith)
 run_first size (suc m) s h = refl
 
 run_later : (size m j : ℕ) (s : Stored) → 0 < j → j < m → region_kind (get_or (run_regions size s m) j Free) ≡ kinds.Rest
-run_later size zero j s z h = absurd (omega arith)
-run_later size (suc m) zero s z h = absurd (omega arith)
 run_later size (suc m) (suc j) s z h = rest_later size (tile_size (Object s)) 1 m j (omega arith)
-
-rests_unmoved : (size n i m : ℕ) → EachForwardedIn (λ _. ⊥) (rests size n i m)
-rests_unmoved size n i zero = tt
-rests_unmoved size n i (suc m) = rests_unmoved size n (suc i) m
-
-run_unmoved : (size m : ℕ) (s : Stored) → EachForwardedIn (λ _. ⊥) (run_regions size s m)
-run_unmoved size zero s = tt
-run_unmoved size (suc m) s = rests_unmoved size (tile_size (Object s)) 1 m
+run_later size _ _ s z h = absurd (omega arith)
 
 -- a run's regions have no tile but the object at the bottom
 run_tiles : (size m j o : ℕ) (s : Stored) → 0 < j + o → region_tile (get_or (run_regions size s m) j Free) o ≡ None
@@ -187,7 +161,7 @@ kind_of_number : (t : Table) (q : ℕ) → kind_of t q ≡ region_kind (nth_regi
 unfolding kind_of
 kind_of_number t q = refl
 
-number_is : (t : Table) (q : ℕ) → nth_region t q ≡ get_or t.regions q Free
+pub number_is : (t : Table) (q : ℕ) → nth_region t q ≡ get_or t.regions q Free
 unfolding nth_region
 number_is t q = refl
 
@@ -231,7 +205,7 @@ run_made t k m s z y h =
                   ∙ run_tiles size m (q - k) o s away ∙ sym (tile_of_region t y Free (free q ge lt))
             ]
           ];
-      unmoved = λ none. w.unmoved (run_unmoved size m s) none;
+      unmoved = λ none. w.unmoved (run-moved (λ _. ⊥) size m s) none;
     }
   where
     bottom : (y k size q o : ℕ) → q * size + o ≡ y → q ≡ k → o ≡ 0 → y ≡ k * size

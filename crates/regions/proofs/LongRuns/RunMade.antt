@@ -4,9 +4,9 @@ use Rattle.regions.proofs.Common.{List, [], length, take, drop, get_or, set, ref
 use Rattle.regions.proofs.Common.{length-append, length-take, length-drop, append_assoc, drop-drop, get_or-drop, length-replicate, take_all}
 use Rattle.regions.proofs.Common.{take-append-drop, cases_lt, header_of, header_word, Stored, Object, tile_size, stored_of, put, Region}
 use Rattle.regions.proofs.Common.{Free, Table, region_at, tile_in, object_at, EachForwardedIn, HasObject, rests, run_regions, with_regions}
-use Rattle.regions.proofs.Common.{new_object, first_run, is_free, object_size, sizes_in, first_stored, region_by, regions_of}
+use Rattle.regions.proofs.Common.{new_object, first_run, is_free, object_size, sizes_in, first_stored, regions_of}
 use Rattle.regions.proofs.Common.{IsObjectHeader, AreRows, free_row, kind_is_free, run_row, run_rows, table_of, table_by, IsTable, Row}
-use Rattle.regions.proofs.Common.{Kind, paste, paste_more}
+use Rattle.regions.proofs.Common.{Kind, paste, paste_more, mul-le}
 use Rattle.std.proofs.lemmas.List.{drop_all, append-nil}
 use Rattle.heap_words.specs.declared.header.Header.TheVariants as headers
 use Rattle.heap_words.proofs.Codec.{header_of-word}
@@ -17,10 +17,11 @@ use Rattle.regions.proofs.Rows.RowLemmas.{regions-at}
 use Rattle.regions.proofs.LongRuns.RunRows.{rows_front, FreeFront, regions_of-drop, run_is, rows_behind}
 use Rattle.regions.proofs.Tiles.Spliced.{IsOutside, spliced_kept}
 use Rattle.regions.proofs.Tiles.Targets.{IsWrittenTable, written_table}
-use Rattle.regions.proofs.Tiles.Making.{targets_of, length-regions_of}
+use Rattle.regions.proofs.Tiles.Making.{targets_of, length-regions_of, free_region}
 use Rattle.regions.proofs.Words.Puts.{put_is}
 use Rattle.regions.proofs.Tiles.Pushes.{stored_of-new}
 use Rattle.regions.specs.declared.row.Kind.TheVariants as kinds
+use Rattle.regions.proofs.LongRuns.RunWrites.{drop_more_same}
 
 length-rests : (size s i m : ℕ) → length (rests size s i m) ≡ m
 length-rests size s i zero = refl
@@ -38,7 +39,7 @@ rests-moved : (P : ℕ → Type 0) (size s i m : ℕ) → EachForwardedIn P (res
 rests-moved P size s i zero = tt
 rests-moved P size s i (suc m) = rests-moved P size s (suc i) m
 
-run-moved : (P : ℕ → Type 0) (size m : ℕ) (s : Stored) → EachForwardedIn P (run_regions size s m)
+pub run-moved : (P : ℕ → Type 0) (size m : ℕ) (s : Stored) → EachForwardedIn P (run_regions size s m)
 run-moved P size zero s = tt
 run-moved P size (suc m) s = rests-moved P size (tile_size (Object s)) 1 m
 
@@ -53,12 +54,6 @@ pub free_front_le : (m : ℕ) (rows : List Row) → FreeFront m rows → m ≤ l
 free_front_le zero rows h = omega arith
 free_front_le (suc m) [] h = absurd h
 free_front_le (suc m) (row ∷ rows) h = let i = free_front_le m rows h.1 in omega arith
-
-free_region : (sizes : ℕ → ℕ) (ws : List ℕ) (used : ℕ) (kind : Kind) → kind_is_free kind ≡ true → region_by sizes ws used kind ≡ Free
-free_region sizes ws used kinds.Free h = refl
-free_region sizes ws used kinds.Ordinary h = cc
-free_region sizes ws used kinds.First h = cc
-free_region sizes ws used kinds.Rest h = cc
 
 -- a free region has no object
 no_object : (t : Table) (x : ℕ) → get_or t.regions (x / t.words_per_region) Free ≡ Free → HasObject t x → ⊥
@@ -88,6 +83,9 @@ free_outside size words rows t k m e h x o = (o, go (x / t.words_per_region) ref
             | inr b ↦ inr b
           ]
         ]
+
+run_ends : (k m l size : ℕ) → k + m ≤ l → k * size + m * size ≤ l * size
+run_ends k m l size h = let at : l ≡ k + m + (l - (k + m)) = omega arith in rw at (omega arith)
 
 -- A run of free regions takes an object: what is written lies within it.
 pub run_made : (size : ℕ) (words words' : List ℕ) (rows : List Row) (t : Table) (k m s : ℕ) (object : Stored) → IsTable size words rows
@@ -135,11 +133,6 @@ run_made size words words' rows t k m s object g e free known y le lt len before
   where
     free_no_rest : (kind : Kind) → kind_is_free kind ≡ true → kind ≡ kinds.Rest → ⊥
     free_no_rest kind h q = let z : kind_is_free kinds.Rest ≡ true = ap kind_is_free (sym q) ∙ h in cc
-
-    run_ends : (k m l size : ℕ) → k + m ≤ l → k * size + m * size ≤ l * size
-    run_ends k m l size h =
-        let at : l ≡ k + m + (l - (k + m)) = omega arith in
-        rw at (omega arith)
 
 -- the rows that are written, one by one
 get_or-run_rows : (size s i m j : ℕ) (d : Row) → j < m → get_or (run_rows size s i m) j d ≡ run_row size s (i + j)
@@ -192,18 +185,9 @@ run_here_is size words rows k m g h =
       room = room;
       ends = ends;
       whole = omega arith;
-      small = few k size (length words) g.region_size.0 (omega (arith, ends));
+      small = let p = mul-le k 1 k size (omega arith) g.region_size.0 in omega (arith, ends, p);
       free = found.1;
     }
-  where
-    few : (k size l : ℕ) → 0 < size → k * size ≤ l → k ≤ l
-    few k zero l z h = absurd (omega arith)
-    few k (suc n) l z h = let e : k * suc n ≡ k * n + k = omega arith in omega arith
-
-    run_ends : (k m l size : ℕ) → k + m ≤ l → k * size + m * size ≤ l * size
-    run_ends k m l size h =
-        let at : l ≡ k + m + (l - (k + m)) = omega arith in
-        rw at (omega arith)
 
 pub run_there : (size : ℕ) (words : List ℕ) (rows : List Row) (t : Table) (k m : ℕ) → IsTable size words rows → table_of size words rows ≡ t
     → first_run is_free m t.regions ≡ Some k → (first_run free m rows ≡ Some k) × IsRunFound size words rows k m
@@ -261,7 +245,7 @@ run_taken size words rows t k m name p weak d n long number new rows' g e h y co
     (omega (arith, length-replicate {A = ℕ} (p + weak + d) 0)) ∙ stored_of-new name p weak d in
     let stored : first_stored (drop (k * size) words') ≡ new_object name p weak d = ap first_stored start ∙ rw is body in
     let after : drop (k * size + m * size) words' ≡ drop (k * size + m * size) words =
-    drop_later (k * size + length block) (k * size + m * size) words' words (omega (arith, blen)) x.after in
+    drop_more_same (k * size + length block) (k * size + m * size) words' words (omega (arith, blen)) x.after in
     let ts : tile_size (Object (new_object name p weak d)) ≡ 2 + p + weak + d =
     omega (arith, length-replicate {A = Option ℕ} p None, length-replicate {A = Option ℕ} weak None, length-replicate {A = ℕ} d 0) in
     let done = run_made size words words' rows t k m (2 + p + weak + d) (new_object name p weak d) g e found.free found.in_rows y covers'
@@ -280,8 +264,3 @@ run_taken size words rows t k m name p weak d n long number new rows' g e h y co
     rw (words_is, whole_rows, rows_are, same)
     (subst (λ (r : ℕ). IsWrittenTable size words' (take k rows ++ (run ++ drop (k + m) rows))
     (with_regions t k m (run_regions r (new_object name p weak d) m))) size_is done)
-  where
-    drop_later : (a b : ℕ) (xs ys : List ℕ) → a ≤ b → drop a xs ≡ drop a ys → drop b xs ≡ drop b ys
-    drop_later a b xs ys h e =
-        let at : a + (b - a) ≡ b = omega arith in
-        sym (drop-drop (b - a) a xs ∙ ap (λ j. drop j xs) at) ∙ ap (drop (b - a)) e ∙ (drop-drop (b - a) a ys ∙ ap (λ j. drop j ys) at)

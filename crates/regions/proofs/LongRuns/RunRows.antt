@@ -54,10 +54,8 @@ FreeFront (suc m) [] = ⊥
 FreeFront (suc m) (row ∷ rows) = (kind_is_free row.kind ≡ true) × FreeFront m rows
 
 free_left : (size : ℕ) (ws : List ℕ) (kind : Kind) → kind_is_free kind ≡ true → left_by size ws kind ≡ 0
-free_left size ws kinds.Free h = refl
-free_left size ws kinds.Ordinary h = refl
 free_left size ws kinds.First h = cc
-free_left size ws kinds.Rest h = refl
+free_left size ws _ h = refl
 
 -- behind free regions
 pub free_behind : (f : ℕ → ℕ) (size m n : ℕ) (rows : List Row) (ws : List ℕ) → n ≡ m * size → FreeFront m rows → AreRows f size 0 ws rows

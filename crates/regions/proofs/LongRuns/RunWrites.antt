@@ -6,7 +6,7 @@ use Rattle.regions.proofs.Rows.RowLemmas.{start_at, rest_is}
 use Rattle.regions.proofs.Rows.RowWrites.{same_row, same_rest}
 use Rattle.regions.specs.declared.row.Kind.TheVariants as kinds
 
-drop_more_same : (s m : ℕ) (xs ys : List ℕ) → s ≤ m → drop s xs ≡ drop s ys → drop m xs ≡ drop m ys
+pub drop_more_same : (s m : ℕ) (xs ys : List ℕ) → s ≤ m → drop s xs ≡ drop s ys → drop m xs ≡ drop m ys
 drop_more_same s m xs ys h e =
     let at : s + (m - s) ≡ m = omega arith in
     sym (drop-drop (m - s) s xs ∙ ap (λ j. drop j xs) at) ∙ ap (drop (m - s)) e ∙ (drop-drop (m - s) s ys ∙ ap (λ j. drop j ys) at)
@@ -38,13 +38,11 @@ run_head : (f : ℕ → ℕ) (size used : ℕ) (kind : Kind) (rows : List Row) (
     → (region_by f ws' used kind ≡ First (first_stored ws'))
     × (regions_of f size (drop size ws') rows ≡ regions_of f size (drop size ws) rows) × IsRow f size ws' used kind
     × AreRows f size (left_by size ws' kind) (drop size ws') rows
-run_head f size used kinds.Free rows ws ws' e h b r a = cc
-run_head f size used kinds.Ordinary rows ws ws' e h b r a = cc
 run_head f size used kinds.First rows ws ws' e h b r a =
     let s : ℕ = object_size (header_of (get_or ws 0 0)) in
     let i = rest_rows f size rows (s - size) (drop size ws) (drop size ws') a (behind_first s size ws' ws b) in
     (refl, i.0, (rw h r.0, rw h r.1), rw h i.1)
-run_head f size used kinds.Rest rows ws ws' e h b r a = cc
+run_head f size used _ rows ws ws' e h b r a = cc
 
 pub run_written : (f : ℕ → ℕ) (size : ℕ) (rows : List Row) (k n left : ℕ) (ws ws' : List ℕ) (d : Row) → n ≡ k * size → k < length rows
     → 0 < size → AreRows f size left ws rows → (get_or rows k d).kind ≡ kinds.First → length ws' ≡ length ws → n + size ≤ length ws

@@ -1,17 +1,16 @@
 -- How many rows are free: the same as regions are, and what each change of rows does to it.
-use Rattle.regions.proofs.Common.{◌≡◌, ◌+◌, ◌<◌, ◌≤◌, ◌∷◌, ◌++◌, ◌∙◌, ℕ, zero, suc, Bool, true, false, List, [], length, take, drop, get_or}
-use Rattle.regions.proofs.Common.{set, replicate, refl, sym, ap, arith, cond, sum_by, length-append, length-take, length-drop}
-use Rattle.regions.proofs.Common.{length-replicate, drop-drop, take_all, count_by-le-length, sum_by-append, sum_by-cons, sum_by-set}
-use Rattle.regions.proofs.Common.{sum_by-take-drop, sum_by-replicate, paste, Table, Region, is_free, free_count, front_count, kind_of}
-use Rattle.regions.proofs.Common.{IsReleasable, region_of, regions_of, table_of, sizes_in, free_row, free_row_count, run_rows, run_row}
-use Rattle.regions.proofs.Common.{kind_is_free, Row, Kind}
+use Rattle.regions.proofs.Common.{count_by-le-length, length-replicate, sum_by-take-drop, sum_by-replicate, free_row_count, length-append}
+use Rattle.regions.proofs.Common.{sum_by-append, IsReleasable, kind_is_free, length-take, length-drop, sum_by-cons, front_count, sum_by-set}
+use Rattle.regions.proofs.Common.{free_count, regions_of, replicate, drop-drop, region_of, take_all, table_of, sizes_in, free_row, run_rows}
+use Rattle.regions.proofs.Common.{is_free, kind_of, run_row, length, get_or, sum_by, Region, false, arith, paste, Table, ◌++◌, zero, Bool}
+use Rattle.regions.proofs.Common.{true, List, take, drop, refl, cond, Kind, ◌≡◌, ◌+◌, ◌<◌, ◌≤◌, ◌∷◌, ◌∙◌, suc, set, sym, Row, [], ap, ℕ}
 use Rattle.std.specs.List.{count_by}
-use Rattle.regions.specs.declared.row.Kind.TheVariants as kinds
 use Rattle.regions.proofs.Rows.Search.{free}
 use Rattle.regions.proofs.Tiles.Making.{free_by, IsKnown, kind_is}
 use Rattle.regions.proofs.LongRuns.RunRows.{FreeFront}
 use Rattle.regions.proofs.LongRuns.RunGone.{rest}
 use Rattle.regions.proofs.LongRuns.RunMade.{with_rows, length-run_rows}
+use Rattle.regions.specs.declared.row.Kind.TheVariants as kinds
 
 abbrev bit : Row → ℕ
 bit row = cond (free row) 1 0
@@ -43,10 +42,9 @@ pub row_used : (size : ℕ) (words : List ℕ) (rows : List Row) (t : Table) (k 
 row_used size words rows t k n o = ap kind_is_free (sym (kind_is size words rows t k n) ∙ o)
 
 releasable_used : (kind : Kind) → IsReleasable kind → kind_is_free kind ≡ false
-releasable_used kinds.Free h = absurd h
 releasable_used kinds.Ordinary h = refl
 releasable_used kinds.First h = refl
-releasable_used kinds.Rest h = absurd h
+releasable_used _ h = absurd h
 
 pub release_used : (size : ℕ) (words : List ℕ) (rows : List Row) (t : Table) (k : ℕ) → IsKnown size words rows t k
     → IsReleasable (kind_of t k) → free (get_or rows k free_row) ≡ false
@@ -99,9 +97,7 @@ count_written rows rows' new at m number l size e f =
 -- ---- regions are released
 rest_used : (kind : Kind) → rest (record { kind = kind; used = 0 }) ≡ true → kind_is_free kind ≡ false
 rest_used kinds.Free h = cc
-rest_used kinds.Ordinary h = refl
-rest_used kinds.First h = refl
-rest_used kinds.Rest h = refl
+rest_used _ h = refl
 
 rests_used : (rows : List Row) → free_row_count (take (front_count rest rows) rows) ≡ 0
 rests_used [] = refl

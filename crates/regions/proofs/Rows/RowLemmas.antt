@@ -21,10 +21,8 @@ regions-past sizes size (row ∷ rows) zero ws h = absurd (omega arith)
 regions-past sizes size (row ∷ rows) (suc k) ws h = regions-past sizes size rows k (drop size ws) (omega arith)
 
 pub rest_is : (size left used : ℕ) (kind : Kind) → IsRestRow size left used kind → kind ≡ kinds.Rest
-rest_is size left used kinds.Free h = absurd h
-rest_is size left used kinds.Ordinary h = absurd h
-rest_is size left used kinds.First h = absurd h
 rest_is size left used kinds.Rest h = refl
+rest_is size left used _ h = absurd h
 
 -- a row that is no Rest begins its own tiles, and so do the rows behind it
 pub record IsStart (sizes : ℕ → ℕ) (size : ℕ) (ws : List ℕ) (row : Row) (rows : List Row) : Type 0 where

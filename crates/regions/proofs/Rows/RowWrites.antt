@@ -1,6 +1,6 @@
 -- What a change of one region's words and row does to the table.
 -- a region whose words are its own
-use Rattle.regions.proofs.Common.{◌≡◌, ◌+◌, ◌-◌, ◌*◌, ◌<◌, ◌≤◌, ◌∷◌, ◌++◌, ◌∙◌, ℕ, zero, suc, Option, Some, None, List, [], length, take}
+use Rattle.regions.proofs.Common.{◌≡◌, ◌+◌, ◌-◌, ◌*◌, ◌<◌, ◌≤◌, ◌∷◌, ◌++◌, ◌∙◌, ℕ, zero, suc, Option, Some, List, [], length, take}
 use Rattle.regions.proofs.Common.{drop, get_or, set, refl, sym, ap, arith, length-take, length-drop, take-take, drop-drop, take-append-drop}
 use Rattle.regions.proofs.Common.{drop-take, get_or-take, Header, header_of, stored_of, First, object_size, stored_by, first_stored}
 use Rattle.regions.proofs.Common.{region_by, region_of, regions_of, IsObjectHeader, IsRow, IsRestRow, left_by, AreRows, Row, Kind}
@@ -10,35 +10,30 @@ use Rattle.regions.proofs.Rows.RowLemmas.{start_at, rest_is}
 use Rattle.regions.specs.declared.row.Kind.TheVariants as kinds
 
 abbrev pub IsPlain : Kind → Type 0
-IsPlain kinds.Free = Unit {0}
-IsPlain kinds.Ordinary = Unit {0}
 IsPlain kinds.First = ⊥
 IsPlain kinds.Rest = ⊥
+IsPlain _ = Unit {0}
 
 plain_left : (size : ℕ) (ws : List ℕ) (kind : Kind) → IsPlain kind → left_by size ws kind ≡ 0
-plain_left size ws kinds.Free h = refl
-plain_left size ws kinds.Ordinary h = refl
 plain_left size ws kinds.First h = absurd h
 plain_left size ws kinds.Rest h = absurd h
+plain_left size ws _ h = refl
 
-plain_not_rest : (kind : Kind) → IsPlain kind → kind ≡ kinds.Rest → ⊥
-plain_not_rest kinds.Free h e = cc
-plain_not_rest kinds.Ordinary h e = cc
+pub plain_not_rest : (kind : Kind) → IsPlain kind → kind ≡ kinds.Rest → ⊥
 plain_not_rest kinds.First h e = h
 plain_not_rest kinds.Rest h e = h
+plain_not_rest _ h e = cc
 
 -- two words lists that begin with the same n words
 stored_by-front : (o : Option Header) (ws : List ℕ) (m : ℕ) → IsObjectHeader o → object_size o ≤ suc m → m ≤ length ws
     → stored_by (take m ws) o ≡ stored_by ws o
-stored_by-front None ws m i h l = absurd i
 stored_by-front (Some (headers.Object p weak d)) ws m i h l =
     let fits : 1 + p + weak + d ≤ length (take m ws) = simp length-take (omega arith) in
     let e : stored_of p weak d (take m ws ++ drop m ws) ≡ stored_of p weak d (take m ws) =
     stored_of-append p weak d (take m ws) (drop m ws) fits in
     let whole : take m ws ++ drop m ws ≡ ws = take-append-drop m ws in
     cc
-stored_by-front (Some (headers.Filler n)) ws m i h l = absurd i
-stored_by-front (Some (headers.Forwarded to)) ws m i h l = absurd i
+stored_by-front _ ws m i h l = absurd i
 
 first_stored-front : (ws : List ℕ) (n : ℕ) → IsObjectHeader (header_of (get_or ws 0 0)) → object_size (header_of (get_or ws 0 0)) ≤ n
     → 0 < n

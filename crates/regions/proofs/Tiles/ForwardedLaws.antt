@@ -36,10 +36,8 @@ moved_in P t x to n a h = moved_region P (get_or t.regions (x / t.words_per_regi
     (EachForwardedIn-at P t.regions (x / t.words_per_region) a)
 
 moved_shape : (f : ℕ → ℕ) (o : Option Header) (to n : ℕ) → shape_by f o ≡ shapes.Forwarded to n → n ≡ f to
-moved_shape f None to n h = cc
-moved_shape f (Some (headers.Object p weak d)) to n h = cc
-moved_shape f (Some (headers.Filler m)) to n h = cc
 moved_shape f (Some (headers.Forwarded at)) to n h = let a : at ≡ to = cc in let b : f at ≡ n = cc in sym b ∙ ap f a
+moved_shape f _ to n h = cc
 
 pub targets_right : (size : ℕ) (words : List ℕ) (rows : List Row) (t : Table) → IsTable size words rows
     → table_of size words rows ≡ t → AreTargetsRight t
@@ -50,18 +48,13 @@ targets_right size words rows t g e x to n h =
     (o, sym i.size_is ∙ sym (moved_shape (sizes_in words) (header_of (get_or words x 0)) to n s.shape_is))
 
 target_shape : (f : ℕ → ℕ) (o : Option Header) (t : Tile) → shape_by f o ≡ tile_shape t → header_target o ≡ moved_to (Some t)
-target_shape f None (Object s) h = refl
-target_shape f None (Filler n) h = refl
 target_shape f None (Forwarded to n) h = cc
-target_shape f (Some (headers.Object p weak d)) (Object s) h = refl
-target_shape f (Some (headers.Object p weak d)) (Filler n) h = refl
 target_shape f (Some (headers.Object p weak d)) (Forwarded to n) h = cc
-target_shape f (Some (headers.Filler m)) (Object s) h = refl
-target_shape f (Some (headers.Filler m)) (Filler n) h = refl
 target_shape f (Some (headers.Filler m)) (Forwarded to n) h = cc
 target_shape f (Some (headers.Forwarded at)) (Object s) h = cc
 target_shape f (Some (headers.Forwarded at)) (Filler n) h = cc
 target_shape f (Some (headers.Forwarded at)) (Forwarded to n) h = cc
+target_shape f _ _ h = refl
 
 pub target_is : (size : ℕ) (words : List ℕ) (rows : List Row) (t : Table) (x : ℕ) → IsTable size words rows → table_of size words rows ≡ t
     → IsSome (tile_in t x) → header_target (header_of (get_or words x 0)) ≡ moved_to (tile_in t x)

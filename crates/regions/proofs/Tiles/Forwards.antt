@@ -1,7 +1,7 @@
 -- An object becomes forwarded.
 use Rattle.regions.proofs.Common.{◌≡◌, ◌≢◌, ◌+◌, ◌-◌, ◌<◌, ◌≤◌, ◌∷◌, ◌∙◌, ℕ, suc, Option, Some, None, List, [], length, take, drop, set}
 use Rattle.regions.proofs.Common.{refl, sym, ap, subst, arith, inl, inr, add-zero, length-take, length-drop, IsSome, header_of, header_word}
-use Rattle.regions.proofs.Common.{Stored, Object, Forwarded, tile_size, put, Table, object_at, tile_in, region_at, IsOrdinary, HasObject}
+use Rattle.regions.proofs.Common.{Stored, Object, Forwarded, tile_size, put, Table, object_at, region_at, IsOrdinary, HasObject}
 use Rattle.regions.proofs.Common.{object_words, stored_size, replace_tile, EachForwarded, EachForwardedIn, sizes_in, table_of, IsTable, Row}
 use Rattle.heap_words.specs.declared.header.Header.TheVariants as headers
 use Rattle.heap_words.proofs.Codec.{header_of-word}
@@ -13,7 +13,7 @@ use Rattle.regions.proofs.Tiles.Replaced.{IsBlock, tile_replaced, tile_fits}
 use Rattle.regions.proofs.Tiles.Targets.{IsWrittenTable}
 use Rattle.regions.proofs.Words.Access.{not_first}
 use Rattle.regions.proofs.Words.ObjectWords.{there, some_object}
-use Rattle.regions.proofs.Tiles.Laws.{object_tile}
+use Rattle.regions.proofs.Tiles.Laws.{tile_of}
 
 one_moved : (sizes : ℕ → ℕ) (w to m : ℕ) (body : List ℕ) → header_of w ≡ Some (headers.Forwarded to) → sizes to ≡ m → 0 < m
     → m ≡ suc (length body) → IsOne sizes (w ∷ body) (Forwarded to m)
@@ -31,10 +31,6 @@ stored_some (Some s) h = (s, refl)
 sized_object : (t : Table) (x : ℕ) → 0 < object_words t x → (s : Stored) × (object_at t x ≡ Some s)
 unfolding object_words
 sized_object t x h = stored_some (object_at t x) h
-
-object_is_tile : (t : Table) (x : ℕ) (s : Stored) → object_at t x ≡ Some s → tile_in t x ≡ Some (Object s)
-unfolding object_at
-object_is_tile t x s h = object_tile (tile_in t x) s h
 
 -- a header alone is written: the words behind it are as they were
 pub header_put : (words : List ℕ) (x w m : ℕ) → x + suc m ≤ length words → set words x w ≡ put words x (w ∷ take m (drop (x + 1) words))
@@ -71,7 +67,7 @@ forwarded size words rows t x to g e h ordinary copy apart spared =
           let fresh : EachForwarded (λ y. HasObject t y × (y ≢ x)) (Forwarded to m ∷ []) =
           ((record { object = r.0; is = r.1 }, apart), tt) in
           let done = tile_replaced size words rows t x (Object s) (w ∷ stale) (Forwarded to m ∷ []) g e q b
-          (object_is_tile t x s found.1) spared fresh in
+          (tile_of t x s found.1) spared fresh in
           rw (header_put words x w (m - 1) (omega (arith, fits)), o.words_are) done.0
       | inr q ↦ absurd (not_first size words rows x (Object s) q (subst (λ (u : Table). IsOrdinary (region_at u x)) (sym e) ordinary))
     ]

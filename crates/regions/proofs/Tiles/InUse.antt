@@ -1,35 +1,26 @@
 -- Every word of an object lies in a region that isn't free.
-use Rattle.regions.proofs.Common.{◌≡◌, ◌+◌, ◌*◌, ◌/◌, ◌%◌, ◌<◌, ◌≤◌, ◌∙◌, ℕ, zero, suc, Option, Some, None, List, refl, ap, subst, arith}
-use Rattle.regions.proofs.Common.{false, get_or, inl, inr, div-mul-add, cases_lt, Stored, Tile, Object, Filler, Forwarded, tile_at}
+use Rattle.regions.proofs.Common.{◌≡◌, ◌+◌, ◌*◌, ◌/◌, ◌%◌, ◌<◌, ◌≤◌, ◌∙◌, ℕ, zero, Some, List, refl, ap, subst, arith}
+use Rattle.regions.proofs.Common.{false, get_or, inl, inr, div-mul-add, cases_lt, Stored, Tile, Object, tile_at}
 use Rattle.regions.proofs.Common.{tile_size, total_size, Table, Region, Free, Ordinary, First, Rest, region_tile, region_at, nth_region}
 use Rattle.regions.proofs.Common.{region_kind, kind_of, tile_in, tile_object, object_at, is_free, tiles_of, region_tiles, IsShaped}
 use Rattle.regions.specs.Shaped.{AreInUse}
 use Rattle.regions.specs.declared.row.Kind.TheVariants as kinds
 use Rattle.regions.proofs.Tiles.Placing.{tile_at-end}
+use Rattle.regions.proofs.Tiles.Laws.{object_tile}
 
 -- the region of an object: an ordinary one with the object among its tiles, or the first of a run
 pub data Holds (r : Region) (o : ℕ) (s : Stored) : Type 0 where
   InOrdinary : (ts : List Tile) → r ≡ Ordinary ts → tile_at o ts ≡ Some (Object s) → Holds r o s
   InFirst : r ≡ First s → o ≡ 0 → Holds r o s
 
-live : (t : Option Tile) (s : Stored) → tile_object t ≡ Some s → t ≡ Some (Object s)
-live None s e = absurd (cc)
-live (Some (Object x)) s e = cc
-live (Some (Filler n)) s e = absurd (cc)
-live (Some (Forwarded to n)) s e = absurd (cc)
-
 pub holds : (r : Region) (o : ℕ) (s : Stored) → tile_object (region_tile r o) ≡ Some s → Holds r o s
-holds Free o s e = absurd (cc)
-holds (Ordinary ts) o s e = InOrdinary ts refl (live (tile_at o ts) s e)
+holds (Ordinary ts) o s e = InOrdinary ts refl (object_tile (tile_at o ts) s e)
 holds (First x) zero s e = InFirst (let same : x ≡ s = cc in ap First same) refl
-holds (First x) (suc o) s e = absurd (cc)
-holds (Rest n) o s e = absurd (cc)
+holds _ _ s e = absurd (cc)
 
 not_free : (r : Region) → region_kind r ≡ kinds.Rest → is_free r ≡ false
 not_free Free e = cc
-not_free (Ordinary ts) e = refl
-not_free (First s) e = refl
-not_free (Rest n) e = refl
+not_free _ e = refl
 
 module _ (t : Table) (shaped : IsShaped t) (a : ℕ) (s : Stored) where
   -- the region of a word, by its number and the word's offset

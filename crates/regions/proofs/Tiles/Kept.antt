@@ -1,15 +1,14 @@
 -- Which objects stay where they are when the table changes. No word is in it.
 -- an object stands at the address before and after, of one size
-use Rattle.regions.proofs.Common.{◌≡◌, ◌≢◌, ◌+◌, ◌-◌, ◌/◌, ◌%◌, ◌<◌, ◌∷◌, ◌++◌, ◌∙◌, ℕ, zero, suc, Some, None, List, [], get_or, refl, sym}
-use Rattle.regions.proofs.Common.{ap, arith, inl, inr, get_or-set_same, get_or-set_other, cases_eq, le-leb, Stored, Tile, Object, Filler}
-use Rattle.regions.proofs.Common.{Forwarded, tile_size, tile_at, replace, total_size, Region, Free, Ordinary, First, Rest, Table}
-use Rattle.regions.proofs.Common.{region_tile, region_at, tile_in, object_at, with_object, put_object, with_region, region_with_tile}
-use Rattle.regions.proofs.Common.{nth_region, push_tile, region_replaced, replace_tile, EachForwarded, EachForwardedIn, HasObject}
-use Rattle.regions.proofs.Common.{HasTargets, AllPositive}
+use Rattle.regions.proofs.Common.{get_or-set_other, region_with_tile, get_or-set_same, region_replaced, EachForwardedIn, EachForwarded, ◌≡◌}
+use Rattle.regions.proofs.Common.{replace_tile, region_tile, with_object, with_region, AllPositive, total_size, put_object, nth_region, ◌≢◌}
+use Rattle.regions.proofs.Common.{HasTargets, Forwarded, tile_size, region_at, object_at, push_tile, HasObject, cases_eq, Ordinary, tile_at}
+use Rattle.regions.proofs.Common.{replace, tile_in, get_or, le-leb, Stored, Object, Filler, Region, arith, First, Table, ◌++◌, zero, Some}
+use Rattle.regions.proofs.Common.{None, List, refl, Tile, Free, Rest, ◌+◌, ◌-◌, ◌/◌, ◌%◌, ◌<◌, ◌∷◌, ◌∙◌, suc, sym, inl, inr, [], ap, ℕ}
 use Rattle.regions.proofs.Words.Parse.{past}
 use Rattle.regions.proofs.Tiles.Laws.{object_tile, object_at-put_same, tile_in-put_other, same_place, known_region}
-use Rattle.regions.proofs.Words.Sizes.{EachForwardedIn-imp, EachForwardedIn-set, EachForwardedIn-at}
-use Rattle.regions.proofs.Words.Sizes.{EachForwarded-append, EachForwarded-replace}
+use Rattle.regions.proofs.Words.Sizes.{EachForwardedIn-imp, EachForwardedIn-set, EachForwardedIn-at, EachForwarded-append}
+use Rattle.regions.proofs.Words.Sizes.{EachForwarded-replace}
 
 pub record IsKept (t u : Table) (x : ℕ) : Type 0 where
   pub before : Stored
@@ -61,10 +60,8 @@ tile_at-append (u ∷ ts) us (suc o) t h =
 
 push_keeps : (r : Region) (tile : Tile) (o : ℕ) (s : Stored) → region_tile r o ≡ Some (Object s)
     → region_tile (region_with_tile r tile) o ≡ Some (Object s)
-push_keeps Free tile o s h = h
 push_keeps (Ordinary ts) tile o s h = tile_at-append ts (tile ∷ []) o (Object s) h
-push_keeps (First q) tile o s h = h
-push_keeps (Rest n) tile o s h = h
+push_keeps _ tile o s h = h
 
 -- behind tiles
 pub tile_at-behind : (new ts : List Tile) (o z : ℕ) → AllPositive new → o ≡ total_size new + z → tile_at o (new ++ ts) ≡ tile_at z ts
@@ -92,10 +89,8 @@ tile_at-replaced (u ∷ ts) new (suc o) (suc y) old t a e f n h =
 
 replace_keeps : (r : Region) (new : List Tile) (o y : ℕ) (old : Tile) (s : Stored) → AllPositive new → total_size new ≡ tile_size old
     → region_tile r o ≡ Some old → y ≢ o → region_tile r y ≡ Some (Object s) → region_tile (region_replaced r o new) y ≡ Some (Object s)
-replace_keeps Free new o y old s a e f n h = h
 replace_keeps (Ordinary ts) new o y old s a e f n h = tile_at-replaced ts new o y old (Object s) a e f n h
-replace_keeps (First q) new o y old s a e f n h = h
-replace_keeps (Rest m) new o y old s a e f n h = h
+replace_keeps _ new o y old s a e f n h = h
 
 -- each moved tile's new place keeps its object
 pub each_kept : (P : ℕ → Type 0) (t u : Table) → ((x : ℕ) → P x → IsKept t u x) → EachForwardedIn P u.regions
@@ -104,24 +99,18 @@ each_kept P t u k a = EachForwardedIn-imp P (IsKept t u) u.regions k a
 
 pub with_tile-moved : (P : ℕ → Type 0) (r : Region) (t : Tile) → EachForwarded P (t ∷ []) → EachForwardedIn P (r ∷ [])
     → EachForwardedIn P (region_with_tile r t ∷ [])
-with_tile-moved P Free t b a = tt
 with_tile-moved P (Ordinary ts) t b a = (EachForwarded-append P ts (t ∷ []) a.0 b, tt)
-with_tile-moved P (First s) t b a = tt
-with_tile-moved P (Rest n) t b a = tt
+with_tile-moved P _ t b a = tt
 
 pub replaced-moved : (P : ℕ → Type 0) (r : Region) (o : ℕ) (new : List Tile) → EachForwarded P new → EachForwardedIn P (r ∷ [])
     → EachForwardedIn P (region_replaced r o new ∷ [])
-replaced-moved P Free o new b a = tt
 replaced-moved P (Ordinary ts) o new b a = (EachForwarded-replace P o new ts b a.0, tt)
-replaced-moved P (First s) o new b a = tt
-replaced-moved P (Rest n) o new b a = tt
+replaced-moved P _ o new b a = tt
 
 with_object-moved : (P : ℕ → Type 0) (r : Region) (o : ℕ) (s : Stored) → EachForwardedIn P (r ∷ [])
     → EachForwardedIn P (with_object r o s ∷ [])
-with_object-moved P Free o s a = tt
 with_object-moved P (Ordinary ts) o s a = (EachForwarded-replace P o (Object s ∷ []) ts tt a.0, tt)
-with_object-moved P (First old) o s a = tt
-with_object-moved P (Rest n) o s a = tt
+with_object-moved P _ o s a = tt
 
 -- one more tile at a top
 pub push_kept : (t : Table) (k : ℕ) (tile : Tile) → HasTargets t → EachForwarded (HasObject t) (tile ∷ [])

@@ -37,13 +37,15 @@ object_tile (Some (Filler n)) s h = cc
 object_tile (Some (Forwarded to n)) s h = cc
 object_tile None s h = cc
 
+pub tile_of : (t : Table) (a : ℕ) (s : Stored) → object_at t a ≡ Some s → tile_in t a ≡ Some (Object s)
+unfolding object_at
+tile_of t a s h = object_tile (tile_in t a) s h
+
 region_same : (r : Region) (o : ℕ) (s s' : Stored) → region_tile r o ≡ Some (Object s)
     → region_tile (with_object r o s') o ≡ Some (Object s')
-region_same Free o s s' h = cc
 region_same (Ordinary ts) o s s' h = tile_at-replace_same ts o (Object s) (Object s') h
 region_same (First q) zero s s' h = refl
-region_same (First q) (suc o) s s' h = cc
-region_same (Rest n) o s s' h = cc
+region_same _ _ s s' h = cc
 
 region_other : (r : Region) (o y : ℕ) (s s' : Stored) → region_tile r o ≡ Some (Object s) → tile_size (Object s') ≡ tile_size (Object s)
     → y ≢ o → region_tile (with_object r o s') y ≡ region_tile r y

@@ -2,15 +2,14 @@
 use Rattle.regions.proofs.Common.{max_words, ◌≡◌, ◌+◌, ◌-◌, ◌*◌, ◌<◌, ◌≤◌, ◌∷◌, ◌∙◌, ℕ, zero, suc, Some, None, List, [], length, take, drop}
 use Rattle.regions.proofs.Common.{get_or, set, refl, sym, ap, subst, arith, true, replicate, position, Region, Free, Ordinary, First, Rest}
 use Rattle.regions.proofs.Common.{Table, with_region, is_free, first_free, taken, region_used, nth_region, used_of, region_kind, kind_of}
-use Rattle.regions.proofs.Common.{free_table, HasNoForwarded, EachForwarded, EachForwardedIn, HasTargets, length-take, length-drop}
-use Rattle.regions.proofs.Common.{length-replicate, header_of, Tile, Object, Filler, Forwarded, total_size, size_by, tiles, IsTiled}
-use Rattle.regions.proofs.Common.{sizes_in, region_by, region_of, regions_of, IsRow, AreRows, table_of, IsTable, free_row, kind_is_free}
-use Rattle.regions.proofs.Common.{Row, Kind, row_fits, position_or_len, position-Some}
+use Rattle.regions.proofs.Common.{free_table, HasNoForwarded, EachForwardedIn, HasTargets, length-take, length-drop, length-replicate}
+use Rattle.regions.proofs.Common.{header_of, total_size, size_by, tiles, IsTiled, sizes_in, region_by, region_of, regions_of, IsRow}
+use Rattle.regions.proofs.Common.{AreRows, table_of, IsTable, free_row, kind_is_free, Row, Kind, row_fits, position_or_len, position-Some}
 use Rattle.heap_words.specs.Configs.{max_region_words}
 use Rattle.std.proofs.lemmas.List.{get_or_read}
 use Rattle.regions.proofs.Words.Parse.{skip_le, tile_size-by}
 use Rattle.regions.proofs.Rows.RowLemmas.{regions-at, start_at}
-use Rattle.regions.proofs.Rows.RowWrites.{IsPlain}
+use Rattle.regions.proofs.Rows.RowWrites.{IsPlain, plain_not_rest}
 use Rattle.regions.proofs.Tiles.Targets.{IsWrittenTable}
 use Rattle.regions.proofs.Tiles.Kept.{IsKept, was_free_kept}
 use Rattle.regions.proofs.Words.Written.{region_changed}
@@ -93,19 +92,6 @@ pub first_free-is : (size : ℕ) (words : List ℕ) (rows : List Row) (t : Table
 first_free-is size words rows t e =
     rw (← e, place-regions_of (sizes_in words) size rows words, length-regions_of (sizes_in words) size rows words) refl
 
-pub EachForwarded-all : (P : ℕ → Type 0) (ts : List Tile) → ((to : ℕ) → P to) → EachForwarded P ts
-EachForwarded-all P [] h = tt
-EachForwarded-all P (Object s ∷ ts) h = EachForwarded-all P ts h
-EachForwarded-all P (Filler n ∷ ts) h = EachForwarded-all P ts h
-EachForwarded-all P (Forwarded to n ∷ ts) h = (h to, EachForwarded-all P ts h)
-
-pub EachForwardedIn-all : (P : ℕ → Type 0) (rs : List Region) → ((to : ℕ) → P to) → EachForwardedIn P rs
-EachForwardedIn-all P [] h = tt
-EachForwardedIn-all P (Free ∷ rs) h = EachForwardedIn-all P rs h
-EachForwardedIn-all P (Ordinary ts ∷ rs) h = (EachForwarded-all P ts h, EachForwardedIn-all P rs h)
-EachForwardedIn-all P (First s ∷ rs) h = EachForwardedIn-all P rs h
-EachForwardedIn-all P (Rest n ∷ rs) h = EachForwardedIn-all P rs h
-
 -- a row changes and no word
 pub row_changed : (size : ℕ) (words : List ℕ) (rows : List Row) (t : Table) (k : ℕ) (row : Row) (r : Region) → IsTable size words rows
     → table_of size words rows ≡ t → k < length rows → IsPlain (get_or rows k free_row).kind → IsPlain row.kind
@@ -116,16 +102,13 @@ row_changed size words rows t k row r g e h p q i is kept =
     region_changed size words words rows t k row r g e h p q (record { length_is = refl; before = refl; after = refl }) i is kept
 
 free_is_plain : (kind : Kind) → kind_is_free kind ≡ true → IsPlain kind
-free_is_plain kinds.Free h = tt
-free_is_plain kinds.Ordinary h = tt
 free_is_plain kinds.First h = cc
 free_is_plain kinds.Rest h = cc
+free_is_plain _ h = tt
 
-free_region : (sizes : ℕ → ℕ) (ws : List ℕ) (used : ℕ) (kind : Kind) → kind_is_free kind ≡ true → region_by sizes ws used kind ≡ Free
+pub free_region : (sizes : ℕ → ℕ) (ws : List ℕ) (used : ℕ) (kind : Kind) → kind_is_free kind ≡ true → region_by sizes ws used kind ≡ Free
 free_region sizes ws used kinds.Free h = refl
-free_region sizes ws used kinds.Ordinary h = cc
-free_region sizes ws used kinds.First h = cc
-free_region sizes ws used kinds.Rest h = cc
+free_region sizes ws used _ h = cc
 
 free_at : (size : ℕ) (words : List ℕ) (rows : List Row) (t : Table) (k : ℕ) → table_of size words rows ≡ t → k < length rows
     → kind_is_free (get_or rows k free_row).kind ≡ true → get_or t.regions k Free ≡ Free
@@ -158,12 +141,6 @@ used_by sizes size used kinds.Ordinary ws f p r =
 used_by sizes size used kinds.First ws f p r = absurd p
 used_by sizes size used kinds.Rest ws f p r = absurd r
 
-not_rest : (kind : Kind) → IsPlain kind → kind ≡ kinds.Rest → ⊥
-not_rest kinds.Free h e = cc
-not_rest kinds.Ordinary h e = cc
-not_rest kinds.First h e = h
-not_rest kinds.Rest h e = h
-
 pub plain_from : (kind : Kind) → kind ≡ kinds.Ordinary → IsPlain kind
 plain_from kind e = rw e tt
 
@@ -175,7 +152,7 @@ top_is size words rows t k g e h o =
     let is : (get_or rows k free_row).kind ≡ kinds.Ordinary = sym (kind_is size words rows t k n) ∙ o in
     let p = plain_from _ is in
     let fits : k * size + size ≤ length words = rw g.covers (row_fits k size (length rows) size n.in_rows (omega arith)) in
-    let st = start_at (sizes_in words) size rows k (k * size) 0 words free_row refl n.in_rows g.rows_right (not_rest _ p) in
+    let st = start_at (sizes_in words) size rows k (k * size) 0 words free_row refl n.in_rows g.rows_right (plain_not_rest _ p) in
     let u = used_by (sizes_in words) size (get_or rows k free_row).used (get_or rows k free_row).kind (drop (k * size) words)
     (omega (arith, length-drop (k * size) words)) p st.0.row_is in
     record { used_is = rw (← n.size_is, n.region_is) (sym u.0); used_le = u.1; room = fits }
@@ -189,7 +166,7 @@ pub top_at : (size : ℕ) (words : List ℕ) (rows : List Row) (t : Table) (k to
     → top ≡ k * t.words_per_region + used_of t k → top ≡ k * size + used_of t k
 top_at size words rows t k top i e = e ∙ ap (λ (m : ℕ). k * m + used_of t k) (sym i.size_is)
 
-no_targets : (P : ℕ → Type 0) (n : ℕ) → EachForwardedIn P (replicate n Free)
+pub no_targets : (P : ℕ → Type 0) (n : ℕ) → EachForwardedIn P (replicate n Free)
 no_targets P zero = tt
 no_targets P (suc n) = no_targets P n
 

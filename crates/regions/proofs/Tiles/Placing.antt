@@ -12,6 +12,7 @@ use Rattle.regions.proofs.Tiles.Totals.{total-append, total-replace}
 use Rattle.regions.proofs.Tiles.Kept.{replaced-moved, with_tile-moved}
 use Rattle.regions.proofs.Words.Sizes.{EachForwardedIn-set, EachForwardedIn-at}
 use Rattle.regions.specs.declared.row.Kind.TheVariants as kinds
+use Rattle.regions.proofs.Tiles.TileLaws.{kind_of-replace}
 
 -- the tiles of a list once one of them gives way to others of the same size
 pub tile_at-before : (ts new : List Tile) (o y : ℕ) (u : Tile) → tile_at o ts ≡ Some u → y < o → tile_at y (replace o new ts) ≡ tile_at y ts
@@ -130,12 +131,6 @@ has_tiles (First s) zero n h = cc
 has_tiles (First s) (suc o) n h = cc
 has_tiles (Rest m) o n h = cc
 
-kind_replaced : (r : Region) (o : ℕ) (new : List Tile) → region_kind (region_replaced r o new) ≡ region_kind r
-kind_replaced Free o new = refl
-kind_replaced (Ordinary ts) o new = refl
-kind_replaced (First s) o new = refl
-kind_replaced (Rest n) o new = refl
-
 pub filler_region : (t : Table) (x n : ℕ) → tile_in t x ≡ Some (Filler n)
     → (x / t.words_per_region < length t.regions) × (kind_of t (x / t.words_per_region) ≡ kinds.Ordinary)
 unfolding tile_in region_at kind_of nth_region
@@ -170,10 +165,7 @@ filler_replaced t x n new z fitting h p positive total moved =
     record {
       size = refl;
       count = length-set t.regions k r;
-      kinds_same = λ j. elim (cases_eq j k) [
-        | inl e ↦ rw e (ap region_kind (get_or-set_same t.regions k r Free known) ∙ kind_replaced (get_or t.regions k Free) o new)
-        | inr e ↦ ap region_kind (get_or-set_other t.regions k j r Free e)
-      ];
+      kinds_same = λ j. kind_of-replace t x new j known;
       unmoved = λ m. EachForwardedIn-set (λ _. ⊥) t.regions k r
           (replaced-moved (λ _. ⊥) (get_or t.regions k Free) o new moved (EachForwardedIn-at (λ _. ⊥) t.regions k m)) m;
       within = λ j lt.
@@ -232,7 +224,7 @@ tile_at-past (t ∷ ts) (suc y) z h =
     let le : tile_size t ≤ suc y = omega arith in
     rw (le-leb (tile_size t) (suc y) le) (tile_at-past ts (suc y - tile_size t) z.1 (omega arith))
 
-tile_at-alone : (t : Tile) (j : ℕ) → 0 < j → tile_at j (t ∷ []) ≡ None
+pub tile_at-alone : (t : Tile) (j : ℕ) → 0 < j → tile_at j (t ∷ []) ≡ None
 tile_at-alone t zero h = absurd (omega arith)
 tile_at-alone t (suc j) h = elim (leb_tells (tile_size t) (suc j)) [ inl q ↦ rw q.0 refl | inr q ↦ rw q.0 refl ]
 
@@ -248,10 +240,8 @@ pub record IsOrdinaryAt (r : Region) : Type 0 where
   pub is : r ≡ Ordinary tiles
 
 pub ordinary_at : (r : Region) → region_kind r ≡ kinds.Ordinary → IsOrdinaryAt r
-ordinary_at Free h = cc
 ordinary_at (Ordinary ts) h = record { tiles = ts; is = refl }
-ordinary_at (First s) h = cc
-ordinary_at (Rest n) h = cc
+ordinary_at _ h = cc
 
 pub filler_push : (t : Table) (k : ℕ) (tile : Tile) → 0 < t.words_per_region → AreFitting t → k < length t.regions
     → kind_of t k ≡ kinds.Ordinary → 0 < tile_size tile → used_of t k + tile_size tile ≤ t.words_per_region
@@ -305,11 +295,9 @@ filler_push t k tile z fitting known ordinary p room moved =
       ];
     }
 
-free_is : (r : Region) → is_free r ≡ true → r ≡ Free
+pub free_is : (r : Region) → is_free r ≡ true → r ≡ Free
 free_is Free h = refl
-free_is (Ordinary ts) h = cc
-free_is (First s) h = cc
-free_is (Rest n) h = cc
+free_is _ h = cc
 
 -- a free region is taken
 pub record Takes (t t' : Table) (k : ℕ) : Type 0 where

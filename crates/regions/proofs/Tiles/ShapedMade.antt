@@ -74,22 +74,16 @@ record IsLaterRow (size : ℕ) (ws : List ℕ) (rows : List Row) (k used : ℕ) 
 
 left_first : (size : ℕ) (ws : List ℕ) (kind : Kind) → 0 < left_by size ws kind
     → (kind ≡ kinds.First) × (left_by size ws kind ≡ object_size (header_of (get_or ws 0 0)) - size)
-left_first size ws kinds.Free h = absurd (omega arith)
-left_first size ws kinds.Ordinary h = absurd (omega arith)
 left_first size ws kinds.First h = (refl, refl)
-left_first size ws kinds.Rest h = absurd (omega arith)
+left_first size ws _ h = absurd (omega arith)
 
 not_rest_row : (f : ℕ → ℕ) (size : ℕ) (ws : List ℕ) (used : ℕ) (kind : Kind) → IsRow f size ws used kind → kind ≡ kinds.Rest → ⊥
-not_rest_row f size ws used kinds.Free r e = cc
-not_rest_row f size ws used kinds.Ordinary r e = cc
-not_rest_row f size ws used kinds.First r e = cc
 not_rest_row f size ws used kinds.Rest r e = r
+not_rest_row f size ws used _ r e = cc
 
 rest_used : (size left used : ℕ) (kind : Kind) → IsRestRow size left used kind → used ≡ min size left
-rest_used size left used kinds.Free r = absurd r
-rest_used size left used kinds.Ordinary r = absurd r
-rest_used size left used kinds.First r = absurd r
 rest_used size left used kinds.Rest r = r
+rest_used size left used _ r = absurd r
 
 shift_row : (size : ℕ) (ws : List ℕ) (row : Row) (rows : List Row) (k used : ℕ) → IsLaterRow size (drop size ws) rows k used
     → IsLaterRow size ws (row ∷ rows) (suc k) used
@@ -201,10 +195,8 @@ run_rests size words rows t k j s g e f z h =
     less (suc j) size o n z h e = let p : suc j - 1 ≡ j = omega arith in rw p (omega arith)
 
 rest_row_is : (f : ℕ → ℕ) (ws : List ℕ) (used n : ℕ) (kind : Kind) → region_by f ws used kind ≡ Rest n → (kind ≡ kinds.Rest) × (used ≡ n)
-rest_row_is f ws used n kinds.Free e = cc
-rest_row_is f ws used n kinds.Ordinary e = cc
-rest_row_is f ws used n kinds.First e = cc
 rest_row_is f ws used n kinds.Rest e = (refl, cc)
+rest_row_is f ws used n _ e = cc
 
 first_row_is : (f : ℕ → ℕ) (ws : List ℕ) (used : ℕ) (kind : Kind) → kind ≡ kinds.First → region_by f ws used kind ≡ First (first_stored ws)
 first_row_is f ws used kind e = rw e refl

@@ -1,24 +1,21 @@
 -- What the tile at an address is.
-use Rattle.regions.proofs.Common.{header_of, Header, sizes_in, first_stored, IsRow, table_of, IsTable, free_row, Table, tile_in, Tile}
-use Rattle.regions.proofs.Common.{Object, tile_size, stored_of, tile_by, size_by, IsTiled, Kind, Row, ◌≡◌, ◌+◌, ◌-◌, ◌*◌, ◌/◌, ◌%◌, ◌<◌}
-use Rattle.regions.proofs.Common.{◌≤◌, ◌∷◌, ◌++◌, ◌∙◌, ℕ, suc, Option, Some, None, List, [], length, take, drop, get_or, refl, sym, ap}
-use Rattle.regions.proofs.Common.{subst, arith, inl, inr, length-append, length-take, length-drop, length-map, IsSome, IfSome, tile_shape}
-use Rattle.regions.proofs.Common.{shape_by}
-use Rattle.heap_words.specs.declared.header.Header.TheVariants as headers
+use Rattle.regions.proofs.Common.{length-append, first_stored, length-take, length-drop, length-map, tile_shape, header_of, tile_size, Tile}
+use Rattle.regions.proofs.Common.{stored_of, sizes_in, table_of, free_row, shape_by, IsTable, tile_in, tile_by, size_by, IsTiled, Header, ℕ}
+use Rattle.regions.proofs.Common.{Object, Option, length, get_or, IsSome, IfSome, IsRow, Table, subst, arith, Kind, ◌++◌, Some, None, List}
+use Rattle.regions.proofs.Common.{take, drop, refl, Row, ◌≡◌, ◌+◌, ◌-◌, ◌*◌, ◌/◌, ◌%◌, ◌<◌, ◌≤◌, ◌∷◌, ◌∙◌, suc, sym, inl, inr, [], ap}
 use Rattle.regions.proofs.Words.Parse.{skip_le, first_tile, tile_at-tiles}
 use Rattle.regions.proofs.Words.Places.{table_right, InOrdinary, InFirst, place_of, split_at, front_word, in_first}
 use Rattle.regions.proofs.Rows.RowLemmas.{start_at}
+use Rattle.heap_words.specs.declared.header.Header.TheVariants as headers
 use Rattle.regions.specs.declared.row.Kind.TheVariants as kinds
 
 shape_tile : (f : ℕ → ℕ) (o : Option Header) (ws : List ℕ) → size_by f o - 1 ≤ length ws → tile_shape (tile_by f ws o) ≡ shape_by f o
-shape_tile f None ws h = refl
 shape_tile f (Some (headers.Object p weak d)) ws h =
     let ep : length (stored_of p weak d ws).pointers ≡ p = simp (length-map, length-take, length-drop) (omega arith) in
     let ew : length (stored_of p weak d ws).weaks ≡ weak = simp (length-map, length-take, length-drop) (omega arith) in
     let ed : length (stored_of p weak d ws).values ≡ d = simp (length-take, length-drop) (omega arith) in
     cc
-shape_tile f (Some (headers.Filler n)) ws h = refl
-shape_tile f (Some (headers.Forwarded to)) ws h = refl
+shape_tile f _ ws h = refl
 
 pub record IsShown (words : List ℕ) (x : ℕ) (tile : Tile) : Type 0 where
   pub in_words : x < length words

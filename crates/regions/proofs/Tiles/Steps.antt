@@ -1,22 +1,17 @@
 -- From a tile of a region to the one behind it.
-use Rattle.regions.proofs.Common.{◌≡◌, ◌≢◌, ◌+◌, ◌-◌, ◌*◌, ◌/◌, ◌%◌, ◌<◌, ◌≤◌, ◌∙◌, ℕ, suc, zero, Option, Some, None, refl, sym, ap, subst}
-use Rattle.regions.proofs.Common.{arith, IsSome, div-mul-add, Tile, tile_size, total_size, Region, Free, Ordinary, First, Rest, Table}
-use Rattle.regions.proofs.Common.{region_at, region_kind, nth_region, region_tile, region_used, kind_of, used_of, top_of, tile_in, tiles_of}
-use Rattle.regions.proofs.Common.{region_tiles, IsNextTile, IsShaped}
+use Rattle.regions.proofs.Common.{◌≡◌, ◌≢◌, ◌+◌, ◌*◌, ◌/◌, ◌%◌, ◌<◌, ◌≤◌, ◌∙◌, ℕ, zero, Option, Some, None, refl, sym, ap, subst, arith}
+use Rattle.regions.proofs.Common.{IsSome, Tile, tile_size, total_size, Region, Ordinary, First, Table, region_at, region_kind, nth_region}
+use Rattle.regions.proofs.Common.{region_tile, region_used, kind_of, used_of, top_of, tile_in, tiles_of, region_tiles, IsNextTile, IsShaped}
 use Rattle.regions.specs.Walks.{IsLast}
-use Rattle.regions.specs.declared.row.Kind.TheVariants as kinds
 use Rattle.regions.proofs.Tiles.Placing.{ordinary_at}
 use Rattle.regions.proofs.Tiles.Released.{tile_below_top, used_within}
 use Rattle.regions.proofs.Walks.WalkFrom.{cut_at, tile_listed, listed_tile}
 use Rattle.regions.proofs.Walks.WalkLaws.{cut_step}
-use Rattle.regions.proofs.Walks.WalkMade.{cut_tile, positive_at}
+use Rattle.regions.proofs.Walks.WalkMade.{cut_tile}
 use Rattle.regions.proofs.Walks.WalkTiles.{apart}
-
--- k * n ≤ a < k * n + n says that a / n is k
-div_is : (a n k : ℕ) → k * n ≤ a → a < k * n + n → a / n ≡ k
-div_is a n k low high =
-    let e : k * n + (a - k * n) ≡ a = omega arith in
-    ap (λ (x : ℕ). x / n) (sym e) ∙ div-mul-add k n (a - k * n) (omega arith)
+use Rattle.regions.proofs.Tiles.Within.{tile_positive}
+use Rattle.regions.proofs.Words.Divides.{div_is}
+use Rattle.regions.specs.declared.row.Kind.TheVariants as kinds
 
 pub tile_there : (t : Table) (a : ℕ) → IsSome (tile_in t a) → (u : Tile) × (tile_in t a ≡ Some u)
 tile_there t a h = go (tile_in t a) refl h
@@ -43,10 +38,6 @@ tile_low t a u g e o =
     let less : a % t.words_per_region < t.words_per_region = omega arith in
     tile_below_top t a (a / t.words_per_region) u g o (omega arith) (omega arith) e
 
-size_positive : (t : Table) (a : ℕ) (u : Tile) → IsShaped t → tile_in t a ≡ Some u → 0 < tile_size u
-size_positive t a u g e = positive_at (a % t.words_per_region) (tiles_of t (a / t.words_per_region)) u
-    (g.fitting (a / t.words_per_region)).positive (tile_listed t a u e).0
-
 region_of_tile : (t : Table) (a : ℕ) (u : Tile) → tile_in t a ≡ Some u
     → region_tile (nth_region t (a / t.words_per_region)) (a % t.words_per_region) ≡ Some u
 unfolding tile_in region_at nth_region
@@ -58,12 +49,9 @@ other_kind t k n = n
 
 -- a region that isn't ordinary has one tile at most
 lone : (r : Region) (o o' : ℕ) (u v : Tile) → region_kind r ≢ kinds.Ordinary → region_tile r o ≡ Some u → region_tile r o' ≡ Some v → o ≡ o'
-lone Free o o' u v n e f = absurd cc
 lone (Ordinary ts) o o' u v n e f = absurd (n refl)
 lone (First s) zero zero u v n e f = refl
-lone (First s) zero (suc o') u v n e f = absurd cc
-lone (First s) (suc o) o' u v n e f = absurd cc
-lone (Rest m) o o' u v n e f = absurd cc
+lone _ _ _ u v n e f = absurd cc
 
 module _ (t : Table) (g : IsShaped t) (a : ℕ) (u : Tile) (e : tile_in t a ≡ Some u) where
   abbrev k : ℕ
@@ -82,7 +70,7 @@ module _ (t : Table) (g : IsShaped t) (a : ℕ) (u : Tile) (e : tile_in t a ≡ 
         let whole : a / t.words_per_region * t.words_per_region + a % t.words_per_region ≡ a = omega arith in
         let l = tile_listed t a u e in
         let c = cut_at (tiles_of t k) (a % t.words_per_region) u l.0 in
-        let positive = size_positive t a u g e in
+        let positive = tile_positive t a u g e in
         let s = cut_step (a % t.words_per_region) (a % t.words_per_region + tile_size u) (tiles_of t k) u c.0 l.0 positive refl in
         let used = used_total t k o in
         let within = used_within t k g.fitting o in
@@ -105,7 +93,7 @@ module _ (t : Table) (g : IsShaped t) (a : ℕ) (u : Tile) (e : tile_in t a ≡ 
         let n = between b v low r f in
         let o' : kind_of t (b / t.words_per_region) ≡ kinds.Ordinary = ap (kind_of t) r ∙ o in
         let m = tile_low t b v g f o' in
-        let p = size_positive t b v g f in
+        let p = tile_positive t b v g f in
         let same = ap (top_of t) r in
         absurd (omega arith)
 

@@ -7,17 +7,13 @@ use Rattle.regions.proofs.Tiles.Laws.{tile_at-replace_same, tile_at-replace_othe
 
 replaced_same : (r : Region) (o : ℕ) (old new : Tile) → IsOrdinary r → region_tile r o ≡ Some old
     → region_tile (region_replaced r o (new ∷ [])) o ≡ Some new
-replaced_same Free o old new i h = absurd i
 replaced_same (Ordinary ts) o old new i h = tile_at-replace_same ts o old new h
-replaced_same (First s) o old new i h = absurd i
-replaced_same (Rest n) o old new i h = absurd i
+replaced_same _ o old new i h = absurd i
 
 replaced_other : (r : Region) (o y : ℕ) (old new : Tile) → region_tile r o ≡ Some old → tile_size new ≡ tile_size old → y ≢ o
     → region_tile (region_replaced r o (new ∷ [])) y ≡ region_tile r y
-replaced_other Free o y old new h e n = refl
 replaced_other (Ordinary ts) o y old new h e n = tile_at-replace_other ts o y old new h e n
-replaced_other (First s) o y old new h e n = refl
-replaced_other (Rest m) o y old new h e n = refl
+replaced_other _ o y old new h e n = refl
 
 -- the tile at an address, once another of its size took its place
 pub tile_in-replace_same : (t : Table) (a : ℕ) (old new : Tile) → IsOrdinary (region_at t a) → tile_in t a ≡ Some old
@@ -51,7 +47,7 @@ kind_replaced (First s) o new = refl
 kind_replaced (Rest n) o new = refl
 
 -- no region becomes one of another kind
-kind_of-replace : (t : Table) (a : ℕ) (new : List Tile) (k : ℕ) → a / t.words_per_region < length t.regions
+pub kind_of-replace : (t : Table) (a : ℕ) (new : List Tile) (k : ℕ) → a / t.words_per_region < length t.regions
     → kind_of (replace_tile t a new) k ≡ kind_of t k
 unfolding kind_of nth_region replace_tile region_at
 kind_of-replace t a new k h =

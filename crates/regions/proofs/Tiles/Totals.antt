@@ -1,7 +1,7 @@
 -- How many words of a region are handed out when tiles give way to others.
 use Rattle.regions.proofs.Common.{◌≡◌, ◌+◌, ◌-◌, ◌/◌, ◌%◌, ◌∷◌, ◌++◌, ◌∙◌, ℕ, zero, suc, min, Some, List, [], get_or, refl, sym, ap, arith}
 use Rattle.regions.proofs.Common.{inl, inr, get_or-set_same, get_or-set_other, cases_eq, Stored, Tile, Object, tile_size, tile_at, replace}
-use Rattle.regions.proofs.Common.{total_size, Region, Free, Ordinary, First, Rest, Table, region_tile, region_used, nth_region, used_of}
+use Rattle.regions.proofs.Common.{total_size, Region, Free, Ordinary, First, Table, region_tile, region_used, nth_region, used_of}
 use Rattle.regions.proofs.Common.{with_region, with_object, region_at, tile_in, object_at, put_object}
 use Rattle.regions.proofs.Words.Parse.{past}
 use Rattle.regions.proofs.Tiles.Laws.{object_tile, known_region}
@@ -23,11 +23,10 @@ total-replace (t ∷ ts) new (suc o) u f e =
 
 used_with : (size : ℕ) (r : Region) (o : ℕ) (s s' : Stored) → region_tile r o ≡ Some (Object s)
     → tile_size (Object s') ≡ tile_size (Object s) → region_used size (with_object r o s') ≡ region_used size r
-used_with size Free o s s' h e = refl
 used_with size (Ordinary ts) o s s' h e = total-replace ts (Object s' ∷ []) o (Object s) h (omega (arith, e))
 used_with size (First q) zero s s' h e = let same : q ≡ s = cc in ap (min size) (e ∙ ap (λ (x : Stored). tile_size (Object x)) (sym same))
 used_with size (First q) (suc o) s s' h e = cc
-used_with size (Rest n) o s s' h e = refl
+used_with size _ o s s' h e = refl
 
 -- a region gives way to one of which as much is handed out
 pub used_same : (t : Table) (k : ℕ) (r : Region) (o : ℕ) (u : Tile) → region_tile (nth_region t k) o ≡ Some u

@@ -1,7 +1,7 @@
 -- A tile that gives way to others, of which the first gives way at once.
 use Rattle.regions.proofs.Common.{◌≡◌, ◌-◌, ◌/◌, ◌%◌, ◌<◌, ◌∷◌, ◌++◌, ◌∙◌, ℕ, zero, suc, Some, List, [], get_or, set, refl, sym, ap, subst}
 use Rattle.regions.proofs.Common.{arith, inl, inr, get_or-set_same, get_or-set_other, set-set, cases_eq, Tile, Filler, tile_size}
-use Rattle.regions.proofs.Common.{total_size, replace, Region, Free, Ordinary, First, Rest, Table, region_at, region_replaced, replace_tile}
+use Rattle.regions.proofs.Common.{total_size, replace, Region, Free, Ordinary, Table, region_at, region_replaced, replace_tile}
 use Rattle.regions.proofs.Common.{tile_in, EachForwarded, nth_region, kind_of, AllPositive, AreFitting, tiles_of, region_tiles}
 use Rattle.regions.specs.declared.row.Kind.TheVariants as kinds
 use Rattle.regions.proofs.Tiles.Laws.{known_region}
@@ -15,10 +15,8 @@ replace_twice (t ∷ ts) r (suc o) x y = ap (λ (us : List Tile). t ∷ us) (rep
 
 region_twice : (g : Region) (r : List Tile) (o : ℕ) (x y : Tile)
     → region_replaced (region_replaced g o (x ∷ r)) o (y ∷ []) ≡ region_replaced g o (y ∷ r)
-region_twice Free r o x y = refl
 region_twice (Ordinary ts) r o x y = ap Ordinary (replace_twice ts r o x y)
-region_twice (First s) r o x y = refl
-region_twice (Rest n) r o x y = refl
+region_twice _ r o x y = refl
 
 pub replaced_twice : (t : Table) (a n : ℕ) (r : List Tile) (x y : Tile) → tile_in t a ≡ Some (Filler n)
     → replace_tile (replace_tile t a (x ∷ r)) a (y ∷ []) ≡ replace_tile t a (y ∷ r)
@@ -46,10 +44,8 @@ positive_replaced (t ∷ ts) new (suc o) h k = (k.0, positive_replaced ts new (s
 
 region_positive : (g : Region) (new : List Tile) (o : ℕ) → AllPositive new → AllPositive (region_tiles g)
     → AllPositive (region_tiles (region_replaced g o new))
-region_positive Free new o h k = k
 region_positive (Ordinary ts) new o h k = positive_replaced ts new o h k
-region_positive (First s) new o h k = k
-region_positive (Rest n) new o h k = k
+region_positive _ new o h k = k
 
 tiles_positive : (t : Table) (a n : ℕ) (new : List Tile) → AreFitting t → tile_in t a ≡ Some (Filler n) → AllPositive new → (k : ℕ)
     → AllPositive (tiles_of (replace_tile t a new) k)

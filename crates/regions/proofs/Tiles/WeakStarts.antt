@@ -1,14 +1,12 @@
 -- Where objects with weak slots start, over each change of the table.
-use Rattle.regions.proofs.Common.{◌≡◌, ◌≢◌, ◌+◌, ◌-◌, ◌*◌, ◌/◌, ◌%◌, ◌<◌, ◌≤◌, ◌⊎◌, ◌∷◌, ◌∙◌, ℕ, zero, suc, Bool, true, false, Some, None}
-use Rattle.regions.proofs.Common.{List, length, length-set, drop, get_or, replicate, inl, inr, refl, sym, ap, subst, arith, if◌then◌else◌}
-use Rattle.regions.proofs.Common.{cases_lt, cases_eq, get_or-set_same, get_or-set_other, get_or-drop, div-mul-add, mul-le, row_fits, has}
-use Rattle.regions.proofs.Common.{is_between, HasNone, HasNoneBelow, IsLowest, Stored, Tile, Object, Filler, Forwarded, tile_size, tile_at}
-use Rattle.regions.proofs.Common.{Table, Region, Free, Ordinary, First, Rest, kind_of, region_kind, tile_in, tile_object, object_at}
-use Rattle.regions.proofs.Common.{remainder, free_table, region_at, region_tile, nth_region, is_rest, run_length, Starts, AreRegions}
-use Rattle.regions.proofs.Common.{HasWeaks, AreStarts, start_added, forgotten}
-use Rattle.regions.specs.declared.row.Kind.TheVariants as kinds
+use Rattle.regions.proofs.Common.{get_or-set_other, get_or-set_same, if◌then◌else◌, HasNoneBelow, get_or-drop, div-mul-add, region_kind, ap}
+use Rattle.regions.proofs.Common.{tile_object, region_tile, start_added, length-set, is_between, free_table, nth_region, run_length, length}
+use Rattle.regions.proofs.Common.{AreRegions, replicate, Forwarded, tile_size, object_at, remainder, region_at, AreStarts, forgotten, false}
+use Rattle.regions.proofs.Common.{cases_lt, cases_eq, row_fits, IsLowest, HasWeaks, HasNone, tile_at, kind_of, tile_in, is_rest, get_or, ℕ}
+use Rattle.regions.proofs.Common.{mul-le, Stored, Object, Region, Starts, subst, arith, Table, zero, Bool, true, Some, None, List, drop}
+use Rattle.regions.proofs.Common.{refl, Tile, Free, ◌≡◌, ◌≢◌, ◌+◌, ◌-◌, ◌*◌, ◌/◌, ◌%◌, ◌<◌, ◌≤◌, ◌⊎◌, ◌∷◌, ◌∙◌, suc, inl, inr, sym, has}
 use Rattle.regions.proofs.Words.Parse.{past}
-use Rattle.regions.proofs.Tiles.Laws.{object_tile}
+use Rattle.regions.proofs.Tiles.Laws.{tile_of}
 use Rattle.regions.proofs.Tiles.Changes.{WritesObject, object_same}
 use Rattle.regions.proofs.Tiles.Placing.{Replaces}
 use Rattle.regions.proofs.Tiles.TileLaws.{Forwards}
@@ -16,36 +14,31 @@ use Rattle.regions.proofs.LongRuns.RunLaws.{Releases, frees, tile_of_region}
 use Rattle.regions.proofs.LongRuns.RunGone.{rest_no_tile}
 use Rattle.regions.proofs.Rows.Fronts.{front_passes}
 use Rattle.regions.proofs.Cards.FirstTiles.{if_between, if_below, if_above}
+use Rattle.regions.specs.declared.row.Kind.TheVariants as kinds
 
 -- ---- what tiles have weak slots
 -- a tile's weak slots
 abbrev pub tile_weaks : Tile → ℕ
 tile_weaks (Object s) = length s.weaks
-tile_weaks (Filler n) = 0
-tile_weaks (Forwarded to n) = 0
+tile_weaks _ = 0
 
 object_is : (t : Table) (a : ℕ) (s : Stored) → tile_in t a ≡ Some (Object s) → object_at t a ≡ Some s
 unfolding object_at
 object_is t a s h = ap tile_object h
 
-tile_is : (t : Table) (a : ℕ) (h : HasWeaks t a) → tile_in t a ≡ Some (Object h.object)
-unfolding object_at
-tile_is t a h = object_tile (tile_in t a) h.object h.is
-
 has_of : (t : Table) (a : ℕ) (tile : Tile) → tile_in t a ≡ Some tile → 0 < tile_weaks tile → HasWeaks t a
 has_of t a (Object s) e some = record { object = s; is = object_is t a s e; some = some }
-has_of t a (Filler n) e some = absurd (omega arith)
-has_of t a (Forwarded to n) e some = absurd (omega arith)
+has_of t a _ e some = absurd (omega arith)
 
 weaks_of : (t : Table) (a : ℕ) (tile : Tile) → tile_in t a ≡ Some tile → HasWeaks t a → 0 < tile_weaks tile
 weaks_of t a tile e h =
-    let is = tile_is t a h in
+    let is = tile_of t a h.object h.is in
     let same : Object h.object ≡ tile = cc in
     subst (λ (u : Tile). 0 < tile_weaks u) same h.some
 
 -- there are none where no tile starts, and at a tile that has none
 pub none_there : (t : Table) (a : ℕ) → tile_in t a ≡ None → HasWeaks t a → ⊥
-none_there t a e h = let is = tile_is t a h in cc
+none_there t a e h = let is = tile_of t a h.object h.is in cc
 
 pub none_in : (t : Table) (a : ℕ) (tile : Tile) → tile_in t a ≡ Some tile → tile_weaks tile ≡ 0 → HasWeaks t a → ⊥
 none_in t a tile e z h = let some = weaks_of t a tile e h in omega arith
@@ -134,12 +127,6 @@ none_cleared size k regions flags r out a = elim (cases_lt a (k * size)) [
 
 -- a search that goes on behind a region: nothing between is in the set
 module _ (size : ℕ) (regions flags : List Bool) (r : AreRegions size regions flags) (from : ℕ) where
-  pub none_at_first : (left : ℕ) → left ≡ from / size → HasNoneBelow (has flags) from (left * size)
-  none_at_first left e a low high = absurd (let positive = r.positive in
-      let whole : from / size * size + from % size ≡ from = omega arith in
-      let same : left * size ≡ from / size * size = ap (λ (n : ℕ). n * size) e in
-      omega arith)
-
   -- no region from left on up to k is among the regions
   none_between : (left k : ℕ) → HasNoneBelow (has flags) from (left * size) → HasNoneBelow (has regions) left k
       → HasNoneBelow (has flags) from (k * size)
@@ -210,9 +197,8 @@ module _ (size : ℕ) (regions flags : List Bool) (r : AreRegions size regions f
 
 -- ---- over each change of the table
 no_flag : (n a : ℕ) → has (replicate n false) a ≡ false
-no_flag zero a = refl
-no_flag (suc n) zero = refl
 no_flag (suc n) (suc a) = no_flag n a
+no_flag _ _ = refl
 
 -- a new table has no object
 pub starts_free : (count size n : ℕ) (flags : List Bool) → flags ≡ replicate n false → AreStarts (free_table count size) flags
@@ -223,9 +209,8 @@ starts_free count size n flags e = record {
 }
 
 no_object : (r o : ℕ) (s : Stored) → tile_at o (remainder r) ≡ Some (Object s) → ⊥
-no_object zero o s e = cc
-no_object (suc r) zero s e = cc
 no_object (suc r) (suc o) s e = let p = past (suc r) (suc o) _ (Object s) e in let none : None ≡ Some (Object s) = p.1 in cc
+no_object _ _ s e = cc
 
 cut_object : (tile : Tile) (r o : ℕ) (s : Stored) → tile_at o (tile ∷ remainder r) ≡ Some (Object s) → (o ≡ 0) × (tile ≡ Object s)
 cut_object tile r zero s e = (refl, cc)
@@ -236,7 +221,6 @@ module _ (t t' : Table) (flags : List Bool) (g : AreStarts t flags) where
   starts_same same = record { each = λ a h. g.each a (moved t t' a (same a) h); only = λ a h. moved t' t a (sym (same a)) (g.only a h) }
 
   pub starts_written : (a : ℕ) (o o' : Stored) → WritesObject t t' a o o' → length o'.weaks ≡ length o.weaks → AreStarts t' flags
-  unfolding object_at
   starts_written a o o' w count = record {
     each = λ x h. elim (cases_eq x a) [
       | inl q ↦
@@ -253,10 +237,10 @@ module _ (t t' : Table) (flags : List Bool) (g : AreStarts t flags) where
   }
     where
       was : tile_in t a ≡ Some (Object o)
-      was = object_tile (tile_in t a) o w.was
+      was = tile_of t a o w.was
 
       now : tile_in t' a ≡ Some (Object o')
-      now = object_tile (tile_in t' a) o' w.is
+      now = tile_of t' a o' w.is
 
 module _ (t t' : Table) (old new : Starts) (g : AreStarts t old.flags) where
   -- what stands at a noted address
@@ -308,7 +292,7 @@ module _ (t t' : Table) (old new : Starts) (g : AreStarts t old.flags) where
           | inl f ↦
               let place : a + (x - a) ≡ x = omega arith in
               let at : tile_at (x - a) (tile ∷ remainder r) ≡ Some (Object h.object) =
-              sym (c.within (x - a) (omega arith)) ∙ ap (tile_in t') place ∙ tile_is t' x h in
+              sym (c.within (x - a) (omega arith)) ∙ ap (tile_in t') place ∙ tile_of t' x h.object h.is in
               let p = cut_object tile r (x - a) h.object at in
               let zero_is = p.0 in
               absurd (apart (omega arith))
@@ -391,9 +375,7 @@ module _ (t t' : Table) (old new : Starts) (g : AreStarts t old.flags) where
 
 free_region : (r : Region) → region_kind r ≡ kinds.Free → r ≡ Free
 free_region Free e = refl
-free_region (Ordinary ts) e = cc
-free_region (First s) e = cc
-free_region (Rest n) e = cc
+free_region _ e = cc
 
 -- a free region has no tile
 pub free_void : (t : Table) (a : ℕ) → kind_of t (a / t.words_per_region) ≡ kinds.Free → tile_in t a ≡ None

@@ -1,12 +1,12 @@
 -- Each tile stands in the words that are written: what follows for its words, and that each change of the table keeps it.
 use Rattle.regions.proofs.Common.{◌≡◌, ◌≢◌, ◌+◌, ◌-◌, ◌*◌, ◌/◌, ◌%◌, ◌<◌, ◌≤◌, ◌∷◌, ◌∙◌, ℕ, Some, None, List, get_or, refl, sym, ap, subst}
 use Rattle.regions.proofs.Common.{arith, inl, inr, cases_lt, cases_eq, Stored, header_of, Tile, Object, Filler, Forwarded, tile_size}
-use Rattle.regions.proofs.Common.{tile_at, Table, Region, Free, Ordinary, First, Rest, region_kind, region_tile, nth_region, kind_of}
+use Rattle.regions.proofs.Common.{tile_at, Table, Region, First, region_kind, region_tile, nth_region, kind_of}
 use Rattle.regions.proofs.Common.{tile_in, region_at, object_at, free_table, remainder, moved_to, HasObject, AreTilesWritten, IsTable}
 use Rattle.regions.proofs.Common.{header_target, table_of, Row, IsShaped, tiles_of, IsSome, counts_of}
 use Rattle.regions.specs.Rows.{IsBelow}
 use Rattle.regions.specs.declared.row.Kind.TheVariants as kinds
-use Rattle.regions.proofs.Tiles.Laws.{object_tile}
+use Rattle.regions.proofs.Tiles.Laws.{tile_of}
 use Rattle.regions.proofs.Tiles.Placing.{Replaces, remainder_total, tile_at-end}
 use Rattle.regions.proofs.Words.Places.{IsInObject}
 use Rattle.regions.proofs.Words.ObjectWords.{header_in, object_there, is_counted}
@@ -23,8 +23,7 @@ tile_within u t n x tile w e h = w.each x tile (ap (λ (v : Table). tile_in v x)
 
 pub object_within : (u t : Table) (n x : ℕ) (s : Stored) → AreTilesWritten u n → u ≡ t → object_at t x ≡ Some s
     → x + tile_size (Object s) ≤ n
-unfolding object_at
-object_within u t n x s w e h = tile_within u t n x (Object s) w e (object_tile (tile_in t x) s h)
+object_within u t n x s w e h = tile_within u t n x (Object s) w e (tile_of t x s h)
 
 pub tile_positive : (t : Table) (x : ℕ) (tile : Tile) → IsShaped t → tile_in t x ≡ Some tile → 0 < tile_size tile
 tile_positive t x tile shape h =
@@ -49,13 +48,11 @@ first_stands size words rows t n k g w e h = go (nth_region t k) refl h
     size_is = ap (λ (u : Table). u.words_per_region) e
 
     go : (r : Region) → nth_region t k ≡ r → region_kind r ≡ kinds.First → k * size < n
-    go Free f q = cc
-    go (Ordinary ts) f q = cc
     go (First s) f q =
         let object = first_object t k s (rw (← size_is) g.region_size.0) f in
         let all = object_within (table_of size words rows) t n (k * t.words_per_region) s w e object in
         rw size_is (omega arith)
-    go (Rest m) f q = cc
+    go _ f q = cc
 
 -- a word of an object
 pub word_within : (u t : Table) (n x place : ℕ) → AreTilesWritten u n → u ≡ t → IsInObject t x place → place < n

@@ -1,16 +1,15 @@
 -- Walks of any region, and those that begin at a tile.
-use Rattle.regions.proofs.Common.{◌≡◌, ◌+◌, ◌-◌, ◌*◌, ◌/◌, ◌%◌, ◌<◌, ◌≤◌, ◌∷◌, ◌∙◌, ℕ, zero, suc, Option, Some, None, List, [], length}
-use Rattle.regions.proofs.Common.{get_or, refl, ap, arith, IsSome, div-mul-add, mod-mul-add, Stored, Tile, Object, tile_size, tile_at}
-use Rattle.regions.proofs.Common.{total_size, Table, Region, Free, Ordinary, First, Rest, region_at, region_tile, nth_region, region_kind}
-use Rattle.regions.proofs.Common.{kind_of, tile_in, AllPositive, IsCut, IsWalk, tiles_of, region_tiles, IsShaped, sizes_in, table_of}
-use Rattle.regions.proofs.Common.{IsTable, Row}
-use Rattle.regions.specs.declared.row.Kind.TheVariants as kinds
+use Rattle.regions.proofs.Common.{region_tiles, div-mul-add, mod-mul-add, region_tile, region_kind, AllPositive, total_size, nth_region, []}
+use Rattle.regions.proofs.Common.{tile_size, region_at, Ordinary, tiles_of, IsShaped, sizes_in, table_of, tile_at, kind_of, tile_in, Option}
+use Rattle.regions.proofs.Common.{IsTable, length, get_or, IsSome, Stored, Object, Region, IsWalk, arith, Table, First, IsCut, zero, Some}
+use Rattle.regions.proofs.Common.{None, List, refl, Tile, Free, Rest, ◌≡◌, ◌+◌, ◌-◌, ◌*◌, ◌/◌, ◌%◌, ◌<◌, ◌≤◌, ◌∷◌, ◌∙◌, suc, Row, ap, ℕ}
 use Rattle.regions.proofs.Words.Parse.{past}
 use Rattle.regions.proofs.Tiles.Laws.{known_region}
 use Rattle.regions.proofs.Tiles.Making.{size_is_of}
 use Rattle.regions.proofs.Tiles.Shown.{tile_shown, IsShown}
 use Rattle.regions.proofs.Walks.WalkMade.{cut_tile, positive_at}
 use Rattle.regions.proofs.Tiles.ShapedMade.{tiles_at, first_words, shaped_of}
+use Rattle.regions.specs.declared.row.Kind.TheVariants as kinds
 
 pub cut_at : (ts : List Tile) (o : ℕ) (u : Tile) → tile_at o ts ≡ Some u → IsCut o ts × (o + tile_size u ≤ total_size ts)
 cut_at [] o u f = cc
@@ -21,11 +20,9 @@ cut_at (t ∷ ts) (suc o) u f =
     ((p.0, i.0), omega (arith, p.0, i.1))
 
 listed : (r : Region) (o : ℕ) (u : Tile) → region_tile r o ≡ Some u → tile_at o (region_tiles r) ≡ Some u
-listed Free o u h = cc
 listed (Ordinary ts) o u h = h
 listed (First s) zero u h = h
-listed (First s) (suc o) u h = cc
-listed (Rest n) o u h = cc
+listed _ _ u h = cc
 
 -- a tile of the table is one of its region's
 pub tile_listed : (t : Table) (a : ℕ) (u : Tile) → tile_in t a ≡ Some u
@@ -55,8 +52,6 @@ listed_tile t k o u g h = go (get_or t.regions k Free) refl h
 
     go : (r : Region) → get_or t.regions k Free ≡ r → tile_at o (region_tiles (get_or t.regions k Free)) ≡ Some u
         → region_tile (get_or t.regions ((k * size + o) / size) Free) ((k * size + o) % size) ≡ Some u
-    go Free e f = let z : None ≡ Some u = rw e at f in cc
-    go (Rest n) e f = let z : None ≡ Some u = rw e at f in cc
     go (First s) e f =
         let p = one s o (rw e at f) in
         stands (First s) e (omega (arith, p.0, g.positive)) p.1
@@ -68,6 +63,7 @@ listed_tile t k o u g h = go (get_or t.regions k Free) refl h
         let c = cut_at ts o u f' in
         let p = positive_at o ts u pos f' in
         stands (Ordinary ts) e (omega (arith, c.1, room, p)) f'
+    go _ e f = let z : None ≡ Some u = rw e at f in cc
 
 pub walk_none : (t : Table) (k : ℕ) → k < length t.regions → tiles_of t k ≡ [] → IsWalk t k 0 0
 walk_none t k h e = record { known = h; cut = tt; end_is = rw e refl; within = omega arith; positive = rw e tt }

@@ -1,11 +1,10 @@
 -- What a read or a write of a field does, as callers see the table.
 -- the object whose pointer is asked for
-use Rattle.regions.proofs.Common.{◌≡◌, ◌+◌, ◌*◌, ◌/◌, ◌<◌, ◌≤◌, ◌∙◌, ℕ, suc, Option, Some, None, List, length, take, drop, map, get_or, set}
-use Rattle.regions.proofs.Common.{refl, ap, arith, inl, inr, length-take, length-drop, length-map, length-set, drop-drop, get_or-drop}
-use Rattle.regions.proofs.Common.{get_or-take, header_of, pointer_of, IsSome, pointer_count, counts_of, Stored, Tile, Object, tile_size}
-use Rattle.regions.proofs.Common.{First, Table, region_at, object_at, object_pointers, object_weaks, pointers_at, weaks_at, put_object}
-use Rattle.regions.proofs.Common.{set_pointer, set_weak, IsOrdinary, sizes_in, first_stored, region_of, table_of, IsTable, free_row, Row}
-use Rattle.regions.proofs.Common.{slice_get-get_or}
+use Rattle.regions.proofs.Common.{slice_get-get_or, object_pointers, pointer_count, object_weaks, first_stored, length-take, length-drop, ℕ}
+use Rattle.regions.proofs.Common.{get_or-drop, get_or-take, pointers_at, set_pointer, length-map, length-set, pointer_of, put_object, arith}
+use Rattle.regions.proofs.Common.{IsOrdinary, drop-drop, header_of, counts_of, tile_size, region_at, object_at, region_of, weaks_at, Option}
+use Rattle.regions.proofs.Common.{set_weak, sizes_in, table_of, free_row, IsTable, length, get_or, IsSome, Stored, Object, First, Table, ap}
+use Rattle.regions.proofs.Common.{Some, None, List, take, drop, refl, Tile, ◌≡◌, ◌+◌, ◌*◌, ◌/◌, ◌<◌, ◌≤◌, ◌∙◌, suc, map, set, inl, inr, Row}
 use Rattle.std.proofs.lemmas.List.{get_or-map}
 use Rattle.regions.proofs.Rows.RowLemmas.{regions-at}
 use Rattle.regions.proofs.Words.Places.{table_right, IsInObject, InFirst, object_place, IsIn, object_is_in}

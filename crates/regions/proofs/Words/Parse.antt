@@ -49,10 +49,8 @@ stored_of-append p weak d xs ys h =
 -- what a tile says does not depend on the words after it
 pub tile_by-append : (sizes : ℕ → ℕ) (o : Option Header) (xs ys : List ℕ) → size_by sizes o - 1 ≤ length xs
     → tile_by sizes (xs ++ ys) o ≡ tile_by sizes xs o
-tile_by-append sizes None xs ys h = refl
 tile_by-append sizes (Some (headers.Object p weak d)) xs ys h = ap Object (stored_of-append p weak d xs ys (omega arith))
-tile_by-append sizes (Some (headers.Filler n)) xs ys h = refl
-tile_by-append sizes (Some (headers.Forwarded to)) xs ys h = refl
+tile_by-append sizes _ xs ys h = refl
 
 pub tiles-append : (sizes : ℕ → ℕ) (k : ℕ) (xs ys : List ℕ) → IsTiled sizes k xs
     → tiles sizes k (xs ++ ys) ≡ tiles sizes k xs ++ tiles sizes 0 ys
@@ -68,10 +66,8 @@ tiles-append sizes (suc k) (x ∷ xs) ys h = tiles-append sizes k xs ys h
 -- a tile that fits has the size that its header says
 pub tile_size-by : (sizes : ℕ → ℕ) (o : Option Header) (ws : List ℕ) → size_by sizes o - 1 ≤ length ws
     → tile_size (tile_by sizes ws o) ≡ size_by sizes o
-tile_size-by sizes None ws h = refl
 tile_size-by sizes (Some (headers.Object p weak d)) ws h = simp (length-map, length-take, length-drop) (omega arith)
-tile_size-by sizes (Some (headers.Filler n)) ws h = refl
-tile_size-by sizes (Some (headers.Forwarded to)) ws h = refl
+tile_size-by sizes _ ws h = refl
 
 -- the tile that the words begin with
 abbrev pub first_tile : (ℕ → ℕ) → List ℕ → Tile

@@ -36,11 +36,9 @@ pub record InFirst (f : ℕ → ℕ) (size : ℕ) (words : List ℕ) (rows : Lis
 by_kind : (sizes : ℕ → ℕ) (ws : List ℕ) (used : ℕ) (kind : Kind) (o : ℕ) (t : Tile) → region_tile (region_by sizes ws used kind) o ≡ Some t
     → ((kind ≡ kinds.Ordinary) × (tile_at o (tiles sizes 0 (take used ws)) ≡ Some t))
     ⊎ ((kind ≡ kinds.First) × (o ≡ 0) × (t ≡ Object (first_stored ws)))
-by_kind sizes ws used kinds.Free o t h = cc
 by_kind sizes ws used kinds.Ordinary o t h = inl (refl, h)
 by_kind sizes ws used kinds.First zero t h = inr (refl, refl, cc)
-by_kind sizes ws used kinds.First (suc o) t h = cc
-by_kind sizes ws used kinds.Rest o t h = cc
+by_kind sizes ws used _ _ t h = cc
 
 pub place_of : (f : ℕ → ℕ) (size : ℕ) (words : List ℕ) (rows : List Row) (x : ℕ) (t : Tile)
     → tile_in (table_by f size words rows) x ≡ Some t → InOrdinary f size words rows x t ⊎ InFirst f size words rows x t
@@ -70,7 +68,6 @@ pub record IsIn (words : List ℕ) (x : ℕ) (s : Stored) : Type 0 where
 pub live_by : (sizes : ℕ → ℕ) (o : Option Header) (ws : List ℕ) (s : Stored) → size_by sizes o - 1 ≤ length ws
     → tile_by sizes ws o ≡ Object s → (o ≡ Some (headers.Object (length s.pointers) (length s.weaks) (length s.values)))
     × (s ≡ stored_of (length s.pointers) (length s.weaks) (length s.values) ws)
-live_by sizes None ws s f h = cc
 live_by sizes (Some (headers.Object p weak d)) ws s f h =
     let e : stored_of p weak d ws ≡ s = cc in
     let ep : length (stored_of p weak d ws).pointers ≡ p = simp (length-map, length-take, length-drop) (omega arith) in
@@ -80,8 +77,7 @@ live_by sizes (Some (headers.Object p weak d)) ws s f h =
     let ew : length (stored_of p weak d ws).weaks ≡ weak = simp (length-map, length-take, length-drop) (omega arith) in
     let lw : length s.weaks ≡ weak = ap (λ (r : Stored). length r.weaks) (sym e) ∙ ew in
     (rw (lp, lw, ld) refl, rw (lp, lw, ld) (sym e))
-live_by sizes (Some (headers.Filler n)) ws s f h = cc
-live_by sizes (Some (headers.Forwarded to)) ws s f h = cc
+live_by sizes _ ws s f h = cc
 
 pub front_word : (words : List ℕ) (x w : ℕ) (v : List ℕ) → drop x words ≡ w ∷ v → get_or words x 0 ≡ w
 front_word words x w v e =
@@ -133,10 +129,8 @@ room m k l size n e f = f ∙ rw e (omega arith)
 first_by : (o : Option Header) (ws : List ℕ) (s : Stored) → IsObjectHeader o → object_size o - 1 ≤ length ws → stored_by ws o ≡ s
     → (o ≡ Some (headers.Object (length s.pointers) (length s.weaks) (length s.values)))
     × (s ≡ stored_of (length s.pointers) (length s.weaks) (length s.values) ws)
-first_by None ws s i f h = absurd i
 first_by (Some (headers.Object p weak d)) ws s i f h = live_by (λ _. 0) (Some (headers.Object p weak d)) ws s f (ap Object h)
-first_by (Some (headers.Filler n)) ws s i f h = absurd i
-first_by (Some (headers.Forwarded to)) ws s i f h = absurd i
+first_by _ ws s i f h = absurd i
 
 object_size_pos : (o : Option Header) → 0 < object_size o
 object_size_pos None = omega arith

@@ -1,9 +1,8 @@
 -- The sizes of moved objects are read at their new places: what keeps those headers keeps the tiles.
 -- the two give one size to each moved tile
-use Rattle.regions.proofs.Common.{◌≡◌, ℕ, zero, suc, ◌-◌, Option, Some, None, List, [], ◌∷◌, ◌++◌, take, drop, get_or, set, refl, ap}
-use Rattle.regions.proofs.Common.{Header, header_of, Tile, Object, Filler, Forwarded, tile_size, replace, tile_by, size_by, tiles, IsTiled}
-use Rattle.regions.proofs.Common.{Region, Free, Ordinary, First, Rest, EachForwarded, EachForwardedIn, region_by, regions_of, IsRow}
-use Rattle.regions.proofs.Common.{AreRows, Row, Kind}
+use Rattle.regions.proofs.Common.{EachForwardedIn, EachForwarded, regions_of, header_of, Forwarded, tile_size, region_by, Ordinary, replace}
+use Rattle.regions.proofs.Common.{tile_by, size_by, IsTiled, AreRows, Option, get_or, Header, Object, Filler, Region, tiles, First, IsRow}
+use Rattle.regions.proofs.Common.{zero, Some, List, ◌++◌, take, drop, refl, Tile, Free, Rest, Kind, ◌≡◌, suc, ◌-◌, ◌∷◌, set, Row, [], ap, ℕ}
 use Rattle.heap_words.specs.declared.header.Header.TheVariants as headers
 use Rattle.regions.specs.declared.row.Kind.TheVariants as kinds
 
@@ -19,10 +18,8 @@ record SameTile (f g : ℕ → ℕ) (o : Option Header) (ws : List ℕ) (ts : Li
   pub others : AgreeOn f g ts
 
 same_tile : (f g : ℕ → ℕ) (o : Option Header) (ws : List ℕ) (ts : List Tile) → AgreeOn f g (tile_by f ws o ∷ ts) → SameTile f g o ws ts
-same_tile f g None ws ts a = record { tile_is = refl; size_is = refl; others = a }
-same_tile f g (Some (headers.Object p weak d)) ws ts a = record { tile_is = refl; size_is = refl; others = a }
-same_tile f g (Some (headers.Filler n)) ws ts a = record { tile_is = refl; size_is = refl; others = a }
 same_tile f g (Some (headers.Forwarded to)) ws ts a = record { tile_is = ap (Forwarded to) a.0; size_is = a.0; others = a.1 }
+same_tile f g _ ws ts a = record { tile_is = refl; size_is = refl; others = a }
 
 pub tiles-agree : (f g : ℕ → ℕ) (k : ℕ) (ws : List ℕ) → AgreeOn f g (tiles f k ws) → tiles g k ws ≡ tiles f k ws
 tiles-agree f g k [] a = refl
@@ -88,16 +85,12 @@ EachForwardedIn-imp P Q (Rest n ∷ rs) h a = EachForwardedIn-imp P Q rs h a
 
 -- a region whose moved tiles are so, in the place of another
 tail_of : (P : ℕ → Type 0) (r : Region) (rs : List Region) → EachForwardedIn P (r ∷ rs) → EachForwardedIn P rs
-tail_of P Free rs a = a
 tail_of P (Ordinary ts) rs a = a.1
-tail_of P (First s) rs a = a
-tail_of P (Rest n) rs a = a
+tail_of P _ rs a = a
 
 join : (P : ℕ → Type 0) (r : Region) (rs : List Region) → EachForwardedIn P (r ∷ []) → EachForwardedIn P rs → EachForwardedIn P (r ∷ rs)
-join P Free rs h a = a
 join P (Ordinary ts) rs h a = (h.0, a)
-join P (First s) rs h a = a
-join P (Rest n) rs h a = a
+join P _ rs h a = a
 
 pub EachForwardedIn-set : (P : ℕ → Type 0) (rs : List Region) (k : ℕ) (r : Region) → EachForwardedIn P (r ∷ [])
     → EachForwardedIn P rs → EachForwardedIn P (set rs k r)

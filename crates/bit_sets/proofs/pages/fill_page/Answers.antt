@@ -1,5 +1,4 @@
-use Rattle.std.proofs.Common.{ℕ, List, arith, ap, sym, ◌∙◌}
-use Rattle.std.specs.Prelude.{if◌then◌else◌}
+use Rattle.std.proofs.Common.{ℕ, List, arith, ap, sym, ◌∙◌, if◌then◌else◌}
 use Rattle.bit_sets.specs.Bits.{is_between}
 use Rattle.bit_sets.specs.Pages.{paged_word}
 use Rattle.bit_sets.proofs.PageWords.{nothing_filled, page_filled, all_written}

@@ -1,6 +1,5 @@
-use Rattle.std.proofs.Common.{ℕ, ◌+◌, ◌-◌, arith}
+use Rattle.std.proofs.Common.{ℕ, ◌+◌, ◌-◌, arith, length-take, length-drop}
 use Rattle.bit_sets.proofs.PageWords.{page_passed, part_word, part_searched, slice_read}
-use Rattle.std.proofs.lemmas.List.{length-take, length-drop}
 use Rattle.bit_sets.proofs.pages.next_written.Goals as goal
 
 pub loop-page-preserved-then-place-eq0 : goal.loop-page-preserved-then-place-eq0

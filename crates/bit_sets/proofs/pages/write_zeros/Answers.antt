@@ -1,5 +1,4 @@
-use Rattle.std.proofs.Common.{arith}
-use Rattle.std.specs.Prelude.{IsOk}
+use Rattle.std.proofs.Common.{arith, IsOk}
 use Rattle.bit_sets.proofs.Written.{zeros_written}
 use Rattle.bit_sets.proofs.pages.write_zeros.Goals as goal
 

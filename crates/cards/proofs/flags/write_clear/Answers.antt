@@ -1,5 +1,4 @@
-use Rattle.std.proofs.Common.{arith}
-use Rattle.std.specs.Prelude.{IsOk}
+use Rattle.std.proofs.Common.{arith, IsOk}
 use Rattle.cards.proofs.Flagged.{clear_written}
 use Rattle.cards.proofs.flags.write_clear.Goals as goal
 

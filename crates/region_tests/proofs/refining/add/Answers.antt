@@ -1,7 +1,8 @@
 use Rattle.regions.proofs.Common.{◌≡◌, ◌+◌, ◌<◌, ◌≤◌, length, arith, rules, used_of, kind_of}
 use Rattle.regions.specs.declared.row.Kind.TheVariants as kinds
-use Rattle.region_tests.proofs.Samples.{add_there, add_sample}
+use Rattle.region_tests.proofs.Samples.{add_sample}
 use Rattle.region_tests.proofs.refining.add.Goals as goal
+use Rattle.regions.proofs.Tiles.Made.{add_there}
 
 pub make_object-requires-clause-there : goal.make_object-requires-clause-there
 make_object-requires-clause-there c =

@@ -1,6 +1,7 @@
 use Rattle.std.proofs.Common.{◌<◌, arith}
-use Rattle.region_tests.proofs.Samples.{link_sample, is_object, tile_some}
+use Rattle.region_tests.proofs.Samples.{link_sample, is_object}
 use Rattle.region_tests.proofs.refining.link.Goals as goal
+use Rattle.regions.proofs.Tiles.Made.{tile_some}
 
 pub field_count-requires : goal.field_count-requires
 field_count-requires c = is_object c.args.table.now c.in-Some.at _ _ _ c.tile.result c.tile.ensures

@@ -1,5 +1,4 @@
-use Rattle.std.proofs.Common.{◌≡◌, ℕ, false, length, take, get_or, eqb}
-use Rattle.std.specs.Prelude.{◌||◌, ◌&&◌}
+use Rattle.std.proofs.Common.{◌≡◌, ℕ, false, length, take, get_or, eqb, ◌||◌, ◌&&◌}
 use Rattle.std.specs.List.{list_any}
 use Rattle.remembered_sets.specs.Sets.{lets_through}
 use Rattle.remembered_sets.specs.Sharing.{filter_at}

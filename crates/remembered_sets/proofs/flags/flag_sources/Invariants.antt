@@ -1,6 +1,5 @@
 -- The regions below a number are done, and those from it on not yet.
-use Rattle.std.proofs.Common.{◌≡◌, ◌<◌, ◌≤◌, ◌-◌, ◌/◌, ℕ, length}
-use Rattle.std.specs.Prelude.{◌||◌, ◌&&◌}
+use Rattle.std.proofs.Common.{◌≡◌, ◌<◌, ◌≤◌, ◌-◌, ◌/◌, ℕ, length, ◌||◌, ◌&&◌}
 use Rattle.bit_sets.specs.Bits.{has}
 use Rattle.remembered_sets.specs.Sets.{lets_through}
 use Rattle.remembered_sets.specs.Sharing.{filter_at}

@@ -1,5 +1,4 @@
-use Rattle.std.proofs.Common.{◌+◌, ◌*◌, ◌≤◌, length, ℕ}
-use Rattle.std.specs.Prelude.{◌&&◌}
+use Rattle.std.proofs.Common.{◌+◌, ◌*◌, ◌≤◌, length, ℕ, ◌&&◌}
 use Rattle.bit_sets.specs.Bits.{has, is_passing}
 use Rattle.bit_sets.proofs.Bounds.{AreWide}
 use Rattle.bit_sets.proofs.BitUnions.{within_joined}

@@ -1,5 +1,4 @@
-use Rattle.std.proofs.Common.{◌*◌, ◌<◌, length, arith}
-use Rattle.std.specs.Prelude.{None}
+use Rattle.std.proofs.Common.{◌*◌, ◌<◌, length, arith, None}
 use Rattle.std.proofs.lemmas.List.{get_or_read}
 use Rattle.bit_sets.proofs.BitWords.{div_ceil_reaches, len_is}
 use Rattle.bit_sets.proofs.LowestBits.{bits_word, bits_agree, none_in_word, none_left, none_at_all, lowest_found, some_below}

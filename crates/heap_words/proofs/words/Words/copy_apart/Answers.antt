@@ -1,5 +1,4 @@
-use Rattle.std.proofs.Common.{arith, ◌≡◌, ◌-◌, ◌∙◌, ℕ, List, length, take, drop, replicate, sym, ap}
-use Rattle.std.proofs.lemmas.List.{length-take, length-drop}
+use Rattle.std.proofs.Common.{arith, ◌≡◌, ◌-◌, ◌∙◌, ℕ, List, length, take, drop, replicate, sym, ap, length-take, length-drop}
 use Rattle.heap_words.specs.Contents.{put}
 use Rattle.heap_words.specs.Memory.{Memory}
 use Rattle.heap_words.proofs.Blocks.{memory_put, read_front}

@@ -1,14 +1,9 @@
-use Rattle.regions.proofs.Common.{◌≡◌, ◌∙◌, ℕ, Some, ap, sym, subst, arith, ◌+◌, ◌/◌, Stored, Object, tile_size, Table, top_of, object_at}
-use Rattle.regions.proofs.Common.{tile_in, IsNextTile}
+use Rattle.regions.proofs.Common.{◌≡◌, ◌∙◌, ap, sym, subst, arith, ◌+◌, ◌/◌, Object, tile_size, top_of, object_at, tile_in, IsNextTile}
 use Rattle.regions.proofs.Words.ObjectWords.{some_object, words_of}
 use Rattle.regions.proofs.Walks.WalkFrom.{tile_region}
-use Rattle.regions.proofs.Tiles.Laws.{object_tile}
+use Rattle.regions.proofs.Tiles.Laws.{tile_of}
 use Rattle.regions.proofs.Tiles.Steps.{next_is, last_is, some_tile}
 use Rattle.regions.proofs.table.RegionTable.next_behind.Goals as goal
-
-tile_of : (t : Table) (a : ℕ) (s : Stored) → object_at t a ≡ Some s → tile_in t a ≡ Some (Object s)
-unfolding object_at
-tile_of t a s e = object_tile (tile_in t a) s e
 
 pub overflow_add-next : goal.overflow_add-next
 overflow_add-next c =

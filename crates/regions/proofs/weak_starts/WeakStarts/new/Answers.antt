@@ -1,10 +1,9 @@
-use Rattle.regions.proofs.Common.{◌≡◌, ◌*◌, ◌<◌, ℕ, zero, suc, true, false, replicate, ap, sym, ◌∙◌, length-replicate, has, AreRegions}
+use Rattle.regions.proofs.Common.{◌≡◌, ◌*◌, ◌<◌, ℕ, suc, true, false, replicate, ap, sym, ◌∙◌, length-replicate, has, AreRegions}
 use Rattle.regions.proofs.weak_starts.WeakStarts.new.Goals as goal
 
 no_flag : (n a : ℕ) → has (replicate n false) a ≡ true → ⊥
-no_flag zero a h = cc
-no_flag (suc n) zero h = cc
 no_flag (suc n) (suc a) h = no_flag n a h
+no_flag _ _ h = cc
 
 no_regions : (regions words : ℕ) → 0 < words → AreRegions words (replicate regions false) (replicate (regions * words) false)
 no_regions regions words positive = record {

@@ -1,5 +1,4 @@
-use Rattle.std.proofs.Common.{◌+◌, ◌*◌, ◌^◌, ◌∙◌, ap, sym, arith, Bool}
-use Rattle.std.specs.Prelude.{◌&&◌}
+use Rattle.std.proofs.Common.{◌+◌, ◌*◌, ◌^◌, ◌∙◌, ap, sym, arith, Bool, ◌&&◌}
 use Rattle.std.proofs.Math.Nat.{pos_of_ne-zero}
 use Rattle.bit_sets.specs.Bits.{has}
 use Rattle.remembered_sets.proofs.Parts.{part_at, few_flags, in_table, lets_all, lets_both, lets_none}

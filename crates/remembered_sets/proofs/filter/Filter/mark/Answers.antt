@@ -1,5 +1,4 @@
-use Rattle.std.proofs.Common.{◌+◌, ◌*◌, ◌∙◌, arith, ap, Bool}
-use Rattle.std.specs.Prelude.{◌||◌, ◌&&◌}
+use Rattle.std.proofs.Common.{◌+◌, ◌*◌, ◌∙◌, arith, ap, Bool, ◌||◌, ◌&&◌}
 use Rattle.std.proofs.Math.Nat.{pos_of_ne-zero}
 use Rattle.bit_sets.specs.Bits.{has, is_between}
 use Rattle.remembered_sets.specs.Sets.{lets_through}

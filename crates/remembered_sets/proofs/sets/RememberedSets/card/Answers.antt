@@ -1,5 +1,4 @@
-use Rattle.std.proofs.Common.{◌∙◌, arith, ap, length}
-use Rattle.std.specs.Prelude.{slice_get}
+use Rattle.std.proofs.Common.{◌∙◌, arith, ap, length, slice_get}
 use Rattle.remembered_sets.specs.Sets.{CardSet}
 use Rattle.remembered_sets.proofs.Reading.{known_set, set_read}
 use Rattle.remembered_sets.proofs.sets.RememberedSets.card.Goals as goal

@@ -1,5 +1,4 @@
-use Rattle.std.proofs.Common.{◌*◌, ◌∙◌, arith, ap, ap₂, sym, subst, Bool, ℕ}
-use Rattle.std.specs.Prelude.{◌||◌}
+use Rattle.std.proofs.Common.{◌*◌, ◌∙◌, arith, ap, ap₂, sym, subst, Bool, ℕ, ◌||◌}
 use Rattle.bit_sets.specs.Bits.{has}
 use Rattle.remembered_sets.specs.Sets.{IsFilter, Sets}
 use Rattle.remembered_sets.proofs.Reading.{IsRead, filter_stands, is_set, known_set, known_table, leads_is, table_is}
