@@ -185,6 +185,11 @@ bit_at-middle_mask_outside low high j h k l =
 pub has_past : (flags : List Bool) (a : ℕ) → length flags ≤ a → has flags a ≡ false
 has_past flags a h = get_or_past flags a false h
 
+pub has_none : (n a : ℕ) → has (replicate n false) a ≡ false
+has_none n a =
+    ⊎_elim (λ h. get_or-replicate n a false false h)
+    (λ h. has_past (replicate n false) a (omega (arith, length-replicate {A = Bool} n false))) (cases_lt a n)
+
 pub div_ceil_reaches : (n : ℕ) → n ≤ 64 * div_ceil n 64
 div_ceil_reaches n = omega arith
 

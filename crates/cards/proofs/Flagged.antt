@@ -6,7 +6,7 @@ use Rattle.std.proofs.lemmas.List.{length-replicate, get_or-append_right, get_or
 use Rattle.std.proofs.lemmas.List.{set-append_left}
 use Rattle.cards.specs.Flags.{flags_of}
 
-all_clear : (k i : ℕ) → get_or (replicate k false) i false ≡ false
+pub all_clear : (k i : ℕ) → get_or (replicate k false) i false ≡ false
 all_clear k i =
     ⊎_elim (λ b. get_or-replicate k i false false b) (λ b. get_or_past (replicate k false) i false
     (omega (arith, length-replicate {A = Bool} k false)))

@@ -3,11 +3,12 @@ use Rattle.std.proofs.Common.{◌≡◌, ◌+◌, ◌<◌, ◌≤◌, ◌∷◌,
 use Rattle.std.proofs.Common.{ℕ, Bool, true, false, cond, eqb, List, [], length, get_or, set, replicate, zero, suc, sum_by, count_by, All}
 use Rattle.std.proofs.Common.{⊎_elim, lit<, refl, sym, ap, arith, get_or-set_same, get_or-set_other, length-set, length-append}
 use Rattle.std.proofs.lemmas.Bool.{cases_lt, cases_eq, eq-eqb, ne_eqb, false≢true}
-use Rattle.std.proofs.lemmas.List.{get_or_past, get_or-replicate, length-replicate}
+use Rattle.std.proofs.lemmas.List.{get_or_past}
 use Rattle.std.proofs.lemmas.List.Elements.{All-replicate}
 use Rattle.std.proofs.lemmas.List.Sums.{sum_by-set, sum_by_push, sum_by-cons, sum_by-append, count_by-le-length}
 use Rattle.cards.specs.Cards.{Cards, is_dirty, times_in, times_listed, ListsDirtyOnce, log_of, clean_cards, entered, sent}
 use Rattle.cards.specs.Inside.{IsCounted, listed_count}
+use Rattle.cards.proofs.Flagged.{all_clear}
 
 abbrev pub bit : Bool → ℕ
 bit b = cond b 1 0
@@ -151,14 +152,10 @@ no_flags : (k : ℕ) → flags (replicate k false) ≡ 0
 no_flags zero = refl
 no_flags (suc k) = omega (arith, sum_by-cons bit false (replicate k false), no_flags k)
 
-all_clean : (k x : ℕ) → get_or (replicate k false) x false ≡ false
-all_clean k x = ⊎_elim (λ h. get_or-replicate k x false false h)
-    (λ h. get_or_past (replicate k false) x false (omega (arith, length-replicate k false))) (cases_lt x k)
-
 -- no card is dirty and none is listed
 pub IsCounted-new : (cards mutators : ℕ) → IsCounted (clean_cards cards mutators)
 IsCounted-new cards mutators = record {
-  listed = record { each = λ x. omega (arith, times_none x mutators, ap bit (all_clean cards x)) };
+  listed = record { each = λ x. omega (arith, times_none x mutators, ap bit (all_clear cards x)) };
   counted = omega (arith, no_length mutators, no_flags cards);
 }
 

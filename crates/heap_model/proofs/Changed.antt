@@ -50,6 +50,31 @@ shown_in h h' f None None s = tt
 shown_in h h' f (Some a) (Some n) s = let (y, at, named) = f a s.0 s.1 in (y, at, named ∙ s.2)
 shown_in h h' f _ _ s = absurd s
 
+-- an object shows what it showed where its words do, and its name's object is the same
+shown_as : (g g' : Graph) (h h' : Heap) (x : Stored) → ((w v : Option ℕ) → IsShown h w v → IsShown h' w v) → (o : IsObjectShown g h x)
+    → object_named g' x.name ≡ Some o.object → IsObjectShown g' h' x
+shown_as g g' h h' x same o named = record {
+  object = o.object;
+  named = named;
+  values = o.values;
+  pointers = AllZip_map (IsShown h) (IsShown h') same x.pointers o.object.pointers o.pointers;
+  weaks = AllZip_map (IsShown h) (IsShown h') same x.weaks o.object.weaks o.weaks;
+}
+
+-- one more object: those before, and what there is then
+module _ (h h' : Heap) (a : ℕ) (x : Stored) (place : ℕ) (step : ObjectAdded h h' a x place) where
+  pub added_kept : (b : ℕ) (z : Stored) → h.kept b ≡ Some z → h'.kept b ≡ Some z
+  added_kept b z at = elim (cases_eq b a) [
+    | inl q ↦ absurd (let was = step.was in let here = ap h.kept q in cc)
+    | inr n ↦ step.others b n ∙ at
+  ]
+
+  pub added_before : (b : ℕ) (z : Stored) → h'.kept b ≡ Some z → ((b ≡ a) × (z ≡ x)) ⊎ (h.kept b ≡ Some z)
+  added_before b z at = elim (cases_eq b a) [
+    | inl q ↦ inl (q, (let is = step.is in let here = ap h'.kept q in cc))
+    | inr n ↦ inr (sym (step.others b n) ∙ at)
+  ]
+
 module _ (g : Graph) (h h' : Heap) (shows : Shows g h) where
   module _ (place : ℕ) (w v : Option ℕ) (shown : IsShown h w v) (step : RootSet h h' place w) where
     same : (w v : Option ℕ) → IsShown h w v → IsShown h' w v
@@ -63,16 +88,7 @@ module _ (g : Graph) (h h' : Heap) (shows : Shows g h) where
       distinct = λ a b x y ea eb e. shows.distinct a b x y (sym (step.kept a) ∙ ea) (sym (step.kept b) ∙ eb) e;
       objects = λ a x e.
           let o = shows.objects a x (sym (step.kept a) ∙ e) in
-          record {
-            object = o.object;
-            named = rooted_same g place x.name v
-                ∙ o.named;
-            values = o.values;
-            pointers =
-                AllZip_map (IsShown h) (IsShown h') same x.pointers o.object.pointers o.pointers;
-            weaks =
-                AllZip_map (IsShown h) (IsShown h') same x.weaks o.object.weaks o.weaks;
-          };
+          shown_as g (with_root g place v) h h' x same o (rooted_same g place x.name v ∙ o.named);
     }
 
   module _ (d : ℕ) (x y : Stored) (o p : Object) (step : ObjectSet h h' d x y) (named : object_named g x.name ≡ Some o)
@@ -112,13 +128,8 @@ module _ (g : Graph) (h h' : Heap) (shows : Shows g h) where
       })
       | inr q ↦
           let t = shows.objects a z q.1 in
-          record {
-            object = t.object;
-            named = changed_other g x.name z.name o p t.object named (λ e. q.0 (shows.distinct a d z x q.1 step.was e)) t.named;
-            values = t.values;
-            pointers = AllZip_map (IsShown h) (IsShown h') set_same z.pointers t.object.pointers t.pointers;
-            weaks = AllZip_map (IsShown h) (IsShown h') set_same z.weaks t.object.weaks t.weaks;
-          }
+          shown_as g (with_changed g x.name p) h h' z set_same t
+          (changed_other g x.name z.name o p t.object named (λ e. q.0 (shows.distinct a d z x q.1 step.was e)) t.named)
     ]
 
     pub object_set_shows : Shows (with_changed g x.name p) h'
@@ -135,26 +146,14 @@ module _ (g : Graph) (h h' : Heap) (shows : Shows g h) where
   module _ (a : ℕ) (x : Stored) (o : Object) (place : ℕ) (step : ObjectAdded h h' a x place) (name : x.name ≡ next_name g)
       (pointers : AllZip (IsShown h) x.pointers o.pointers) (weaks : AllZip (IsShown h) x.weaks o.weaks)
       (values : x.values ≡ o.values) where
-    added_other_at : (b : ℕ) (z : Stored) → h.kept b ≡ Some z → h'.kept b ≡ Some z
-    added_other_at b z at = elim (cases_eq b a) [
-      | inl q ↦ absurd (let was = step.was in let here = ap h.kept q in cc)
-      | inr n ↦ step.others b n ∙ at
-    ]
-
     added_same : (w v : Option ℕ) → IsShown h w v → IsShown h' w v
-    added_same = shown_in h h' (λ b z at. (z, added_other_at b z at, refl))
-
-    added_before : (b : ℕ) (z : Stored) → h'.kept b ≡ Some z → ((b ≡ a) × (z ≡ x)) ⊎ (h.kept b ≡ Some z)
-    added_before b z at = elim (cases_eq b a) [
-      | inl q ↦ inl (q, (let is = step.is in let here = ap h'.kept q in cc))
-      | inr n ↦ inr (sym (step.others b n) ∙ at)
-    ]
+    added_same = shown_in h h' (λ b z at. (z, added_kept h h' a x place step b z at, refl))
 
     below : (b : ℕ) (z : Stored) → h.kept b ≡ Some z → z.name < next_name g
     below b z at = let t = shows.objects b z at in named_below g z.name t.object t.named
 
     added_object : (b : ℕ) (z : Stored) → h'.kept b ≡ Some z → IsObjectShown (with_object g o place) h' z
-    added_object b z at = elim (added_before b z at) [
+    added_object b z at = elim (added_before h h' a x place step b z at) [
       | inl q ↦ subst (IsObjectShown (with_object g o place) h') (sym q.1) (record {
         object = o;
         named = ap (object_named (with_object g o place)) name ∙ added_here g o place;
@@ -164,24 +163,17 @@ module _ (g : Graph) (h h' : Heap) (shows : Shows g h) where
       })
       | inr was ↦
           let t = shows.objects b z was in
-          record {
-            object = t.object;
-            named = added_other g o t.object place z.name t.named;
-            values = t.values;
-            pointers = AllZip_map (IsShown h) (IsShown h') added_same z.pointers t.object.pointers t.pointers;
-            weaks =
-                AllZip_map (IsShown h) (IsShown h') added_same z.weaks t.object.weaks t.weaks;
-          }
+          shown_as g (with_object g o place) h h' z added_same t (added_other g o t.object place z.name t.named)
     ]
 
     added_distinct : (b c : ℕ) (u z : Stored) → h'.kept b ≡ Some u → h'.kept c ≡ Some z → u.name ≡ z.name → b ≡ c
     added_distinct b c u z eb ec e =
-        elim (added_before b u eb) [
-          | inl q ↦ elim (added_before c z ec) [
+        elim (added_before h h' a x place step b u eb) [
+          | inl q ↦ elim (added_before h h' a x place step c z ec) [
             | inl r ↦ q.0 ∙ sym r.0
             | inr was ↦ let k = below c z was in let here = ap (λ (k : Stored). k.name) q.1 in absurd (omega arith)
           ]
-          | inr was ↦ elim (added_before c z ec) [
+          | inr was ↦ elim (added_before h h' a x place step c z ec) [
             | inl r ↦ let k = below b u was in let here = ap (λ (k : Stored). k.name) r.1 in absurd (omega arith)
             | inr was' ↦ shows.distinct b c u z was was' e
           ]
@@ -204,15 +196,7 @@ module _ (g : Graph) (h h' : Heap) (shows : Shows g h) where
             (AllZip_map (IsShown h) (IsShown h') in' h.roots g.roots shows.roots);
         distinct = λ a b x y ea eb e. shows.distinct a b x y (sym (same.kept a) ∙ ea) (sym (same.kept b) ∙ eb) e;
         objects = λ a x e.
-            let o = shows.objects a x (sym (same.kept a) ∙ e) in
-            record {
-              object = o.object;
-              named = o.named;
-              values = o.values;
-              pointers = AllZip_map (IsShown h) (IsShown h') in' x.pointers o.object.pointers o.pointers;
-              weaks =
-                  AllZip_map (IsShown h) (IsShown h') in' x.weaks o.object.weaks o.weaks;
-            };
+            let o = shows.objects a x (sym (same.kept a) ∙ e) in shown_as g g h h' x in' o o.named;
       }
 
   -- what is read of the heap is what the graph has

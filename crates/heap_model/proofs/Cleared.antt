@@ -196,6 +196,17 @@ module _ (s : Graph) (k : ℕ) (count : IsReachableCount s k) where
       let (os, z) = objects g.objects in
       (record g { objects = os }, record { room = refl; first_name = refl; places = refl; roots = refl; objects = z })
 
+-- what a relation that has one value for each makes of a list
+AllZip-once : {A B : Type 0} (R : A → B → Type 0) → ((x : A) (y z : B) → R x y → R x z → y ≡ z) → (xs : List A) (us ws : List B)
+    → AllZip R xs us → AllZip R xs ws → us ≡ ws
+AllZip-once R once [] [] [] p q = refl
+AllZip-once R once [] [] (b ∷ ws) p q = absurd q
+AllZip-once R once [] (a ∷ us) ws p q = absurd p
+AllZip-once R once (v ∷ vs) [] ws p q = absurd p
+AllZip-once R once (v ∷ vs) (a ∷ us) [] p q = absurd q
+AllZip-once R once (v ∷ vs) (a ∷ us) (b ∷ ws) p q =
+    let e = once v a b p.0 q.0 in let es = AllZip-once R once vs us ws p.1 q.1 in cc
+
 module _ (s : Graph) where
   slot_once : (v a b : Option ℕ) → IsClearedSlot s v a → IsClearedSlot s v b → a ≡ b
   slot_once None None (Some k) p q = absurd q
@@ -205,27 +216,11 @@ module _ (s : Graph) where
   slot_once (Some n) (Some k) (Some l) p q = ap Some (p.0 ∙ sym q.0)
   slot_once _ None None p q = refl
 
-  slots_once : (vs us ws : List (Option ℕ)) → AllZip (IsClearedSlot s) vs us → AllZip (IsClearedSlot s) vs ws → us ≡ ws
-  slots_once [] [] [] p q = refl
-  slots_once [] [] (b ∷ ws) p q = absurd q
-  slots_once [] (a ∷ us) ws p q = absurd p
-  slots_once (v ∷ vs) [] ws p q = absurd p
-  slots_once (v ∷ vs) (a ∷ us) [] p q = absurd q
-  slots_once (v ∷ vs) (a ∷ us) (b ∷ ws) p q = let e = slot_once v a b p.0 q.0 in let es = slots_once vs us ws p.1 q.1 in cc
-
   object_once : (o a b : Object) → ClearsObject s o a → ClearsObject s o b → a ≡ b
   object_once o a b p q =
       ap (λ u. record { pointers = u; weaks = a.weaks; values = a.values }) (p.pointers ∙ sym q.pointers)
-      ∙ ap (λ u. record { pointers = b.pointers; weaks = u; values = a.values }) (slots_once o.weaks a.weaks b.weaks p.weaks q.weaks)
+      ∙ ap (λ u. record { pointers = b.pointers; weaks = u; values = a.values }) (AllZip-once (IsClearedSlot s) slot_once o.weaks a.weaks b.weaks p.weaks q.weaks)
       ∙ ap (λ u. record { pointers = b.pointers; weaks = b.weaks; values = u }) (p.values ∙ sym q.values)
-
-  objects_once : (os us ws : List Object) → AllZip (ClearsObject s) os us → AllZip (ClearsObject s) os ws → us ≡ ws
-  objects_once [] [] [] p q = refl
-  objects_once [] [] (b ∷ ws) p q = absurd q
-  objects_once [] (a ∷ us) ws p q = absurd p
-  objects_once (o ∷ os) [] ws p q = absurd p
-  objects_once (o ∷ os) (a ∷ us) [] p q = absurd q
-  objects_once (o ∷ os) (a ∷ us) (b ∷ ws) p q = let e = object_once o a b p.0 q.0 in let es = objects_once os us ws p.1 q.1 in cc
 
   pub clears_once : (g a b : Graph) → Clears s g a → Clears s g b → a ≡ b
   clears_once g a b p q =
@@ -236,7 +231,7 @@ module _ (s : Graph) where
       ∙ ap (λ u. record { room = b.room; first_name = b.first_name; places = u; objects = a.objects; roots = a.roots })
       (p.places ∙ sym q.places)
       ∙ ap (λ u. record { room = b.room; first_name = b.first_name; places = b.places; objects = u; roots = a.roots })
-      (objects_once g.objects a.objects b.objects p.objects q.objects)
+      (AllZip-once (ClearsObject s) object_once g.objects a.objects b.objects p.objects q.objects)
       ∙ ap (λ u. record { room = b.room; first_name = b.first_name; places = b.places; objects = b.objects; roots = u })
       (p.roots ∙ sym q.roots)
 

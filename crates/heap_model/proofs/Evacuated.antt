@@ -26,28 +26,35 @@ clean_moved set forward (Some a) (Some b) clean (inl e) =
     rw same (placed_outside set forward b (clean b refl))
 clean_moved set forward _ _ clean (inl e) = cc
 
+same_words : (place : ℕ → Option ℕ) (ws : List (Option ℕ)) → AllZip (IsWord place) ws ws
+same_words place [] = tt
+same_words place (w ∷ ws) = (inl refl, same_words place ws)
+
 -- nothing is there at the start
 pub start : (set : ℕ → Bool) (h : Heap) → IsEvacuating set h (λ a. None) h
 start set h = record {
-  roots = same_words h.roots;
+  roots = same_words (place_after set (λ a. None)) h.roots;
   objects = λ a b x at placed. elim (bool_cases (set a)) [
     | inl e ↦ absurd (let q = placed_inside set (λ a. None) a e in cc)
     | inr e ↦
         let q = placed_outside set (λ a. None) a e in
         let same : a ≡ b = cc in
-        record { part = x; at = ap h.kept (sym same) ∙ at; name = refl; values = refl; shape = refl; words = same_words (fields x) }
+        record { part = x; at = ap h.kept (sym same) ∙ at; name = refl; values = refl; shape = refl; words = same_words (place_after set (λ a. None)) (fields x) }
   ];
   came = λ b y at out. record { from = b; object = y; at = at; placed = placed_outside set (λ a. None) b out };
   untouched = λ a _ _. refl;
   reached = λ a b _ e. cc;
   out = λ a b _ e. cc;
 }
-  where
-    same_words : (ws : List (Option ℕ)) → AllZip (IsWord (place_after set (λ a. None))) ws ws
-    same_words [] = tt
-    same_words (w ∷ ws) = (inl refl, same_words ws)
 
 module _ (set : ℕ → Bool) (h : Heap) (forward : ℕ → Option ℕ) (now : Heap) (v : IsEvacuating set h forward now) where
+  -- what is placed is placed outside the set
+  out_of : (c d : ℕ) → place_after set forward c ≡ Some d → set d ≡ false
+  out_of c d e = elim (bool_cases (set c)) [
+    | inl k ↦ v.out c d k (sym (placed_inside set forward c k) ∙ e)
+    | inr k ↦ let q = placed_outside set forward c k in let same : c ≡ d = cc in ap set (sym same) ∙ k
+  ]
+
   module _ (done : IsEvacuated set now) where
     clean_words : (xs ys : List (Option ℕ)) → IsClean set ys → AllZip (IsWord (place_after set forward)) xs ys
         → AllZip (IsMoved (place_after set forward)) xs ys
@@ -59,18 +66,12 @@ module _ (set : ℕ → Bool) (h : Heap) (forward : ℕ → Option ℕ) (now : H
       clean_words xs ys (λ i a e. c (suc i) a e) z.1,
     )
 
-    part_outside : (a b : ℕ) (x : Stored) → h.kept a ≡ Some x → place_after set forward a ≡ Some b → set b ≡ false
-    part_outside a b x at e = elim (bool_cases (set a)) [
-      | inl k ↦ v.out a b k (sym (placed_inside set forward a k) ∙ e)
-      | inr k ↦ let q = placed_outside set forward a k in let same : a ≡ b = cc in ap set (sym same) ∙ k
-    ]
-
     pub evacuated_relocates : Relocates (place_after set forward) h (released set now)
     evacuated_relocates = record {
       roots = clean_words h.roots now.roots done.roots v.roots;
       kept = λ a b x at e.
           let p = v.objects a b x at e in
-          let out = part_outside a b x at e in
+          let out = out_of a b e in
           let moved = clean_words (fields x) (fields p.part) (done.objects b p.part p.at out) p.words in
           let (pointers, weaks) = AllZip-split
           (IsMoved (place_after set forward)) x.pointers p.part.pointers x.weaks p.part.weaks p.shape moved in
@@ -89,7 +90,7 @@ module _ (set : ℕ → Bool) (h : Heap) (forward : ℕ → Option ℕ) (now : H
     field_forwarded : (b c a : ℕ) (p : HasField h b a) → place_after set forward b ≡ Some c → set a ≡ true → (d : ℕ) × (forward a ≡ Some d)
     field_forwarded b c a p e inside =
         let k = v.objects b c p.object p.at e in
-        let moved = clean_words (fields p.object) (fields k.part) (done.objects c k.part k.at (part_outside b c p.object p.at e)) k.words in
+        let moved = clean_words (fields p.object) (fields k.part) (done.objects c k.part k.at (out_of b c e)) k.words in
         let (w, is, m) = AllZip-get (IsMoved (place_after set forward)) (fields p.object) (fields k.part) moved p.field (Some a) p.is in
         moved_inside a w m inside
 
@@ -144,11 +145,7 @@ module _ (set : ℕ → Bool) (h : Heap) (forward : ℕ → Option ℕ) (now : H
   pub word_was : (w : Option ℕ) (c : ℕ) → IsWord (place_after set forward) w (Some c) → set c ≡ true → w ≡ Some c
   word_was w c (inl e) inside = sym e
   word_was None c (inr m) inside = absurd m
-  word_was (Some a) c (inr m) inside =
-      absurd (elim (bool_cases (set a)) [
-        | inl k ↦ let out = v.out a c k (sym (placed_inside set forward a k) ∙ m) in cc
-        | inr k ↦ let q = placed_outside set forward a k in let same : a ≡ c = cc in let here = ap set same in cc
-      ])
+  word_was (Some a) c (inr m) inside = absurd (let out = out_of a c m in cc)
 
   -- what is forwarded is its new value
   word_updated : (w : Option ℕ) (c d : ℕ) → IsWord (place_after set forward) w (Some c) → set c ≡ true → forward c ≡ Some d
@@ -248,10 +245,6 @@ module _ (set : ℕ → Bool) (h : Heap) (forward : ℕ → Option ℕ) (now : H
     word_grows (Some c) (Some d) (inr m) = inr (grows c d m)
     word_grows _ _ (inr m) = absurd m
 
-    same_words : (ws : List (Option ℕ)) → AllZip (IsWord (place_after set forward')) ws ws
-    same_words [] = tt
-    same_words (w ∷ ws) = (inl refl, same_words ws)
-
     -- what is placed anew is placed as before, or is the copy
     placed_before : (c d : ℕ) → place_after set forward' c ≡ Some d
         → ((c ≡ a) × (d ≡ b)) ⊎ ((c ≡ a → ⊥) × (place_after set forward c ≡ Some d))
@@ -268,12 +261,6 @@ module _ (set : ℕ → Bool) (h : Heap) (forward : ℕ → Option ℕ) (now : H
           | inr k ↦ placed_outside set forward c k ∙ sym (placed_outside set forward' c k) ∙ e
         ],
       )
-    ]
-
-    out_of : (c d : ℕ) → place_after set forward c ≡ Some d → set d ≡ false
-    out_of c d e = elim (bool_cases (set c)) [
-      | inl k ↦ v.out c d k (sym (placed_inside set forward c k) ∙ e)
-      | inr k ↦ let q = placed_outside set forward c k in let same : c ≡ d = cc in ap set (sym same) ∙ k
     ]
 
     kept_on : (c : ℕ) (y : Stored) → now.kept c ≡ Some y → set c ≡ false → now'.kept c ≡ Some y
@@ -298,7 +285,7 @@ module _ (set : ℕ → Bool) (h : Heap) (forward : ℕ → Option ℕ) (now : H
                   ap (λ (y : Stored). length y.pointers) (sym same);
               words =
                   subst (λ (y : Stored). AllZip (IsWord (place_after set forward')) (fields y) (fields x)) (sym same)
-                  (same_words (fields x));
+                  (same_words (place_after set forward') (fields x));
             }
         | inr q ↦
             let k = v.objects c d z at q.1 in
@@ -354,11 +341,7 @@ module _ (set : ℕ → Bool) (h : Heap) (forward : ℕ → Option ℕ) (now : H
   word_names (Some a) c (inr m) f =
       let (x, at) = f a refl in
       let p = v.objects a c x at m in
-      let out : set c ≡ false = elim (bool_cases (set a)) [
-        | inl k ↦ v.out a c k (sym (placed_inside set forward a k) ∙ m)
-        | inr k ↦ let q = placed_outside set forward a k in let same : a ≡ c = cc in ap set (sym same) ∙ k
-      ] in
-      inr (out, p.part, p.at)
+      inr (out_of a c m, p.part, p.at)
 
   pub field_names : IsClosed h → (b i c : ℕ) (y : Stored) → now.kept b ≡ Some y → set b ≡ false → slice_get (fields y) i ≡ Some (Some c)
       → ((set c ≡ true) × (x : Stored) × (h.kept c ≡ Some x)) ⊎ ((set c ≡ false) × (z : Stored) × (now.kept c ≡ Some z))

@@ -9,68 +9,45 @@ use Rattle.heap_model.proofs.Names.{bool_cases}
 use Rattle.heap_model.proofs.Lists.{get-set_cases, get_kept-set}
 use Rattle.heap_model.proofs.Shown.{target_reachable}
 use Rattle.heap_model.proofs.Advance.{Stands, invariant_after}
+use Rattle.heap_model.proofs.Changed.{added_kept, added_before}
 
 -- an object that is changed keeps its name
-module _ (h h' : Heap) (d : ℕ) (x y : Stored) (v : ObjectSet h h' d x y) where
-  set_stays : (a : ℕ) (z : Stored) → h.kept a ≡ Some z → Stands h' a z.name
-  set_stays a z at =
-      elim (cases_eq a d) [
-        | inl q ↦ record {
-          object = y;
-          at = ap h'.kept q ∙ v.is;
-          named = let same : z ≡ x = let e2 = v.was in let e3 = ap h.kept q in cc in
-              v.name ∙ ap (λ (k : Stored). k.name) (sym same);
-        }
-        | inr n ↦ record { object = z; at = v.others a n ∙ at; named = refl }
-      ]
+set_stays : (h h' : Heap) (d : ℕ) (x y : Stored) → ObjectSet h h' d x y → (a : ℕ) (z : Stored) → h.kept a ≡ Some z → Stands h' a z.name
+set_stays h h' d x y v a z at =
+    elim (cases_eq a d) [
+      | inl q ↦ record {
+        object = y;
+        at = ap h'.kept q ∙ v.is;
+        named = let same : z ≡ x = let e2 = v.was in let e3 = ap h.kept q in cc in
+            v.name ∙ ap (λ (k : Stored). k.name) (sym same);
+      }
+      | inr n ↦ record { object = z; at = v.others a n ∙ at; named = refl }
+    ]
 
-  set_came : (a : ℕ) (z : Stored) → h'.kept a ≡ Some z → Stands h a z.name
-  set_came a z at =
-      elim (cases_eq a d) [
-        | inl q ↦ record {
-          object = x;
-          at = ap h.kept q ∙ v.was;
-          named = let same : z ≡ y = let e2 = v.is in let e3 = ap h'.kept q in cc in
-              sym v.name ∙ ap (λ (k : Stored). k.name) (sym same);
-        }
-        | inr n ↦ record { object = z; at = sym (v.others a n) ∙ at; named = refl }
-      ]
+-- its pointers stay if it has the same
+set_points : (h h' : Heap) (d : ℕ) (x y : Stored) → ObjectSet h h' d x y → y.pointers ≡ x.pointers → (a b : ℕ) (p : Points h a b)
+    → (q : Points h' a b) × (q.object.name ≡ p.object.name)
+set_points h h' d x y v same a b p =
+    elim (cases_eq a d) [
+      | inl q ↦
+          let here : p.object ≡ x = let e1 = p.at in let e2 = v.was in let e3 = ap h.kept q in cc in
+          let is = ap (λ l. slice_get l p.field) (same ∙ ap (λ (z : Stored). z.pointers) (sym here)) ∙ p.is in
+          (record { object = y; at = ap h'.kept q ∙ v.is; field = p.field; is = is }, v.name ∙ ap (λ (z : Stored). z.name) (sym here))
+      | inr n ↦ (record { object = p.object; at = v.others a n ∙ p.at; field = p.field; is = p.is }, refl)
+    ]
+
+-- the same change the other way round
+set_back : (h h' : Heap) (d : ℕ) (x y : Stored) → ObjectSet h h' d x y → ObjectSet h' h d y x
+set_back h h' d x y v = record { was = v.is; is = v.was; name = sym v.name; others = λ a n. sym (v.others a n); roots = sym v.roots }
+
+set_came : (h h' : Heap) (d : ℕ) (x y : Stored) → ObjectSet h h' d x y → (a : ℕ) (z : Stored) → h'.kept a ≡ Some z → Stands h a z.name
+set_came h h' d x y v = set_stays h' h d y x (set_back h h' d x y v)
 
 -- data words lead nowhere
 module _ (live : ℕ → Type 0) (limit : ℕ) (h h' : Heap) (m : Marking) (i : MarkingInvariant live limit h m)
     (d : ℕ) (x y : Stored) (v : ObjectSet h h' d x y) (same : y.pointers ≡ x.pointers) where
-  values_edge : (a b : ℕ) → Points h a b → Points h' a b
-  values_edge a b p =
-      elim (cases_eq a d) [
-        | inl q ↦
-            let here : p.object ≡ x = let e1 = p.at in let e2 = v.was in let e3 = ap h.kept q in cc in
-            record {
-              object = y;
-              at = ap h'.kept q
-                  ∙ v.is;
-              field = p.field;
-              is = ap (λ l. slice_get l p.field) (same ∙ ap (λ (z : Stored). z.pointers) (sym here)) ∙ p.is;
-            }
-        | inr n ↦ record { object = p.object; at = v.others a n ∙ p.at; field = p.field; is = p.is }
-      ]
-
   values_back : (a b : ℕ) (p : Points h' a b) → (q : Points h a b) × (q.object.name ≡ p.object.name)
-  values_back a b p =
-      elim (cases_eq a d) [
-        | inl q ↦
-            let here : p.object ≡ y = let e1 = p.at in let e2 = v.is in let e3 = ap h'.kept q in cc in (
-              record {
-                object = x;
-                at = ap h.kept q
-                    ∙ v.was;
-                field = p.field;
-                is =
-                    ap (λ l. slice_get l p.field) (sym same ∙ ap (λ (z : Stored). z.pointers) (sym here)) ∙ p.is;
-              },
-              sym v.name ∙ ap (λ (z : Stored). z.name) (sym here),
-            )
-        | inr n ↦ (record { object = p.object; at = sym (v.others a n) ∙ p.at; field = p.field; is = p.is }, refl)
-      ]
+  values_back = set_points h' h d y x (set_back h h' d x y v) (sym same)
 
   values_found : (a : ℕ) → IsFound live h' m a → IsFound live h m a
   values_found a (ByRoot c r) = ByRoot c (record { place = r.place; is = sym (ap (λ l. slice_get l r.place) v.roots) ∙ r.is })
@@ -82,7 +59,7 @@ module _ (live : ℕ → Type 0) (limit : ℕ) (h h' : Heap) (m : Marking) (i : 
     old = λ a. refl;
     marked = λ a k. k;
     logged = λ a e. inr e;
-    edges = λ a b _ _ un p _. inl (un, values_edge a b p);
+    edges = λ a b _ _ un p _. inl (un, (set_points h h' d x y v same a b p).0);
     stays = λ a z at o. set_stays h h' d x y v a z at;
     came = λ a z at o. set_came h h' d x y v a z at;
     newly_marked = λ a k. inl k;
@@ -96,18 +73,9 @@ module _ (live : ℕ → Type 0) (limit : ℕ) (h h' : Heap) (m : Marking) (i : 
 module _ (live : ℕ → Type 0) (limit : ℕ) (h : Heap) (m : Marking) (i : MarkingInvariant live limit h m) where
   module _ (h' : Heap) (a : ℕ) (x : Stored) (place : ℕ) (new : m.old a ≡ false) (above : limit ≤ x.name)
       (v : ObjectAdded h h' a x place) where
-    other : (b : ℕ) (y : Stored) → h.kept b ≡ Some y → h'.kept b ≡ Some y
-    other b y at = elim (cases_eq b a) [ inl q ↦ absurd (let was = v.was in let here = ap h.kept q in cc) | inr n ↦ v.others b n ∙ at ]
-
-    before : (b : ℕ) (y : Stored) → h'.kept b ≡ Some y → ((b ≡ a) × (y ≡ x)) ⊎ (h.kept b ≡ Some y)
-    before b y at = elim (cases_eq b a) [
-      | inl q ↦ inl (q, (let is = v.is in let here = ap h'.kept q in cc))
-      | inr n ↦ inr (sym (v.others b n) ∙ at)
-    ]
-
     added_back : (c d : ℕ) (p : Points h' c d) → (q : Points h c d) × (q.object ≡ p.object)
     added_back c d p =
-        elim (before c p.object p.at) [
+        elim (added_before h h' a x place v c p.object p.at) [
           | inl q ↦ absurd (v.nil p.field d (subst (λ (z : Stored). slice_get z.pointers p.field ≡ Some (Some d)) q.1 p.is))
           | inr at ↦ (record { object = p.object; at = at; field = p.field; is = p.is }, refl)
         ]
@@ -129,16 +97,16 @@ module _ (live : ℕ → Type 0) (limit : ℕ) (h : Heap) (m : Marking) (i : Mar
       old = λ b. refl;
       marked = λ b k. k;
       logged = λ b e. inr e;
-      edges = λ b c _ _ un p _. inl (un, record { object = p.object; at = other b p.object p.at; field = p.field; is = p.is });
-      stays = λ b y at o. record { object = y; at = other b y at; named = refl };
-      came = λ b y at o. elim (before b y at) [
+      edges = λ b c _ _ un p _. inl (un, record { object = p.object; at = added_kept h h' a x place v b p.object p.at; field = p.field; is = p.is });
+      stays = λ b y at o. record { object = y; at = added_kept h h' a x place v b y at; named = refl };
+      came = λ b y at o. elim (added_before h h' a x place v b y at) [
         | inl q ↦ absurd (let here = ap m.old q.0 in cc)
         | inr was ↦ record { object = y; at = was; named = refl }
       ];
       newly_marked = λ b k. inl k;
       newly_logged = λ b e. inl e;
       found = λ b o f. added_found b o f;
-      fresh = λ b y at o. elim (before b y at) [
+      fresh = λ b y at o. elim (added_before h h' a x place v b y at) [
         | inl q ↦ let here = ap (λ (z : Stored). z.name) q.1 in omega arith
         | inr was ↦ i.new_names b y was o
       ];

@@ -132,22 +132,6 @@ module _ (marks : List Bool) (scans : Scans) (a : ℕ) (known : a < length marks
   grey_kept : (b : ℕ) → is_grey marks scans b ≡ true → is_grey (set marks a true) scans b ≡ true
   grey_kept b grey = grey_there b (grey_other b grey) ∙ grey
 
-  -- nothing was held: the object is
-  pub first_grey : scans.held ≡ None → HasFingers (set marks a true) (record scans { held = Some a })
-  first_grey none = record {
-    each = λ b unset. elim (cases_eq b a) [
-      | inl same ↦ inl (ap Some (sym same))
-      | inr other ↦ inr (inr (grey_there b other ∙ f.none b none))
-    ];
-    held = λ b is. grey_here b (let same : a ≡ b = cc in sym same);
-    stacked = λ b on. grey_kept b (f.stacked b on);
-    apart = f.apart;
-    beside = λ b on is. grey_other b (f.stacked b on) (let same : a ≡ b = cc in sym same);
-    lowest = λ by_address b c is less. let same : a ≡ b = cc in
-        grey_there c (λ e. omega (arith, same, less, e)) ∙ f.none c none;
-    none = λ b is. absurd (cc);
-  }
-
   module _ (h : ℕ) (held : scans.held ≡ Some h) where
     -- the stack has room: the one that was held is put on it
     pub stacked_grey : length scans.stack.objects < scans.stack.room

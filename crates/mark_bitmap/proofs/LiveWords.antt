@@ -11,6 +11,7 @@ use Rattle.mark_bitmap.specs.Kept.{MarksObjects, kept_in}
 use Rattle.mark_bitmap.specs.Live.{marked_words, live_bound_of}
 use Rattle.mark_bitmap.proofs.Ranges.{div_is, below_in}
 use Rattle.mark_bitmap.proofs.Spans.{spans, option_cases}
+use Rattle.regions.proofs.LongRuns.Blocks.{top_near}
 
 pub in_region : (words k a : ℕ) → k * words ≤ a → a < k * words + words → is_in_region words k a ≡ true
 in_region words k a low high = rw (le-leb (k * words) a low, lt-ltb a (k * words + words) high) refl
@@ -98,11 +99,6 @@ same_region_words t t' k a size same low high =
     ∙ ap (λ (r : Region). stored_size (tile_object (region_tile r (a % t.words_per_region)))) same
     ∙ ap (λ (n : ℕ). stored_size (tile_object (region_tile (get_or t.regions n Free) (a % t.words_per_region)))) (sym row)
 
-same_region_top : (t t' : Table) (k : ℕ) → t'.words_per_region ≡ t.words_per_region
-    → nth_region t' k ≡ nth_region t k → top_of t' k ≡ top_of t k
-unfolding used_of nth_region
-same_region_top t t' k size same = rw (size, same) refl
-
 -- a region's live bound is told by its tiles, its marks and its top at mark start
 pub same_bound : (t t' : Table) (tops tops' : List ℕ) (marks marks' : List Bool) (k : ℕ) → IsShaped t
     → t'.words_per_region ≡ t.words_per_region → nth_region t' k ≡ nth_region t k
@@ -122,7 +118,7 @@ same_bound t t' tops tops' marks marks' k shape size same top each m =
     ∙ ap (marked_words t' marks' (k * words)) at
     ∙ same_words t t' marks marks' n (k * words) (λ x l h. each x (in_region words k x l (inside x h)))
     (λ x l h. same_region_words t t' k x size same l (inside x h)) in
-    omega (arith, below, same_region_top t t' k size same, top)
+    omega (arith, below, top_near t t' k size same, top)
 
 -- a live bound of zero says that the top at mark start is the top, and that nothing below it is marked
 pub record IsDead (t : Table) (tops : List ℕ) (marks : List Bool) (k : ℕ) : Type 0 where

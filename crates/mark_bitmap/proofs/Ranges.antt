@@ -1,16 +1,10 @@
 -- Which addresses lie in a region, and below its top.
 use Rattle.regions.proofs.Common.{◌≡◌, ◌≢◌, ◌+◌, ◌-◌, ◌*◌, ◌/◌, ◌%◌, ◌<◌, ◌≤◌, ◌∙◌, ℕ, true, false, List, length, get_or, set, ltb, leb}
 use Rattle.regions.proofs.Common.{refl, sym, ap, arith, ⊎_elim, get_or-set_same, get_or-set_other, cases_lt, and_parts, ltb-true, leb-true}
-use Rattle.regions.proofs.Common.{le-leb, lt-ltb, get_or_past, div-mul-add}
+use Rattle.regions.proofs.Common.{le-leb, lt-ltb, get_or_past}
 use Rattle.mark_bitmap.specs.Tops.{is_in_region, is_below, LiesBelow}
+pub use Rattle.regions.proofs.Words.Divides.{div_is}
 
--- k * n ≤ a < k * n + n says that a / n is k
-pub div_is : (a n k : ℕ) → k * n ≤ a → a < k * n + n → a / n ≡ k
-div_is a n k low high =
-    let e : k * n + (a - k * n) ≡ a = omega arith in
-    ap (λ (x : ℕ). x / n) (sym e) ∙ div-mul-add k n (a - k * n) (omega arith)
-
--- and so does its converse
 div_low : (a n : ℕ) → 0 < n → a / n * n ≤ a
 div_low a n z = let f : a / n * n + a % n ≡ a = omega arith in omega arith
 

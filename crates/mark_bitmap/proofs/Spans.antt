@@ -1,29 +1,12 @@
 -- Where the objects of an ordinary region end, and that none starts within another.
-use Rattle.regions.proofs.Common.{region_tiles, region_tile, region_kind, region_used, tile_object, stored_size, total_size, nth_region, []}
-use Rattle.regions.proofs.Common.{leb_tells, tile_size, region_at, object_at, Ordinary, tiles_of, IsShaped, tile_at, kind_of, used_of, zero}
-use Rattle.regions.proofs.Common.{tile_in, Option, get_or, le-leb, Stored, Object, Region, top_of, arith, Table, First, Some, None, List, ℕ}
-use Rattle.regions.proofs.Common.{refl, Tile, Free, Rest, ◌≡◌, ◌⊎◌, ◌+◌, ◌-◌, ◌*◌, ◌/◌, ◌%◌, ◌<◌, ◌≤◌, ◌∷◌, ◌∙◌, inl, inr, suc, sym, ap}
+use Rattle.regions.proofs.Common.{region_tiles, region_tile, region_kind, region_used, tile_object, stored_size, total_size, nth_region}
+use Rattle.regions.proofs.Common.{tile_size, region_at, object_at, Ordinary, tiles_of, IsShaped, tile_at, kind_of, used_of, zero}
+use Rattle.regions.proofs.Common.{tile_in, Option, get_or, Stored, Object, Region, top_of, arith, Table, First, Some, None, List, ℕ}
+use Rattle.regions.proofs.Common.{refl, Tile, Free, Rest, ◌≡◌, ◌⊎◌, ◌+◌, ◌-◌, ◌*◌, ◌/◌, ◌%◌, ◌<◌, ◌≤◌, ◌∙◌, inl, inr, suc, sym, ap}
 use Rattle.regions.proofs.Tiles.Laws.{object_tile}
-use Rattle.regions.proofs.Words.Parse.{past}
-use Rattle.regions.proofs.Tiles.Placing.{tile_at-end}
+use Rattle.regions.proofs.Tiles.Placing.{tile_at-end, tile_at-inside}
 use Rattle.mark_bitmap.proofs.Ranges.{div_is}
 use Rattle.regions.specs.declared.row.Kind.TheVariants as kinds
-
--- no tile starts within another
-none_inside : (ts : List Tile) (o p : ℕ) (u : Tile) → tile_at o ts ≡ Some u → o < p → p < o + tile_size u → tile_at p ts ≡ None
-none_inside [] o p u e low high = refl
-none_inside (t ∷ ts) o zero u e low high = absurd (omega (arith, low))
-none_inside (t ∷ ts) zero (suc p) u e low high =
-    let same : t ≡ u = cc in
-    elim (leb_tells (tile_size t) (suc p)) [
-      | inl q ↦ absurd (omega (arith, q.1, high, ap tile_size same))
-      | inr q ↦ rw q.0 refl
-    ]
-none_inside (t ∷ ts) (suc o) (suc p) u e low high =
-    let before = past (tile_size t) (suc o) _ u e in
-    rw (le-leb (tile_size t) (suc p) (omega (arith, before.0, low)))
-    (none_inside ts (suc o - tile_size t) (suc p - tile_size t) u before.1
-    (omega (arith, before.0, low)) (omega (arith, before.0, low, high)))
 
 -- what is known of the objects that start in region k
 pub record Spans (t : Table) (k : ℕ) : Type 0 where
@@ -74,7 +57,7 @@ spans_by t k ts shape is =
       alone = λ x y s low high e after before.
           let inside : y < k * words + words = omega (arith, before, end x s low high e, fits) in
           object_here t k (y - k * words) y ts is (omega (arith, inside, low, after)) (omega (arith, low, after))
-          ∙ ap tile_object (none_inside ts (x - k * words) (y - k * words) (Object s) (tile x s low high e)
+          ∙ ap tile_object (tile_at-inside ts (x - k * words) (y - k * words) (Object s) (tile x s low high e)
           (omega (arith, low, after)) (omega (arith, low, after, before)));
     }
 

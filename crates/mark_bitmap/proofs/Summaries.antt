@@ -1,9 +1,10 @@
 -- Sets with a summary above them.
-use Rattle.regions.proofs.Common.{get_or-set_other, get_or-replicate, length-replicate, get_or-set_same, HasNoneBelow, MatchOption, HasNone}
+use Rattle.regions.proofs.Common.{get_or-set_other, length-replicate, get_or-set_same, HasNoneBelow, MatchOption, HasNone}
 use Rattle.regions.proofs.Common.{length-set, replicate, cases_eq, cases_lt, IsLowest, div_ceil, length, ⊎_elim, Option, IfSome, IsSome, ap}
 use Rattle.regions.proofs.Common.{false, arith, Bool, true, List, refl, Some, None, ◌≡◌, ◌≢◌, ◌+◌, ◌*◌, ◌/◌, ◌<◌, ◌∙◌, set, sym, has, ℕ}
 use Rattle.bit_sets.proofs.BitWords.{has_past}
 use Rattle.mark_bitmap.specs.Summary.{HasMember, HasNoMember, IsMember, IsSummary, AreLevels}
+pub use Rattle.bit_sets.proofs.BitWords.{has_none}
 
 pub false_by : (b c : Bool) → (b ≡ true → c ≡ true) → c ≡ false → b ≡ false
 false_by true c f e = let g : c ≡ true = f refl in absurd (cc)
@@ -17,11 +18,6 @@ has_set_there flags n i b ne = get_or-set_other flags n i b false ne
 
 pub has_set_true : (flags : List Bool) (n i : ℕ) → n < length flags → has flags i ≡ true → has (set flags n true) i ≡ true
 has_set_true flags n i h e = ⊎_elim (λ same. has_set_here flags n i true h same) (λ ne. has_set_there flags n i true ne ∙ e) (cases_eq i n)
-
-pub has_none : (n a : ℕ) → has (replicate n false) a ≡ false
-has_none n a =
-    ⊎_elim (λ h. get_or-replicate n a false false h)
-    (λ h. has_past (replicate n false) a (omega (arith, length-replicate {A = Bool} n false))) (cases_lt a n)
 
 -- ---- the summary of no numbers, of one more, and of one less
 pub empty_summary : (n k : ℕ) → IsSummary (has (replicate n false)) (replicate k false)

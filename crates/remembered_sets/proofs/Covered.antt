@@ -3,7 +3,7 @@ use Rattle.std.proofs.Common.{◌≡◌, ◌⊎◌, ◌+◌, ◌*◌, ◌/◌, �
 use Rattle.std.proofs.Common.{eqb, ltb, List, [], length, get_or, set, replicate, ⊎_elim, refl, sym, ap, arith, get_or-set_same}
 use Rattle.std.proofs.Common.{get_or-set_other, length-set, length-append, ◌||◌, eq-eqb, ne_eqb, eqb-true, ltb-true, ltb-false}
 use Rattle.std.specs.List.{list_any}
-use Rattle.std.proofs.lemmas.Bool.{cases_lt, cases_eq, or_cases, false≢true}
+use Rattle.std.proofs.lemmas.Bool.{cases_lt, cases_eq, or_cases, false≢true, or_left, or_right}
 use Rattle.std.proofs.lemmas.List.{get_or_past, get_or-replicate, length-replicate}
 use Rattle.std.proofs.lemmas.List.Elements.{All-push, All-nil}
 use Rattle.std.proofs.lemmas.List.Folds.{list_any-append}
@@ -11,13 +11,6 @@ use Rattle.std.proofs.lemmas.List.Sums.{sum_by-cons, sum_by_push}
 use Rattle.remembered_sets.specs.Sets.{CardFilter, CardSet, IsSet, set_covers, set_with, set_after, letting, lets_through, empty_set}
 use Rattle.remembered_sets.specs.Sets.{emptied, times_in}
 use Rattle.remembered_sets.proofs.Filters.{IsFilter-with, IsFilter-empty, IsFilter-emptied, lets_with, lets_still, marks_grow}
-
-or_left : (a b : Bool) → a ≡ true → (a || b) ≡ true
-or_left a b e = rw e refl
-
-or_right : (a b : Bool) → b ≡ true → (a || b) ≡ true
-or_right true b e = refl
-or_right false b e = e
 
 -- the set with a card more inline, and with a region marked whole
 abbrev pub inline_with : CardSet → ℕ → CardSet

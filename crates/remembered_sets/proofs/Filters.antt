@@ -2,8 +2,8 @@
 use Rattle.std.proofs.Common.{◌≡◌, ◌+◌, ◌-◌, ◌*◌, ◌/◌, ◌%◌, ◌<◌, ◌≤◌, ◌∙◌, inl, inr, ℕ, Bool, true, false, eqb, length, get_or, set, List}
 use Rattle.std.proofs.Common.{⊎_elim, refl, sym, ap, ap₂, subst, arith, get_or-set_same, get_or-set_other, length-set, ◌||◌, ◌&&◌}
 use Rattle.std.proofs.Common.{if◌then◌else◌, eq-eqb, ne_eqb, eqb-true}
-use Rattle.std.proofs.lemmas.Bool.{cases_lt, cases_eq, eqb-false, false≢true, and_from, and_parts}
-use Rattle.std.proofs.lemmas.List.{get_or_past, length-replicate, set-get_or}
+use Rattle.std.proofs.lemmas.Bool.{cases_lt, cases_eq, eqb-false, false≢true, and_from, and_parts, or_left, or_right}
+use Rattle.std.proofs.lemmas.List.{get_or_past, length-replicate}
 use Rattle.std.proofs.lemmas.Nat.{mul-add-lt, div-mul-add}
 use Rattle.std.proofs.Math.Nat.{pos_of_ne-zero}
 use Rattle.bit_sets.specs.Bits.{has, is_between}
@@ -83,13 +83,6 @@ pub IsFilter-emptied : (w : ℕ) (f : CardFilter) → IsFilter w f → IsFilter 
 IsFilter-emptied w f is = record { size = length-replicate (length f.flags) false ∙ is.size; whole = is.whole }
 
 -- ---- a card is let through
-or_left : (a b : Bool) → a ≡ true → (a || b) ≡ true
-or_left a b e = rw e refl
-
-or_right : (a b : Bool) → b ≡ true → (a || b) ≡ true
-or_right true b e = refl
-or_right false b e = e
-
 -- two flags that are set
 both_set : (flags : List Bool) (i j : ℕ) → i < length flags → j < length flags
     → (has (set (set flags i true) j true) i && has (set (set flags i true) j true) j) ≡ true
@@ -131,22 +124,6 @@ lets_still f w card c was =
     (both_still f.flags (place_in (first_row f.rows (card / w)) w card) (place_in (second_row f.rows (card / w)) w card)
     (place_in (first_row f.rows (c / w)) w c) (place_in (second_row f.rows (c / w)) w c) (taken_of f w c rows was)))
 
--- where it is let through already nothing changes
-set_again : (flags : List Bool) (i : ℕ) → has flags i ≡ true → set flags i true ≡ flags
-set_again flags i e = ap (λ (b : Bool). set flags i b) (sym e) ∙ set-get_or flags i false
-
-both_again : (flags : List Bool) (i j : ℕ) → (has flags i && has flags j) ≡ true → set (set flags i true) j true ≡ flags
-both_again flags i j e =
-    let (x, y) = and_parts (has flags i) (has flags j) e in
-    ap (λ (l : List Bool). set l j true) (set_again flags i x) ∙ set_again flags j y
-
-pub filter_same : (f : CardFilter) (w card : ℕ) → lets_through f w card ≡ true → filter_with f w card ≡ f
-filter_same f w card was =
-    filter_cases (λ g. g ≡ f) f w card (λ none. refl)
-    (λ rows. ap (λ (l : List Bool). record { rows = f.rows; flags = l })
-    (both_again f.flags (place_in (first_row f.rows (card / w)) w card) (place_in (second_row f.rows (card / w)) w card)
-    (taken_of f w card rows was)))
-
 -- ---- 64 cards at once
 -- a card between a region's first card and the next region's is the region's
 pub region_of : (region w card : ℕ) → 0 < w → region * w ≤ card → card < region * w + w → card / w ≡ region
@@ -173,7 +150,7 @@ place_in_group row region w q g card some e h low high =
     let near : card % 64 ≡ card - 64 * (region * q + g) = omega (arith, low, high) in
     (omega (arith, start, begin, whole', near, low), own)
 
-or_none : (b : Bool) → (b || false) ≡ b
+pub or_none : (b : Bool) → (b || false) ≡ b
 or_none true = refl
 or_none false = refl
 

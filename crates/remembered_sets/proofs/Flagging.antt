@@ -1,13 +1,10 @@
 -- The cards of one marked region after another.
-use Rattle.std.proofs.Common.{◌≡◌, ◌≢◌, ◌+◌, ◌*◌, ◌/◌, ◌<◌, ◌≤◌, ◌∙◌, inl, inr, ℕ, Bool, true, false, List, sym, refl, ap, ap₂, arith}
+use Rattle.std.proofs.Common.{◌≡◌, ◌≢◌, ◌+◌, ◌*◌, ◌/◌, ◌<◌, ◌≤◌, ◌∙◌, inl, inr, ℕ, Bool, List, sym, ap, ap₂, arith}
 use Rattle.std.specs.Prelude.{◌||◌, ◌&&◌}
 use Rattle.std.proofs.lemmas.Bool.{cases_eq, cases_lt, eq-eqb, ne_eqb}
 use Rattle.bit_sets.specs.Bits.{has, is_between, IsLowest}
 use Rattle.remembered_sets.proofs.Laws.{in_region_is}
-
-or_none : (b : Bool) → (b || false) ≡ b
-or_none true = refl
-or_none false = refl
+use Rattle.remembered_sets.proofs.Filters.{or_none}
 
 -- a card of another region is as it was
 other_region : (w source k : ℕ) (cur new member : Bool) → 0 < w → k / w ≢ source

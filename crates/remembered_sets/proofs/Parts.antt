@@ -9,7 +9,8 @@ use Rattle.remembered_sets.specs.Sharing.{part_flags, filter_at}
 use Rattle.remembered_sets.specs.Inside.{four_of, IsSoundFilter}
 use Rattle.remembered_sets.specs.declared.filter.Filter.TheInside.{Inside}
 use Rattle.remembered_sets.proofs.Filters.{first_below, second_below, place_below, place_in_group, group_within}
-use Rattle.remembered_sets.proofs.Sharing.{and_false, filter_is, length-part, taken-part, within}
+use Rattle.remembered_sets.proofs.Sharing.{filter_is, length-part, taken-part, within}
+use Rattle.bit_sets.proofs.BitWords.{and-false}
 
 -- a filter that is one of the four of a table
 pub record IsPart (f : CardFilter) (w : ℕ) (t : Inside) (part : ℕ) : Type 0 where
@@ -156,7 +157,7 @@ module _ {f : CardFilter} {w : ℕ} {t : Inside} {part : ℕ} (is : IsPart f w t
 pub none_more : (old near member lets : Bool) → lets ≡ false → old ≡ (old || (near && (member && lets)))
 none_more true near member lets e = refl
 none_more false near member lets e =
-    sym (ap (λ (b : Bool). near && (member && b)) e ∙ ap (λ (b : Bool). near && b) (and_false member) ∙ and_false near)
+    sym (ap (λ (b : Bool). near && (member && b)) e ∙ ap (λ (b : Bool). near && b) (and-false member) ∙ and-false near)
 
 -- and where it lets all through each member is flagged
 pub all_member : (member lets : Bool) → lets ≡ true → member ≡ (member && lets)

@@ -9,6 +9,7 @@ use Rattle.bit_sets.specs.Bits.{has, is_between}
 use Rattle.remembered_sets.specs.Sets.{CardFilter, empty_filter, emptied_filter}
 use Rattle.remembered_sets.specs.Sharing.{no_filter, is_taken, part_flags, four_filters, filter_at}
 use Rattle.remembered_sets.proofs.Laws.{in_region_is}
+use Rattle.bit_sets.proofs.BitWords.{and-false}
 
 -- ---- the flags of one part
 pub length-part : (used flags : List Bool) (size part : ℕ) → length (part_flags used flags size part) ≡ size
@@ -123,10 +124,6 @@ two_taken rows size part first second used flags used' flags' p h k four len is 
     ∙ set_elsewhere used' flags' size part other first place ne h q ∙ same other place q)
 
 -- one of the four is emptied
-pub and_false : (b : Bool) → (b && false) ≡ false
-and_false true = refl
-and_false false = refl
-
 pub part_emptied : (rows size part : ℕ) (used flags : List Bool) → part < 4 → length used ≡ 4
     → four_filters rows (set used part false) flags size
     ≡ set (four_filters rows used flags size) part (emptied_filter (filter_at (four_filters rows used flags size) part))
@@ -155,7 +152,7 @@ begun size part other place used flags flags' p four unused h cleared =
       | inl same ↦
           ap (λ (b : Bool). has (set used part true) other && b)
           (now ∙ ap (λ (b : Bool). if b then false else has flags (other * size + place)) (eq-eqb other part same))
-          ∙ and_false (has (set used part true) other)
+          ∙ and-false (has (set used part true) other)
           ∙ sym (ap (λ (b : Bool). b && has flags (other * size + place)) (ap (has used) same ∙ unused))
       | inr ne ↦
           ap₂ (λ (x y : Bool). x && y) (get_or-set_other used part other true false ne)

@@ -1,5 +1,5 @@
 -- Places that become nil.
-use Rattle.std.proofs.Common.{◌≡◌, ◌≢◌, ◌⊎◌, ◌+◌, ◌-◌, ◌<◌, ◌≤◌, ◌∙◌, ℕ, zero, suc, List, Option, None, length, get_or, set, refl, sym, ap}
+use Rattle.std.proofs.Common.{◌≡◌, ◌+◌, ◌-◌, ◌<◌, ◌≤◌, ◌∙◌, ℕ, zero, suc, List, Option, None, length, get_or, set, refl, sym, ap}
 use Rattle.std.proofs.Common.{subst, arith, inl, inr, get_or-set_same, get_or-set_other, length-set}
 use Rattle.std.proofs.lemmas.Bool.{cases_lt, cases_eq}
 use Rattle.std.proofs.lemmas.List.{set-get_or, get_or_past}
@@ -11,15 +11,6 @@ use Rattle.root_table.proofs.Rows.{bound_read, one_more}
 pub length-nils : (words : List (Option ℕ)) (first count : ℕ) → length (with_nils words first count) ≡ length words
 length-nils words first zero = refl
 length-nils words first (suc count) = length-set (with_nils words first count) (first + count) None ∙ length-nils words first count
-
--- a place before them and one behind them hold what they held
-pub nils_other : (words : List (Option ℕ)) (first count place : ℕ) → (place < first) ⊎ (first + count ≤ place)
-    → get_or (with_nils words first count) place None ≡ get_or words place None
-nils_other words first zero place apart = refl
-nils_other words first (suc count) place apart =
-    let ne : place ≢ first + count = λ e. elim apart [ inl l ↦ absurd (omega (arith, l, e)) | inr m ↦ absurd (omega (arith, m, e)) ] in
-    let rest : (place < first) ⊎ (first + count ≤ place) = elim apart [ inl l ↦ inl l | inr m ↦ inr (omega (arith, m)) ] in
-    get_or-set_other (with_nils words first count) (first + count) place None None ne ∙ nils_other words first count place rest
 
 -- the last of them is nil
 last_nil : (words : List (Option ℕ)) (place : ℕ) → get_or (set words place None) place None ≡ None

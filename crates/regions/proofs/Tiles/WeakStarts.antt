@@ -15,6 +15,7 @@ use Rattle.regions.proofs.LongRuns.RunGone.{rest_no_tile}
 use Rattle.regions.proofs.Rows.Fronts.{front_passes}
 use Rattle.regions.proofs.Cards.FirstTiles.{if_between, if_below, if_above}
 use Rattle.regions.specs.declared.row.Kind.TheVariants as kinds
+use Rattle.bit_sets.proofs.BitWords.{has_none}
 
 -- ---- what tiles have weak slots
 -- a tile's weak slots
@@ -196,16 +197,12 @@ module _ (size : ℕ) (regions flags : List Bool) (r : AreRegions size regions f
       omega arith)
 
 -- ---- over each change of the table
-no_flag : (n a : ℕ) → has (replicate n false) a ≡ false
-no_flag (suc n) (suc a) = no_flag n a
-no_flag _ _ = refl
-
 -- a new table has no object
 pub starts_free : (count size n : ℕ) (flags : List Bool) → flags ≡ replicate n false → AreStarts (free_table count size) flags
 unfolding free_table tile_in region_at
 starts_free count size n flags e = record {
   each = λ a h. absurd (none_there (free_table count size) a (ap (λ (r : Region). region_tile r (a % size)) (frees count (a / size))) h);
-  only = λ a h. absurd (let out = ap (λ (f : List Bool). has f a) e ∙ no_flag n a in cc);
+  only = λ a h. absurd (let out = ap (λ (f : List Bool). has f a) e ∙ has_none n a in cc);
 }
 
 no_object : (r o : ℕ) (s : Stored) → tile_at o (remainder r) ≡ Some (Object s) → ⊥

@@ -1,15 +1,12 @@
-use Rattle.regions.proofs.Common.{◌≡◌, ◌*◌, ◌<◌, ℕ, suc, true, false, replicate, ap, sym, ◌∙◌, length-replicate, has, AreRegions}
+use Rattle.regions.proofs.Common.{◌*◌, ◌<◌, ℕ, false, replicate, ap, sym, ◌∙◌, length-replicate, AreRegions}
 use Rattle.regions.proofs.weak_starts.WeakStarts.new.Goals as goal
-
-no_flag : (n a : ℕ) → has (replicate n false) a ≡ true → ⊥
-no_flag (suc n) (suc a) h = no_flag n a h
-no_flag _ _ h = cc
+use Rattle.bit_sets.proofs.BitWords.{has_none}
 
 no_regions : (regions words : ℕ) → 0 < words → AreRegions words (replicate regions false) (replicate (regions * words) false)
 no_regions regions words positive = record {
   positive = positive;
   count = length-replicate (regions * words) false ∙ ap (λ (n : ℕ). n * words) (sym (length-replicate regions false));
-  each = λ a h. absurd (no_flag (regions * words) a h);
+  each = λ a h. absurd (let no = has_none (regions * words) a in cc);
 }
 
 pub invariant_of-result : goal.invariant_of-result
