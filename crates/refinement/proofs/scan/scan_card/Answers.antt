@@ -55,8 +55,7 @@ returns-in_default-clause-covered c =
     let from : c.new-from.result ≡ c.args.card * c.args.card_words =
     c.new-from.ensures ∙ ap (λ (n : ℕ). n * c.args.card_words) c.number.ensures in
     let high : top_of c.args.table.now (c.args.card * c.args.card_words / c.args.table.now.words_per_region)
-    ≤ c.args.card * c.args.card_words =
-    subst (λ (w : ℕ). top_of c.args.table.now (w / c.args.table.now.words_per_region) ≤ w) from
+    ≤ c.args.card * c.args.card_words = subst (λ (w : ℕ). top_of c.args.table.now (w / c.args.table.now.words_per_region) ≤ w) from
     (elim (cases_lt c.new-from.result (top_of c.args.table.now (c.new-from.result / c.args.table.now.words_per_region))) [
       | inl lt ↦ absurd (let y = c.in_default.ensures.found.1 lt in cc)
       | inr ge ↦ ge
