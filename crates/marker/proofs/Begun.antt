@@ -1,8 +1,6 @@
 -- Marking has begun: what is kept lies below the next tops, and what roots name is marked.
-use Rattle.std.proofs.Common.{◌≡◌, ◌+◌, ◌-◌, ◌*◌, ◌/◌, ◌%◌, ◌<◌, ◌≤◌, ◌∷◌, ◌∙◌}
-use Rattle.std.proofs.Common.{inl, inr, ℕ, zero, suc, Bool, true, false, cond, List, [], Option, Some, None}
-use Rattle.std.proofs.Common.{length, get_or, replicate, sym, ap, subst, arith}
-use Rattle.std.specs.Prelude.{Contains, slice_get}
+use Rattle.std.proofs.Common.{◌≡◌, ◌+◌, ◌-◌, ◌*◌, ◌/◌, ◌%◌, ◌<◌, ◌≤◌, ◌∷◌, ◌∙◌, inl, inr, ℕ, zero, suc, Bool, true, false, cond, List, []}
+use Rattle.std.proofs.Common.{Option, Some, None, length, get_or, replicate, sym, ap, subst, arith, Contains, slice_get}
 use Rattle.std.proofs.lemmas.Bool.{cases_lt, lt-ltb}
 use Rattle.std.proofs.lemmas.List.{get_or_past, length-replicate}
 use Rattle.std.proofs.lemmas.List.Folds.{sum_by-replicate}

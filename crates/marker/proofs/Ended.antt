@@ -1,7 +1,6 @@
 -- Marking has ended: it is exact, and what is kept from then on shows the same graph.
-use Rattle.std.proofs.Common.{◌≡◌, ◌+◌, ◌-◌, ◌^◌, ◌<◌, ◌∷◌, ◌∙◌}
-use Rattle.std.proofs.Common.{inl, inr, Some, ℕ, suc, Bool, true, false, not, List, [], Option, length, refl, sym, ap, subst, arith}
-use Rattle.std.specs.Prelude.{◌&&◌}
+use Rattle.std.proofs.Common.{◌≡◌, ◌+◌, ◌-◌, ◌^◌, ◌<◌, ◌∷◌, ◌∙◌, inl, inr, Some, ℕ, suc, Bool, true, false, not, List, [], Option, length}
+use Rattle.std.proofs.Common.{refl, sym, ap, subst, arith, ◌&&◌}
 use Rattle.std.proofs.lemmas.List.{length-map}
 use Rattle.std.proofs.lemmas.List.Sums.{count_by-le-length}
 use Rattle.heap_model.specs.Graph.{Graph}
@@ -140,10 +139,7 @@ cleared_words : (t t' : Table) (m : Marking) (a : ℕ) (x : Stored) → ClearsTa
 unfolding object_words
 cleared_words t t' m a x c at = elim (bool_cases (m.marked a)) [
   | inl k ↦ ap stored_size (c.kept a (inl k)) ∙ size
-  | inr k ↦ elim (bool_cases (m.old a)) [
-    | inl o ↦ ap stored_size (c.dead a k o)
-    | inr o ↦ ap stored_size (c.kept a (inr o)) ∙ size
-  ]
+  | inr k ↦ elim (bool_cases (m.old a)) [ inl o ↦ ap stored_size (c.dead a k o) | inr o ↦ ap stored_size (c.kept a (inr o)) ∙ size ]
 ]
   where
     size : stored_size (cleared_object m (object_at t a)) ≡ stored_size (object_at t a)

@@ -1,8 +1,6 @@
 -- A region is forgotten or released, and the table changes beneath the marker.
-use Rattle.std.proofs.Common.{◌≡◌, ◌≢◌, ◌+◌, ◌*◌, ◌/◌, ◌<◌, ◌≤◌, ◌∙◌}
-use Rattle.std.proofs.Common.{inl, inr, ℕ, Bool, true, false, List, Some, length, get_or, set, refl, sym}
-use Rattle.std.proofs.Common.{ap, subst, arith, get_or-set_other, length-set}
-use Rattle.std.specs.Prelude.{if◌then◌else◌}
+use Rattle.std.proofs.Common.{◌≡◌, ◌≢◌, ◌+◌, ◌*◌, ◌/◌, ◌<◌, ◌≤◌, ◌∙◌, inl, inr, ℕ, Bool, true, false, List, Some, length, get_or, set}
+use Rattle.std.proofs.Common.{refl, sym, ap, subst, arith, get_or-set_other, length-set, if◌then◌else◌}
 use Rattle.std.proofs.lemmas.Bool.{cases_eq, cases_Bool}
 use Rattle.heap_model.specs.Heap.{Stored}
 use Rattle.regions.specs.Table.{Table, Region, Free, Ordinary, First, Rest, nth_region, region_kind, kind_of, region_at, tile_in, object_at}

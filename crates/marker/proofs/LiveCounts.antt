@@ -1,8 +1,7 @@
 -- The counts of marked words: what changes them, and how large they are.
-use Rattle.std.proofs.Common.{◌≡◌, ◌≢◌, ◌+◌, ◌-◌, ◌*◌, ◌/◌, ◌%◌, ◌^◌, ◌<◌, ◌≤◌, ◌∙◌}
-use Rattle.std.proofs.Common.{inl, inr, ℕ, zero, suc, Bool, true, false, List, Some, None, length, get_or, set, replicate, refl, sym, ap}
-use Rattle.std.proofs.Common.{subst, arith, get_or-set_same, get_or-set_other, length-set}
-use Rattle.std.specs.Prelude.{if◌then◌else◌}
+use Rattle.std.proofs.Common.{◌≡◌, ◌≢◌, ◌+◌, ◌-◌, ◌*◌, ◌/◌, ◌%◌, ◌^◌, ◌<◌, ◌≤◌, ◌∙◌, inl, inr, ℕ, zero, suc, Bool, true, false, List, Some}
+use Rattle.std.proofs.Common.{None, length, get_or, set, replicate, refl, sym, ap, subst, arith, get_or-set_same, get_or-set_other}
+use Rattle.std.proofs.Common.{length-set, if◌then◌else◌}
 use Rattle.std.proofs.lemmas.Bool.{cases_eq, cases_Bool, ltb-true}
 use Rattle.std.proofs.lemmas.List.{get_or-replicate, length-replicate}
 use Rattle.heap_words.specs.Configs.{max_words}
@@ -109,8 +108,7 @@ counts_added t marks marks' counts a k size z c inside unmarked now own known wo
     }
   where
     other : (j x a k w : ℕ) → j * w ≤ x → x < j * w + w → x ≡ a → k * w ≤ a → a < k * w + w → j ≡ k
-    other j x a k w low high e low' high' =
-        sym (ranges.div_is x w j low high) ∙ ap (λ (y : ℕ). y / w) e ∙ ranges.div_is a w k low' high'
+    other j x a k w low high e low' high' = sym (ranges.div_is x w j low high) ∙ ap (λ (y : ℕ). y / w) e ∙ ranges.div_is a w k low' high'
 
 -- a region's marks go, and with them its count
 pub counts_forgotten : (t : Table) (marks marks' : List Bool) (counts : List ℕ) (k : ℕ) → CountsWords t marks counts

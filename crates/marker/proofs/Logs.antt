@@ -1,8 +1,6 @@
 -- Taking deletion logs.
-use Rattle.std.proofs.Common.{◌≡◌, ◌⊎◌, ◌+◌, ◌<◌, ◌≤◌, ◌∷◌, ◌++◌, ◌∙◌}
-use Rattle.std.proofs.Common.{inl, inr, ℕ, Bool, true, List, [], Option, Some, length, set, refl, sym, ap, subst}
-use Rattle.std.proofs.Common.{arith, get_or-set_same, get_or-set_other, length-set}
-use Rattle.std.specs.Prelude.{Contains, slice_get}
+use Rattle.std.proofs.Common.{◌≡◌, ◌⊎◌, ◌+◌, ◌<◌, ◌≤◌, ◌∷◌, ◌++◌, ◌∙◌, inl, inr, ℕ, Bool, true, List, [], Option, Some, length, set, refl}
+use Rattle.std.proofs.Common.{sym, ap, subst, arith, get_or-set_same, get_or-set_other, length-set, Contains, slice_get}
 use Rattle.std.proofs.lemmas.Bool.{cases_eq}
 use Rattle.std.proofs.lemmas.List.{nil_from_length}
 use Rattle.std.proofs.lemmas.Option.{slice_get_within, slice_get_read, get_or_from_slice_get}

@@ -1,6 +1,5 @@
 -- Roots that name marked objects are passed over.
-use Rattle.std.proofs.Common.{◌≡◌, ℕ, ◌∙◌, inl, inr, List, Option, Some, length, sym, ap, arith}
-use Rattle.std.specs.Prelude.{slice_get}
+use Rattle.std.proofs.Common.{◌≡◌, ℕ, ◌∙◌, inl, inr, List, Option, Some, length, sym, ap, arith, slice_get}
 use Rattle.std.proofs.lemmas.Bool.{cases_lt}
 use Rattle.root_table.specs.Roots.{IsNextNamed}
 use Rattle.regions.specs.Table.{Table}
@@ -16,8 +15,7 @@ use Rattle.marker.proofs.Reached.{Reached, among_wider, among_past}
 -- what roots name is kept, so it has a mark
 pub named_below : (t : Table) (words : List (Option ℕ)) (from : ℕ) (m : Marker) → IsShaped t → MarkerStands t m
     → ((place a : ℕ) → slice_get words place ≡ Some (Some a) → IsKept t m a) → AreNamedBelow words from (length m.bitmaps.next)
-named_below t words from m shape st kept =
-    λ place a _ is. omega (arith, kept_within t m a shape (kept place a is), st.next.each_word)
+named_below t words from m shape st kept = λ place a _ is. omega (arith, kept_within t m a shape (kept place a is), st.next.each_word)
 
 -- all up to a place were reached, and the roots after it, up to another one, name what is marked: so all up to there were
 passed : (t : Table) (words : List (Option ℕ)) (place end : ℕ) (m m' : Marker) → IsFirstUnmarked m'.bitmaps.next words place end

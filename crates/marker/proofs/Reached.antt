@@ -1,8 +1,6 @@
 -- Marks come, and marks still stand at kept objects.
-use Rattle.std.proofs.Common.{◌≡◌, ◌⊎◌, ◌+◌, ◌/◌, ◌^◌, ◌<◌, ◌≤◌, ◌∙◌}
-use Rattle.std.proofs.Common.{inl, inr, ℕ, Bool, true, false, List, [], Option, None, Some, length, get_or, set, refl, sym, ap}
-use Rattle.std.proofs.Common.{not, subst, arith, get_or-set_same, get_or-set_other}
-use Rattle.std.specs.Prelude.{Contains, slice_get}
+use Rattle.std.proofs.Common.{◌≡◌, ◌⊎◌, ◌+◌, ◌/◌, ◌^◌, ◌<◌, ◌≤◌, ◌∙◌, inl, inr, ℕ, Bool, true, false, List, [], Option, None, Some, length}
+use Rattle.std.proofs.Common.{get_or, set, refl, sym, ap, not, subst, arith, get_or-set_same, get_or-set_other, Contains, slice_get}
 use Rattle.std.proofs.lemmas.Bool.{cases_eq, cases_lt}
 use Rattle.std.proofs.lemmas.List.{get_or_past}
 use Rattle.std.proofs.lemmas.Option.{get_or_from_slice_get, slice_get-get_or}
@@ -169,11 +167,7 @@ pub record Reached (t : Table) (wanted : ℕ → Type 0) (m m' : Marker) : Type 
   pub logs : m'.logs ≡ m.logs
 
 pub same_trans : (m m' m'' : Marker) → SameRoles m m' → SameRoles m' m'' → SameRoles m m''
-same_trans m m' m'' p q = record {
-  previous = q.previous ∙ p.previous;
-  tams = q.tams ∙ p.tams;
-  running = q.running ∙ p.running;
-}
+same_trans m m' m'' p q = record { previous = q.previous ∙ p.previous; tams = q.tams ∙ p.tams; running = q.running ∙ p.running }
 
 pub more_reached : (t : Table) (first then both : ℕ → Type 0) (m m' m'' : Marker)
     → ((a : ℕ) → both a → first a ⊎ then a) → ((a : ℕ) → first a → both a) → ((a : ℕ) → then a → both a)

@@ -1,6 +1,5 @@
 -- A scan is a part of marking that keeps the snapshot invariant.
-use Rattle.std.proofs.Common.{◌≡◌, ℕ, ◌<◌, Bool, true, false, not, List, Option, Some, length, refl, sym, subst, arith}
-use Rattle.std.specs.Prelude.{slice_get, ◌&&◌}
+use Rattle.std.proofs.Common.{◌≡◌, ℕ, ◌<◌, Bool, true, false, not, List, Option, Some, length, refl, sym, subst, arith, slice_get, ◌&&◌}
 use Rattle.heap_model.specs.Graph.{IsReachable, next_name}
 use Rattle.heap_model.specs.Heap.{Heap}
 use Rattle.heap_model.specs.Marking.{KeepsSnapshot, MarksMore}
@@ -60,5 +59,4 @@ all_pointers t object = IsInFirst (pointers_at t object) (length (pointers_at t 
 -- what is grey was not scanned, and lies in the heap
 pub grey_within : (t : Table) (m : Marker) (object : ℕ) → MarkerStands t m
     → is_grey m.bitmaps.next m.grey object ≡ true → object < length m.grey.scanned
-grey_within t m object st grey =
-    omega (arith, only_within m.bitmaps.next m.grey.scanned object grey, st.scanned)
+grey_within t m object st grey = omega (arith, only_within m.bitmaps.next m.grey.scanned object grey, st.scanned)

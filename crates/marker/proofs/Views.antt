@@ -1,6 +1,5 @@
 -- The heap of a marker whose roles stay, and the pointers of kept objects.
-use Rattle.std.proofs.Common.{◌≡◌, ◌*◌, ◌<◌, ℕ, Bool, true, false, List, Option, Some, None, length, refl, ap, ◌∙◌, arith}
-use Rattle.std.specs.Prelude.{if◌then◌else◌}
+use Rattle.std.proofs.Common.{◌≡◌, ◌*◌, ◌<◌, ℕ, Bool, true, false, List, Option, Some, None, length, refl, ap, ◌∙◌, arith, if◌then◌else◌}
 use Rattle.heap_model.specs.Heap.{Heap, Stored}
 use Rattle.regions.specs.Tiles.{Object}
 use Rattle.regions.specs.Table.{Table, object_at, object_pointers, pointers_at, tile_in}

@@ -1,11 +1,10 @@
 -- An object is copied to the top of a region and forwarded to its copy.
-use Rattle.std.proofs.Common.{◌≡◌, ◌≢◌, ◌+◌, ◌*◌, ◌/◌, ◌%◌, ◌<◌, ◌≤◌, ◌∷◌, ◌∙◌}
-use Rattle.std.proofs.Common.{ℕ, [], Option, Some, None, length, get_or, refl, sym, ap, subst, arith}
-use Rattle.std.specs.Prelude.{IsSome, IfSome}
+use Rattle.std.proofs.Common.{◌≡◌, ◌≢◌, ◌+◌, ◌*◌, ◌/◌, ◌%◌, ◌<◌, ◌≤◌, ◌∷◌, ◌∙◌, ℕ, [], Option, Some, None, length, get_or, refl, sym, ap}
+use Rattle.std.proofs.Common.{subst, arith, IsSome, IfSome}
 use Rattle.regions.specs.Shaped.{IsShaped}
 use Rattle.heap_model.specs.Heap.{Stored}
 use Rattle.regions.specs.Tiles.{Tile, Object, Forwarded, tile_size}
-use Rattle.regions.specs.Table.{Region, Free, Ordinary, First, Rest, Table, region_at, nth_region, region_tile, region_used}
+use Rattle.regions.specs.Table.{Region, Free, Ordinary, Table, region_at, nth_region, region_tile, region_used}
 use Rattle.regions.specs.Table.{region_replaced, region_with_tile, tile_in, tile_object, object_at, object_words, stored_size, kind_of}
 use Rattle.regions.specs.Table.{used_of, top_of, push_tile, replace_tile, IsOrdinary, EachForwardedIn, free_count}
 use Rattle.regions.specs.Walks.{AreFitting}
@@ -27,8 +26,7 @@ replaced_used : (size o : ℕ) (r : Region) (u n : Tile) → region_tile r o ≡
     → region_used size (region_replaced r o (n ∷ [])) ≡ region_used size r
 replaced_used size o Free u n h e = absurd cc
 replaced_used size o (Ordinary ts) u n h e = total-replace ts (n ∷ []) o u h (omega arith)
-replaced_used size o (First s) u n h e = refl
-replaced_used size o (Rest m) u n h e = refl
+replaced_used size o _ u n h e = refl
 
 tile_of : (t : Table) (a : ℕ) (u : Tile) → tile_in t a ≡ Some u
     → region_tile (nth_region t (a / t.words_per_region)) (a % t.words_per_region) ≡ Some u
@@ -53,8 +51,7 @@ pushed_moved P t k x m = EachForwardedIn-set P t.regions k (region_with_tile (ge
     one : (r : Region) → EachForwardedIn P (r ∷ []) → EachForwardedIn P (region_with_tile r (Object x) ∷ [])
     one Free h = tt
     one (Ordinary ts) h = (EachForwarded-append P ts (Object x ∷ []) h.0 tt, tt)
-    one (First s) h = tt
-    one (Rest n) h = tt
+    one _ h = tt
 
 object_of : (t : Table) (a : ℕ) (u : Option Tile) → tile_in t a ≡ u → object_at t a ≡ tile_object u
 unfolding object_at
@@ -246,8 +243,7 @@ replaced_moved P t a to n h m =
         → EachForwardedIn P (region_replaced r (a % t.words_per_region) (Forwarded to n ∷ []) ∷ [])
     one Free q = tt
     one (Ordinary ts) q = (EachForwarded-replace P (a % t.words_per_region) (Forwarded to n ∷ []) ts (h, tt) q.0, tt)
-    one (First s) q = tt
-    one (Rest k) q = tt
+    one _ q = tt
 
 -- what holds of each moved tile still does, where it holds of the new place
 pub copied_moved : (P : ℕ → Type 0) (t t' : Table) (d d' : Destinations) (from to : ℕ) (x : Stored)

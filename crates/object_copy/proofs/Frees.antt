@@ -85,8 +85,7 @@ same_free t t' n f =
 ordinary_bit : (r : Region) → region_kind r ≡ kinds.Ordinary → bit r ≡ 0
 ordinary_bit Free e = absurd cc
 ordinary_bit (Ordinary ts) e = refl
-ordinary_bit (First s) e = absurd cc
-ordinary_bit (Rest n) e = absurd cc
+ordinary_bit _ e = absurd cc
 
 -- one free region more
 pub released_free : (t : Table) (k : ℕ) → k < length t.regions → kind_of t k ≡ kinds.Ordinary

@@ -1,6 +1,5 @@
 -- A destination is opened.
-use Rattle.std.proofs.Common.{◌≡◌, ◌≢◌, ℕ, ◌+◌, ◌<◌, ◌≤◌, ◌⊎◌, [], Some, length, refl, sym, ap, ◌∙◌, subst, inl, inr, arith}
-use Rattle.std.specs.Prelude.{IfSome}
+use Rattle.std.proofs.Common.{◌≡◌, ◌≢◌, ℕ, ◌+◌, ◌<◌, ◌≤◌, ◌⊎◌, [], Some, length, refl, sym, ap, ◌∙◌, subst, inl, inr, arith, IfSome}
 use Rattle.std.proofs.lemmas.List.{get_or-set_other}
 use Rattle.regions.specs.Table.{Region, Free, Ordinary, Table, first_free, taken, tile_in, kind_of, region_kind, nth_region}
 use Rattle.regions.specs.Table.{used_of, EachForwardedIn, with_region, free_count}

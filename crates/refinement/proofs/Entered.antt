@@ -1,7 +1,6 @@
 -- What is covered once a card was added to the sets of some regions.
-use Rattle.std.proofs.Common.{◌≡◌, ◌⊎◌, ◌/◌, ◌<◌, ◌∷◌, ◌++◌, ◌∙◌}
-use Rattle.std.proofs.Common.{inl, inr, ℕ, true, Option, Some, None, List, [], length, All, ⊎_elim, refl, sym, ap, subst, length-set}
-use Rattle.std.specs.Prelude.{slice_get, if◌then◌else◌}
+use Rattle.std.proofs.Common.{◌≡◌, ◌⊎◌, ◌/◌, ◌<◌, ◌∷◌, ◌++◌, ◌∙◌, inl, inr, ℕ, true, Option, Some, None, List, [], length, All, ⊎_elim}
+use Rattle.std.proofs.Common.{refl, sym, ap, subst, length-set, slice_get, if◌then◌else◌}
 use Rattle.std.proofs.lemmas.Bool.{cases_eq}
 use Rattle.std.proofs.lemmas.Bool.Decides.{eqb_tells}
 use Rattle.std.proofs.lemmas.List.Elements.{All-nil, All-cons, All-head, All-tail, All-append}

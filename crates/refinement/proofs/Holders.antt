@@ -1,7 +1,6 @@
 -- The tile of a field, and what is kept of objects.
-use Rattle.std.proofs.Common.{◌≡◌, ◌+◌, ◌*◌, ◌/◌, ◌<◌, ◌≤◌, ◌∙◌}
-use Rattle.std.proofs.Common.{ℕ, Bool, true, false, Option, Some, None, List, length, refl, sym, ap, arith}
-use Rattle.std.specs.Prelude.{slice_get, IsSome, IsTrue, if◌then◌else◌}
+use Rattle.std.proofs.Common.{◌≡◌, ◌+◌, ◌*◌, ◌/◌, ◌<◌, ◌≤◌, ◌∙◌, ℕ, Bool, true, false, Option, Some, None, List, length, refl, sym, ap}
+use Rattle.std.proofs.Common.{arith, slice_get, IsSome, IsTrue, if◌then◌else◌}
 use Rattle.std.proofs.lemmas.List.{length-append}
 use Rattle.std.proofs.lemmas.Option.{slice_get_within}
 use Rattle.heap_model.specs.Heap.{Stored, IsClosed, fields}
@@ -72,8 +71,7 @@ shape_object t a p weak d h = go h.tile h.tile_is h.shape_is
   where
     go : (u : Tile) → tile_in t a ≡ Some u → shapes.Object p weak d ≡ tile_shape u → IsSome (tile_object (tile_in t a))
     go (Object s) e f = rw e refl
-    go (Filler m) e f = cc
-    go (Forwarded to m) e f = cc
+    go _ e f = cc
 
 pub shape_filler : (t : Table) (a m : ℕ) → IsPlacedTile t a (shapes.Filler m) → object_at t a ≡ None
 unfolding object_at

@@ -1,8 +1,7 @@
 -- How remembering goes over from one state of the heap to the next.
-use Rattle.std.proofs.Common.{◌≡◌, ◌≢◌, ◌⊎◌, ◌/◌, ◌∷◌, ◌++◌, ◌∙◌}
-use Rattle.std.proofs.Common.{inl, inr, ℕ, zero, suc, Bool, true, false, Option, Some, None, List, [], map, length, set, ⊎_elim, refl, sym}
-use Rattle.std.proofs.Common.{ap, subst, arith, get_or-set_same, get_or-set_other, length-set}
-use Rattle.std.specs.Prelude.{slice_get, if◌then◌else◌}
+use Rattle.std.proofs.Common.{◌≡◌, ◌≢◌, ◌⊎◌, ◌/◌, ◌∷◌, ◌++◌, ◌∙◌, inl, inr, ℕ, zero, suc, Bool, true, false, Option, Some, None, List, []}
+use Rattle.std.proofs.Common.{map, length, set, ⊎_elim, refl, sym, ap, subst, arith, get_or-set_same, get_or-set_other, length-set}
+use Rattle.std.proofs.Common.{slice_get, if◌then◌else◌}
 use Rattle.std.proofs.lemmas.Bool.{cases_eq}
 use Rattle.std.proofs.lemmas.Option.{slice_get_within, slice_get_read, get_or_from_slice_get}
 use Rattle.heap_model.specs.Heap.{Heap, Stored, fields}
@@ -145,9 +144,7 @@ remembers_cleared_fields words len kept kept' dirty covered f =
 
 pub inside_cleared_fields : (words regions : ℕ) (kept kept' : ℕ → Option Stored) → ClearsFields kept kept'
     → LeadsInside words regions kept → LeadsInside words regions kept'
-inside_cleared_fields words regions kept kept' f l = record {
-  each = λ a i v s e g. let k = f a s e in l.each a i v k.0 k.1 (k.2 i v g);
-}
+inside_cleared_fields words regions kept kept' f l = record { each = λ a i v s e g. let k = f a s e in l.each a i v k.0 k.1 (k.2 i v g) }
 
 word_was : (m : Marking) (w : Option ℕ) (v : ℕ) → cleared_word m w ≡ Some v → w ≡ Some v
 word_was m None v e = cc

@@ -1,8 +1,7 @@
 -- Of a list whose front has the lowest numbers, a front that sums to at most a limit, and with any other of its numbers to more, is best:
 -- no part of the list that is within the limit lacks more in all of a bound above each number.
-use Rattle.std.proofs.Common.{◌≡◌, ◌+◌, ◌-◌, ◌*◌, ◌<◌, ◌≤◌, ◌∷◌, ◌++◌, ◌∙◌}
-use Rattle.std.proofs.Common.{filter, not, ℕ, subst, Bool, true, false, ltb, is_lt, Ordering, List, [], length, take, drop}
-use Rattle.std.proofs.Common.{sum_by, All, IsPermutation, inl, inr, refl, sym, arith}
+use Rattle.std.proofs.Common.{◌≡◌, ◌+◌, ◌-◌, ◌*◌, ◌<◌, ◌≤◌, ◌∷◌, ◌++◌, ◌∙◌, filter, not, ℕ, subst, Bool, true, false, ltb, is_lt, Ordering}
+use Rattle.std.proofs.Common.{List, [], length, take, drop, sum_by, All, IsPermutation, inl, inr, refl, sym, arith}
 use Rattle.std.specs.Ordering.{nat_cmp, ordering_then}
 use Rattle.std.proofs.Math.Nat.{suc-mul, add-mul, lt_of_mul-lt-mul_right, mul-add}
 use Rattle.std.proofs.Math.Seq.{take-append_seam}
@@ -82,8 +81,7 @@ count_le m c t sp st lp lt a b s d =
 -- and they lack no more of t + u: gp and gt are what the front and the others lack of that
 lack_le : (m e t u sp st lp lt gp gt : ℕ) → sp + lp ≡ (m + e) * t → m * t ≤ st + lt → st ≤ sp → gt + lt ≡ m * (t + u)
     → gp + lp ≡ (m + e) * (t + u) → gt ≤ gp
-lack_le m e t u sp st lp lt gp gt a b s f g =
-    omega (arith, add-mul m e t, add-mul m e (t + u), mul-add m t u, mul-add e t u)
+lack_le m e t u sp st lp lt gp gt a b s f g = omega (arith, add-mul m e t, add-mul m e (t + u), mul-add m t u, mul-add e t u)
 
 module _ {X : Type 0} (n : X → ℕ) where
   -- a front with no number above t, the others with none below it, and no room for t, lacks at least what any part within the limit lacks
@@ -108,8 +106,7 @@ module _ {X : Type 0} (n : X → ℕ) where
       ) in
       let few : m ≤ c = count_le m c t (lack n t front) (lack n t other) (sum_by n front) (sum_by n other) a b s (omega arith) in
       let f : lack n w other + sum_by n other ≡ m * w = lack_and_sum n w other (All-part n (λ x. n x ≤ w) xs other rest q at_most) in
-      let g : lack n w front + sum_by n front ≡ c * w =
-      subst (λ k. lack n w front + sum_by n front ≡ k * w) long
+      let g : lack n w front + sum_by n front ≡ c * w = subst (λ k. lack n w front + sum_by n front ≡ k * w) long
       (lack_and_sum n w front (All-take (λ x. n x ≤ w) c ys (All-permutation (λ x. n x ≤ w) xs ys p at_most))) in
       let more : m + (c - m) ≡ c = omega arith in
       let wide : t + (w - t) ≡ w = omega arith in
@@ -119,10 +116,7 @@ module _ {X : Type 0} (n : X → ℕ) where
 -- of two rows in order the first has no greater live bound
 pub le_from_order : (a b : ℕ) (o : Ordering) → is_lt (ordering_then (nat_cmp a b) o) ≡ false → b ≤ a
 le_from_order a b o h =
-    elim (ltb a b) as (λ v. ltb a b ≡ v → b ≤ a) [
-      | true ↦ λ e. absurd (false≢true (sym h ∙ rw e refl))
-      | false ↦ λ e. ltb-false a b e
-    ] refl
+    elim (ltb a b) as (λ v. ltb a b ≡ v → b ≤ a) [ true ↦ λ e. absurd (false≢true (sym h ∙ rw e refl)) | false ↦ λ e. ltb-false a b e ] refl
 
 -- all rows free at least what any part of them frees
 all_free_most : (w : ℕ) (xs ys : List LiveRow) (c : ℕ) → IsPermutation xs ys → length ys ≤ c → (other rest : List LiveRow)

@@ -39,10 +39,7 @@ was_or_new (log ∷ logs) zero now b h = elim (Contains-append_cases now (concat
 ]
 was_or_new (log ∷ logs) (suc m) now b h = elim (Contains-append_cases log (concat (set logs m now)) b h) [
   | inl first ↦ inl (Contains-append_left log (concat logs) b first)
-  | inr other ↦ elim (was_or_new logs m now b other) [
-    | inl rest ↦ inl (Contains-append_right log (concat logs) b rest)
-    | inr own ↦ inr own
-  ]
+  | inr other ↦ elim (was_or_new logs m now b other) [ inl rest ↦ inl (Contains-append_right log (concat logs) b rest) | inr own ↦ inr own ]
 ]
 
 pub of_new : (logs : List (List ℕ)) (m : ℕ) (now : List ℕ) (b : ℕ) → m < length logs → Contains now b → Contains (logged (set logs m now)) b
@@ -65,10 +62,7 @@ pub only_logged : (logs : List (List ℕ)) (m a b : ℕ) → Contains (logged (s
     → Contains (logged logs) b ⊎ (b ≡ a)
 only_logged logs m a b h = elim (was_or_new logs m (log_of logs m ++ a ∷ []) b h) [
   | inl was ↦ inl was
-  | inr now ↦ elim (Contains-push_cases (log_of logs m) a b now) [
-    | inl own ↦ inl (of_one logs m b own)
-    | inr e ↦ inr (sym e)
-  ]
+  | inr now ↦ elim (Contains-push_cases (log_of logs m) a b now) [ inl own ↦ inl (of_one logs m b own) | inr e ↦ inr (sym e) ]
 ]
 
 -- a log that is emptied

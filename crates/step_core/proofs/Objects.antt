@@ -1,6 +1,5 @@
 -- Tiles that are objects, and their names.
-use Rattle.std.proofs.Common.{◌≡◌, ℕ, ◌*◌, ◌<◌, Option, Some, None, length, refl, sym, ap, arith}
-use Rattle.std.specs.Prelude.{◌/◌, ◌≤◌, IsSome, IfSome}
+use Rattle.std.proofs.Common.{◌≡◌, ℕ, ◌*◌, ◌<◌, Option, Some, None, length, refl, sym, ap, arith, ◌/◌, ◌≤◌, IsSome, IfSome}
 use Rattle.heap_model.specs.Heap.{Stored}
 use Rattle.regions.specs.Tiles.{Tile, Object, Filler, Forwarded}
 use Rattle.regions.specs.Table.{Table, tile_object, tile_in, object_at, top_of}
@@ -17,9 +16,7 @@ use Rattle.step_core.specs.Stands.{name_of}
 pub is_object : (tile : Option Tile) (p w d : ℕ) → IsSome tile
     → IfSome tile (λ t. shapes.Object p w d ≡ tile_shape t) → IsSome (tile_object tile)
 is_object (Some (Object s)) p w d some shape = refl
-is_object (Some (Filler n)) p w d some shape = absurd (cc)
-is_object (Some (Forwarded to n)) p w d some shape = absurd (cc)
-is_object None p w d some shape = absurd (cc)
+is_object _ p w d some shape = absurd (cc)
 
 -- the name that an object has
 pub has_name : (o : Option Stored) (n : ℕ) → IsSome o → IfSome o (λ s. n ≡ s.name) → name_of o ≡ Some n
@@ -38,16 +35,12 @@ object_word t a g some = go (object_at t a) refl some
 -- neither a tile with a filler's shape nor one that has moved is an object
 pub filler_object : (tile : Option Tile) (n : ℕ) → IfSome tile (λ t. shapes.Filler n ≡ tile_shape t) → tile_object tile ≡ None
 filler_object (Some (Object s)) n shape = absurd (cc)
-filler_object (Some (Filler m)) n shape = refl
-filler_object (Some (Forwarded to m)) n shape = refl
-filler_object None n shape = refl
+filler_object _ n shape = refl
 
 pub forwarded_object : (tile : Option Tile) (to n : ℕ) → IfSome tile (λ t. shapes.Forwarded to n ≡ tile_shape t)
     → tile_object tile ≡ None
 forwarded_object (Some (Object s)) to n shape = absurd (cc)
-forwarded_object (Some (Filler m)) to n shape = refl
-forwarded_object (Some (Forwarded to' m)) to n shape = refl
-forwarded_object None to n shape = refl
+forwarded_object _ to n shape = refl
 
 -- where what follows from an object is false there is none
 none_if : (t : Table) (a : ℕ) → ((s : Stored) → object_at t a ≡ Some s → ⊥) → object_at t a ≡ None
@@ -60,12 +53,7 @@ none_if t a h = go (object_at t a) refl
 -- an object holds the word that it starts at
 object_holder : (t : Table) (a : ℕ) (s : Stored) → object_at t a ≡ Some s → IsHolder t a a
 unfolding object_at
-object_holder t a s e = record {
-  tile = Object s;
-  tile_is = object_tile (tile_in t a) s e;
-  low = omega arith;
-  high = omega arith;
-}
+object_holder t a s e = record { tile = Object s; tile_is = object_tile (tile_in t a) s e; low = omega arith; high = omega arith }
 
 pub none_past : (t : Table) (a : ℕ) → IsShaped t → length t.regions * t.words_per_region ≤ a → object_at t a ≡ None
 none_past t a g past = none_if t a (λ s e. let w = object_within t a s g e in absurd (omega (arith, w)))

@@ -7,13 +7,10 @@ use Rattle.heap_model.specs.Graph.{Graph, next_name}
 use Rattle.graph_runs.specs.Machine.{Outcome, act}
 use Rattle.graph_runs.specs.State.{State}
 use Rattle.graph_runs.specs.Run.{Happens}
-use Rattle.heap_steps.specs.declared.step.Action.{Action}
+use Rattle.step_core.specs.Steps.{Action, Refusal, Reply, Step}
 use Rattle.heap_steps.specs.declared.step.Action.TheVariants as actions
-use Rattle.heap_steps.specs.declared.step.Step.{Step}
 use Rattle.heap_steps.specs.declared.step.Step.TheVariants as steps
-use Rattle.heap_steps.specs.declared.step.Reply.{Reply}
 use Rattle.heap_steps.specs.declared.step.Reply.TheVariants as replies
-use Rattle.heap_steps.specs.declared.step.Refusal.{Refusal}
 use Rattle.heap_steps.specs.declared.step.Refusal.TheVariants as refusals
 use Rattle.alloc_buffers.specs.Placement.{allocation_of}
 use Rattle.step_core.specs.Stands.{CoreState, ShowsGraph, Stands}

@@ -20,13 +20,10 @@ use Rattle.marker.specs.Counts.{IsMore, restarted}
 use Rattle.marker.specs.Steps.{Grows, SameRoles, ScansMore}
 use Rattle.bit_sets.specs.Bits.{has}
 use Rattle.remembered_sets.specs.Sets.{emptied, set_of}
-use Rattle.heap_steps.specs.declared.step.CollectorStep.{CollectorStep}
+use Rattle.step_core.specs.Steps.{CollectorStep, Refusal, Reply, Step}
 use Rattle.heap_steps.specs.declared.step.CollectorStep.TheVariants as collector
-use Rattle.heap_steps.specs.declared.step.Step.{Step}
 use Rattle.heap_steps.specs.declared.step.Step.TheVariants as steps
-use Rattle.heap_steps.specs.declared.step.Reply.{Reply}
 use Rattle.heap_steps.specs.declared.step.Reply.TheVariants as replies
-use Rattle.heap_steps.specs.declared.step.Refusal.{Refusal}
 use Rattle.heap_steps.specs.declared.step.Refusal.TheVariants as refusals
 use Rattle.graph_runs.specs.State.{State, ForSnapshot}
 use Rattle.step_core.specs.Stands.{CoreState, kept_of, heap_of, marking_of, ShowsGraph, Stands}
@@ -190,11 +187,7 @@ pub record IsInSet (which : Choice) (budget : ℕ) (c : CoreState) (k : ℕ) : T
 
 -- what a step may reclaim: a cleanup dead regions, a pause and a compaction their collection sets, any other step nothing
 abbrev pub MayReclaim : Step → CoreState → ℕ → Type 0
-MayReclaim (steps.Mutator o) c k = ⊥
-MayReclaim (steps.Collector collector.Begin) c k = ⊥
-MayReclaim (steps.Collector (collector.Mark n)) c k = ⊥
-MayReclaim (steps.Collector collector.Remark) c k = ⊥
 MayReclaim (steps.Collector collector.Cleanup) c k = IsDead c k
-MayReclaim (steps.Collector (collector.Refine n)) c k = ⊥
 MayReclaim (steps.Collector (collector.Pause budget)) c k = IsInSet choices.Best budget c k
 MayReclaim (steps.Collector (collector.Compact budget)) c k = IsInSet choices.Highest budget c k
+MayReclaim _ c k = ⊥

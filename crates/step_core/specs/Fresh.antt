@@ -13,8 +13,7 @@ use Rattle.step_core.specs.Stands.{CoreState, root_counts_of}
 -- how many rows of the second kind a set's filter has: 7 for 32 words of a card, so that a filter takes 21 bits for 32 words of a region;
 -- none where the heap is no larger than one of the first two formats can be, or where a region's cards are no whole groups of 64
 abbrev pub filter_rows : Config → ℕ
-filter_rows c =
-    if nat_le (c.regions * c.words) (2 ^ 24) || not (c.words / card_words c % 64 == 0) then 0 else 7 * card_words c / 32
+filter_rows c = if nat_le (c.regions * c.words) (2 ^ 24) || not (c.words / card_words c % 64 == 0) then 0 else 7 * card_words c / 32
 
 -- every region is free, no buffer open, nothing marked, each card clean, each set empty and each root nil
 abbrev pub fresh_core : Config → CoreState

@@ -5,14 +5,9 @@ use Rattle.heap_words.specs.Sizes.{size_of}
 use Rattle.heap_model.specs.Graph.{Graph}
 use Rattle.regions.specs.Table.{Table, pointers_at, weaks_at, values_at}
 use Rattle.alloc_buffers.specs.Placement.{Buffers, CanAllocate}
-use Rattle.heap_steps.specs.declared.step.Action.{Action}
+use Rattle.step_core.specs.Steps.{Action, Counts, Refusal, Register, Reply, Step}
 use Rattle.heap_steps.specs.declared.step.Action.TheVariants as actions
-use Rattle.heap_steps.specs.declared.step.Counts.{Counts}
-use Rattle.heap_steps.specs.declared.step.Register.{Register}
-use Rattle.heap_steps.specs.declared.step.Reply.{Reply}
 use Rattle.heap_steps.specs.declared.step.Reply.TheVariants as replies
-use Rattle.heap_steps.specs.declared.step.Refusal.{Refusal}
-use Rattle.heap_steps.specs.declared.step.Step.{Step}
 use Rattle.heap_steps.specs.declared.step.Step.TheVariants as steps
 use Rattle.step_core.specs.Answers.{Acts, HasNoPlace, IsWithin, RepliesFull, new_reply}
 use Rattle.step_core.specs.Cycle.{LeavesRegions}

@@ -7,11 +7,8 @@ use Rattle.regions.specs.Table.{pointers_at, weaks_at, values_at}
 use Rattle.marker.specs.Steps.{Overwrites}
 use Rattle.graph_runs.specs.State.{register_place, root_at, with_root}
 use Rattle.graph_runs.specs.Machine.{stored}
-use Rattle.heap_steps.specs.declared.step.Action.{Action}
-use Rattle.heap_steps.specs.declared.step.Register.{Register}
-use Rattle.heap_steps.specs.declared.step.Reply.{Reply}
+use Rattle.step_core.specs.Steps.{Action, Register, Reply, Step}
 use Rattle.heap_steps.specs.declared.step.Reply.TheVariants as replies
-use Rattle.heap_steps.specs.declared.step.Step.{Step}
 use Rattle.step_core.specs.Stands.{CoreState, IsRootWord, IsWordOf, KeepsFrom, Leads, ShowsGraph, heap_of, root_counts_of}
 use Rattle.step_core.specs.Answers.{Acts}
 use Rattle.step_core.specs.Cycle.{LeavesRegions}

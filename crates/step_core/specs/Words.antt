@@ -2,14 +2,10 @@
 use Rattle.std.specs.Prelude.{◌≡◌, ◌↔◌, ◌+◌, ◌-◌, ◌<◌, ◌≤◌, ℕ, suc, List, [], ◌∷◌, length, slice_index, Option, Some}
 use Rattle.regions.specs.Table.{values_at}
 use Rattle.graph_runs.specs.State.{State}
-use Rattle.heap_steps.specs.declared.step.Counts.{Counts}
-use Rattle.heap_steps.specs.declared.step.Register.{Register}
+use Rattle.step_core.specs.Steps.{Counts, Refusal, Register, Reply, Step}
 use Rattle.heap_steps.specs.declared.step.Action.TheVariants as actions
-use Rattle.heap_steps.specs.declared.step.Step.{Step}
 use Rattle.heap_steps.specs.declared.step.Step.TheVariants as steps
-use Rattle.heap_steps.specs.declared.step.Reply.{Reply}
 use Rattle.heap_steps.specs.declared.step.Reply.TheVariants as replies
-use Rattle.heap_steps.specs.declared.step.Refusal.{Refusal}
 use Rattle.heap_steps.specs.declared.step.Refusal.TheVariants as refusals
 use Rattle.step_core.specs.Stands.{CoreState, Stands}
 use Rattle.step_core.specs.Answers.{Follows, IsFullStep}
@@ -47,8 +43,7 @@ pub record HasDataWords (c : CoreState) (m : ℕ) (object : Register) (from coun
 
 -- each word is what a step of its own reads
 abbrev pub AreRead : CoreState → ℕ → Register → ℕ → List ℕ → Type 0
-AreRead c m object from words =
-    (i : ℕ) → i < length words → Takes c (reading m object (from + i)) (replies.Word (slice_index words i)) c
+AreRead c m object from words = (i : ℕ) → i < length words → Takes c (reading m object (from + i)) (replies.Word (slice_index words i)) c
 
 -- so many words from one on can't be read, since the last of them can't: its own step is refused in the same way
 abbrev pub IsUnread : CoreState → ℕ → Register → ℕ → ℕ → Refusal → Type 0

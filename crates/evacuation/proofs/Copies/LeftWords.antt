@@ -1,8 +1,6 @@
 -- The words that are left to copy.
-use Rattle.std.proofs.Common.{◌≡◌, ◌≢◌, ◌+◌, ◌<◌, ◌≤◌, ◌⊎◌, ◌∙◌}
-use Rattle.std.proofs.Common.{ℕ, suc, zero, Bool, true, false, Option, Some, None, refl, ap, inl, inr, arith}
-use Rattle.std.specs.Prelude.{if◌then◌else◌, ◌||◌}
-use Rattle.std.proofs.Common.{eqb}
+use Rattle.std.proofs.Common.{◌≡◌, ◌≢◌, ◌+◌, ◌<◌, ◌≤◌, ◌⊎◌, ◌∙◌, ℕ, suc, zero, Bool, true, false, Option, Some, None, refl, ap, inl, inr}
+use Rattle.std.proofs.Common.{arith, eqb, if◌then◌else◌, ◌||◌}
 use Rattle.std.proofs.lemmas.Bool.Decides.{eqb_tells}
 use Rattle.std.proofs.lemmas.Bool.{cases_eq}
 use Rattle.heap_model.specs.Heap.{Stored}

@@ -1,7 +1,6 @@
 -- A copy, as copying sees it.
-use Rattle.std.proofs.Common.{◌≡◌, ◌+◌, ◌*◌, ◌/◌, ◌<◌, ◌≤◌, ◌⊎◌, ◌∙◌}
-use Rattle.std.proofs.Common.{ℕ, true, false, Option, Some, None, length, refl, sym, ap, subst, inl, inr, arith}
-use Rattle.std.specs.Prelude.{◌≢◌}
+use Rattle.std.proofs.Common.{◌≡◌, ◌+◌, ◌*◌, ◌/◌, ◌<◌, ◌≤◌, ◌⊎◌, ◌∙◌, ℕ, true, false, Option, Some, None, length, refl, sym, ap, subst}
+use Rattle.std.proofs.Common.{inl, inr, arith, ◌≢◌}
 use Rattle.std.proofs.lemmas.Bool.{cases_eq, cases_lt}
 use Rattle.std.proofs.lemmas.List.Quantifiers.{position-Some}
 use Rattle.heap_model.specs.Heap.{Stored}
@@ -76,10 +75,7 @@ module _ (p : Pause) (q : IsPause p) (t t' : Table) (d d' : Destinations) (turn 
     | inr g ↦
         let was = (placing.region_taken t k g.0.lowest).was in
         let out = turn.copying.free k (free_kind t k was) in (
-          elim (cases_free (kind_of p.start k)) [
-            | inl e ↦ e
-            | inr n ↦ absurd (n (sym (turn.table.kinds_same k out n) ∙ was))
-          ],
+          elim (cases_free (kind_of p.start k)) [ inl e ↦ e | inr n ↦ absurd (n (sym (turn.table.kinds_same k out n) ∙ was)) ],
           out,
         )
   ]
@@ -247,8 +243,5 @@ module _ (p : Pause) (q : IsPause p) (t t' : Table) (d d' : Destinations) (turn 
   copy_taken j is = elim (cases_eq j k) [
     | inl e ↦
         (ap (kind_of p.start) e ∙ fresh.0, ap (kind_of t') e ∙ w.ordinary, subst (λ (m : ℕ). m < length p.start.regions) (sym e) known)
-    | inr e ↦ elim (taken_cases j is) [
-      | inl f ↦ absurd (e f)
-      | inr f ↦ let r = turn.taken j f in (r.0, w.kinds_same j e ∙ r.1, r.2)
-    ]
+    | inr e ↦ elim (taken_cases j is) [ inl f ↦ absurd (e f) | inr f ↦ let r = turn.taken j f in (r.0, w.kinds_same j e ∙ r.1, r.2) ]
   ]

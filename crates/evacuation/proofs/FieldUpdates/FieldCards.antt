@@ -1,8 +1,7 @@
 -- The word of a field, and its card.
 use Rattle.heap_words.specs.Configs.{max_words}
-use Rattle.std.proofs.Common.{◌≡◌, ◌+◌, ◌*◌, ◌/◌, ◌<◌, ◌≤◌, ◌∙◌, ◌⊎◌, ◌≢◌}
-use Rattle.std.proofs.Common.{ℕ, Bool, true, false, List, Option, Some, None, length, refl, sym, ap, subst, inl, inr, arith}
-use Rattle.std.specs.Prelude.{slice_get, slice_set}
+use Rattle.std.proofs.Common.{◌≡◌, ◌+◌, ◌*◌, ◌/◌, ◌<◌, ◌≤◌, ◌∙◌, ◌⊎◌, ◌≢◌, ℕ, Bool, true, false, List, Option, Some, None, length, refl}
+use Rattle.std.proofs.Common.{sym, ap, subst, inl, inr, arith, slice_get, slice_set}
 use Rattle.std.proofs.lemmas.Bool.{cases_eq, cases_lt}
 use Rattle.std.proofs.lemmas.Nat.{mul-le}
 use Rattle.std.proofs.lemmas.List.{get_or-set_same, get_or-set_other, length-append, length-set}
@@ -25,8 +24,7 @@ pointer_is p t at i y w at_is e =
     ap (λ (m : List (Option ℕ)). slice_get m i) (sym q) ∙ e
 
 pub still_count : (p : Pause) (t : Table) (at n : ℕ) → IsStill (space p t) at n → length (fields_at t at) ≡ n
-still_count p t at n s =
-    ap (λ (m : List (Option ℕ)). length m) (fields_of t at s.0 (kept_object p t at s.0 s.1)) ∙ s.2
+still_count p t at n s = ap (λ (m : List (Option ℕ)). length m) (fields_of t at s.0 (kept_object p t at s.0 s.1)) ∙ s.2
 
 -- a nil field names nothing of the set
 pub nil_clean : (p : Pause) (t : Table) (at i : ℕ) → slice_get (fields_at t at) i ≡ Some None → IsFieldClean (layout p) (space p t) at i

@@ -1,6 +1,5 @@
 -- A field that names the set, over the table: its target is copied, and it is written.
-use Rattle.std.proofs.Common.{◌≡◌, ℕ, ◌<◌, Bool, true, false, List, Option, Some, subst}
-use Rattle.std.specs.Prelude.{slice_get}
+use Rattle.std.proofs.Common.{◌≡◌, ℕ, ◌<◌, Bool, true, false, List, Option, Some, subst, slice_get}
 use Rattle.heap_model.specs.Heap.{Stored, fields}
 use Rattle.regions.specs.Table.{Table, moved_to, fields_at, set_field, tile_in}
 use Rattle.object_copy.specs.Copies.{Destinations}

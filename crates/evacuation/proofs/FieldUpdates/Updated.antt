@@ -1,7 +1,6 @@
 -- A field of an object outside the set is updated.
-use Rattle.std.proofs.Common.{◌≡◌, ◌⊎◌, ◌∙◌}
-use Rattle.std.proofs.Common.{ℕ, Bool, true, false, List, Option, Some, None, length, refl, sym, ap, subst, inl, inr, arith}
-use Rattle.std.specs.Prelude.{slice_get, slice_set}
+use Rattle.std.proofs.Common.{◌≡◌, ◌⊎◌, ◌∙◌, ℕ, Bool, true, false, List, Option, Some, None, length, refl, sym, ap, subst, inl, inr, arith}
+use Rattle.std.proofs.Common.{slice_get, slice_set}
 use Rattle.std.proofs.lemmas.Bool.{cases_eq}
 use Rattle.std.proofs.lemmas.List.{length-set}
 use Rattle.heap_model.specs.Heap.{Heap, Stored, IsClosed, ObjectSet, fields, with_field}

@@ -1,7 +1,6 @@
 -- What scans of copies keep.
-use Rattle.std.proofs.Common.{◌≡◌, ◌+◌, ◌*◌, ◌/◌, ◌%◌, ◌<◌, ◌∙◌}
-use Rattle.std.proofs.Common.{ℕ, Bool, false, List, Option, Some, None, length, refl, sym, ap, subst, inl, inr, arith}
-use Rattle.std.specs.Prelude.{slice_get, IsSome}
+use Rattle.std.proofs.Common.{◌≡◌, ◌+◌, ◌*◌, ◌/◌, ◌%◌, ◌<◌, ◌∙◌, ℕ, Bool, false, List, Option, Some, None, length, refl, sym, ap, subst}
+use Rattle.std.proofs.Common.{inl, inr, arith, slice_get, IsSome}
 use Rattle.std.proofs.lemmas.Bool.{cases_eq, cases_lt}
 use Rattle.heap_model.specs.Heap.{Stored}
 use Rattle.regions.specs.Tiles.{Object}
@@ -120,8 +119,7 @@ module _ (p : Pause) (t t' : Table) (c c' : Context) (stands : PauseStands p t c
       → IsRegionSettled (layout p) c'.noted (space p t') j
   still m j h e settled b y r here =
       let w : IsDestination c.destinations j = record { at = m; is = e } in
-      let closed =
-      on.after.closed j w (λ l.
+      let closed = on.after.closed j w (λ l.
       let z = stands.turn.copying.last_at j m l e in let v = get_within c.destinations.regions n k at in absurd (omega arith)) in
       let was = closed.0 b y r here in
       λ i. settled_after on b i (ap (flag p.chosen) r ∙ stands.turn.copying.taken j w) was (settled b was.0 r was.1 i)

@@ -1,7 +1,6 @@
 -- One turn after another.
-use Rattle.std.proofs.Common.{◌≡◌, ◌+◌, ◌*◌, ◌/◌, ◌≤◌, ◌∙◌, ◌⊎◌}
-use Rattle.std.proofs.Common.{ℕ, get_or, ap, Bool, true, false, List, Option, Some, None, length, refl, sym, subst, inl, inr, arith}
-use Rattle.std.specs.Prelude.{slice_get}
+use Rattle.std.proofs.Common.{◌≡◌, ◌+◌, ◌*◌, ◌/◌, ◌≤◌, ◌∙◌, ◌⊎◌, ℕ, get_or, ap, Bool, true, false, List, Option, Some, None, length, refl}
+use Rattle.std.proofs.Common.{sym, subst, inl, inr, arith, slice_get}
 use Rattle.std.proofs.lemmas.Option.{slice_get-get_or}
 use Rattle.evacuation.proofs.Lists.{get_below}
 use Rattle.heap_model.specs.Heap.{Stored, fields}
@@ -11,7 +10,7 @@ use Rattle.refinement.specs.Remembering.{field_word}
 use Rattle.evacuation.specs.Space.{Layout, Space, IsDestination, IsAfter, NewCrossing, IsSpaceObject, IsOutsideSet, IsCardNoted}
 use Rattle.evacuation.specs.Space.{IsSettled, IsUpdated}
 use Rattle.evacuation.specs.Space.{IsFieldClean, IsFieldSettled, flag}
-use Rattle.evacuation.specs.Turns.{Pause, PauseStands, PauseGoesOn, in_set, layout, space}
+use Rattle.evacuation.specs.Turns.{EachCard, IsTurn, Pause, PauseStands, PauseGoesOn, in_set, layout, space}
 use Rattle.evacuation.specs.declared.room.Context.{Context}
 
 pub noted_grows : (l : Layout) (t t' : List Bool) (at : ℕ) (w : Option ℕ)
@@ -117,10 +116,7 @@ crossing_back l t t' s s' s'' d d' d'' c a x = record {
     | inr k ↦ inr (λ y e.
         let (z, f, n) = a.stays x.at y x.outside e in
         let (v, g, i) = k z f in
-        elim (a.fields x.at y z x.index (Some v) x.outside e f g) [
-          | inl h ↦ (v, h, i)
-          | inr h ↦ absurd (let q = h.2.settled.0 in cc)
-        ])
+        elim (a.fields x.at y z x.index (Some v) x.outside e f g) [ inl h ↦ (v, h, i) | inr h ↦ absurd (let q = h.2.settled.0 in cc) ])
   ];
 }
 
@@ -163,6 +159,17 @@ after_after l t t' t'' s s' s'' d d' d'' a b = record {
 pub stays_on : {p : Pause} {t : Table} {c : Context} → PauseStands p t c → PauseGoesOn p t t c c
 stays_on {p} {t} {c} s = record { stands = s; after = same_after (layout p) c.noted (space p t) c.destinations }
 
+-- its next state stands: the turn does, the notes are as many, and the rest of the context is the same
+pub turned : {p : Pause} {t t' : Table} {c c' : Context} → PauseStands p t c → c'.chosen ≡ c.chosen → c'.card_words ≡ c.card_words
+    → IsTurn p t' c'.destinations → EachCard p c'.noted → PauseStands p t' c'
+turned {p} {t} {t'} {c} {c'} s chosen words turn each = record {
+  premises = s.premises;
+  turn = turn;
+  flags = rw chosen s.flags;
+  card = words ∙ s.card;
+  each_card = each;
+}
+
 pub goes_further : {p : Pause} {t t' t'' : Table} {c c' c'' : Context} → PauseGoesOn p t t' c c' → PauseGoesOn p t' t'' c' c''
     → PauseGoesOn p t t'' c c''
 goes_further {p} {t} {t'} {t''} {c} {c'} {c''} a b = record {
@@ -175,8 +182,7 @@ module _ {p : Pause} {t t' : Table} {c c' : Context} (on : PauseGoesOn p t t' c 
   -- what is clean or settled stays so
   pub clean_after : (b i : ℕ) → in_set p b ≡ false → IsSpaceObject (space p t) b → IsFieldClean (layout p) (space p t) b i
       → IsFieldClean (layout p) (space p t') b i
-  clean_after b i out o clean z w e g =
-      elim (on.after.fields b o.0 z i w out o.1 e g) [ inl q ↦ clean o.0 w o.1 q | inr q ↦ q.2.settled.0 ]
+  clean_after b i out o clean z w e g = elim (on.after.fields b o.0 z i w out o.1 e g) [ inl q ↦ clean o.0 w o.1 q | inr q ↦ q.2.settled.0 ]
 
   pub settled_after : (b i : ℕ) → in_set p b ≡ false → IsSpaceObject (space p t) b → IsFieldSettled (layout p) c.noted (space p t) b i
       → IsFieldSettled (layout p) c'.noted (space p t') b i

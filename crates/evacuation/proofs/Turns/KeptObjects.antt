@@ -1,11 +1,10 @@
 -- What is kept as objects come and go: tops at mark start and marks stay as they were at the start.
-use Rattle.std.proofs.Common.{◌≡◌, ◌≢◌, ◌+◌, ◌*◌, ◌/◌, ◌%◌, ◌<◌, ◌≤◌, ◌⊎◌, ◌∙◌}
-use Rattle.std.proofs.Common.{ℕ, Bool, true, false, List, Option, Some, None, length, get_or, refl, sym, ap, inl, inr, arith}
-use Rattle.std.specs.Prelude.{if◌then◌else◌}
+use Rattle.std.proofs.Common.{◌≡◌, ◌≢◌, ◌+◌, ◌*◌, ◌/◌, ◌%◌, ◌<◌, ◌≤◌, ◌⊎◌, ◌∙◌, ℕ, Bool, true, false, List, Option, Some, None, length}
+use Rattle.std.proofs.Common.{get_or, refl, sym, ap, inl, inr, arith, if◌then◌else◌}
 use Rattle.std.proofs.lemmas.Bool.{le-ltb}
 use Rattle.heap_model.specs.Heap.{Stored}
 use Rattle.regions.specs.Tiles.{Tile}
-use Rattle.regions.specs.Table.{Region, Free, Ordinary, First, Rest, Table, region_used, region_kind, nth_region}
+use Rattle.regions.specs.Table.{Region, Free, Table, region_used, region_kind, nth_region}
 use Rattle.regions.specs.Table.{kind_of, used_of, object_at, tile_in, tile_object}
 use Rattle.regions.specs.declared.row.Kind.{Kind}
 use Rattle.regions.specs.declared.row.Kind.TheVariants as kinds
@@ -60,9 +59,7 @@ free_used t k e = go (nth_region t k) e
   where
     go : (r : Region) → region_kind r ≡ kinds.Free → region_used t.words_per_region r ≡ 0
     go Free q = refl
-    go (Ordinary ts) q = absurd cc
-    go (First s) q = absurd cc
-    go (Rest n) q = absurd cc
+    go _ q = absurd cc
 
 pub object_of : (t : Table) (a : ℕ) (u : Option Tile) → tile_in t a ≡ u → object_at t a ≡ tile_object u
 unfolding object_at
@@ -70,9 +67,7 @@ object_of t a u e = ap tile_object e
 
 pub cases_free : (k : Kind) → (k ≡ kinds.Free) ⊎ (k ≢ kinds.Free)
 cases_free kinds.Free = inl refl
-cases_free kinds.Ordinary = inr (λ e. cc)
-cases_free kinds.First = inr (λ e. cc)
-cases_free kinds.Rest = inr (λ e. cc)
+cases_free _ = inr (λ e. cc)
 
 pub not_below : (words a : ℕ) (tops : List ℕ) → get_or tops (a / words) 0 ≡ a / words * words
     → a / words * words ≤ a → is_below words tops a ≡ false

@@ -6,7 +6,7 @@ use Rattle.heap_model.specs.Heap.{Stored}
 use Rattle.heap_model.specs.Evacuation.{IsEvacuating}
 use Rattle.heap_model.proofs.Evacuated.{start}
 use Rattle.regions.specs.Tiles.{Tile, Object, Forwarded}
-use Rattle.regions.specs.Table.{Region, Free, Ordinary, First, Rest, Table, HasNoForwarded, is_free, kind_of, moved_to, region_at}
+use Rattle.regions.specs.Table.{Region, Free, Ordinary, Table, HasNoForwarded, is_free, kind_of, moved_to, region_at}
 use Rattle.regions.specs.Table.{region_kind, nth_region, region_tile, tile_in, free_count}
 use Rattle.regions.specs.Rows.{kind_is_free}
 use Rattle.regions.specs.Tiles.{Filler}
@@ -35,9 +35,7 @@ no_tile t a e = go (nth_region t (a / t.words_per_region)) refl
   where
     go : (r : Region) → nth_region t (a / t.words_per_region) ≡ r → tile_in t a ≡ None
     go Free f = ap (λ (q : Region). region_tile q (a % t.words_per_region)) f
-    go (Ordinary ts) f = absurd (let g = sym (ap region_kind f) ∙ e in cc)
-    go (First s) f = absurd (let g = sym (ap region_kind f) ∙ e in cc)
-    go (Rest n) f = absurd (let g = sym (ap region_kind f) ∙ e in cc)
+    go _ f = absurd (let g = sym (ap region_kind f) ∙ e in cc)
 
 not_moved : (t : Table) (a : ℕ) → HasNoForwarded t → moved_to (tile_in t a) ≡ None
 not_moved t a m = go (tile_in t a) refl

@@ -1,9 +1,7 @@
 -- The heap after a pause.
 use Rattle.evacuation.proofs.WholePause.Beginning.{no_tile}
-use Rattle.std.proofs.Common.{◌≡◌, ◌≢◌, ◌+◌, ◌-◌, ◌*◌, ◌/◌, ◌%◌, ◌<◌, ◌≤◌, ◌∷◌, ◌∙◌}
-use Rattle.std.proofs.Common.{ℕ, suc, Bool, true, false, List, [], Option, Some, None}
-use Rattle.std.proofs.Common.{length, get_or, refl, sym, ap, subst, inl, inr, arith}
-use Rattle.std.specs.Prelude.{nat_lt, slice_get, ◌↔◌, if◌then◌else◌}
+use Rattle.std.proofs.Common.{◌≡◌, ◌≢◌, ◌+◌, ◌-◌, ◌*◌, ◌/◌, ◌%◌, ◌<◌, ◌≤◌, ◌∷◌, ◌∙◌, ℕ, suc, Bool, true, false, List, [], Option, Some}
+use Rattle.std.proofs.Common.{None, length, get_or, refl, sym, ap, subst, inl, inr, arith, nat_lt, slice_get, ◌↔◌, if◌then◌else◌}
 use Rattle.std.specs.List.Sorted.{IsStrictlyIncreasing}
 use Rattle.std.proofs.lemmas.Bool.{cases_Bool}
 use Rattle.heap_model.specs.Heap.{Stored}
@@ -345,10 +343,7 @@ module _ (h : Layers) (rows : List LiveRow) (cw : ℕ) (can : CanEvacuate h rows
     keeps_old : IsNewSet h rows → (m : Marking) → ((a : ℕ) → m.old a ≡ below_next h.table h.tams a)
         → KeepsOld (place_after (set_by h rows) forward) (heap_of h) m
     keeps_old new m old = subst (λ (s : ℕ → Bool). KeepsOld (place_after s forward) (heap_of h) m) (sym sets_same) (record {
-      stays = λ a x e o. elim (cases_Bool (in_set p a)) [
-        | inl i ↦ absurd (let b = young a i in let c = old a in cc)
-        | inr q ↦ rw q refl
-      ];
+      stays = λ a x e o. elim (cases_Bool (in_set p a)) [ inl i ↦ absurd (let b = young a i in let c = old a in cc) | inr q ↦ rw q refl ];
       none_comes = λ a b x e f o. elim (cases_Bool (in_set p a)) [
         | inl i ↦
             (let f' : forward a ≡ Some b = rw i at f in absurd (let c = fresh b (turn.copying.placed a b i f') in let d = old b in cc))

@@ -1,7 +1,6 @@
 -- A queue to which rising numbers are appended.
-use Rattle.std.proofs.Common.{◌≡◌, ◌+◌, ◌<◌, ◌≤◌, ◌∷◌, ◌++◌}
-use Rattle.std.proofs.Common.{ℕ, zero, suc, false, List, [], length, get_or, cond, eqb, refl, sym, ap, subst, add-one, arith}
-use Rattle.std.specs.Prelude.{All, if◌then◌else◌}
+use Rattle.std.proofs.Common.{◌≡◌, ◌+◌, ◌<◌, ◌≤◌, ◌∷◌, ◌++◌, ℕ, zero, suc, false, List, [], length, get_or, cond, eqb, refl, sym, ap}
+use Rattle.std.proofs.Common.{subst, add-one, arith, All, if◌then◌else◌}
 use Rattle.std.specs.List.Sorted.{IsStrictlyIncreasing}
 use Rattle.std.proofs.lemmas.Bool.{eq-eqb}
 use Rattle.std.proofs.lemmas.List.Sums.{sum_by-cons}

@@ -1,7 +1,6 @@
 -- Objects and buffers in one table.
-use Rattle.std.proofs.Common.{◌≡◌, ◌≢◌, ◌+◌, ◌-◌, ◌*◌, ◌/◌, ◌<◌, ◌≤◌, ◌⊎◌, ◌∷◌, ◌∙◌}
-use Rattle.std.proofs.Common.{ℕ, Option, Some, None, [], length, refl, sym, ap, subst, arith, inl, inr}
-use Rattle.std.specs.Prelude.{slice_get}
+use Rattle.std.proofs.Common.{◌≡◌, ◌≢◌, ◌+◌, ◌-◌, ◌*◌, ◌/◌, ◌<◌, ◌≤◌, ◌⊎◌, ◌∷◌, ◌∙◌, ℕ, Option, Some, None, [], length, refl, sym, ap}
+use Rattle.std.proofs.Common.{subst, arith, inl, inr, slice_get}
 use Rattle.std.proofs.lemmas.Bool.{cases_lt}
 use Rattle.regions.specs.Tiles.{Filler, Object, tile_size}
 use Rattle.heap_model.specs.Heap.{Stored}
@@ -168,10 +167,7 @@ creates_run t b n k count x shaped none stand run over =
       region_count = w.count;
       kinds_stay = λ j used. elim (cases_lt j k) [
         | inl lt ↦ w.kinds_same j (inl lt)
-        | inr ge ↦ elim (cases_lt j (k + count)) [
-          | inl lt ↦ absurd (used (w.was_free j ge lt))
-          | inr past ↦ w.kinds_same j (inr past)
-        ]
+        | inr ge ↦ elim (cases_lt j (k + count)) [ inl lt ↦ absurd (used (w.was_free j ge lt)) | inr past ↦ w.kinds_same j (inr past) ]
       ];
       half = λ o. absurd (
           let at : k * t.words_per_region / t.words_per_region ≡ k =

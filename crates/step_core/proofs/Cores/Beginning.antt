@@ -1,7 +1,6 @@
 -- A new heap stands for the first state.
-use Rattle.std.proofs.Common.{◌≡◌, ◌*◌, ◌^◌, ◌/◌, ◌<◌, ◌≤◌, ◌∙◌}
-use Rattle.std.proofs.Common.{ℕ, zero, suc, false, Option, Some, None, List, [], length, get_or, replicate, refl, sym, ap, arith}
-use Rattle.std.specs.Prelude.{slice_get, slice_index}
+use Rattle.std.proofs.Common.{◌≡◌, ◌*◌, ◌^◌, ◌/◌, ◌<◌, ◌≤◌, ◌∙◌, ℕ, zero, suc, false, Option, Some, None, List, [], length, get_or}
+use Rattle.std.proofs.Common.{replicate, refl, sym, ap, arith, slice_get, slice_index}
 use Rattle.std.specs.List.{AllZip}
 use Rattle.std.proofs.lemmas.List.{length-replicate}
 use Rattle.heap_model.specs.Heap.{Heap, Stored, IsShown}

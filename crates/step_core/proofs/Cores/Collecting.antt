@@ -3,17 +3,16 @@ use Rattle.std.proofs.Common.{◌≡◌, ℕ, true, false, Option, Some, None, r
 use Rattle.heap_model.specs.Graph.{Graph}
 use Rattle.graph_runs.specs.State.{State}
 use Rattle.graph_runs.specs.Run.{IsCollectorReply, ChangesState, ClearsBy}
-use Rattle.heap_steps.specs.declared.step.CollectorStep.{CollectorStep}
+use Rattle.step_core.specs.Steps.{CollectorStep, Reply}
 use Rattle.heap_steps.specs.declared.step.CollectorStep.TheVariants as collector
 use Rattle.heap_steps.specs.declared.step.Step.TheVariants as steps
-use Rattle.heap_steps.specs.declared.step.Reply.{Reply}
 use Rattle.heap_steps.specs.declared.step.Reply.TheVariants as replies
 use Rattle.marker.specs.declared.marker.Marker.{Marker}
 use Rattle.step_core.specs.Stands.{CoreState, ShowsGraph, KeepsFrom, KeepsFor, Stands}
-use Rattle.step_core.specs.Cycle.{HasCleaned, HasMarked, ShowsCleared}
+use Rattle.step_core.specs.Reclaimed.{IsReclaimed}
+use Rattle.step_core.specs.Cycle.{IsInSet, ShowsCleared}
 use Rattle.step_core.specs.declared.candidates.Choice.{Choice}
 use Rattle.step_core.specs.Pause.{HasMoved}
-use Rattle.step_core.specs.Refining.{HasRefined}
 use Rattle.step_core.specs.Answers.{Follows}
 use Rattle.step_core.proofs.Cores.Following.{follows_by}
 use Rattle.step_core.proofs.Cores.Snapshots.{keeps_for}
@@ -49,17 +48,10 @@ ends s n c c' st run over cleared = go s.snapshot refl st.keeps
         let end = cleared x s.graph st.shows k.1 in
         by_graph end.after (subst (λ (o : Option Graph). ClearsBy o s.graph end.after) (sym e) end.clears) end.shows
 
--- whether marking runs, where it goes on as before
-pub marked_running : (k : ℕ) (c c' : CoreState) → HasMarked k c c' → c'.marker.running ≡ c.marker.running
-marked_running k c c' h = h.roles.running
+-- regions of a set are evacuated: marking runs on as before, and they alone are reclaimed
+module _ (which : Choice) (budget n w : ℕ) (c c' : CoreState) (h : HasMoved which budget n w c c') where
+  pub moved_running : c'.marker.running ≡ c.marker.running
+  moved_running = ap (λ (m : Marker). m.running) h.evacuates.marker ∙ ap (λ (d : CoreState). d.marker.running) h.is_ready.same
 
-pub cleaned_running : (n : ℕ) (c c' : CoreState) → HasCleaned n c c' → c'.marker.running ≡ c.marker.running
-cleaned_running n c c' h = ap (λ (m : Marker). m.running) h.changes.marker
-
-pub refined_running : (k n : ℕ) (c c' : CoreState) → HasRefined k n c c' → c'.marker.running ≡ c.marker.running
-refined_running k n c c' h = ap (λ (d : CoreState). d.marker.running) h.same
-
-pub moved_running : (which : Choice) (budget n w : ℕ) (c c' : CoreState) → HasMoved which budget n w c c'
-    → c'.marker.running ≡ c.marker.running
-moved_running which budget n w c c' h =
-    ap (λ (m : Marker). m.running) h.evacuates.marker ∙ ap (λ (d : CoreState). d.marker.running) h.is_ready.same
+  pub moved_reclaims : (i : ℕ) → IsReclaimed c.table c'.table i → IsInSet which budget c i
+  moved_reclaims i x = record { chosen = h.evacuates.chosen; choice = h.evacuates.choice; inside = (h.evacuates.reclaimed i).0 x }

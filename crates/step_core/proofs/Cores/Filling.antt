@@ -1,14 +1,9 @@
 -- Stores into an object whose address is known: what the steps `put` and `write` ensure.
-use Rattle.std.proofs.Common.{◌≡◌, ◌<◌, ℕ, Option, Some, None, length, ◌∙◌, inl, inr, refl, sym, ap, arith}
-use Rattle.std.specs.Prelude.{IfNone}
+use Rattle.std.proofs.Common.{◌≡◌, ◌<◌, ℕ, Option, Some, None, length, ◌∙◌, inl, inr, refl, sym, ap, arith, IfNone}
 use Rattle.heap_words.specs.Configs.{registers_of}
 use Rattle.graph_runs.specs.State.{register_place, root_counts_of}
-use Rattle.heap_steps.specs.declared.step.Op.{Op}
-use Rattle.heap_steps.specs.declared.step.Action.{Action}
+use Rattle.step_core.specs.Steps.{Action, Counts, Op, Register, Reply}
 use Rattle.heap_steps.specs.declared.step.Action.TheVariants as actions
-use Rattle.heap_steps.specs.declared.step.Counts.{Counts}
-use Rattle.heap_steps.specs.declared.step.Register.{Register}
-use Rattle.heap_steps.specs.declared.step.Reply.{Reply}
 use Rattle.heap_steps.specs.declared.step.Refusal.TheVariants as refusals
 use Rattle.step_core.specs.Stands.{CoreState, IsCore, Leads}
 use Rattle.step_core.specs.Mutators.{ActsOn, core_after, register_of}

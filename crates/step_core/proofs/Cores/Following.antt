@@ -1,23 +1,16 @@
 -- A step as one of the state's, and histories of them.
-use Rattle.std.proofs.Common.{◌≡◌, ◌+◌, ◌<◌, ◌⊎◌, ◌∷◌, ◌++◌, ◌∙◌}
-use Rattle.std.proofs.Common.{ℕ, Option, Some, None, List, [], length, take, map, get_or, refl, sym, ap, subst, arith, inl, inr}
-use Rattle.std.specs.Prelude.{◌↔◌}
+use Rattle.std.proofs.Common.{◌≡◌, ◌+◌, ◌<◌, ◌⊎◌, ◌∷◌, ◌++◌, ◌∙◌, ℕ, Option, Some, None, List, [], length, take, map, get_or, refl, sym}
+use Rattle.std.proofs.Common.{ap, subst, arith, inl, inr, ◌↔◌}
 use Rattle.std.proofs.lemmas.List.{take_more, length-map, get_or-map}
 use Rattle.heap_model.specs.Graph.{Graph, next_name}
 use Rattle.heap_model.specs.Weak.{KeepsUnreached}
-use Rattle.heap_steps.specs.declared.step.Step.{Step}
+use Rattle.step_core.specs.Steps.{Action, Counts, Event, Op, Register, Reply, Step}
 use Rattle.graph_runs.specs.State.{State, ForSnapshot, IsEarlier}
 use Rattle.graph_runs.specs.Since.{IsSince}
 use Rattle.graph_runs.specs.Machine.{Outcome, act}
 use Rattle.graph_runs.specs.Run.{Happens, IsNew, IsRun, snapshot_after}
-use Rattle.heap_steps.specs.declared.step.Op.{Op}
-use Rattle.heap_steps.specs.declared.step.Action.{Action}
 use Rattle.heap_steps.specs.declared.step.Action.TheVariants as actions
-use Rattle.heap_steps.specs.declared.step.Counts.{Counts}
-use Rattle.heap_steps.specs.declared.step.Register.{Register}
 use Rattle.heap_steps.specs.declared.step.Step.TheVariants as steps
-use Rattle.heap_steps.specs.declared.step.Event.{Event}
-use Rattle.heap_steps.specs.declared.step.Reply.{Reply}
 use Rattle.heap_steps.specs.declared.step.Reply.TheVariants as replies
 use Rattle.heap_steps.specs.declared.step.Refusal.TheVariants as refusals
 use Rattle.graph_runs.proofs.Sound.{happens_sound}
@@ -173,8 +166,7 @@ one_more f (y ∷ es) e = ap (λ xs. f y ∷ xs) (one_more f es e)
 -- what the events have of the first i steps, and of one step more
 pub grown : {A : Type 0} (f : Event → A) (es : List Event) (e : Event) (xs : List A) (i : ℕ) (x : A) → map f es ≡ take i xs → i < length xs
     → f e ≡ get_or xs i x → map f (es ++ e ∷ []) ≡ take (i + 1) xs
-grown f es e xs i x h lt is =
-    one_more f es e ∙ ap (λ ys. ys ++ f e ∷ []) h ∙ ap (λ y. take i xs ++ y ∷ []) is ∙ sym (take_more xs i x lt)
+grown f es e xs i x h lt is = one_more f es e ∙ ap (λ ys. ys ++ f e ∷ []) h ∙ ap (λ y. take i xs ++ y ∷ []) is ∙ sym (take_more xs i x lt)
 
 pub grown_by : {A : Type 0} (f : Event → A) (h : Step → A) (es : List Event) (e : Event) (ss : List Step) (i : ℕ) (s : Step)
     → map f es ≡ take i (map h ss) → i < length ss → f e ≡ h (get_or ss i s)

@@ -5,15 +5,15 @@ use Rattle.std.proofs.lemmas.List.{length-set}
 use Rattle.heap_words.specs.declared.config.Config.{Config}
 use Rattle.heap_words.specs.Configs.{registers_of}
 use Rattle.root_table.proofs.Rows.{register_within}
-use Rattle.heap_model.specs.Graph.{Graph, Object, RootCounts, IsSound}
+use Rattle.std.specs.List.{AllZip}
+use Rattle.heap_model.specs.Graph.{Graph, Object, RootCounts, object_named, with_changed}
 use Rattle.heap_model.specs.Heap.{Heap, Stored, IsShown, IsRoot, IsHeld, ObjectSet}
-use Rattle.heap_model.specs.Weak.{KeepsUnreached}
+use Rattle.regions.specs.Tiles as tiles
 use Rattle.heap_model.proofs.Unreached.{unreached_root, unreached_written}
 use Rattle.regions.specs.Table.{Table, object_at, pointers_at, weaks_at, values_at, set_value}
 use Rattle.regions.proofs.Tiles.Changes.{WritesObject, value_put}
 use Rattle.regions.proofs.Words.Values.{with_value}
 use Rattle.graph_runs.specs.State.{root_at, with_root, root_places, register_place}
-use Rattle.graph_runs.specs.Machine.{Outcome, act}
 use Rattle.heap_steps.specs.declared.step.Action.TheVariants as actions
 use Rattle.heap_steps.specs.declared.step.Reply.TheVariants as replies
 use Rattle.heap_steps.specs.declared.step.Register.{Register}
@@ -24,13 +24,13 @@ use Rattle.step_core.specs.Mutators.{with_root_word}
 use Rattle.step_core.specs.Parts.{DoesAction, HoldsRegister, HoldsRoot, NamesAt}
 use Rattle.step_core.specs.Answers.{Acts}
 use Rattle.step_core.proofs.Cores.Sizes.{some_words}
-use Rattle.step_core.proofs.Cores.Resting.{root_rests, object_rests}
+use Rattle.step_core.proofs.Cores.Resting.{core_over, root_rests, object_rests}
 use Rattle.step_core.proofs.Cores.Layers.{layers_writes, follows_of}
 use Rattle.step_core.proofs.Mutating.Written.{object_written, write_keeps, root_keeps}
 use Rattle.step_core.proofs.Cores.Remembering.{remembers_on, written_fields}
 use Rattle.step_core.proofs.Mutating.Reading.{root_shown, leads, root_word, root_rooted, object_kept}
 use Rattle.step_core.proofs.Mutating.Reading.{pointers_there, field_held, led_object, word_object}
-use Rattle.step_core.proofs.Mutating.Acting.{root_shows, write_is, write_done, field_word, slot_word}
+use Rattle.step_core.proofs.Mutating.Acting.{object_shows, root_shows, write_done, field_word, slot_word}
 
 pub core_of : (k c : CoreState) → k ≡ c → IsCore k → IsCore c
 core_of k c e core = subst (λ (d : CoreState). IsCore d) e core
@@ -128,24 +128,14 @@ module _ (k c : CoreState) (place : ℕ) (w : Option ℕ) (e : k ≡ c) where
     pub root_kept : IsWordOf (heap_of c) w → IsCore (with_root_word k place w)
     root_kept word =
         let word' : IsWordOf (heap_of k) w = subst (λ (d : CoreState). IsWordOf (heap_of d) w) (sym e) word in
-        record {
-          suits = core.suits;
-          placed = core.placed;
-          layers = core.layers;
-          cards = core.cards;
-          remembers = root_remembers;
-          room = core.room;
-          rows = core.rows;
-          places = length-set k.roots place w ∙ core.places;
-          names = core.names;
-          footing = record { graph = with_root core.footing.graph place word'.name; snapshot = core.footing.snapshot };
-          rests = record {
-            shows = root_shows core.footing.graph k place w word'.name core.rests.shows word'.shown;
-            keeps = root_keeps core.footing.graph core.footing.snapshot k place w _ core.rests.shows held' refl core.rests.keeps;
-            sound = root_rests core.footing.graph k place w word'.name core.rests.shows word'.shown core.rests.sound;
-            unreached = unreached_root core.footing.snapshot core.footing.graph core.rests.unreached place word'.name;
-          };
-        }
+        core_over k core k.table k.buffers k.marker k.cards k.sets (slice_set k.roots place w) (length-set k.roots place w)
+        core.layers core.cards root_remembers
+        (record { graph = with_root core.footing.graph place word'.name; snapshot = core.footing.snapshot }) (record {
+          shows = root_shows core.footing.graph k place w word'.name core.rests.shows word'.shown;
+          keeps = root_keeps core.footing.graph core.footing.snapshot k place w _ core.rests.shows held' refl core.rests.keeps;
+          sound = root_rests core.footing.graph k place w word'.name core.rests.shows word'.shown core.rests.sound;
+          unreached = unreached_root core.footing.snapshot core.footing.graph core.rests.unreached place word'.name;
+        })
 
 pub named_object : (k c : CoreState) (a : ℕ) → k ≡ c → IsWordOf (heap_of c) (Some a) → IsSome (object_at k.table a)
 named_object k c a e word = subst (λ (d : CoreState). IsSome (object_at d.table a)) (sym e) (word_object c a word)
@@ -162,6 +152,25 @@ name_is k c a n e some is = subst (λ (d : CoreState). Some n ≡ name_in d.tabl
 pub object_led : (k c : CoreState) (place a : ℕ) → k ≡ c → IsCore k → Leads c place (Some a) → IsSome (object_at k.table a)
 object_led k c place a e core l =
     subst (λ (d : CoreState). IsSome (object_at d.table a)) (sym e) (led_object c place a (core_of k c e core) l)
+
+-- an object is written over by one with the same pointers, and the graph's object with it
+pub written_kept : (k : CoreState) (core : IsCore k) (a : ℕ) (x y : Stored) (o p : Object) (t : Table) → kept_of k a ≡ Some x
+    → WritesObject k.table t a x y → y.name ≡ x.name → y.pointers ≡ x.pointers → tiles.tile_size (tiles.Object y) ≡ tiles.tile_size
+    (tiles.Object x) → object_named core.footing.graph x.name ≡ Some o → p.pointers ≡ o.pointers
+    → AllZip (IsShown (heap_of k)) y.pointers p.pointers → AllZip (IsShown (heap_of k)) y.weaks p.weaks
+    → ShowsGraph (with_changed core.footing.graph x.name p) (record k { table = t }) → RemembersFields (record k { table = t })
+    → IsCore (record k { table = t })
+written_kept k core a x y o p t at writes name same long named stay pointers weaks shows remembers =
+    let keeps = write_keeps core.footing.snapshot k t a x y writes name at same core.rests.keeps in
+    core_over k core t k.buffers k.marker k.cards k.sets k.roots refl
+    (layers_writes k.config k.table t k.buffers k.marker a x y writes core.layers
+    (follows_of (record k { table = t }) _ core.footing.snapshot shows keeps) long) core.cards remembers
+    (record { graph = with_changed core.footing.graph x.name p; snapshot = core.footing.snapshot }) (record {
+      shows = shows;
+      keeps = keeps;
+      sound = object_rests core.footing.graph k x.name o p y.pointers y.weaks core.rests.shows named pointers weaks core.rests.sound;
+      unreached = unreached_written core.footing.snapshot core.footing.graph core.rests.unreached x.name o p named stay;
+    })
 
 module _ (k c : CoreState) (e : k ≡ c) (core : IsCore k) (m : ℕ) (object : Register) (a i v : ℕ) (t : Table)
     (names : NamesAt c m object a) (within : i < length (values_at k.table a)) (is : t ≡ set_value k.table a i v) where
@@ -203,43 +212,17 @@ module _ (k c : CoreState) (e : k ≡ c) (core : IsCore k) (m : ℕ) (object : R
         (record { config = refl; in_use = λ j n u. n (sym (writes.kinds j) ∙ u) });
   }
 
-  abbrev written : Object
-  written = record h.object { values = slice_set h.object.values i v }
-
-  l' : Leads k (register_place (root_counts_of k.config) m object.number) (Some a)
-  l' = subst (λ (d : CoreState). Leads d (register_place (root_counts_of d.config) m object.number) (Some a)) (sym e) l
-
-  write_sound : IsSound (act core.footing.graph m (actions.Write object i v)).1
-  write_sound = subst (λ (out : Outcome). IsSound out.1) (sym (write_is core.footing.graph k core.rests.shows m object a l' i v h within))
-      (object_rests core.footing.graph k h.stored.name h.object written h.stored.pointers h.stored.weaks core.rests.shows
-      h.named h.pointers h.weaks core.rests.sound)
-
-  write_unreached : KeepsUnreached core.footing.snapshot (act core.footing.graph m (actions.Write object i v)).1
-  write_unreached = subst (λ (out : Outcome). KeepsUnreached core.footing.snapshot out.1)
-      (sym (write_is core.footing.graph k core.rests.shows m object a l' i v h within))
-      (unreached_written core.footing.snapshot core.footing.graph core.rests.unreached h.stored.name h.object written h.named refl)
-
   pub write_kept : IsCore (record k { table = t })
   write_kept =
-      let shows = (write_by core.footing.graph core.rests.shows).shows in
-      let keeps = keeps_by core.footing.snapshot core.rests.keeps in
-      record {
-        suits = core.suits;
-        placed = core.placed;
-        layers = layers_writes k.config k.table t k.buffers k.marker a h.stored (with_value h.stored i v) writes core.layers
-            (follows_of (record k { table = t }) _ core.footing.snapshot shows keeps)
-            (ap (λ (n : ℕ). 2 + length h.stored.pointers + length h.stored.weaks + n) (length-set h.stored.values i v));
-        cards = core.cards;
-        remembers = remembers_on k (record k { table = t }) refl writes.size refl refl
-            (written_fields (heap_of k) (heap_of (record k { table = t })) a h.stored (with_value h.stored i v) write_set refl)
-            core.remembers;
-        room = core.room;
-        rows = core.rows;
-        places = core.places;
-        names = core.names;
-        footing = record { graph = (act core.footing.graph m (actions.Write object i v)).1; snapshot = core.footing.snapshot };
-        rests = record { shows = shows; keeps = keeps; sound = write_sound; unreached = write_unreached };
-      }
+      let d : CoreState = record k { table = t } in
+      let p : Object = record h.object { values = slice_set h.object.values i v } in
+      written_kept k core a h.stored (with_value h.stored i v) h.object p t h.at writes refl refl
+      (ap (λ (n : ℕ). 2 + length h.stored.pointers + length h.stored.weaks + n) (length-set h.stored.values i v)) h.named refl
+      h.pointers h.weaks
+      (object_shows core.footing.graph k d a h.stored (with_value h.stored i v) h.object p core.rests.shows
+      (record { config = refl; next = refl }) write_set h.named h.pointers h.weaks (ap (λ (vs : List ℕ). slice_set vs i v) h.values))
+      (remembers_on k d refl writes.size refl refl (written_fields (heap_of k) (heap_of d) a h.stored (with_value h.stored i v) write_set
+      refl) core.remembers)
 
 -- the pointers and the data words of the object at an address, by the core's value
 pub pointers_of : (k c : CoreState) (a : ℕ) → k ≡ c → pointers_at k.table a ≡ pointers_at c.table a

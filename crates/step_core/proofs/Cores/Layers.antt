@@ -1,6 +1,5 @@
 -- The layers below fit one another, after each kind of change.
-use Rattle.std.proofs.Common.{◌≡◌, ℕ, ◌<◌, ◌≤◌, Some, length, true, refl, ◌∙◌, ap, inl, inr}
-use Rattle.std.specs.Prelude.{slice_index}
+use Rattle.std.proofs.Common.{◌≡◌, ℕ, ◌<◌, ◌≤◌, Some, length, true, refl, ◌∙◌, ap, inl, inr, slice_index}
 use Rattle.heap_model.specs.Graph.{Graph}
 use Rattle.heap_model.specs.Heap.{Stored}
 use Rattle.heap_words.specs.declared.config.Config.{Config}
@@ -40,10 +39,7 @@ stands_over t t' m st count size low high stays words follows =
 still_there : (t t' : Table) (a b : ℕ) (x y z : Stored) → WritesObject t t' a x y → object_at t b ≡ Some z
     → (u : Stored) × (object_at t' b ≡ Some u)
 still_there t t' a b x y z w e =
-    elim (cases_eq b a) [
-      | inl q ↦ (y, ap (object_at t') q ∙ w.is)
-      | inr n ↦ (z, object_same t t' b (w.others b n) ∙ e)
-    ]
+    elim (cases_eq b a) [ inl q ↦ (y, ap (object_at t') q ∙ w.is) | inr n ↦ (z, object_same t t' b (w.others b n) ∙ e) ]
 
 -- the marker stands over the table with an object written
 pub marker_writes : (t t' : Table) (b : Buffers) (m : Marker) (a : ℕ) (x y : Stored) → WritesObject t t' a x y

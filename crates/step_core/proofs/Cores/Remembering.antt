@@ -1,6 +1,5 @@
 -- Cross-region pointers stay remembered, after each kind of change.
-use Rattle.std.proofs.Common.{◌≡◌, ℕ, Option, Some, refl, sym, ◌∙◌, ap, inl, inr}
-use Rattle.std.specs.Prelude.{slice_get, slice_set}
+use Rattle.std.proofs.Common.{◌≡◌, ℕ, Option, Some, refl, sym, ◌∙◌, ap, inl, inr, slice_get, slice_set}
 use Rattle.std.proofs.lemmas.Bool.{cases_eq}
 use Rattle.heap_model.specs.Heap.{Heap, Stored, ObjectSet, ObjectAdded, fields}
 use Rattle.cards.specs.Cards.{Cards, is_dirty}

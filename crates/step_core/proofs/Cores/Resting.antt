@@ -1,6 +1,6 @@
--- What a core rests on stays so: names are below the next one, and what the snapshot doesn't reach has the pointers that it had.
-use Rattle.std.proofs.Common.{◌≡◌, ℕ, ◌<◌, ◌≤◌, ◌⊎◌, Option, Some, None, List, refl, sym, ◌∙◌, ap, subst, inl, inr}
-use Rattle.std.specs.Prelude.{slice_get}
+-- A core whose layers and roots change is one still: names are below the next one, and what the snapshot doesn't reach has the pointers
+-- that it had.
+use Rattle.std.proofs.Common.{◌≡◌, ℕ, ◌<◌, ◌≤◌, ◌⊎◌, Option, Some, None, List, length, refl, sym, ◌∙◌, ap, subst, inl, inr, slice_get}
 use Rattle.std.specs.List.{AllZip}
 use Rattle.heap_model.specs.Graph.{Graph, Object, IsReachable, FromRoot, IsSound, next_name, object_named, with_root, with_changed}
 use Rattle.heap_model.specs.Heap.{Stored, IsShown, IsRoot}
@@ -10,7 +10,44 @@ use Rattle.heap_model.proofs.Names.{named_below}
 use Rattle.heap_model.proofs.Changed.{root_read}
 use Rattle.heap_model.proofs.Touched.{reached_known}
 use Rattle.heap_model.proofs.Unreached.{root_sound, changed_sound}
-use Rattle.step_core.specs.Stands.{CoreState, kept_of, heap_of, marking_of, ShowsGraph}
+use Rattle.regions.specs.Table.{Table}
+use Rattle.alloc_buffers.specs.Placement.{Buffers}
+use Rattle.marker.specs.declared.marker.Marker.{Marker}
+use Rattle.cards.specs.Cards.{Cards}
+use Rattle.remembered_sets.specs.Sets.{Sets}
+use Rattle.step_core.specs.Stands.{CoreState, kept_of, heap_of, marking_of, ShowsGraph, KeepsFrom, LayersFit, CardsFit, RemembersFields}
+use Rattle.step_core.specs.Stands.{Footing, RestsOn, IsCore}
+
+module _ (k : CoreState) (core : IsCore k) (t : Table) (b : Buffers) (m : Marker) (cs : Cards) (ss : Sets) (roots : List (Option ℕ))
+    (many : length roots ≡ length k.roots) (layers : LayersFit k.config t b m) (cards : CardsFit k.config cs ss) where
+  abbrev d : CoreState
+  d = record k { table = t; buffers = b; marker = m; cards = cs; sets = ss; roots = roots }
+
+  -- the layers fit, all stays remembered, and it rests on something
+  pub core_over : RemembersFields d → (f : Footing) → RestsOn f d → IsCore d
+  core_over remembers f rests = record {
+    suits = core.suits;
+    layers = layers;
+    cards = cards;
+    remembers = remembers;
+    room = core.room;
+    rows = core.rows;
+    placed = core.placed;
+    places = many ∙ core.places;
+    names = core.names;
+    footing = f;
+    rests = rests;
+  }
+
+  -- it rests on what it did: the same graphs are shown, and the same snapshots kept
+  pub core_stays : RemembersFields d → ((g : Graph) → ShowsGraph g k → ShowsGraph g d) → ((s : Graph) → KeepsFrom s k → KeepsFrom s d)
+      → IsCore d
+  core_stays remembers shows keeps = core_over remembers core.footing (record {
+    shows = shows core.footing.graph core.rests.shows;
+    keeps = keeps core.footing.snapshot core.rests.keeps;
+    sound = core.rests.sound;
+    unreached = core.rests.unreached;
+  })
 
 -- a name that a word shows is below the next one
 pub shown_below : (g : Graph) (c : CoreState) (w v : Option ℕ) (n : ℕ) → ShowsGraph g c

@@ -9,11 +9,8 @@ use Rattle.marker.specs.Steps.{TakesFull, Overwrites, saved}
 use Rattle.marker.specs.declared.marker.Marker.{Marker}
 use Rattle.graph_runs.specs.State.{ForSnapshot}
 use Rattle.graph_runs.specs.Run.{snapshot_after}
-use Rattle.heap_steps.specs.declared.step.Action.{Action}
+use Rattle.step_core.specs.Steps.{Action, Refusal, Register, Reply}
 use Rattle.heap_steps.specs.declared.step.Action.TheVariants as actions
-use Rattle.heap_steps.specs.declared.step.Refusal.{Refusal}
-use Rattle.heap_steps.specs.declared.step.Register.{Register}
-use Rattle.heap_steps.specs.declared.step.Reply.{Reply}
 use Rattle.heap_steps.specs.declared.step.Reply.TheVariants as replies
 use Rattle.step_core.specs.Stands.{CoreState, KeepsFrom, KeepsFor}
 use Rattle.step_core.specs.Cycle.{IsRefused}

@@ -1,7 +1,6 @@
 -- Several data words at once: each as by a step of its own.
-use Rattle.std.proofs.Common.{◌≡◌, ◌+◌, ◌-◌, ◌<◌, ◌≤◌, ◌∷◌, ◌∙◌, ℕ, false, suc, Option, Some, List, [], length, take, drop}
-use Rattle.std.proofs.Common.{refl, sym, ap, subst, arith}
-use Rattle.std.specs.Prelude.{slice_get, slice_index}
+use Rattle.std.proofs.Common.{◌≡◌, ◌+◌, ◌-◌, ◌<◌, ◌≤◌, ◌∷◌, ◌∙◌, ℕ, false, suc, Option, Some, List, [], length, take, drop, refl, sym, ap}
+use Rattle.std.proofs.Common.{subst, arith, slice_get, slice_index}
 use Rattle.std.proofs.lemmas.List.{get_or-drop, get_or-take}
 use Rattle.std.proofs.lemmas.Option.{slice_get-get_or}
 use Rattle.regions.specs.Table.{Table, values_at, set_value, set_values}
@@ -9,11 +8,9 @@ use Rattle.regions.proofs.Cards.ValueRuns.{values_stay}
 use Rattle.heap_words.specs.Configs.{registers_of}
 use Rattle.heap_model.specs.Graph.{Graph}
 use Rattle.graph_runs.specs.State.{register_place, root_counts_of}
-use Rattle.heap_steps.specs.declared.step.Op.{Op}
-use Rattle.heap_steps.specs.declared.step.Register.{Register}
+use Rattle.step_core.specs.Steps.{Op, Refusal, Register}
 use Rattle.heap_steps.specs.declared.step.Action.TheVariants as actions
 use Rattle.heap_steps.specs.declared.step.Reply.TheVariants as replies
-use Rattle.heap_steps.specs.declared.step.Refusal.{Refusal}
 use Rattle.heap_steps.specs.declared.step.Refusal.TheVariants as refusals
 use Rattle.heap_steps.specs.declared.step.Step.TheVariants as steps
 use Rattle.step_core.specs.Stands.{CoreState, IsCore, Leads, ShowsGraph}

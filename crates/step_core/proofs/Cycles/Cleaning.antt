@@ -1,8 +1,6 @@
 -- What is dead is released, one region or run after another.
-use Rattle.std.proofs.Common.{◌≡◌, ◌≢◌, ◌+◌, ◌-◌, ◌*◌, ◌/◌, ◌<◌, ◌≤◌, ◌∷◌, ◌∙◌}
-use Rattle.std.proofs.Common.{ℕ, zero, suc, Bool, true, false, not, List, [], Option, Some}
-use Rattle.std.proofs.Common.{None, length, refl, sym, ap, subst, arith, inl, inr}
-use Rattle.std.specs.Prelude.{◌↔◌, IsTrue, slice_get}
+use Rattle.std.proofs.Common.{◌≡◌, ◌≢◌, ◌+◌, ◌-◌, ◌*◌, ◌/◌, ◌<◌, ◌≤◌, ◌∷◌, ◌∙◌, ℕ, zero, suc, Bool, true, false, not, List, [], Option}
+use Rattle.std.proofs.Common.{Some, None, length, refl, sym, ap, subst, arith, inl, inr, ◌↔◌, IsTrue, slice_get}
 use Rattle.std.proofs.lemmas.Bool.{cases_lt, cases_eq}
 use Rattle.std.proofs.lemmas.List.{get_or_past}
 use Rattle.heap_model.specs.Heap.{Stored}
@@ -66,8 +64,7 @@ run_tells c q false z first below is = (λ h. run_dead c (q * c.table.words_per_
 head_dead : (c : CoreState) (i k : ℕ) → IsShaped c.table → IsDeadHead c i → i ≤ k → k < i + run_length c.table i → IsDead c k
 head_dead c i k shaped (inl d) low high =
     let o = d.ordinary in
-    let one = alone c.table i shaped (λ e. let no : kinds.Ordinary ≡ kinds.First = sym o ∙ e in cc)
-    (λ e. let no : kinds.Ordinary ≡ kinds.Rest = sym o ∙ e in cc) in
+    let one = alone c.table i shaped (λ e. cc) (λ e. cc) in
     let same : k ≡ i = omega arith in
     inl (subst (λ (j : ℕ). IsDeadRegion c j) (sym same) d)
 head_dead c i k shaped (inr d) low high =
@@ -86,10 +83,7 @@ dead_head : (c : CoreState) (i k : ℕ) → IsShaped c.table → kind_of c.table
     → k < i + run_length c.table i → IsDead c k → IsDeadHead c i
 dead_head c i k shaped head low high (inl d) = elim (cases_eq k i) [
   | inl same ↦ inl (subst (λ (j : ℕ). IsDeadRegion c j) same d)
-  | inr ne ↦ absurd (let o = d.ordinary in
-      let rest = later_rest c.table i (k - i) k (omega arith) (omega arith) (omega arith) in
-      let no : kinds.Rest ≡ kinds.Ordinary = sym rest ∙ o in
-      cc)
+  | inr ne ↦ absurd (let o = d.ordinary in let rest = later_rest c.table i (k - i) k (omega arith) (omega arith) (omega arith) in cc)
 ]
 dead_head c i k shaped head low high (inr d) = elim (cases_eq d.first i) [
   | inl same ↦ inr (
@@ -180,10 +174,7 @@ below_left i n m c d alive = record {
   regions = d.regions;
   distinct = d.distinct;
   only = λ p k e. let o = d.only p k e in (omega (arith, o.0), o.1);
-  each = λ k lt dead. elim (cases_lt k i) [
-    | inl less ↦ d.each k less dead
-    | inr le ↦ absurd (alive k le lt dead)
-  ];
+  each = λ k lt dead. elim (cases_lt k i) [ inl less ↦ d.each k less dead | inr le ↦ absurd (alive k le lt dead) ];
   count = d.count;
 }
 
@@ -303,13 +294,8 @@ one_left i n m c0 c shaped p known together alive = record {
 
 used_now : (c : CoreState) (i k : ℕ) → IsDeadHead c i → i ≤ k → k < i + run_length c.table i → kind_of c.table k ≡ kinds.Free → ⊥
 used_now c i k dead low high free = elim (cases_eq k i) [
-  | inl same ↦ elim dead [
-    | inl d ↦ (let o = d.ordinary in let no : kinds.Ordinary ≡ kinds.Free = sym o ∙ ap (kind_of c.table) (sym same) ∙ free in cc)
-    | inr d ↦ (let o = d.0 in let no : kinds.First ≡ kinds.Free = sym o ∙ ap (kind_of c.table) (sym same) ∙ free in cc)
-  ]
-  | inr ne ↦ (let rest = later_rest c.table i (k - i) k (omega arith) (omega arith) (omega arith) in
-      let no : kinds.Rest ≡ kinds.Free = sym rest ∙ free in
-      cc)
+  | inl same ↦ (let here = ap (kind_of c.table) same in elim dead [ inl d ↦ (let o = d.ordinary in cc) | inr d ↦ (let o = d.0 in cc) ])
+  | inr ne ↦ (let rest = later_rest c.table i (k - i) k (omega arith) (omega arith) (omega arith) in cc)
 ]
 
 pub one_cleaned : (i n m : ℕ) (c0 c c' : CoreState) → IsShaped c.table → Cleans i n c0 c → m ≡ run_length c.table i → IsDeadHead c i
@@ -383,22 +369,16 @@ all_cleaned i n c0 c shaped p le = record {
   where
     none_past : (k : ℕ) → length c0.table.regions ≤ k → IsDead c0 k → ⊥
     none_past k past (inl d) =
-        let free = kind_is c0.table k Free (past_end c0.table k past) in
-        let o = d.ordinary in
-        let no : kinds.Ordinary ≡ kinds.Free = sym o ∙ free in
-        cc
+        let free = kind_is c0.table k Free (past_end c0.table k past) in let o = d.ordinary in cc
     none_past k past (inr d) =
         elim (cases_eq d.first k) [
           | inl same ↦ (let free = past_end c0.table k past in
-              let begins = d.begins in
-              let no : First d.object ≡ Free = sym begins ∙ ap (nth_region c0.table) same ∙ free in
-              cc)
+              let begins = d.begins in let here = ap (nth_region c0.table) same in cc)
           | inr ne ↦
               let low = d.low in
               let at : d.first + (k - d.first) ≡ k = omega arith in
               let rest = ap (kind_of c0.table) (sym at) ∙ shaped.run d.first (k - d.first) d.object d.begins (omega arith) d.reaches in
-              let free = kind_is c0.table k Free (past_end c0.table k past) in
-              let no : kinds.Rest ≡ kinds.Free = sym rest ∙ free in cc
+              let free = kind_is c0.table k Free (past_end c0.table k past) in cc
         ]
 
     within : (k : ℕ) → IsDead c0 k → k < i

@@ -1,6 +1,5 @@
 -- Marking begins and goes on in a core: k is the core by its fields before the step.
-use Rattle.std.proofs.Common.{◌≡◌, ℕ, ◌+◌, ◌<◌, ◌≤◌, true, List, None, length, refl, sym, ◌∙◌, ap, subst, arith}
-use Rattle.std.specs.Prelude.{slice_index}
+use Rattle.std.proofs.Common.{◌≡◌, ℕ, ◌+◌, ◌<◌, ◌≤◌, true, List, None, length, refl, sym, ◌∙◌, ap, subst, arith, slice_index}
 use Rattle.std.proofs.lemmas.List.{length-replicate}
 use Rattle.heap_model.specs.Graph.{Graph}
 use Rattle.heap_model.specs.Heap.{Heap, Shows, IsClosed}
@@ -21,6 +20,7 @@ use Rattle.step_core.specs.Stands.{CoreState, kept_of, heap_of, RemembersFields,
 use Rattle.step_core.specs.Cycle.{HasBegun, HasMarked}
 use Rattle.regions.specs.Shaped.{IsShaped}
 use Rattle.step_core.proofs.Cores.Layers.{layers_marked}
+use Rattle.step_core.proofs.Cores.Resting.{core_over, core_stays}
 use Rattle.step_core.proofs.Cores.Remembering.{remembers_on, same_fields}
 
 abbrev pub with_marker : CoreState → Buffers → Marker → CoreState
@@ -66,10 +66,10 @@ module _ (k : CoreState) (core : IsCore k) (b : Buffers) (m : Marker) (retires :
   unfolding kept_of
   begun_keeps g s = record { earlier = (let next = s.next in omega arith); marking = λ run. snapshot g s.shows }
 
-  has_begun : Begins (views.heap_of k.table k.roots m) (views.marking_of k.table m)
-      → m.scans ≡ restarted k.marker.scans → HasBegun k (with_marker k b m)
+  pub begun_from : (c : CoreState) → k ≡ c → Begins (views.heap_of k.table k.roots m) (views.marking_of k.table m)
+      → m.scans ≡ restarted k.marker.scans → HasBegun c (with_marker k b m)
   unfolding kept_of
-  has_begun begins scans = record {
+  begun_from c e begins scans = subst (λ (d : CoreState). HasBegun d (with_marker k b m)) e (record {
     same = ap (λ (x : Buffers). with_marker k x m) retires;
     running = running;
     begins = begins;
@@ -77,46 +77,31 @@ module _ (k : CoreState) (core : IsCore k) (b : Buffers) (m : Marker) (retires :
     tops = next_tops;
     previous_tops = tops;
     previous_marks = marks;
-  }
-
-  pub begun_from : (c : CoreState) → k ≡ c → Begins (views.heap_of k.table k.roots m) (views.marking_of k.table m)
-      → m.scans ≡ restarted k.marker.scans → HasBegun c (with_marker k b m)
-  begun_from c e begins scans = subst (λ (d : CoreState). HasBegun d (with_marker k b m)) e (has_begun begins scans)
+  })
 
   pub begun_kept : IsCore (with_marker k b m)
-  begun_kept = record {
-    suits = core.suits;
-    placed = core.placed;
-    layers = record {
-      region_size = core.layers.region_size;
-      region_count = core.layers.region_count;
-      buffer_size = ap (λ (x : Buffers). x.words) retires ∙ core.layers.buffer_size;
-      open_buffers = ap (λ (x : Buffers). length x.open_buffers) retires
-          ∙ length-replicate (length k.buffers.open_buffers) None ∙ core.layers.open_buffers;
-      logs = ap (λ (ls : List (List ℕ)). length ls) logs ∙ core.layers.logs;
-      buffers = stand k.table core.layers.buffers;
-      unmoved = core.layers.unmoved;
-      marker = st;
-      above_previous = above k.table (slice_index m.tams.previous) st.previous.top;
-      above_next = above k.table (slice_index m.tams.next) st.next.top;
-      room = λ n. rw logs (core.layers.room n);
-      halves = core.layers.halves;
-      wide = core.layers.wide;
-    };
-    cards = core.cards;
-    remembers = remembers_same k b m heap_begun core.remembers;
-    room = core.room;
-    rows = core.rows;
-    places = core.places;
-    names = core.names;
-    footing = record { graph = core.footing.graph; snapshot = core.footing.graph };
-    rests = record {
-      shows = begun_shows core.footing.graph core.rests.shows;
-      keeps = begun_keeps core.footing.graph core.rests.shows;
-      sound = core.rests.sound;
-      unreached = unreached_begins core.footing.graph core.rests.sound;
-    };
-  }
+  begun_kept = core_over k core k.table b m k.cards k.sets k.roots refl (record {
+    region_size = core.layers.region_size;
+    region_count = core.layers.region_count;
+    buffer_size = ap (λ (x : Buffers). x.words) retires ∙ core.layers.buffer_size;
+    open_buffers = ap (λ (x : Buffers). length x.open_buffers) retires
+        ∙ length-replicate (length k.buffers.open_buffers) None ∙ core.layers.open_buffers;
+    logs = ap (λ (ls : List (List ℕ)). length ls) logs ∙ core.layers.logs;
+    buffers = stand k.table core.layers.buffers;
+    unmoved = core.layers.unmoved;
+    marker = st;
+    above_previous = above k.table (slice_index m.tams.previous) st.previous.top;
+    above_next = above k.table (slice_index m.tams.next) st.next.top;
+    room = λ n. rw logs (core.layers.room n);
+    halves = core.layers.halves;
+    wide = core.layers.wide;
+  }) core.cards (remembers_same k b m heap_begun core.remembers)
+      (record { graph = core.footing.graph; snapshot = core.footing.graph }) (record {
+        shows = begun_shows core.footing.graph core.rests.shows;
+        keeps = begun_keeps core.footing.graph core.rests.shows;
+        sound = core.rests.sound;
+        unreached = unreached_begins core.footing.graph core.rests.sound;
+      })
 
 -- marking goes on
 module _ (k : CoreState) (core : IsCore k) (run : k.marker.running ≡ true) (m : Marker)
@@ -135,45 +120,25 @@ module _ (k : CoreState) (core : IsCore k) (run : k.marker.running ≡ true) (m 
     marking = λ on. snapshots s core.footing.graph k.roots core.rests.shows.shows (f.marking run);
   }
 
-  has_marked : (units n : ℕ) → n ≤ units → (n < units → HasNone (is_grey m.bitmaps.next m.grey) 0) → IsMore k.marker.scans m.scans n
-      → marked_count m.grey.scanned ≡ marked_count k.marker.grey.scanned + n → Grows k.marker m
-      → HasMarked units k (with_marker k k.buffers m)
-  has_marked units n most none scans scanned grows = record {
-    same = refl;
-    units = n;
-    most = most;
-    none_left = none;
-    scans = scans;
-    scanned = scanned;
-    grows = grows;
-    roles = same;
-    logs = logs;
-  }
-
   pub marked_from : (c : CoreState) → k ≡ c → (units n : ℕ) → n ≤ units
       → (n < units → HasNone (is_grey m.bitmaps.next m.grey) 0) → IsMore k.marker.scans m.scans n
       → marked_count m.grey.scanned ≡ marked_count k.marker.grey.scanned + n → Grows k.marker m
       → HasMarked units c (with_marker k k.buffers m)
   marked_from c e units n most none scans scanned grows =
-      subst (λ (d : CoreState). HasMarked units d (with_marker k k.buffers m)) e (has_marked units n most none scans scanned grows)
+      subst (λ (d : CoreState). HasMarked units d (with_marker k k.buffers m)) e (record {
+        same = refl;
+        units = n;
+        most = most;
+        none_left = none;
+        scans = scans;
+        scanned = scanned;
+        grows = grows;
+        roles = same;
+        logs = logs;
+      })
 
   pub marked_kept : IsCore (with_marker k k.buffers m)
-  marked_kept = record {
-    suits = core.suits;
-    placed = core.placed;
-    layers = layers_marked k.config k.table k.buffers k.marker m core.layers st same.tams
-        (ap (λ (ls : List (List ℕ)). length ls) logs) (λ n. rw logs (core.layers.room n));
-    cards = core.cards;
-    remembers = remembers_same k k.buffers m heap_marked core.remembers;
-    room = core.room;
-    rows = core.rows;
-    places = core.places;
-    names = core.names;
-    footing = core.footing;
-    rests = record {
-      shows = marked_shows core.footing.graph core.rests.shows;
-      keeps = marked_keeps core.footing.snapshot core.rests.keeps;
-      sound = core.rests.sound;
-      unreached = core.rests.unreached;
-    };
-  }
+  marked_kept = core_stays k core k.table k.buffers m k.cards k.sets k.roots refl
+      (layers_marked k.config k.table k.buffers k.marker m core.layers st same.tams
+      (ap (λ (ls : List (List ℕ)). length ls) logs) (λ n. rw logs (core.layers.room n)))
+      core.cards (remembers_same k k.buffers m heap_marked core.remembers) marked_shows marked_keeps

@@ -1,7 +1,6 @@
 -- A dead region, or a dead run, is released.
-use Rattle.std.proofs.Common.{◌≡◌, ◌≢◌, ◌+◌, ◌-◌, ◌*◌, ◌/◌, ◌<◌, ◌≤◌, ◌⊎◌, ◌∙◌}
-use Rattle.std.proofs.Common.{ℕ, Bool, true, false, cond, List, Option, Some, None, length, refl, sym, ap, subst, arith, inl, inr}
-use Rattle.std.specs.Prelude.{◌↔◌, if◌then◌else◌, slice_get, slice_index, nat_lt}
+use Rattle.std.proofs.Common.{◌≡◌, ◌≢◌, ◌+◌, ◌-◌, ◌*◌, ◌/◌, ◌<◌, ◌≤◌, ◌⊎◌, ◌∙◌, ℕ, Bool, true, false, cond, List, Option, Some, None}
+use Rattle.std.proofs.Common.{length, refl, sym, ap, subst, arith, inl, inr, ◌↔◌, if◌then◌else◌, slice_get, slice_index, nat_lt}
 use Rattle.std.proofs.lemmas.Bool.{cases_eq}
 use Rattle.heap_model.specs.Graph.{Graph}
 use Rattle.heap_model.specs.Heap.{Stored, fields}
@@ -9,7 +8,7 @@ use Rattle.heap_model.proofs.Changed.{same_shows}
 use Rattle.heap_model.proofs.Shown.{closed}
 use Rattle.heap_words.specs.Configs.{card_words}
 use Rattle.regions.specs.Tiles.{Filler, Object}
-use Rattle.regions.specs.Table.{Table, Free, First, nth_region, kind_of, object_at, object_words, tile_in, run_length, released}
+use Rattle.regions.specs.Table.{Table, Free, First, nth_region, kind_of, object_at, object_words, tile_in, run_length, released, top_of}
 use Rattle.regions.specs.Shaped.{IsShaped}
 use Rattle.regions.specs.declared.row.Kind.{Kind}
 use Rattle.regions.specs.declared.row.Kind.TheVariants as kinds
@@ -41,7 +40,8 @@ use Rattle.regions.proofs.Tiles.Holders.{holder_start}
 use Rattle.regions.proofs.Tiles.Laws.{object_tile}
 use Rattle.evacuation.proofs.Lists.{get_below}
 use Rattle.step_core.proofs.Mutating.Small.{IsHalf, IsOver, sizes_left, words_by}
-use Rattle.step_core.specs.Stands.{CoreState, kept_of, heap_of, RemembersFields, CardsFit, ShowsGraph, KeepsFrom, IsCore}
+use Rattle.step_core.specs.Stands.{CoreState, kept_of, heap_of, RemembersFields, ShowsGraph, KeepsFrom, IsCore}
+use Rattle.step_core.proofs.Cores.Resting.{core_stays}
 use Rattle.step_core.specs.Cycle.{IsDeadRegion, IsDeadRun, IsDead, IsAsNew, IsAsBefore}
 use Rattle.step_core.specs.Cleaning.{IsDeadHead, HasForgotten, HasEmptied, HasReleased}
 
@@ -105,8 +105,7 @@ module _ (k : CoreState) (core : IsCore k) (shaped : IsShaped k.table) (n m : �
   behind q low high = later_rest k.table n (q - n) q (omega arith) (omega arith) (omega (arith, together))
 
   by_itself : kind_of k.table n ≡ kinds.Ordinary → m ≡ 1
-  by_itself o = together ∙ alone k.table n shaped (λ e. let no : kinds.Ordinary ≡ kinds.First = sym o ∙ e in cc)
-      (λ e. let no : kinds.Ordinary ≡ kinds.Rest = sym o ∙ e in cc)
+  by_itself o = together ∙ alone k.table n shaped (λ e. cc) (λ e. cc)
 
   -- nothing of them was kept
   none_kept : (a : ℕ) → n ≤ a / size → a / size < n + m → kept_of k a ≡ None
@@ -141,8 +140,7 @@ module _ (k : CoreState) (core : IsCore k) (shaped : IsShaped k.table) (n m : �
         (object_near k.table (released k.table n) a frees.size (frees.others (a / size) out))
         ∙ sym (kept_by_parts k a)
     | inr q ↦
-        let gone : object_at (released k.table n) a ≡ None =
-        object_gone (released k.table n) a
+        let gone : object_at (released k.table n) a ≡ None = object_gone (released k.table n) a
         (ap (λ (w : ℕ). nth_region (released k.table n) (a / w)) frees.size ∙ frees.free (a / size) q.0 q.1) in
         kept_void after a gone ∙ sym (none_kept a q.0 q.1)
   ]
@@ -179,59 +177,54 @@ module _ (k : CoreState) (core : IsCore k) (shaped : IsShaped k.table) (n m : �
   others_entered card out = empty.entered card
       ∙ ap (λ (b : Bool). if b then false else has k.sets.entered card) (outside (card / k.sets.cards_per_region) out)
 
+  -- a top is no higher than the region's words, at which it is in a region that is gone
+  top_after : (top j : ℕ) → (IsOutside n m j → top ≤ top_of k.table j) → (n ≤ j → j < n + m → top ≡ j * size)
+      → top ≤ top_of (released k.table n) j
+  top_after top j was low = elim (block_cases n m j) [
+    | inl out ↦
+        let le = was out in
+        let same = top_near k.table (released k.table n) j frees.size (frees.others j out) in
+        omega (arith, le, same)
+    | inr q ↦ let e = low q.0 q.1 in let b = bottom_same j in omega (arith, e, b)
+  ]
+
+  -- the objects of other regions are where they were, those with marks among them
+  object_after : (a : ℕ) → (is_between n (n + m) (a / size) ≡ true → ⊥) → object_at (released k.table n) a ≡ object_at k.table a
+  object_after a stays = elim (block_cases n m (a / size)) [
+    | inl out ↦ object_near k.table (released k.table n) a frees.size (frees.others (a / size) out)
+    | inr q ↦ absurd (stays (inside (a / size) q.0 q.1))
+  ]
+
+  previous_after : (a : ℕ) → is_marked mk.bitmaps.previous a ≡ true → object_at (released k.table n) a ≡ object_at k.table a
+  previous_after a marked = object_after a (λ gone. let no = mark_gone f.previous a gone in cc)
+
+  next_after : (a : ℕ) → is_marked mk.bitmaps.next a ≡ true → object_at (released k.table n) a ≡ object_at k.table a
+  next_after a marked = object_after a (λ gone. let no = mark_gone f.next a gone in cc)
+
   pub release_stands : MarkerStands (released k.table n) mk
   release_stands = table_stands k.table (released k.table n) mk st frees.count frees.size
-      (λ j lt. elim (block_cases n m j) [
-        | inl out ↦
-            let top = st.previous.top j lt in
-            let same = top_near k.table (released k.table n) j frees.size (frees.others j out) in
-            omega (arith, top, same)
-        | inr q ↦ let low = low_previous j q.0 q.1 in let b = bottom_same j in omega (arith, low, b)
-      ])
-      (λ j lt. elim (block_cases n m j) [
-        | inl out ↦
-            let top = st.next.top j lt in
-            let same = top_near k.table (released k.table n) j frees.size (frees.others j out) in
-            omega (arith, top, same)
-        | inr q ↦ let low = low_next j q.0 q.1 in let b = bottom_same j in omega (arith, low, b)
-      ])
-      (λ a x marked o. elim (block_cases n m (a / size)) [
-        | inl out ↦ (x, object_near k.table (released k.table n) a frees.size (frees.others (a / size) out) ∙ o)
-        | inr q ↦ absurd (let no = mark_gone f.previous a (inside (a / size) q.0 q.1) in cc)
-      ])
-      (λ a x marked o. elim (block_cases n m (a / size)) [
-        | inl out ↦ (x, object_near k.table (released k.table n) a frees.size (frees.others (a / size) out) ∙ o)
-        | inr q ↦ absurd (let no = mark_gone f.next a (inside (a / size) q.0 q.1) in cc)
-      ])
-      (λ a marked. elim (block_cases n m (a / size)) [
-        | inl out ↦
-            words_by k.table (released k.table n) a (object_near k.table (released k.table n) a frees.size (frees.others (a / size) out))
-        | inr q ↦ absurd (let no = mark_gone f.previous a (inside (a / size) q.0 q.1) in cc)
-      ])
-      (λ a marked. elim (block_cases n m (a / size)) [
-        | inl out ↦
-            words_by k.table (released k.table n) a (object_near k.table (released k.table n) a frees.size (frees.others (a / size) out))
-        | inr q ↦ absurd (let no = mark_gone f.next a (inside (a / size) q.0 q.1) in cc)
-      ])
-      (λ on. absurd (let e = idle in cc))
+      (λ j lt. top_after (slice_index mk.tams.previous j) j (λ out. st.previous.top j lt) (low_previous j))
+      (λ j lt. top_after (slice_index mk.tams.next j) j (λ out. st.next.top j lt) (low_next j))
+      (λ a x marked o. (x, previous_after a marked ∙ o)) (λ a x marked o. (x, next_after a marked ∙ o))
+      (λ a marked. words_by k.table (released k.table n) a (previous_after a marked))
+      (λ a marked. words_by k.table (released k.table n) a (next_after a marked)) (λ on. absurd (let e = idle in cc))
 
   -- what lay above the tops at mark start still does
   above_after : (limit limit' : ℕ → ℕ) → ((j : ℕ) → n ≤ j → j < n + m → limit' j ≡ j * size)
       → ((j : ℕ) → IsOutside n m j → limit' j ≡ limit j) → AreAbove k.table k.buffers limit → AreAbove (released k.table n) k.buffers limit'
   above_after limit limit' low same above = record {
-    tops = λ j lt. elim (block_cases n m j) [
-      | inl out ↦
-          let was = above.tops j (let c = frees.count in omega arith) in
-          let top = top_near k.table (released k.table n) j frees.size (frees.others j out) in
-          let e = same j out in
-          omega (arith, was, top, e)
-      | inr q ↦ let e = low j q.0 q.1 in let b = bottom_same j in omega (arith, e, b)
-    ];
+    tops = λ j lt. top_after (limit' j) j (λ out. let was = above.tops j (let c = frees.count in omega arith) in
+        let e = same j out in
+        omega (arith, was, e)) (low j);
     buffers = λ i x e. subst (λ (w : ℕ). IsAbove w limit' x.next) (sym frees.size) (λ j jl jh. elim (block_cases n m j) [
       | inl out ↦ let was = above.buffers i x e j jl jh in let s = same j out in omega (arith, was, s)
       | inr q ↦ let s = low j q.0 q.1 in omega (arith, s)
     ]);
   }
+
+  kind_other : (j : ℕ) → IsOutside n m j → kind_of (released k.table n) j ≡ kind_of k.table j
+  kind_other j out =
+      kind_is (released k.table n) j (nth_region k.table j) (frees.others j out) ∙ sym (kind_is k.table j (nth_region k.table j) refl)
 
   -- buffers stand: none is in a run
   buffers_after : BuffersStand (released k.table n) k.buffers
@@ -244,10 +237,7 @@ module _ (k : CoreState) (core : IsCore k) (shaped : IsShaped k.table) (n m : �
       known = λ j e. let lt = core.layers.buffers.known j e in let c = frees.count in omega (arith, lt, c);
       ordinary = λ j e.
           let o = core.layers.buffers.ordinary j e in
-          elim (block_cases n m j) [
-            | inl out ↦ kind_near j out ∙ o
-            | inr q ↦ absurd (not_ordinary d.0 j q.0 q.1 o)
-          ];
+          elim (block_cases n m j) [ inl out ↦ kind_other j out ∙ o | inr q ↦ absurd (not_ordinary d.0 j q.0 q.1 o) ];
       fillers = λ i x e.
           let w = core.layers.buffers.fillers i x e in
           elim (block_cases n m (x.next / size)) [
@@ -261,14 +251,10 @@ module _ (k : CoreState) (core : IsCore k) (shaped : IsShaped k.table) (n m : �
     }
   ]
     where
-      kind_near : (j : ℕ) → IsOutside n m j → kind_of (released k.table n) j ≡ kind_of k.table j
-      kind_near j out =
-          kind_is (released k.table n) j (nth_region k.table j) (frees.others j out) ∙ sym (kind_is k.table j (nth_region k.table j) refl)
-
       not_ordinary : kind_of k.table n ≡ kinds.First → (j : ℕ) → n ≤ j → j < n + m → kind_of k.table j ≡ kinds.Ordinary → ⊥
       not_ordinary first j low high o = elim (cases_eq j n) [
-        | inl same ↦ (let no : kinds.First ≡ kinds.Ordinary = sym first ∙ ap (kind_of k.table) (sym same) ∙ o in cc)
-        | inr ne ↦ (let rest = behind j (omega arith) high in let no : kinds.Rest ≡ kinds.Ordinary = sym rest ∙ o in cc)
+        | inl same ↦ (let here = ap (kind_of k.table) same in cc)
+        | inr ne ↦ (let rest = behind j (omega arith) high in cc)
       ]
 
       no_filler : kind_of k.table n ≡ kinds.First → (a rest : ℕ) → n ≤ a / size → a / size < n + m
@@ -295,13 +281,13 @@ module _ (k : CoreState) (core : IsCore k) (shaped : IsShaped k.table) (n m : �
             | inl lt ↦ not_behind kind_now (s.run.rest n lt q.0)
             | inr past ↦ absurd (omega (arith, past, below, q.1))
           ]
-          | inr inside ↦ (let none = none_there at inside.0 inside.1 in let no : None ≡ Some x = sym none ∙ kept_is in cc)
+          | inr inside ↦ (let none = none_there at inside.0 inside.1 in cc)
         ])
       ]
     where
       not_behind : (kind_of k.table n ≡ kinds.Ordinary) ⊎ (kind_of k.table n ≡ kinds.First) → kind_of k.table n ≡ kinds.Rest → ⊥
-      not_behind (inl o) r = let no : kinds.Ordinary ≡ kinds.Rest = sym o ∙ r in cc
-      not_behind (inr f) r = let no : kinds.First ≡ kinds.Rest = sym f ∙ r in cc
+      not_behind (inl o) r = cc
+      not_behind (inr f) r = cc
 
   -- the card of such a field has entered a set as before
   field_entered : (at index : ℕ) (x : Stored) (v : Option ℕ) → kept_of after at ≡ Some x → slice_get (fields x) index ≡ Some v
@@ -333,19 +319,6 @@ module _ (k : CoreState) (core : IsCore k) (shaped : IsShaped k.table) (n m : �
             ];
       })
 
-  cards_fit : CardsFit k.config k.cards ss
-  cards_fit = record {
-    whole_cards = core.cards.whole_cards ∙ ap (λ (c : ℕ). c * card_words k.config) (sym empty.cards);
-    each_region = empty.count ∙ core.cards.each_region;
-    each_card = core.cards.each_card ∙ ap (λ (c : ℕ). c * k.sets.cards_per_region) (sym empty.count)
-        ∙ ap (λ (c : ℕ). length ss.sets * c) (sym empty.cards);
-    each_mutator = core.cards.each_mutator;
-  }
-
-  kind_other : (j : ℕ) → IsOutside n m j → kind_of (released k.table n) j ≡ kind_of k.table j
-  kind_other j out =
-      kind_is (released k.table n) j (nth_region k.table j) (frees.others j out) ∙ sym (kind_is k.table j (nth_region k.table j) refl)
-
   -- a region that is in use afterwards is another one, and was of its kind with the same objects
   still_used : (j : ℕ) → kind_of (released k.table n) j ≢ kinds.Free → IsOutside n m j
   still_used j used = elim (block_cases n m j) [
@@ -363,42 +336,31 @@ module _ (k : CoreState) (core : IsCore k) (shaped : IsShaped k.table) (n m : �
       )
 
   pub release_kept : IsCore after
-  release_kept = record {
-    suits = core.suits;
-    placed = core.placed;
-    layers = record {
-      region_size = frees.size ∙ core.layers.region_size;
-      region_count = frees.count ∙ core.layers.region_count;
-      buffer_size = core.layers.buffer_size;
-      open_buffers = core.layers.open_buffers;
-      logs = ap (λ (x : Marker). length x.logs) f.same ∙ core.layers.logs;
-      buffers = buffers_after;
-      unmoved = frees.unmoved core.layers.unmoved;
-      marker = release_stands;
-      above_previous = above_after (slice_index k.marker.tams.previous) (slice_index mk.tams.previous) low_previous
-          (λ j out. top_left f.previous j (outside j out)) core.layers.above_previous;
-      above_next = above_after (slice_index k.marker.tams.next) (slice_index mk.tams.next) low_next
-          (λ j out. top_left f.next j (outside j out)) core.layers.above_next;
-      room = λ i. rw (ap (λ (x : Marker). x.logs) f.same) (core.layers.room i);
-      halves = sizes_left kinds.Ordinary IsHalf k.table (released k.table n) shaped.positive frees.size (left kinds.Ordinary (λ e. cc))
-          core.layers.halves;
-      wide = sizes_left kinds.First IsOver k.table (released k.table n) shaped.positive frees.size (left kinds.First (λ e. cc))
-          core.layers.wide;
-    };
-    cards = cards_fit;
-    remembers = remembers_after;
-    room = core.room;
-    rows = core.rows;
-    places = core.places;
-    names = core.names;
-    footing = core.footing;
-    rests = record {
-      shows = release_shows core.footing.graph core.rests.shows;
-      keeps = release_keeps core.footing.snapshot core.rests.keeps;
-      sound = core.rests.sound;
-      unreached = core.rests.unreached;
-    };
-  }
+  release_kept = core_stays k core (released k.table n) k.buffers mk k.cards ss k.roots refl (record {
+    region_size = frees.size ∙ core.layers.region_size;
+    region_count = frees.count ∙ core.layers.region_count;
+    buffer_size = core.layers.buffer_size;
+    open_buffers = core.layers.open_buffers;
+    logs = ap (λ (x : Marker). length x.logs) f.same ∙ core.layers.logs;
+    buffers = buffers_after;
+    unmoved = frees.unmoved core.layers.unmoved;
+    marker = release_stands;
+    above_previous = above_after (slice_index k.marker.tams.previous) (slice_index mk.tams.previous) low_previous
+        (λ j out. top_left f.previous j (outside j out)) core.layers.above_previous;
+    above_next = above_after (slice_index k.marker.tams.next) (slice_index mk.tams.next) low_next
+        (λ j out. top_left f.next j (outside j out)) core.layers.above_next;
+    room = λ i. rw (ap (λ (x : Marker). x.logs) f.same) (core.layers.room i);
+    halves = sizes_left kinds.Ordinary IsHalf k.table (released k.table n) shaped.positive frees.size (left kinds.Ordinary (λ e. cc))
+        core.layers.halves;
+    wide = sizes_left kinds.First IsOver k.table (released k.table n) shaped.positive frees.size (left kinds.First (λ e. cc))
+        core.layers.wide;
+  }) (record {
+    whole_cards = core.cards.whole_cards ∙ ap (λ (c : ℕ). c * card_words k.config) (sym empty.cards);
+    each_region = empty.count ∙ core.cards.each_region;
+    each_card = core.cards.each_card ∙ ap (λ (c : ℕ). c * k.sets.cards_per_region) (sym empty.count)
+        ∙ ap (λ (c : ℕ). length ss.sets * c) (sym empty.cards);
+    each_mutator = core.cards.each_mutator;
+  }) remembers_after release_shows release_keeps
 
   -- the live bounds of the other regions
   bound_other : (j : ℕ) → IsOutside n m j → live_bound_of (released k.table n) mk.tams.previous mk.bitmaps.previous j
@@ -414,31 +376,27 @@ module _ (k : CoreState) (core : IsCore k) (shaped : IsShaped k.table) (n m : �
     λ d. record { ordinary = kind_other j out ∙ d.ordinary; other = d.other; live_bound = bound_other j out ∙ d.live_bound },
   )
 
+  -- a dead run stays one
+  dead_run : (c d : CoreState) (j : ℕ) (r : IsDeadRun c j) → d.table.words_per_region ≡ c.table.words_per_region
+      → nth_region d.table r.first ≡ nth_region c.table r.first
+      → kept_of d (r.first * d.table.words_per_region) ≡ kept_of c (r.first * c.table.words_per_region) → IsDeadRun d j
+  dead_run c d j r words same kept = record {
+    first = r.first;
+    object = r.object;
+    begins = same ∙ r.begins;
+    low = r.low;
+    reaches = (let e = ap (λ (w : ℕ). (j - r.first) * w) words in let far = r.reaches in omega (arith, e, far));
+    dead = kept ∙ r.dead;
+  }
+
   run_other : (j : ℕ) → IsOutside n m j → IsDeadRun after j ↔ IsDeadRun k j
   run_other j out = (
     λ d. elim (block_cases n m d.first) [
-      | inl away ↦ record {
-        first = d.first;
-        object = d.object;
-        begins = sym (frees.others d.first away) ∙ d.begins;
-        low = d.low;
-        reaches = (let e = ap (λ (w : ℕ). (j - d.first) * w) frees.size in let r = d.reaches in omega (arith, e, r));
-        dead = ap (kept_of k) (sym (bottom_same d.first)) ∙ sym (kept_same (d.first * (released k.table n).words_per_region)) ∙ d.dead;
-      }
-      | inr q ↦ absurd (let gone = frees.free d.first q.0 q.1 in
-          let begins = d.begins in
-          let no : Free ≡ First d.object = sym gone ∙ begins in
-          cc)
+      | inl away ↦ dead_run after k j d (sym frees.size) (sym (frees.others d.first away)) (sym (kept_there d.first))
+      | inr q ↦ absurd (let gone = frees.free d.first q.0 q.1 in let begins = d.begins in cc)
     ],
     λ d. elim (block_cases n m d.first) [
-      | inl away ↦ record {
-        first = d.first;
-        object = d.object;
-        begins = frees.others d.first away ∙ d.begins;
-        low = d.low;
-        reaches = (let e = ap (λ (w : ℕ). (j - d.first) * w) frees.size in let r = d.reaches in omega (arith, e, r));
-        dead = kept_same (d.first * (released k.table n).words_per_region) ∙ ap (kept_of k) (bottom_same d.first) ∙ d.dead;
-      }
+      | inl away ↦ dead_run k after j d frees.size (frees.others d.first away) (kept_there d.first)
       | inr q ↦ absurd (elim (cases_eq d.first n) [
         | inl same ↦
             let begins : nth_region k.table n ≡ First d.object = ap (nth_region k.table) (sym same) ∙ d.begins in
@@ -450,9 +408,12 @@ module _ (k : CoreState) (core : IsCore k) (shaped : IsShaped k.table) (n m : �
     ],
   )
     where
+      kept_there : (i : ℕ) → kept_of after (i * (released k.table n).words_per_region) ≡ kept_of k (i * size)
+      kept_there i = kept_same (i * (released k.table n).words_per_region) ∙ ap (kept_of k) (bottom_same i)
+
       not_outside : (n m j : ℕ) → IsOutside n m j → n ≤ j → j < n + m → ⊥
-      not_outside n m j (inl lt) low high = absurd (omega arith)
-      not_outside n m j (inr past) low high = absurd (omega arith)
+      not_outside n m j (inl lt) low high = omega arith
+      not_outside n m j (inr past) low high = omega arith
 
   dead_other : (j : ℕ) → IsOutside n m j → IsDead after j ↔ IsDead k j
   dead_other j out = (
@@ -494,8 +455,8 @@ module _ (k : CoreState) (core : IsCore k) (shaped : IsShaped k.table) (n m : �
     next_marks = λ a i. mark_left f.next a (near j a out i);
   }
 
-  has_released : HasReleased n m k after
-  has_released = record {
+  pub released_from : (c : CoreState) → k ≡ c → HasReleased n m c after
+  released_from c e = subst (λ (d : CoreState). HasReleased n m d after) e (record {
     changes = record { same = refl; marker = f.same; size = frees.size; kept = kept_same };
     count = frees.count;
     each_set = empty.count;
@@ -503,7 +464,4 @@ module _ (k : CoreState) (core : IsCore k) (shaped : IsShaped k.table) (n m : �
     released = as_new;
     others = as_before;
     dead = dead_other;
-  }
-
-  pub released_from : (c : CoreState) → k ≡ c → HasReleased n m c after
-  released_from c e = subst (λ (d : CoreState). HasReleased n m d after) e has_released
+  })

@@ -1,8 +1,6 @@
 -- Marking ends in a core, and weak slots are cleared: k is the core by its fields before that.
-use Rattle.std.proofs.Common.{◌≡◌, ◌+◌, ◌≤◌, ◌⊎◌, ◌∷◌, ◌++◌, ◌∙◌}
-use Rattle.std.proofs.Common.{ℕ, zero, suc, Bool, true, false, List, [], Option, Some, None}
-use Rattle.std.proofs.Common.{length, map, refl, sym, ap, subst, arith, inl, inr}
-use Rattle.std.specs.Prelude.{slice_get, slice_index, if◌then◌else◌}
+use Rattle.std.proofs.Common.{◌≡◌, ◌+◌, ◌≤◌, ◌⊎◌, ◌∷◌, ◌++◌, ◌∙◌, ℕ, zero, suc, Bool, true, false, List, [], Option, Some, None, length}
+use Rattle.std.proofs.Common.{map, refl, sym, ap, subst, arith, inl, inr, slice_get, slice_index, if◌then◌else◌}
 use Rattle.std.proofs.lemmas.List.{length-map}
 use Rattle.heap_model.specs.Graph.{Graph}
 use Rattle.heap_model.specs.Heap.{Stored, fields}
@@ -30,6 +28,7 @@ use Rattle.remembered_sets.specs.Sets.{may_lead}
 use Rattle.refinement.specs.Remembering.{Remembers, IsCrossing}
 use Rattle.graph_runs.specs.State.{ForSnapshot}
 use Rattle.step_core.specs.Stands.{CoreState, kept_of, RemembersFields, ShowsGraph, KeepsFrom, KeepsFor, IsCore}
+use Rattle.step_core.proofs.Cores.Resting.{core_over}
 use Rattle.step_core.specs.Cycle.{HasRemarked, ShowsCleared}
 use Rattle.step_core.proofs.Cores.Added.{stand_same, object_none}
 use Rattle.step_core.proofs.Mutating.Reading.{object_kept}
@@ -195,9 +194,9 @@ module _ (k : CoreState) (core : IsCore k) (run : k.marker.running ≡ true) (t 
     ends_for None g shows keeps = tt
     ends_for (Some s) g shows keeps = exact.ends s g k.roots shows.shows (keeps.1.marking run)
 
-    has_remarked : HasRemarked n k after
+    pub remarked_from : (c : CoreState) → k ≡ c → HasRemarked n c after
     unfolding kept_of
-    has_remarked = record {
+    remarked_from c e = subst (λ (d : CoreState). HasRemarked n d after) e (record {
       same = refl;
       over = over;
       cleared = clears;
@@ -209,10 +208,7 @@ module _ (k : CoreState) (core : IsCore k) (run : k.marker.running ≡ true) (t 
       scanned = scanned;
       tops = tops;
       marks = previous;
-    }
-
-    pub remarked_from : (c : CoreState) → k ≡ c → HasRemarked n c after
-    remarked_from c e = subst (λ (d : CoreState). HasRemarked n d after) e has_remarked
+    })
 
   pub remarked_kept : IsCore after
   remarked_kept =
@@ -221,35 +217,23 @@ module _ (k : CoreState) (core : IsCore k) (run : k.marker.running ≡ true) (t 
       let previous = above_cleared marks k.table t clears k.buffers (slice_index k.marker.tams.previous) core.layers.above_previous in
       let next = above_cleared marks k.table t clears k.buffers (slice_index k.marker.tams.next) core.layers.above_next in
       let words = words_same marks k.table t clears in
-      record {
-        suits = core.suits;
-        placed = core.placed;
-        layers = record {
-          region_size = clears.size ∙ core.layers.region_size;
-          region_count = clears.count ∙ core.layers.region_count;
-          buffer_size = core.layers.buffer_size;
-          open_buffers = core.layers.open_buffers;
-          logs = logs ∙ core.layers.logs;
-          buffers = buffers_cleared marks k.table t clears k.buffers core.layers.buffers;
-          unmoved = clears.unmoved core.layers.unmoved;
-          marker = st;
-          above_previous = rw tops next;
-          above_next = rw tops previous;
-          room = λ i. let none = none_in m.logs i (st.idle over) in omega arith;
-          halves = sizes_same kinds.Ordinary IsHalf k.table t clears.size clears.kinds words core.layers.halves;
-          wide = sizes_same kinds.First IsOver k.table t clears.size clears.kinds words core.layers.wide;
-        };
-        cards = core.cards;
-        remembers = remarked_remembers;
-        room = core.room;
-        rows = core.rows;
-        places = core.places;
-        names = core.names;
-        footing = record { graph = mine.after; snapshot = mine.after };
-        rests = record {
-          shows = mine.shows;
-          keeps = record { earlier = (let next = mine.shows.next in omega (arith, next)); marking = λ on. absurd cc };
-          sound = sound;
-          unreached = unreached_begins mine.after sound;
-        };
-      }
+      core_over k core t k.buffers m k.cards k.sets k.roots refl (record {
+        region_size = clears.size ∙ core.layers.region_size;
+        region_count = clears.count ∙ core.layers.region_count;
+        buffer_size = core.layers.buffer_size;
+        open_buffers = core.layers.open_buffers;
+        logs = logs ∙ core.layers.logs;
+        buffers = buffers_cleared marks k.table t clears k.buffers core.layers.buffers;
+        unmoved = clears.unmoved core.layers.unmoved;
+        marker = st;
+        above_previous = rw tops next;
+        above_next = rw tops previous;
+        room = λ i. let none = none_in m.logs i (st.idle over) in omega arith;
+        halves = sizes_same kinds.Ordinary IsHalf k.table t clears.size clears.kinds words core.layers.halves;
+        wide = sizes_same kinds.First IsOver k.table t clears.size clears.kinds words core.layers.wide;
+      }) core.cards remarked_remembers (record { graph = mine.after; snapshot = mine.after }) (record {
+        shows = mine.shows;
+        keeps = record { earlier = (let next = mine.shows.next in omega (arith, next)); marking = λ on. absurd cc };
+        sound = sound;
+        unreached = unreached_begins mine.after sound;
+      })

@@ -13,13 +13,10 @@ use Rattle.regions.proofs.Tiles.Changes.{WritesObject, value_put}
 use Rattle.regions.proofs.Words.Values.{with_value}
 use Rattle.graph_runs.specs.State.{with_root, root_at, register_place, root_counts_of}
 use Rattle.graph_runs.specs.Machine.{Outcome, act, on_object, on_name, on_contents, refused, stored}
-use Rattle.heap_steps.specs.declared.step.Action.{Action}
+use Rattle.step_core.specs.Steps.{Action, Refusal, Register, Reply}
 use Rattle.heap_steps.specs.declared.step.Action.TheVariants as actions
-use Rattle.heap_steps.specs.declared.step.Reply.{Reply}
 use Rattle.heap_steps.specs.declared.step.Reply.TheVariants as replies
-use Rattle.heap_steps.specs.declared.step.Refusal.{Refusal}
 use Rattle.heap_steps.specs.declared.step.Refusal.TheVariants as refusals
-use Rattle.heap_steps.specs.declared.step.Register.{Register}
 use Rattle.step_core.specs.Stands.{CoreState, kept_of, heap_of, ShowsGraph, IsCore, IsWordOf, RootNames, Leads, name_in}
 use Rattle.step_core.specs.Answers.{Acts}
 use Rattle.step_core.specs.Mutators.{with_root_word}
@@ -49,8 +46,7 @@ nil_object g c s m r f l =
 nil_acts : (g : Graph) (c : CoreState) → ShowsGraph g c → (m : ℕ) (r : Register) (a : Action) (f : ℕ → Object → Outcome)
     → act g m a ≡ on_object g m r f → Leads c (register_place (root_counts_of c.config) m r.number) None
     → Acts g m a (replies.Refused refusals.Nil) c
-nil_acts g c s m r a f is l =
-    acts_by g m a (replies.Refused refusals.Nil) c (refused g refusals.Nil) (is ∙ nil_object g c s m r f l) refl s
+nil_acts g c s m r a f is l = acts_by g m a (replies.Refused refusals.Nil) c (refused g refusals.Nil) (is ∙ nil_object g c s m r f l) refl s
 
 pub write_nil : (g : Graph) (c : CoreState) → ShowsGraph g c → (m : ℕ) (object : Register) (i v : ℕ)
     → Leads c (register_place (root_counts_of c.config) m object.number) None
@@ -109,6 +105,24 @@ object_shows g c c' a x y o p s same set named pointers weaks values = record {
   next = ap (λ n. g.first_name + n) (length-set g.objects (x.name - g.first_name) p) ∙ s.next ∙ sym same.next;
   shows = object_set_shows g (heap_of c) (heap_of c') s.shows a x y o p set named pointers weaks values;
 }
+
+-- the same of an object that is known by its name: by what was shown of it the other one is shown
+pub named_shows : (g : Graph) (c c' : CoreState) (a : ℕ) (x y z : Stored) (o p : Object) → ShowsGraph g c → SamePlaces c c'
+    → ObjectSet (heap_of c) (heap_of c') a x y → kept_of c a ≡ Some z → object_named g z.name ≡ Some o
+    → (AllZip (IsShown (heap_of c)) x.pointers o.pointers → AllZip (IsShown (heap_of c)) y.pointers p.pointers)
+    → (AllZip (IsShown (heap_of c)) x.weaks o.weaks → AllZip (IsShown (heap_of c)) y.weaks p.weaks)
+    → (x.values ≡ o.values → y.values ≡ p.values) → ShowsGraph (with_changed g z.name p) c'
+named_shows g c c' a x y z o p s same set at named pointers weaks values =
+    let was : kept_of c a ≡ Some x = set.was in
+    let here : z ≡ x = cc in
+    let named' : object_named g x.name ≡ Some o = ap (λ (u : Stored). object_named g u.name) (sym here) ∙ named in
+    let shown = s.shows.objects a x was in
+    let is : shown.object ≡ o = let e = shown.named in cc in
+    subst (λ (u : Stored). ShowsGraph (with_changed g u.name p) c') (sym here)
+    (object_shows g c c' a x y o p s same set named'
+    (pointers (subst (λ (q : Object). AllZip (IsShown (heap_of c)) x.pointers q.pointers) is shown.pointers))
+    (weaks (subst (λ (q : Object). AllZip (IsShown (heap_of c)) x.weaks q.weaks) is shown.weaks))
+    (values (shown.values ∙ ap (λ (q : Object). q.values) is)))
 
 module _ (g : Graph) (c : CoreState) (s : ShowsGraph g c) (m : ℕ) (object : Register) where
   module _ (a : ℕ) (l : Leads c (register_place (root_counts_of c.config) m object.number) (Some a)) where

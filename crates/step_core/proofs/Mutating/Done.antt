@@ -1,6 +1,5 @@
 -- What a step of a mutator does to the core.
-use Rattle.std.proofs.Common.{◌≡◌, ℕ, Option, Some, None, refl, sym, ◌∙◌, ap, subst}
-use Rattle.std.specs.Prelude.{slice_get, slice_index_or, unwrap_or}
+use Rattle.std.proofs.Common.{◌≡◌, ℕ, Option, Some, None, refl, sym, ◌∙◌, ap, subst, slice_get, slice_index_or, unwrap_or}
 use Rattle.heap_words.specs.Sizes.{size_of}
 use Rattle.regions.specs.Table.{Table, pointers_at, weaks_at, new_object}
 use Rattle.alloc_buffers.specs.Placement.{Buffers, Placement, allocation_of, made_at, address_of}
@@ -9,8 +8,7 @@ use Rattle.marker.specs.Steps.{Overwrites}
 use Rattle.marker.specs.declared.marker.Marker.{Marker}
 use Rattle.graph_runs.specs.State.{register_place, root_counts_of}
 use Rattle.heap_steps.specs.declared.step.Action.TheVariants as actions
-use Rattle.heap_steps.specs.declared.step.Counts.{Counts}
-use Rattle.heap_steps.specs.declared.step.Register.{Register}
+use Rattle.step_core.specs.Steps.{Counts, Register}
 use Rattle.step_core.specs.Stands.{CoreState}
 use Rattle.step_core.specs.Mutators.{register_of, object_of, pointer_of, weak_of, with_root_word, with_made, after_new, HasActed}
 use Rattle.step_core.specs.Answers.{HasNoPlace}

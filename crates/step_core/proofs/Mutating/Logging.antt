@@ -1,7 +1,6 @@
 -- What saving a pointer does to the marker: its log gets the pointer, and is taken if it is full.
-use Rattle.std.proofs.Common.{◌≡◌, ◌≢◌, ◌<◌, ◌≤◌, ◌∙◌, ℕ, Bool, true, false, List, [], Option, Some, None, length, get_or, set}
-use Rattle.std.proofs.Common.{refl, sym, ap, subst, arith, inl, inr}
-use Rattle.std.specs.Prelude.{◌==◌, Contains, slice_set}
+use Rattle.std.proofs.Common.{◌≡◌, ◌≢◌, ◌<◌, ◌≤◌, ◌∙◌, ℕ, Bool, true, false, List, [], Option, Some, None, length, get_or, set, refl, sym}
+use Rattle.std.proofs.Common.{ap, subst, arith, inl, inr, ◌==◌, Contains, slice_set}
 use Rattle.std.proofs.lemmas.Bool.{cases_eq}
 use Rattle.std.proofs.lemmas.Grind.{common_steps}
 use Rattle.std.proofs.lemmas.Bool.Decides.{nat_tests}

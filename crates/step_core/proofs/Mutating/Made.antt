@@ -13,11 +13,8 @@ use Rattle.regions.proofs.Words.Fields.{with_pointer}
 use Rattle.regions.proofs.Words.Values.{has_value, with_value}
 use Rattle.alloc_buffers.specs.Placement.{Buffers}
 use Rattle.graph_runs.specs.State.{register_place, root_counts_of}
-use Rattle.heap_steps.specs.declared.step.Action.{Action}
+use Rattle.step_core.specs.Steps.{Action, Counts, Register, Reply}
 use Rattle.heap_steps.specs.declared.step.Action.TheVariants as actions
-use Rattle.heap_steps.specs.declared.step.Counts.{Counts}
-use Rattle.heap_steps.specs.declared.step.Register.{Register}
-use Rattle.heap_steps.specs.declared.step.Reply.{Reply}
 use Rattle.heap_steps.specs.declared.step.Reply.TheVariants as replies
 use Rattle.step_core.specs.Stands.{CoreState, IsCore}
 use Rattle.step_core.specs.Making.{HasMade, NamesObject}
@@ -64,14 +61,7 @@ made_named k m to t b a name p weak d core known inside is = record {
 made_plain : (m : ℕ) (to : Register) (counts : Counts) (r : Reply) (c : CoreState)
     → HasMade m (actions.NewWeak to counts 0) r c → HasMade m (actions.New to counts) r c
 made_plain m to counts (replies.Named name) c h = h
-made_plain m to counts replies.Done c h = tt
-made_plain m to counts (replies.Word word) c h = tt
-made_plain m to counts (replies.Shape pointers values) c h = tt
-made_plain m to counts (replies.Marked count) c h = tt
-made_plain m to counts (replies.Reclaimed count) c h = tt
-made_plain m to counts (replies.Refined count) c h = tt
-made_plain m to counts (replies.Moved regions words) c h = tt
-made_plain m to counts (replies.Refused why) c h = tt
+made_plain m to counts _ c h = tt
 
 pub made_as : (m : ℕ) (a : Action) (to : Register) (counts : Counts) (weaks : ℕ) (r : Reply) (c : CoreState)
     → (a ≡ actions.New to counts) ⊎ ((w : ℕ) × (a ≡ actions.NewWeak to counts w)) → weaks ≡ weaks_made a

@@ -1,7 +1,6 @@
 -- A pointer whose value is near or far, and stores into an object whose address is known.
-use Rattle.std.proofs.Common.{◌≡◌, ◌≢◌, ◌+◌, ◌<◌, ◌/◌, ◌∙◌, ℕ, Bool, true, false, Option, Some, None, length}
-use Rattle.std.proofs.Common.{refl, sym, ap, subst, arith, inl}
-use Rattle.std.specs.Prelude.{◌==◌, if◌then◌else◌, unwrap_or}
+use Rattle.std.proofs.Common.{◌≡◌, ◌≢◌, ◌+◌, ◌<◌, ◌/◌, ◌∙◌, ℕ, Bool, true, false, Option, Some, None, length, refl, sym, ap, subst, arith}
+use Rattle.std.proofs.Common.{inl, ◌==◌, if◌then◌else◌, unwrap_or}
 use Rattle.std.proofs.lemmas.Grind.{common_steps}
 use Rattle.std.proofs.lemmas.Bool.Decides.{nat_tests}
 use Rattle.heap_words.specs.Configs.{globals_of, registers_of, card_words}
@@ -46,8 +45,7 @@ row_inside k c m r row e core known inside is =
 
 pub row_of_core : (k c : CoreState) (m row : ℕ) → k ≡ c → IsCore k → k.places.globals + row ≡ register_place k.places m 0
     → globals_of c.config + row ≡ register_place (root_counts_of c.config) m 0
-row_of_core k c m row e core is =
-    subst (λ (p : RootCounts). p.globals + row ≡ register_place p m 0) (placed_in k c e core) is
+row_of_core k c m row e core is = subst (λ (p : RootCounts). p.globals + row ≡ register_place p m 0) (placed_in k c e core) is
 
 -- ---- its card stays as it is
 same_number : (n : ℕ) → (n == n) ≡ true
@@ -77,8 +75,7 @@ far_cards c m word (Some a) h = ap (λ (b : Bool). if b then c.cards else dirtie
 -- ---- so a pointer is stored
 pub near_stores : (c c' : CoreState) (m a i : ℕ) (w : Option ℕ) → LeadsNear c.table.words_per_region (field_word a i) w
     → StoresWith c.cards m a i w c c' → StoresPointer m a i w c c'
-near_stores c c' m a i w near s =
-    subst (λ (cards : Cards). StoresWith cards m a i w c c') (sym (near_cards c m (field_word a i) w near)) s
+near_stores c c' m a i w near s = subst (λ (cards : Cards). StoresWith cards m a i w c c') (sym (near_cards c m (field_word a i) w near)) s
 
 -- with its card noted before
 pub noted_stores : (c c1 c' : CoreState) (m a i : ℕ) (w : Option ℕ) → c1 ≡ record c { cards = c1.cards }

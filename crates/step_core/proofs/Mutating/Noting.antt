@@ -1,7 +1,6 @@
 -- A field's card is made dirty before a pointer is stored.
-use Rattle.std.proofs.Common.{◌≡◌, ◌+◌, ◌*◌, ◌/◌, ◌<◌, ◌≤◌, ◌∙◌}
-use Rattle.std.proofs.Common.{ℕ, Bool, true, false, Option, Some, List, length, refl, sym, ap, subst, arith, inl}
-use Rattle.std.specs.Prelude.{◌||◌, ◌==◌}
+use Rattle.std.proofs.Common.{◌≡◌, ◌+◌, ◌*◌, ◌/◌, ◌<◌, ◌≤◌, ◌∙◌, ℕ, Bool, true, false, Option, Some, List, length, refl, sym, ap, subst}
+use Rattle.std.proofs.Common.{arith, inl, ◌||◌, ◌==◌}
 use Rattle.heap_model.specs.Heap.{Heap, Stored, IsRoot, IsHeld, IsShown}
 use Rattle.regions.specs.Table.{Table, object_at, fields_at, pointers_at}
 use Rattle.regions.specs.Tiles.{Object, tile_size}
@@ -21,6 +20,7 @@ use Rattle.std.proofs.Math.Nat.{mul_assoc, mul-div_cancel, div-lt_iff_lt-mul}
 use Rattle.step_core.specs.Stands.{CoreState, kept_of, heap_of, ShowsGraph, KeepsFrom, IsCore, IsWordOf}
 use Rattle.step_core.specs.Storing.{CanStore}
 use Rattle.step_core.proofs.Mutating.Reading.{object_kept, fields_there}
+use Rattle.step_core.proofs.Cores.Resting.{core_stays}
 use Rattle.step_core.proofs.Mutating.Storing.{rooted}
 
 tile_of : (t : Table) (a : ℕ) (x : Stored) → IsShaped t → object_at t a ≡ Some x
@@ -79,6 +79,15 @@ or_right false d e = e
 same_card : (n : ℕ) (b : Bool) → ((n == n) || b) ≡ true
 same_card n b = grind (arith, common_steps, nat_tests)
 
+-- other cards change nothing of what is shown or kept
+shows_with : (c : CoreState) (cs : Cards) (g : Graph) → ShowsGraph g c → ShowsGraph g (record c { cards = cs })
+unfolding kept_of
+shows_with c cs g s = record { room = s.room; places = s.places; next = s.next; shows = s.shows }
+
+keeps_with : (c : CoreState) (cs : Cards) (s : Graph) → KeepsFrom s c → KeepsFrom s (record c { cards = cs })
+unfolding kept_of
+keeps_with c cs s f = record { earlier = f.earlier; marking = f.marking }
+
 -- the core with another card dirty
 module _ (k : CoreState) (core : IsCore k) (m card : ℕ) (cs : Cards)
     (known : card < length k.cards.dirty) (is : cs ≡ dirtied k.cards m card)
@@ -92,36 +101,14 @@ module _ (k : CoreState) (core : IsCore k) (m card : ℕ) (cs : Cards)
 
   pub dirtied_kept : IsCore (record k { cards = cs })
   unfolding kept_of
-  dirtied_kept = record {
-    suits = core.suits;
-    placed = core.placed;
-    layers = core.layers;
-    cards = record {
-      whole_cards = core.cards.whole_cards;
-      each_region = core.cards.each_region;
-      each_card = cards ∙ core.cards.each_card;
-      each_mutator = mutators ∙ core.cards.each_mutator;
-    };
-    remembers = remembered.remembers_on k.table.words_per_region (card_words k.config) (kept_of k) (kept_of k) (is_dirty k.cards)
-        (is_dirty cs) (may_lead k.sets) (may_lead k.sets) (λ a i v x. inl x) stays (λ a i v c x e. e) core.remembers;
-    room = core.room;
-    rows = core.rows;
-    places = core.places;
-    names = core.names;
-    footing = core.footing;
-    rests = record {
-      shows = shows_too core.footing.graph core.rests.shows;
-      keeps = keeps_too core.footing.snapshot core.rests.keeps;
-      sound = core.rests.sound;
-      unreached = core.rests.unreached;
-    };
-  }
-    where
-      shows_too : (g : Graph) → ShowsGraph g k → ShowsGraph g (record k { cards = cs })
-      shows_too g s = record { room = s.room; places = s.places; next = s.next; shows = s.shows }
-
-      keeps_too : (s : Graph) → KeepsFrom s k → KeepsFrom s (record k { cards = cs })
-      keeps_too s f = record { earlier = f.earlier; marking = f.marking }
+  dirtied_kept = core_stays k core k.table k.buffers k.marker cs k.sets k.roots refl core.layers (record {
+    whole_cards = core.cards.whole_cards;
+    each_region = core.cards.each_region;
+    each_card = cards ∙ core.cards.each_card;
+    each_mutator = mutators ∙ core.cards.each_mutator;
+  }) (remembered.remembers_on k.table.words_per_region (card_words k.config) (kept_of k) (kept_of k) (is_dirty k.cards)
+      (is_dirty cs) (may_lead k.sets) (may_lead k.sets) (λ a i v x. inl x) stays (λ a i v c x e. e) core.remembers)
+      (shows_with k cs) (keeps_with k cs)
 
 -- the core with other cards shows and keeps the same
 pub heap_noted : (c c' : CoreState) → c' ≡ record c { cards = c'.cards } → heap_of c' ≡ heap_of c
@@ -140,14 +127,6 @@ kept_noted c c' a e = ap (λ (x : Heap). x.kept a) (heap_noted c c' e)
 pub shown_noted : (c c' : CoreState) (w v : Option ℕ) → c' ≡ record c { cards = c'.cards }
     → IsShown (heap_of c) w v → IsShown (heap_of c') w v
 shown_noted c c' w v e h = subst (λ (x : Heap). IsShown x w v) (sym (heap_noted c c' e)) h
-
-shows_with : (c : CoreState) (cs : Cards) (g : Graph) → ShowsGraph g c → ShowsGraph g (record c { cards = cs })
-unfolding kept_of
-shows_with c cs g s = record { room = s.room; places = s.places; next = s.next; shows = s.shows }
-
-keeps_with : (c : CoreState) (cs : Cards) (s : Graph) → KeepsFrom s c → KeepsFrom s (record c { cards = cs })
-unfolding kept_of
-keeps_with c cs s f = record { earlier = f.earlier; marking = f.marking }
 
 pub shows_noted : (c c' : CoreState) (g : Graph) → c' ≡ record c { cards = c'.cards } → ShowsGraph g c → ShowsGraph g c'
 shows_noted c c' g e s = subst (λ (d : CoreState). ShowsGraph g d) (sym e) (shows_with c c'.cards g s)

@@ -6,7 +6,7 @@ use Rattle.std.proofs.lemmas.List.{get_or_past}
 use Rattle.std.proofs.lemmas.Bool.{cases_lt}
 use Rattle.heap_model.specs.Heap.{Stored}
 use Rattle.regions.specs.Tiles.{Object, tile_size}
-use Rattle.regions.specs.Table.{Table, Region, Free, Ordinary, First, Rest, region_kind, nth_region, region_at, region_tile, tile_in}
+use Rattle.regions.specs.Table.{Table, Region, Free, Ordinary, region_kind, nth_region, region_at, region_tile, tile_in}
 use Rattle.regions.specs.Table.{tile_object, kind_of, object_at, object_words, stored_size}
 use Rattle.regions.specs.declared.row.Kind.{Kind}
 use Rattle.regions.specs.declared.row.Kind.TheVariants as kinds
@@ -74,9 +74,7 @@ words_written t t' a x y w long b =
 
 pub free_region : (r : Region) → region_kind r ≡ kinds.Free → r ≡ Free
 free_region Free e = refl
-free_region (Ordinary ts) e = absurd cc
-free_region (First s) e = absurd cc
-free_region (Rest n) e = absurd cc
+free_region _ e = absurd cc
 
 -- no object starts in a free region
 pub free_object : (t : Table) (k a : ℕ) → kind_of t k ≡ kinds.Free → is_in_region t.words_per_region k a ≡ true → object_at t a ≡ None
@@ -88,9 +86,7 @@ free_object t k a free inside =
 
 pub kind_cases : (x : Kind) → (x ≡ kinds.Free) ⊎ (x ≢ kinds.Free)
 kind_cases kinds.Free = inl refl
-kind_cases kinds.Ordinary = inr (λ e. cc)
-kind_cases kinds.First = inr (λ e. cc)
-kind_cases kinds.Rest = inr (λ e. cc)
+kind_cases _ = inr (λ e. cc)
 
 -- an address lies in its region
 pub inside_own : (words a : ℕ) → 0 < words → is_in_region words (a / words) a ≡ true

@@ -1,6 +1,5 @@
 -- The write barrier, by the core's value c before the store: k is the core by its fields.
-use Rattle.std.proofs.Common.{◌≡◌, ◌<◌, ◌∙◌, ℕ, true, false, Option, Some, None, length, refl, sym, ap, subst}
-use Rattle.std.specs.Prelude.{slice_get, slice_set, ◌==◌}
+use Rattle.std.proofs.Common.{◌≡◌, ◌<◌, ◌∙◌, ℕ, true, false, Option, Some, None, length, refl, sym, ap, subst, slice_get, slice_set, ◌==◌}
 use Rattle.heap_model.specs.Graph.{Graph, Object, object_named, with_changed}
 use Rattle.heap_model.specs.Heap.{Stored, IsShown}
 use Rattle.regions.specs.Table.{Table, pointers_at, set_pointer}

@@ -2,7 +2,6 @@
 use Rattle.std.proofs.lemmas.List.{length-set}
 use Rattle.std.proofs.Common.{◌≡◌, ℕ, ◌+◌, ◌<◌, true, false, List, Option, Some, None, length, refl, sym, ◌∙◌, ap, subst, inl, inr, arith}
 use Rattle.std.specs.Prelude.{slice_get, slice_set}
-use Rattle.std.specs.List.{AllZip}
 use Rattle.heap_model.specs.Graph.{Graph, Object, IsReachable, IsSound, next_name, object_named, with_changed}
 use Rattle.heap_model.specs.Heap.{Stored, IsRoot, IsHeld, IsShown, ObjectSet}
 use Rattle.heap_model.specs.Marking.{Marking, KeepsSnapshot, IsSaved}
@@ -11,6 +10,7 @@ use Rattle.heap_model.proofs.Lists.{AllZip-set, get-append_left}
 use Rattle.heap_model.proofs.Unreached.{unreached_begins, unreached_changed}
 use Rattle.heap_model.proofs.Shown.{closed}
 use Rattle.heap_model.proofs.Mutate.{object_set}
+use Rattle.regions.specs.Tiles as tiles
 use Rattle.regions.specs.Table.{Table, pointers_at, set_pointer}
 use Rattle.regions.proofs.Tiles.Changes.{WritesObject, pointer_put}
 use Rattle.regions.proofs.Words.Fields.{with_pointer}
@@ -24,14 +24,14 @@ use Rattle.step_core.specs.Stands.{CoreState, kept_of, heap_of, marking_of, Reme
 use Rattle.step_core.specs.Cycle.{LeavesRegions}
 use Rattle.step_core.specs.Storing.{CanStore, HasNoted}
 use Rattle.step_core.proofs.Cores.Sizes.{some_words}
-use Rattle.step_core.proofs.Cores.Resting.{object_rests, rooted_known}
+use Rattle.step_core.proofs.Cores.Resting.{core_over, object_rests, rooted_known}
 use Rattle.step_core.proofs.Mutating.Fields.{pointer_fields}
 use Rattle.step_core.proofs.Cores.Remembering.{remembers_stored}
 use Rattle.refinement.specs.Remembering.{field_word}
 use Rattle.step_core.proofs.Mutating.Logging.{roles_trans, same_roles}
 use Rattle.step_core.proofs.Mutating.Reading.{object_kept, pointers_there}
 use Rattle.step_core.proofs.Mutating.Written.{SameKeeping, object_written, marking_same}
-use Rattle.step_core.proofs.Mutating.Acting.{object_shows}
+use Rattle.step_core.proofs.Mutating.Acting.{named_shows}
 use Rattle.step_core.proofs.Cores.Layers.{follows_of, layers_writes, layers_changed, marker_writes}
 
 -- the object that a root names
@@ -81,6 +81,9 @@ module _ (k : CoreState) (core : IsCore k) (a i : ℕ) (w : Option ℕ) (t : Tab
   writes = subst (λ (u : Table). WritesObject k.table u a x (with_pointer x i w)) (sym is)
       (pointer_put k.table a i w x (some_words k core) (object_kept k a x at))
 
+  long : tiles.tile_size (tiles.Object (with_pointer x i w)) ≡ tiles.tile_size (tiles.Object x)
+  long = ap (λ (n : ℕ). 2 + n + length x.weaks + length x.values) (length-set x.pointers i w)
+
   module _ (m : Marker) (same : SameRoles k.marker m) where
     abbrev after : CoreState
     after = with_store k t m
@@ -92,24 +95,9 @@ module _ (k : CoreState) (core : IsCore k) (a i : ℕ) (w : Option ℕ) (t : Tab
     pub store_shows : (g : Graph) (y : Stored) (o : Object) (v : Option ℕ) → ShowsGraph g k → kept_of k a ≡ Some y
         → object_named g y.name ≡ Some o → IsShown (heap_of k) w v
         → ShowsGraph (with_changed g y.name (record o { pointers = slice_set o.pointers i v })) after
-    store_shows g y o v s aty named shown =
-        let at_x = at in
-        let here : y ≡ x = cc in
-        let shown_object = s.shows.objects a x at in
-        let same_object : shown_object.object ≡ o =
-        let e1 = shown_object.named in
-        let e2 = ap (λ (z : Stored). object_named g z.name) here in
-        cc in
-        let pointers : AllZip (IsShown (heap_of k)) x.pointers o.pointers =
-        subst (λ (q : Object). AllZip (IsShown (heap_of k)) x.pointers q.pointers) same_object shown_object.pointers in
-        let weaks : AllZip (IsShown (heap_of k)) x.weaks o.weaks =
-        subst (λ (q : Object). AllZip (IsShown (heap_of k)) x.weaks q.weaks) same_object shown_object.weaks in
-        let values : x.values ≡ o.values = shown_object.values ∙ ap (λ (q : Object). q.values) same_object in
-        let p : Object = record o { pointers = slice_set o.pointers i v } in
-        subst (λ (z : Stored). ShowsGraph (with_changed g z.name p) after) (sym here)
-        (object_shows g k after a x (with_pointer x i w) o p s (record { config = refl; next = refl }) set_in
-        (ap (λ (z : Stored). object_named g z.name) (sym here) ∙ named)
-        (AllZip-set (IsShown (heap_of k)) x.pointers o.pointers pointers i w v shown) weaks values)
+    store_shows g y o v s aty named shown = named_shows g k after a x (with_pointer x i w) y o
+        (record o { pointers = slice_set o.pointers i v }) s (record { config = refl; next = refl }) set_in aty named
+        (λ ps. AllZip-set (IsShown (heap_of k)) x.pointers o.pointers ps i w v shown) (λ ws. ws) (λ vs. vs)
 
     -- the old value was saved, so what is to be marked still will be
     pub store_keeps : (was : Option ℕ) → slice_get (pointers_at k.table a) i ≡ Some was
@@ -171,25 +159,15 @@ module _ (k : CoreState) (core : IsCore k) (a i : ℕ) (w : Option ℕ) (t : Tab
 
   -- the core after a store while marking doesn't run
   pub idle_kept : k.marker.running ≡ false → IsCore (with_store k t k.marker)
-  idle_kept idle = record {
-    suits = core.suits;
-    placed = core.placed;
-    layers = layers_writes k.config k.table t k.buffers k.marker a x (with_pointer x i w) writes core.layers (λ run. absurd cc)
-        (ap (λ (n : ℕ). 2 + n + length x.weaks + length x.values) (length-set x.pointers i w));
-    cards = core.cards;
-    remembers = store_remembers k.marker (same_roles k.marker);
-    room = core.room;
-    rows = core.rows;
-    places = core.places;
-    names = core.names;
-    footing = record { graph = graph_after; snapshot = graph_after };
-    rests = (let shows = shows_after k.marker (same_roles k.marker) in let next = shows.next in record {
-      shows = shows;
-      keeps = record { earlier = omega (arith, next); marking = λ run. absurd cc };
-      sound = sound_after;
-      unreached = unreached_begins graph_after sound_after;
-    });
-  }
+  idle_kept idle = core_over k core t k.buffers k.marker k.cards k.sets k.roots refl
+      (layers_writes k.config k.table t k.buffers k.marker a x (with_pointer x i w) writes core.layers (λ run. absurd cc) long)
+      core.cards (store_remembers k.marker (same_roles k.marker)) (record { graph = graph_after; snapshot = graph_after })
+      (let shows = shows_after k.marker (same_roles k.marker) in let next = shows.next in record {
+        shows = shows;
+        keeps = record { earlier = omega (arith, next); marking = λ run. absurd cc };
+        sound = sound_after;
+        unreached = unreached_begins graph_after sound_after;
+      })
 
   pub store_leaves : (m : Marker) → LeavesRegions k (with_store k t m)
   store_leaves m = record { config = refl; in_use = λ j n u. n (sym (writes.kinds j) ∙ u) }
@@ -209,8 +187,7 @@ module _ (k : CoreState) (core : IsCore k) (a i : ℕ) (w : Option ℕ) (t : Tab
     mid_stands =
         let tams = same.tams in
         marker_writes k.table t k.buffers m a x (with_pointer x i w) writes (rw tams core.layers.above_previous)
-        (rw tams core.layers.above_next) st mid_follows
-        (ap (λ (n : ℕ). 2 + n + length x.weaks + length x.values) (length-set x.pointers i w))
+        (rw tams core.layers.above_next) st mid_follows long
 
     unreached_after : k.marker.running ≡ true → KeepsUnreached core.footing.snapshot graph_after
     unreached_after run =
@@ -235,22 +212,12 @@ module _ (k : CoreState) (core : IsCore k) (a i : ℕ) (w : Option ℕ) (t : Tab
       pub last_kept : m.running ≡ true → IsCore (with_store k t m2)
       last_kept run =
           let keeps = last_keeps run core.footing.snapshot core.rests.keeps in
-          record {
-            suits = core.suits;
-            placed = core.placed;
-            layers = layers_changed k.config k.table t k.buffers k.marker m2 a x (with_pointer x i w) writes core.layers st2 same2.tams logs
-                room (ap (λ (n : ℕ). 2 + n + length x.weaks + length x.values) (length-set x.pointers i w));
-            cards = core.cards;
-            remembers = store_remembers m2 same2;
-            room = core.room;
-            rows = core.rows;
-            places = core.places;
-            names = core.names;
-            footing = record { graph = graph_after; snapshot = core.footing.snapshot };
-            rests = record {
-              shows = shows_after m2 same2;
-              keeps = keeps;
-              sound = sound_after;
-              unreached = unreached_after (sym same.running ∙ run);
-            };
-          }
+          core_over k core t k.buffers m2 k.cards k.sets k.roots refl
+          (layers_changed k.config k.table t k.buffers k.marker m2 a x (with_pointer x i w) writes core.layers st2 same2.tams logs room
+          long)
+          core.cards (store_remembers m2 same2) (record { graph = graph_after; snapshot = core.footing.snapshot }) (record {
+            shows = shows_after m2 same2;
+            keeps = keeps;
+            sound = sound_after;
+            unreached = unreached_after (sym same.running ∙ run);
+          })

@@ -1,6 +1,5 @@
 -- A register takes what was read from a weak slot, which is saved while marking runs: k is the core by its fields, c the same by its value.
-use Rattle.std.proofs.Common.{◌≡◌, ℕ, ◌<◌, ◌≤◌, true, false, Option, Some, length, refl, sym, ◌∙◌, ap, subst, arith}
-use Rattle.std.specs.Prelude.{◌==◌, slice_set}
+use Rattle.std.proofs.Common.{◌≡◌, ℕ, ◌<◌, ◌≤◌, true, false, Option, Some, length, refl, sym, ◌∙◌, ap, subst, arith, ◌==◌, slice_set}
 use Rattle.std.proofs.lemmas.List.{length-set}
 use Rattle.heap_model.specs.Graph.{Graph, next_name, with_root}
 use Rattle.heap_model.specs.Heap.{Heap, IsShown, RootSet}
@@ -25,7 +24,7 @@ use Rattle.step_core.specs.Parts.{Touches}
 use Rattle.step_core.proofs.Cores.Keeping.{register_at, register_shows}
 use Rattle.step_core.proofs.Cores.Layers.{layers_marked}
 use Rattle.step_core.proofs.Cores.Remembering.{remembers_on, same_fields}
-use Rattle.step_core.proofs.Cores.Resting.{root_rests}
+use Rattle.step_core.proofs.Cores.Resting.{core_over, root_rests}
 use Rattle.step_core.proofs.Mutating.Logging.{HaveRoom, Saves, TakesLog, idle_overwrites, overwrites_full, overwrites_room}
 use Rattle.step_core.proofs.Mutating.Logging.{roles_trans, same_roles, saved_room, taken_room}
 use Rattle.step_core.proofs.Mutating.Reading.{shown_there}
@@ -62,25 +61,16 @@ module _ (k : CoreState) (core : IsCore k) (place : ℕ) (w : Option ℕ) (m : M
   kept_by_touch : (v : Option ℕ) → IsShown (heap_of k) w v → KeepsFrom (touched core.footing.snapshot v) (with_touch k place w m)
       → MarkerStands k.table m → length m.logs ≡ length k.marker.logs
       → ((mutator : ℕ) → length (log_of m.logs mutator) < 8) → IsCore (with_touch k place w m)
-  kept_by_touch v shown keeps st logs room = record {
-    suits = core.suits;
-    placed = core.placed;
-    layers = layers_marked k.config k.table k.buffers k.marker m core.layers st same.tams logs room;
-    cards = core.cards;
-    remembers = remembers_by;
-    room = core.room;
-    rows = core.rows;
-    places = length-set k.roots place w ∙ core.places;
-    names = core.names;
-    footing = record { graph = with_root core.footing.graph place v; snapshot = touched core.footing.snapshot v };
-    rests = record {
-      shows = shows_by core.footing.graph v core.rests.shows shown;
-      keeps = keeps;
-      sound = root_rests core.footing.graph k place w v core.rests.shows shown core.rests.sound;
-      unreached = unreached_root (touched core.footing.snapshot v) core.footing.graph
-          (unreached_touched core.footing.snapshot core.footing.graph core.rests.unreached v) place v;
-    };
-  }
+  kept_by_touch v shown keeps st logs room = core_over k core k.table k.buffers m k.cards k.sets (slice_set k.roots place w)
+      (length-set k.roots place w) (layers_marked k.config k.table k.buffers k.marker m core.layers st same.tams logs room)
+      core.cards remembers_by
+      (record { graph = with_root core.footing.graph place v; snapshot = touched core.footing.snapshot v }) (record {
+        shows = shows_by core.footing.graph v core.rests.shows shown;
+        keeps = keeps;
+        sound = root_rests core.footing.graph k place w v core.rests.shows shown core.rests.sound;
+        unreached = unreached_root (touched core.footing.snapshot v) core.footing.graph
+            (unreached_touched core.footing.snapshot core.footing.graph core.rests.unreached v) place v;
+      })
 
   earlier_by : (s : Graph) (v : Option ℕ) → KeepsFrom s k → next_name (touched s v) ≤ k.next
   earlier_by s v f = let next = touched_next s v in let early = f.earlier in omega (arith, next, early)

@@ -1,13 +1,9 @@
 -- A store into a weak slot of an object that a root names: the field's card is noted, and marking isn't concerned.
-use Rattle.std.proofs.Common.{◌≡◌, ℕ, ◌+◌, ◌<◌, List, ◌++◌, Option, Some, length, refl, sym, ◌∙◌, ap, subst, arith}
-use Rattle.std.specs.Prelude.{slice_set, IsSome}
-use Rattle.std.specs.List.{AllZip}
+use Rattle.std.proofs.Common.{◌≡◌, ℕ, ◌+◌, ◌<◌, List, ◌++◌, Option, Some, length, refl, sym, ◌∙◌, ap, subst, arith, slice_set, IsSome}
 use Rattle.std.proofs.lemmas.List.{length-set}
-use Rattle.heap_model.specs.Graph.{Graph, Object, IsSound, object_named, with_changed}
+use Rattle.heap_model.specs.Graph.{Graph, Object, object_named, with_changed}
 use Rattle.heap_model.specs.Heap.{Stored, IsRoot, IsShown, ObjectSet}
-use Rattle.heap_model.specs.Weak.{KeepsUnreached}
 use Rattle.heap_model.proofs.Lists.{AllZip-set}
-use Rattle.heap_model.proofs.Unreached.{unreached_written}
 use Rattle.regions.specs.Table.{Table, object_at, weaks_at, fields_at, set_weak}
 use Rattle.regions.proofs.Tiles.Changes.{WritesObject, weak_put}
 use Rattle.regions.proofs.Words.Fields.{with_weak}
@@ -18,13 +14,12 @@ use Rattle.step_core.specs.Mutators.{weak_field}
 use Rattle.step_core.specs.Cycle.{LeavesRegions}
 use Rattle.step_core.specs.Storing.{HasNoted, StoresWeak}
 use Rattle.step_core.proofs.Cores.Sizes.{some_words}
-use Rattle.step_core.proofs.Cores.Resting.{object_rests}
-use Rattle.step_core.proofs.Cores.Layers.{follows_of, layers_writes}
+use Rattle.step_core.proofs.Cores.Keeping.{written_kept}
 use Rattle.step_core.proofs.Cores.Remembering.{remembers_stored}
 use Rattle.step_core.proofs.Mutating.Fields.{weak_fields, fields_count}
 use Rattle.step_core.proofs.Mutating.Reading.{object_kept, pointers_there}
 use Rattle.step_core.proofs.Mutating.Written.{object_written, write_keeps}
-use Rattle.step_core.proofs.Mutating.Acting.{object_shows}
+use Rattle.step_core.proofs.Mutating.Acting.{named_shows}
 use Rattle.step_core.proofs.Mutating.Noting.{keeps_noted, kept_noted, shown_noted, shows_noted}
 use Rattle.step_core.proofs.Mutating.Storing.{Rooted, rooted}
 
@@ -61,24 +56,9 @@ module _ (k : CoreState) (core : IsCore k) (a i : ℕ) (w : Option ℕ) (t : Tab
   shows_by : (g : Graph) (y : Stored) (o : Object) (v : Option ℕ) → ShowsGraph g k → kept_of k a ≡ Some y
       → object_named g y.name ≡ Some o → IsShown (heap_of k) w v
       → ShowsGraph (with_changed g y.name (record o { weaks = slice_set o.weaks i v })) after
-  shows_by g y o v s aty named shown =
-      let at_x = r.at in
-      let here : y ≡ x = cc in
-      let shown_object = s.shows.objects a x r.at in
-      let same_object : shown_object.object ≡ o =
-      let e1 = shown_object.named in
-      let e2 = ap (λ (z : Stored). object_named g z.name) here in
-      cc in
-      let pointers : AllZip (IsShown (heap_of k)) x.pointers o.pointers =
-      subst (λ (q : Object). AllZip (IsShown (heap_of k)) x.pointers q.pointers) same_object shown_object.pointers in
-      let weaks : AllZip (IsShown (heap_of k)) x.weaks o.weaks =
-      subst (λ (q : Object). AllZip (IsShown (heap_of k)) x.weaks q.weaks) same_object shown_object.weaks in
-      let values : x.values ≡ o.values = shown_object.values ∙ ap (λ (q : Object). q.values) same_object in
-      let p : Object = record o { weaks = slice_set o.weaks i v } in
-      subst (λ (z : Stored). ShowsGraph (with_changed g z.name p) after) (sym here)
-      (object_shows g k after a x (with_weak x i w) o p s (record { config = refl; next = refl }) set_in
-      (ap (λ (z : Stored). object_named g z.name) (sym here) ∙ named)
-      pointers (AllZip-set (IsShown (heap_of k)) x.weaks o.weaks weaks i w v shown) values)
+  shows_by g y o v s aty named shown = named_shows g k after a x (with_weak x i w) y o (record o { weaks = slice_set o.weaks i v }) s
+      (record { config = refl; next = refl }) set_in aty named (λ ps. ps)
+      (λ ws. AllZip-set (IsShown (heap_of k)) x.weaks o.weaks ws i w v shown) (λ vs. vs)
 
   keeps_by : (s : Graph) → KeepsFrom s k → KeepsFrom s after
   keeps_by s f = write_keeps s k t a x (with_weak x i w) writes refl r.at refl f
@@ -92,43 +72,13 @@ module _ (k : CoreState) (core : IsCore k) (a i : ℕ) (w : Option ℕ) (t : Tab
       remembers_stored k after a (weak_field k a i) w x (with_weak x i w) refl writes.size refl refl set_in
       (weak_fields x i w ∙ ap (λ (n : ℕ). slice_set (x.pointers ++ x.weaks) n w) (sym field)) noted core.remembers
 
-  abbrev changed : Object
-  changed = let o = core.rests.shows.shows.objects a x r.at in record o.object { weaks = slice_set o.object.weaks i word.name }
-
-  abbrev graph_after : Graph
-  graph_after = with_changed core.footing.graph x.name changed
-
-  sound_after : IsSound graph_after
-  sound_after =
-      let o = core.rests.shows.shows.objects a x r.at in
-      object_rests core.footing.graph k x.name o.object changed x.pointers (slice_set x.weaks i w) core.rests.shows o.named o.pointers
-      (AllZip-set (IsShown (heap_of k)) x.weaks o.object.weaks o.weaks i w word.name word.shown) core.rests.sound
-
-  unreached_after : KeepsUnreached core.footing.snapshot graph_after
-  unreached_after =
-      let o = core.rests.shows.shows.objects a x r.at in
-      unreached_written core.footing.snapshot core.footing.graph core.rests.unreached x.name o.object changed o.named refl
-
   kept_by_store : IsCore after
   kept_by_store =
       let o = core.rests.shows.shows.objects a x r.at in
-      let shows = shows_by core.footing.graph x o.object word.name core.rests.shows r.at o.named word.shown in
-      let keeps = keeps_by core.footing.snapshot core.rests.keeps in
-      record {
-        suits = core.suits;
-        placed = core.placed;
-        layers = layers_writes k.config k.table t k.buffers k.marker a x (with_weak x i w) writes core.layers
-            (follows_of after graph_after core.footing.snapshot shows keeps)
-            (ap (λ (n : ℕ). 2 + length x.pointers + n + length x.values) (length-set x.weaks i w));
-        cards = core.cards;
-        remembers = remembers_by;
-        room = core.room;
-        rows = core.rows;
-        places = core.places;
-        names = core.names;
-        footing = record { graph = graph_after; snapshot = core.footing.snapshot };
-        rests = record { shows = shows; keeps = keeps; sound = sound_after; unreached = unreached_after };
-      }
+      written_kept k core a x (with_weak x i w) o.object (record o.object { weaks = slice_set o.object.weaks i word.name }) t r.at writes
+      refl refl (ap (λ (n : ℕ). 2 + length x.pointers + n + length x.values) (length-set x.weaks i w)) o.named refl o.pointers
+      (AllZip-set (IsShown (heap_of k)) x.weaks o.object.weaks o.weaks i w word.name word.shown)
+      (shows_by core.footing.graph x o.object word.name core.rests.shows r.at o.named word.shown) remembers_by
 
 -- the same by the core's value c: k is the core by its fields
 module _ (k c : CoreState) (e : k ≡ c) (core : IsCore k) (a i : ℕ) (w : Option ℕ) (root : IsRoot (heap_of c) a)

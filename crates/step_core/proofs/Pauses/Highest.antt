@@ -1,15 +1,12 @@
 -- The highest ordinary regions, one by one.
-use Rattle.std.proofs.Common.{◌≡◌, ◌+◌, ◌*◌, ◌<◌, ◌≤◌, ◌⊎◌, ◌∷◌, ◌++◌, ◌∙◌}
-use Rattle.std.proofs.Common.{ℕ, zero, suc, Bool, true, false, cond, eqb, List, [], length, get_or, take, refl, sym, ap, subst, arith}
-use Rattle.std.proofs.Common.{inl, inr}
-use Rattle.std.specs.Prelude.{All, count_by, ◌==◌, ◌||◌, ◌≢◌}
-use Rattle.std.specs.List.{list_any}
-use Rattle.std.proofs.lemmas.Bool.{cases_eq, cases_lt, cases_Bool, eq-eqb, eqb-true, ne_eqb}
+use Rattle.std.proofs.Common.{◌≡◌, ◌+◌, ◌*◌, ◌<◌, ◌≤◌, ◌⊎◌, ◌∷◌, ◌++◌, ◌∙◌, ℕ, zero, suc, Bool, true, false, cond, eqb, List, [], length}
+use Rattle.std.proofs.Common.{get_or, take, refl, sym, ap, subst, arith, inl, inr, All, count_by, ◌==◌, ◌||◌, ◌≢◌}
+use Rattle.std.proofs.lemmas.Bool.{cases_eq, cases_lt, cases_Bool, eq-eqb, eqb-true}
 use Rattle.std.proofs.lemmas.List.{take_all}
 use Rattle.std.proofs.lemmas.List.Sums.{sum_by-cons, sum_by-append}
-use Rattle.std.proofs.lemmas.List.Elements.{All-append}
+use Rattle.std.proofs.lemmas.List.Elements.{All-nil, All-push, All-weaker}
 use Rattle.std.proofs.lemmas.List.Folds.{Any-from_list_any, list_any-append}
-use Rattle.regions.specs.Table.{Region, Table, Free, Ordinary, First, Rest, is_free, kind_of, nth_region, region_kind}
+use Rattle.regions.specs.Table.{Region, Table, Free, Ordinary, is_free, kind_of, nth_region, region_kind}
 use Rattle.regions.specs.declared.row.Kind.TheVariants as kinds
 use Rattle.mark_bitmap.specs.Tops.{Tops}
 use Rattle.mark_bitmap.specs.Live.{live_bound_of}
@@ -18,7 +15,7 @@ use Rattle.region_choice.specs.Choice.{copy_limit, live_sum}
 use Rattle.evacuation.specs.Evacuates.{is_chosen}
 use Rattle.step_core.specs.Pause.{IsRowOf, AreHighest, GoesDown, IsCompacted, free_below}
 use Rattle.step_core.proofs.Mutating.Small.{ordinary_known}
-use Rattle.step_core.proofs.Pauses.Rows.{All_one, length-push}
+use Rattle.step_core.proofs.Pauses.Rows.{bit, has_last, has_left, length-push, once_more}
 
 abbrev free_bit : Region → ℕ
 free_bit r = cond (is_free r) 1 0
@@ -61,15 +58,11 @@ some_free (x ∷ xs) (suc k) le = elim (cases_Bool (is_free x)) [
 
 free_is : (r : Region) → region_kind r ≡ kinds.Free → free_bit r ≡ 1
 free_is Free e = refl
-free_is (Ordinary ts) e = absurd (cc)
-free_is (First x) e = absurd (cc)
-free_is (Rest n) e = absurd (cc)
+free_is _ e = absurd (cc)
 
 other_is : (r : Region) → region_kind r ≢ kinds.Free → free_bit r ≡ 0
 other_is Free e = absurd (e refl)
-other_is (Ordinary ts) e = refl
-other_is (First x) e = refl
-other_is (Rest n) e = refl
+other_is _ e = refl
 
 -- a region further down, one fewer is free below, if the region is free
 pub below_free : (t : Table) (n m : ℕ) → n ≡ m + 1 → n ≤ length t.regions → kind_of t m ≡ kinds.Free → free_below t n ≡ free_below t m + 1
@@ -88,9 +81,7 @@ below_other t n m e within other =
 
 kind_is : (r : Region) → is_free r ≡ true → region_kind r ≡ kinds.Free
 kind_is Free e = refl
-kind_is (Ordinary ts) e = absurd (cc)
-kind_is (First x) e = absurd (cc)
-kind_is (Rest n) e = absurd (cc)
+kind_is _ e = absurd (cc)
 
 -- where some are free below a region, one of them
 pub free_found : (t : Table) (k : ℕ) → 1 ≤ free_below t k → (j : ℕ) × (j < k) × (kind_of t j ≡ kinds.Free)
@@ -105,28 +96,9 @@ none_further t n m from e other none k low high = elim (cases_eq k m) [
   | inr apart ↦ none k (omega (arith, e, low, apart)) high
 ]
 
-abbrev bit : ℕ → LiveRow → ℕ
-bit k row = cond (eqb row.region k) 1 0
-
 All_last : (P : LiveRow → Type 0) (xs : List LiveRow) (x : LiveRow) → All P (xs ++ x ∷ []) → P x
 All_last P [] x a = a 0 x (omega arith)
 All_last P (y ∷ xs) x a = All_last P xs x (λ k d lt. a (suc k) d (omega (arith, lt)))
-
-All_map : (P Q : LiveRow → Type 0) → ((x : LiveRow) → P x → Q x) → (rows : List LiveRow) → All P rows → All Q rows
-All_map P Q f rows a = λ k d lt. f (get_or rows k d) (a k d lt)
-
--- no row is of a region that all rows are above
-none_at : (rows : List LiveRow) (n : ℕ) → All (λ row. n < row.region) rows → count_by (λ row. row.region == n) rows ≡ 0
-none_at [] n a = refl
-none_at (x ∷ rows) n a =
-    let first : n < x.region = a 0 x (omega arith) in
-    let other : eqb x.region n ≡ false = ne_eqb x.region n (λ e. omega (arith, e, first)) in
-    omega (
-      arith,
-      sum_by-cons (bit n) x rows,
-      ap {B = ℕ} (λ b. cond b 1 0) other,
-      none_at rows n (λ k d lt. a (suc k) d (omega (arith, lt))),
-    )
 
 counts_at : (rows : List LiveRow) (j : ℕ) (x : LiveRow) (k : ℕ) → j < length rows → get_or rows j x ≡ x → x.region ≡ k
     → 1 ≤ count_by (λ row. row.region == k) rows
@@ -134,29 +106,13 @@ counts_at [] j x k lt e r = absurd (omega (arith, lt))
 counts_at (y ∷ rows) zero x k lt e r =
     let here : eqb y.region k ≡ true = eq-eqb y.region k (ap (λ (z : LiveRow). z.region) e ∙ r) in
     omega (arith, sum_by-cons (bit k) y rows, ap {B = ℕ} (λ b. cond b 1 0) here)
-counts_at (y ∷ rows) (suc j) x k lt e r =
-    omega (arith, sum_by-cons (bit k) y rows, counts_at rows j x k (omega (arith, lt)) e r)
+counts_at (y ∷ rows) (suc j) x k lt e r = omega (arith, sum_by-cons (bit k) y rows, counts_at rows j x k (omega (arith, lt)) e r)
 
 -- a chosen region has a row
 has_row : (rows : List LiveRow) (k : ℕ) → is_chosen rows k ≡ true → 1 ≤ count_by (λ row. row.region == k) rows
 has_row rows k e =
     let (i, x, lt, is, p) = Any-from_list_any (λ (row : LiveRow). row.region == k) rows e in
     counts_at rows i x k lt is (eqb-true x.region k p)
-
-any_right : (a b : Bool) → b ≡ true → (a || b) ≡ true
-any_right true b e = refl
-any_right false b e = e
-
-has_left : (rows : List LiveRow) (row : LiveRow) (k : ℕ) → is_chosen rows k ≡ true → is_chosen (rows ++ row ∷ []) k ≡ true
-has_left rows row k e =
-    list_any-append (λ (r : LiveRow). r.region == k) rows (row ∷ [])
-    ∙ ap (λ (b : Bool). b || list_any (λ (r : LiveRow). r.region == k) (row ∷ [])) e
-
-has_last : (rows : List LiveRow) (row : LiveRow) (k : ℕ) → row.region ≡ k → is_chosen (rows ++ row ∷ []) k ≡ true
-has_last rows row k e =
-    list_any-append (λ (r : LiveRow). r.region == k) rows (row ∷ [])
-    ∙ any_right (list_any (λ (r : LiveRow). r.region == k) rows) (list_any (λ (r : LiveRow). r.region == k) (row ∷ []))
-    (ap (λ (b : Bool). b || false) (eq-eqb row.region k e))
 
 either : (a b : Bool) → (a || b) ≡ true → (a ≡ true) ⊎ (b ≡ true)
 either true b e = inl refl
@@ -186,17 +142,11 @@ module _ (t : Table) (tops : List ℕ) (marks : List Bool) (limit : ℕ) where
     pub free_is : free ≡ free_below t number
     pub sum_is : sum ≡ live_sum rows
 
-  no_rows : (P : LiveRow → Type 0) → All P []
-  no_rows P i d lt = absurd (omega (arith, lt))
-
   pub at_top : HasDescended (length t.regions) (count_by is_free t.regions) 0 []
   at_top = record {
-    highest = record {
-      are_rows = record { each = no_rows (IsRowOf t tops marks); once = λ k. omega arith };
-      none_left_out = no_rows _;
-    };
-    down = record { within = omega arith; below = no_rows _ };
-    from = no_rows _;
+    highest = record { are_rows = record { each = All-nil (IsRowOf t tops marks); once = λ k. omega arith }; none_left_out = All-nil _ };
+    down = record { within = omega arith; below = All-nil _ };
+    from = All-nil _;
     all = λ k past ordinary. absurd (let known = ordinary_known t k ordinary in omega arith);
     free_is = ap (count_by is_free) (sym (take_all (length t.regions) t.regions (omega arith)));
     sum_is = refl;
@@ -215,26 +165,18 @@ module _ (t : Table) (tops : List ℕ) (marks : List Bool) (limit : ℕ) where
     is_row = record { known = ordinary_known t row.region next.ordinary; ordinary = next.ordinary; bound = bound }
 
     above : All (λ r. row.region < r.region) rows
-    above = All_map (λ r. number ≤ r.region) (λ r. row.region < r.region) (λ r le. let lt = next.below in omega arith) rows h.from
+    above = All-weaker (λ r. number ≤ r.region) (λ r. row.region < r.region) (λ r le. let lt = next.below in omega arith) rows h.from
 
     once : (k : ℕ) → count_by (λ r. r.region == k) (rows ++ row ∷ []) ≤ 1
-    once k = elim (cases_eq row.region k) [
-      | inl same ↦
-          let none : count_by (λ r. r.region == k) rows ≡ 0 =
-          subst (λ (j : ℕ). count_by (λ r. r.region == j) rows ≡ 0) same (none_at rows row.region above) in
-          let here = ap {B = ℕ} (λ b. cond b 1 0) (eq-eqb row.region k same) in
-          omega (arith, sum_by-append (bit k) rows (row ∷ []), sum_by-cons (bit k) row [], none, here)
-      | inr apart ↦
-          let here = ap {B = ℕ} (λ b. cond b 1 0) (ne_eqb row.region k apart) in
-          omega (arith, sum_by-append (bit k) rows (row ∷ []), sum_by-cons (bit k) row [], h.highest.are_rows.once k, here)
-    ]
+    once = once_more rows row (All-weaker (λ r. row.region < r.region) (λ r. r.region ≢ row.region) (λ r lt e. omega (arith, lt, e)) rows
+        above) h.highest.are_rows.once
 
     all_from : (k : ℕ) → row.region ≤ k → kind_of t k ≡ kinds.Ordinary → is_chosen (rows ++ row ∷ []) k ≡ true
     all_from k low ordinary = elim (cases_eq row.region k) [
       | inl same ↦ has_last rows row k same
       | inr apart ↦ (elim (cases_lt k number) [
         | inl between ↦ absurd (next.highest k (omega (arith, low, apart)) between ordinary)
-        | inr past ↦ has_left rows row k (h.all k (omega (arith, past)) ordinary)
+        | inr past ↦ has_left rows (row ∷ []) k (h.all k (omega (arith, past)) ordinary)
       ])
     ]
 
@@ -253,28 +195,22 @@ module _ (t : Table) (tops : List ℕ) (marks : List Bool) (limit : ℕ) where
         λ r le. omega (arith, count, room, next.free_is, fewer_free t.regions row.region r.region le) in
         record {
           highest = record {
-            are_rows = record {
-              each = All-append (IsRowOf t tops marks) rows (row ∷ []) h.highest.are_rows.each (All_one (IsRowOf t tops marks) row is_row);
-              once = once;
-            };
-            none_left_out = All-append
-                (λ r. (k : ℕ) → r.region < k → kind_of t k ≡ kinds.Ordinary → is_chosen (rows ++ row ∷ []) k ≡ true) rows (row ∷ [])
-                (All_map (λ r. number ≤ r.region)
+            are_rows = record { each = All-push (IsRowOf t tops marks) rows row h.highest.are_rows.each is_row; once = once };
+            none_left_out = All-push
+                (λ r. (k : ℕ) → r.region < k → kind_of t k ≡ kinds.Ordinary → is_chosen (rows ++ row ∷ []) k ≡ true) rows row
+                (All-weaker (λ r. number ≤ r.region)
                 (λ r. (k : ℕ) → r.region < k → kind_of t k ≡ kinds.Ordinary → is_chosen (rows ++ row ∷ []) k ≡ true)
-                (λ r le k lt ordinary. has_left rows row k (h.all k (omega (arith, le, lt)) ordinary)) rows h.from)
-                (All_one (λ r. (k : ℕ) → r.region < k → kind_of t k ≡ kinds.Ordinary → is_chosen (rows ++ row ∷ []) k ≡ true) row
-                (λ k lt ordinary. all_from k (omega (arith, lt)) ordinary));
+                (λ r le k lt ordinary. has_left rows (row ∷ []) k (h.all k (omega (arith, le, lt)) ordinary)) rows h.from)
+                (λ k lt ordinary. all_from k (omega (arith, lt)) ordinary);
           };
           down = record {
             within = omega (arith, sums, within);
-            below = All-append (λ r. 2 * length (rows ++ row ∷ []) ≤ free_below t r.region + 1) rows (row ∷ [])
-                (All_map (λ r. row.region < r.region) (λ r. 2 * length (rows ++ row ∷ []) ≤ free_below t r.region + 1)
-                (λ r lt. fits r (omega (arith, lt))) rows above)
-                (All_one (λ r. 2 * length (rows ++ row ∷ []) ≤ free_below t r.region + 1) row (fits row (omega arith)));
+            below = All-push (λ r. 2 * length (rows ++ row ∷ []) ≤ free_below t r.region + 1) rows row
+                (All-weaker (λ r. row.region < r.region) (λ r. 2 * length (rows ++ row ∷ []) ≤ free_below t r.region + 1)
+                (λ r lt. fits r (omega (arith, lt))) rows above) (fits row (omega arith));
           };
-          from = All-append (λ r. row.region ≤ r.region) rows (row ∷ [])
-              (All_map (λ r. row.region < r.region) (λ r. row.region ≤ r.region) (λ r lt. omega (arith, lt)) rows above)
-              (All_one (λ r. row.region ≤ r.region) row (omega arith));
+          from = All-push (λ r. row.region ≤ r.region) rows row
+              (All-weaker (λ r. row.region < r.region) (λ r. row.region ≤ r.region) (λ r lt. omega (arith, lt)) rows above) (omega arith);
           all = all_from;
           free_is = next.free_is;
           sum_is = sym sums;

@@ -1,11 +1,10 @@
 -- Candidates whose live bounds are within a limit, and the rows of the others, which the code doesn't write.
-use Rattle.std.proofs.Common.{◌≡◌, ◌⊎◌, ◌+◌, ◌-◌, ◌*◌, ◌<◌, ◌≤◌, ◌∷◌, ◌++◌, ◌∙◌}
-use Rattle.std.proofs.Common.{ℕ, zero, suc, min, Bool, true, false, List, [], length, get_or, take, drop, refl, sym}
-use Rattle.std.proofs.Common.{ap, subst, arith, inl, inr, is_lt, append_assoc}
-use Rattle.std.specs.Prelude.{All, IsPermutation, IsSorted, slice_index, count_by}
+use Rattle.std.proofs.Common.{◌≡◌, ◌⊎◌, ◌+◌, ◌-◌, ◌*◌, ◌<◌, ◌≤◌, ◌∷◌, ◌++◌, ◌∙◌, ℕ, zero, suc, min, Bool, true, false, List, [], length}
+use Rattle.std.proofs.Common.{get_or, take, drop, refl, sym, ap, subst, arith, inl, inr, is_lt, append_assoc, All, IsPermutation, IsSorted}
+use Rattle.std.proofs.Common.{slice_index, count_by}
 use Rattle.std.proofs.lemmas.Bool.{cases_eq, cases_lt}
 use Rattle.std.proofs.lemmas.List.{length-append, length-take-le, take-append-le, drop-append-le}
-use Rattle.std.proofs.lemmas.List.Elements.{All-append, All-take, All-weaker}
+use Rattle.std.proofs.lemmas.List.Elements.{All-append, All-push, All-take, All-weaker}
 use Rattle.std.proofs.lemmas.List.Sorted.{All-permutation, IsPermutation-refl, IsPermutation-to_front}
 use Rattle.std.proofs.lemmas.List.Sorted.{IsPermutation-append_left, IsPermutation-append_right}
 use Rattle.regions.specs.Table.{Table, is_free, kind_of}
@@ -18,7 +17,7 @@ use Rattle.region_choice.specs.Choice.{copy_limit, live_sum, row_cmp, ComeFirst,
 use Rattle.region_choice.proofs.Greedy.{IsBestWithin-front}
 use Rattle.region_choice.proofs.Parts.{higher_last}
 use Rattle.step_core.specs.Pause.{IsCandidate, AreCandidates, AreCandidatesWithin, IsChosen}
-use Rattle.step_core.proofs.Pauses.Rows.{All_one, row_passed, row_written, candidates_sorted}
+use Rattle.step_core.proofs.Pauses.Rows.{row_passed, row_written, candidates_sorted}
 
 -- ---- region by region
 module _ (t : Table) (tams : Tops) (previous : List Bool) (running : Bool) (limit : ℕ) where
@@ -55,7 +54,7 @@ module _ (t : Table) (tams : Tops) (previous : List Bool) (running : Bool) (limi
         all = subst (AreCandidates t tams previous running (n + 1)) (append_assoc rows w.others (row ∷ []))
             (row_written t tams previous running n (rows ++ w.others) row w.all known refl refl c);
         within = w.within;
-        beyond = All-append (λ r. limit < r.live_bound) w.others (row ∷ []) w.beyond (All_one (λ r. limit < r.live_bound) row high);
+        beyond = All-push (λ r. limit < r.live_bound) w.others row w.beyond high;
       }
 
   -- the row of a candidate within it
@@ -73,7 +72,7 @@ module _ (t : Table) (tams : Tops) (previous : List Bool) (running : Bool) (limi
         others = w.others;
         all = candidates_sorted t tams previous running (n + 1) ((rows ++ w.others) ++ row ∷ []) ((rows ++ row ∷ []) ++ w.others) whole
             (row_written t tams previous running n (rows ++ w.others) row w.all known at bound c);
-        within = All-append (λ r. r.live_bound ≤ limit) rows (row ∷ []) w.within (All_one (λ r. r.live_bound ≤ limit) row low);
+        within = All-push (λ r. r.live_bound ≤ limit) rows row w.within low;
         beyond = w.beyond;
       }
 
@@ -83,8 +82,7 @@ module _ (t : Table) (tams : Tops) (previous : List Bool) (running : Bool) (limi
     where
       new_or_not : (b : Bool) → running ≡ b → kind_of t k ≡ kinds.Ordinary → live_bound_of t tams.previous previous k < t.words_per_region
           → IsCandidate t tams previous running k ⊎ (IsCandidate t tams previous running k → ⊥)
-      new_or_not false e o f =
-          inl (record { ordinary = o; frees = f; all_new = λ run. absurd (let no : true ≡ false = sym run ∙ e in cc) })
+      new_or_not false e o f = inl (record { ordinary = o; frees = f; all_new = λ run. absurd (let no : true ≡ false = sym run ∙ e in cc) })
       new_or_not true e o f = elim (cases_eq (slice_index tams.next k) (k * t.words_per_region)) [
         | inl same ↦ inl (record { ordinary = o; frees = f; all_new = λ run. same })
         | inr other ↦ inr (λ c. other (c.all_new e))

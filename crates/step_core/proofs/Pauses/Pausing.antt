@@ -1,8 +1,8 @@
 -- The chosen regions are evacuated in a core: k is the core by its fields before that.
-use Rattle.std.proofs.Common.{◌≡◌, ◌+◌, ◌*◌, ◌/◌, ◌<◌, ◌≤◌, ◌&&◌, ◌∙◌}
-use Rattle.std.proofs.Common.{ℕ, Bool, true, false, not, List, Option, Some, length, get_or, refl, sym, ap, subst, arith, inl, inr}
-use Rattle.std.specs.Prelude.{All, ◌↔◌, slice_index, nat_lt, if◌then◌else◌}
+use Rattle.std.proofs.Common.{◌≡◌, ◌+◌, ◌*◌, ◌/◌, ◌<◌, ◌≤◌, ◌&&◌, ◌∙◌, ℕ, Bool, true, false, not, List, Option, Some, length, refl, sym}
+use Rattle.std.proofs.Common.{ap, subst, arith, inl, inr, All, ◌↔◌, slice_index, nat_lt, if◌then◌else◌}
 use Rattle.std.proofs.lemmas.Bool.{cases_Bool, ltb-true}
+use Rattle.std.proofs.lemmas.List.Elements.{All-weaker}
 use Rattle.heap_model.specs.Graph.{Graph, IsReachable, next_name}
 use Rattle.heap_model.specs.Heap.{Stored}
 use Rattle.heap_model.specs.Marking.{SameMarking}
@@ -30,7 +30,6 @@ use Rattle.marker.specs.Live.{LiveCounts, CountsWords}
 use Rattle.marker.proofs.LiveCounts.{marked_words_same}
 use Rattle.marker.specs.declared.marker.Marker.{Marker}
 use Rattle.region_choice.specs.declared.LiveRow.{LiveRow}
-use Rattle.evacuation.specs.Rooms.{RoomSizes}
 use Rattle.evacuation.proofs.WholePause.ChosenReleased.{mark_gone, mark_left, top_gone, top_left}
 use Rattle.evacuation.specs.Evacuates.{CanEvacuate, HasEvacuated, IsLiveRow, IsNewSet, IsSameBut, MarksAfter, is_chosen, set_in}
 use Rattle.heap_words.specs.Configs.{card_words, object_limit}
@@ -44,6 +43,7 @@ use Rattle.step_core.proofs.Pauses.CopiedNames.{copied_names}
 use Rattle.step_core.proofs.Cores.Layers.{follows_of}
 use Rattle.step_core.proofs.Pauses.Ready.{ready_config, ready_table, ready_marker, ready_roots, ready_next}
 use Rattle.step_core.proofs.Pauses.Refined.{can_scan}
+use Rattle.step_core.proofs.Cores.Resting.{core_stays}
 use Rattle.step_core.proofs.Cores.Sizes.{some_words}
 use Rattle.step_core.proofs.Mutating.Small.{words_are, ordinary_known}
 use Rattle.step_core.proofs.Pauses.Wide.{wide_after}
@@ -55,9 +55,6 @@ pub cards_room : (k : CoreState) → IsCore k → k.room.cards ≡ card_count k.
 cards_room k core =
     let each = cards_a_region k core in
     core.room.cards ∙ ap (λ (n : ℕ). k.config.regions * n) each ∙ ap (λ (n : ℕ). n * k.sets.cards_per_region) (sym core.cards.each_region)
-
-All_to : (P Q : LiveRow → Type 0) → ((x : LiveRow) → P x → Q x) → (rows : List LiveRow) → All P rows → All Q rows
-All_to P Q f rows a = λ i d lt. f (get_or rows i d) (a i d lt)
 
 module _ (k : CoreState) (core : IsCore k) (which : Choice) (budget : ℕ) (chosen : List LiveRow)
     (choice : IsSetOf which k.table k.marker.tams k.marker.bitmaps.previous k.marker.running budget chosen)
@@ -83,7 +80,7 @@ module _ (k : CoreState) (core : IsCore k) (which : Choice) (budget : ℕ) (chos
     each_card = core.cards.each_card;
     clean = clean;
     remembers = core.remembers;
-    each_row = All_to (IsRowOf k.table k.marker.tams.previous k.marker.bitmaps.previous) (IsLiveRow (layers_of k)) row_of chosen
+    each_row = All-weaker (IsRowOf k.table k.marker.tams.previous k.marker.bitmaps.previous) (IsLiveRow (layers_of k)) row_of chosen
         (chosen_rows k.table k.marker.tams k.marker.bitmaps.previous k.marker.running budget chosen may);
     distinct = chosen_distinct k.table k.marker.tams k.marker.bitmaps.previous k.marker.running budget chosen may;
     room = chosen_room k.table k.marker.tams k.marker.bitmaps.previous k.marker.running budget chosen may;
@@ -91,15 +88,15 @@ module _ (k : CoreState) (core : IsCore k) (which : Choice) (budget : ℕ) (chos
 
   -- each chosen region is one of which words are counted
   pub chosen_known : (counts : List ℕ) → length counts ≡ length k.table.regions → All (λ row. row.region < length counts) chosen
-  chosen_known counts count = All_to (IsRowOf k.table k.marker.tams.previous k.marker.bitmaps.previous) (λ row. row.region < length counts)
-      (λ x r. omega (arith, r.known, count)) chosen
+  chosen_known counts count = All-weaker (IsRowOf k.table k.marker.tams.previous k.marker.bitmaps.previous) (λ row.
+      row.region < length counts) (λ x r. omega (arith, r.known, count)) chosen
       (chosen_rows k.table k.marker.tams k.marker.bitmaps.previous k.marker.running budget chosen may)
 
   pub next_count : length k.marker.live.next ≡ length k.table.regions
   next_count = core.layers.marker.live_next.each_region
 
   module _ (t : Table) (tams : Tops) (bm : Bitmaps) (cs : Cards) (ss : Sets) (roots : List (Option ℕ)) (w : ℕ)
-      (r : RoomSizes) (n : ℕ) (live : LiveCounts)
+      (live : LiveCounts)
       (ev : HasEvacuated chosen (card_words k.config) w (layers_of k)
       (record { table = t; tams = tams; previous = bm.previous; next = bm.next; cards = cs; sets = ss; roots = roots }))
       (forgets : AreForgotten chosen k.marker.live live) where
@@ -115,7 +112,7 @@ module _ (k : CoreState) (core : IsCore k) (which : Choice) (budget : ℕ) (chos
     }
 
     abbrev after : CoreState
-    after = record k { table = t; marker = marker; cards = cs; sets = ss; room = r; row_room = n; roots = roots }
+    after = record k { table = t; marker = marker; cards = cs; sets = ss; roots = roots }
 
     abbrev place : ℕ → Option ℕ
     place = place_after (set_in k.table.words_per_region chosen) ev.forward
@@ -310,31 +307,14 @@ module _ (k : CoreState) (core : IsCore k) (which : Choice) (budget : ℕ) (chos
         wide = wide_after chosen k.table t ev.regions core.layers.wide;
       }
 
-      pub paused_kept : r ≡ k.room → n ≡ k.row_room → length roots ≡ length k.roots → IsCore after
+      pub paused_kept : length roots ≡ length k.roots → IsCore after
       unfolding kept_of
-      paused_kept room_same rows_same places = record {
-        suits = core.suits;
-        placed = core.placed;
-        layers = layers_after;
-        cards = record {
-          whole_cards = sym core.layers.region_size ∙ sym ev.regions.size ∙ ev.fit.whole_cards;
-          each_region = ev.fit.each_region ∙ ev.regions.count ∙ core.layers.region_count;
-          each_card = ev.each_card;
-          each_mutator = ap (λ (ls : List (List ℕ)). length ls) ev.logs ∙ core.cards.each_mutator;
-        };
-        remembers = ev.remembers;
-        room = rw room_same core.room;
-        rows = rw rows_same core.rows;
-        places = places ∙ core.places;
-        names = core.names;
-        footing = core.footing;
-        rests = record {
-          shows = paused_shows core.footing.graph core.rests.shows;
-          keeps = paused_keeps core.footing.snapshot core.rests.keeps;
-          sound = core.rests.sound;
-          unreached = core.rests.unreached;
-        };
-      }
+      paused_kept places = core_stays k core t k.buffers marker cs ss roots places layers_after (record {
+        whole_cards = sym core.layers.region_size ∙ sym ev.regions.size ∙ ev.fit.whole_cards;
+        each_region = ev.fit.each_region ∙ ev.regions.count ∙ core.layers.region_count;
+        each_card = ev.each_card;
+        each_mutator = ap (λ (ls : List (List ℕ)). length ls) ev.logs ∙ core.cards.each_mutator;
+      }) ev.remembers paused_shows paused_keeps
 
       -- exactly the chosen regions are reclaimed
       reclaimed : (j : ℕ) → IsReclaimed k.table t j ↔ (is_chosen chosen j ≡ true)
@@ -351,9 +331,9 @@ module _ (k : CoreState) (core : IsCore k) (which : Choice) (budget : ℕ) (chos
         },
       )
 
-      evacuates_set : r ≡ k.room → n ≡ k.row_room → (m : ℕ) → m ≡ length chosen → EvacuatesSet which budget m w k k after
+      pub evacuates_from : (c : CoreState) → k ≡ c → (m : ℕ) → m ≡ length chosen → EvacuatesSet which budget m w c c after
       unfolding kept_of
-      evacuates_set room_same rows_same m count = record {
+      evacuates_from c e m count = subst (λ (d : CoreState). EvacuatesSet which budget m w d d after) e (record {
         chosen = chosen;
         choice = choice;
         regions = count;
@@ -362,16 +342,11 @@ module _ (k : CoreState) (core : IsCore k) (which : Choice) (budget : ℕ) (chos
             omega (arith, most, le));
         names = λ g s. copied_names g (heap_of k) s.shows (set_in k.table.words_per_region chosen) w ev.words_are;
         reclaimed = reclaimed;
-        same = rw (room_same, rows_same) refl;
+        same = refl;
         marker = refl;
         counts = forgets;
         evacuated = ev;
-      }
-
-      pub evacuates_from : r ≡ k.room → n ≡ k.row_room → (c : CoreState) → k ≡ c → (m : ℕ)
-          → m ≡ length chosen → EvacuatesSet which budget m w c c after
-      evacuates_from room_same rows_same c e m count =
-          subst (λ (d : CoreState). EvacuatesSet which budget m w d d after) e (evacuates_set room_same rows_same m count)
+      })
 
 -- what was made ready shows what it showed
 still_shows : (c k : CoreState) → IsReady c k → (g : Graph) → ShowsGraph g c → ShowsGraph g k

@@ -1,8 +1,6 @@
 -- Before a pause: buffers are closed, and every card is refined. k is the core by its fields.
-use Rattle.std.proofs.Common.{◌≡◌, ◌+◌, ◌*◌, ◌/◌, ◌<◌, ◌≤◌, ◌∷◌, ◌∙◌}
-use Rattle.std.proofs.Common.{ℕ, suc, Bool, true, false, Option, None, List, [], get_or, length, take}
-use Rattle.std.proofs.Common.{replicate, sum_by, refl, sym, ap, subst, arith, inl, inr}
-use Rattle.std.specs.Prelude.{slice_index, if◌then◌else◌}
+use Rattle.std.proofs.Common.{◌≡◌, ◌+◌, ◌*◌, ◌/◌, ◌<◌, ◌≤◌, ◌∷◌, ◌∙◌, ℕ, suc, Bool, true, false, Option, None, List, [], get_or, length}
+use Rattle.std.proofs.Common.{take, replicate, sum_by, refl, sym, ap, subst, arith, inl, inr, slice_index, if◌then◌else◌}
 use Rattle.std.proofs.lemmas.List.{length-replicate, take_all}
 use Rattle.std.proofs.lemmas.List.Folds.{sum_by-replicate}
 use Rattle.std.proofs.Math.ListN.{drop_of_length-le}
@@ -17,6 +15,7 @@ use Rattle.refinement.specs.Remembering.{Remembers, LeadsInto}
 use Rattle.heap_words.specs.Configs.{card_words}
 use Rattle.step_core.proofs.Mutating.Noting.{cards_a_region}
 use Rattle.step_core.specs.Stands.{CoreState, kept_of, ShowsGraph, KeepsFrom, RemembersFields, IsCore}
+use Rattle.step_core.proofs.Cores.Resting.{core_stays}
 use Rattle.step_core.specs.Refining.{GainsCards, HasRefined}
 use Rattle.step_core.specs.Pause.{IsReady}
 
@@ -41,45 +40,28 @@ module _ (k : CoreState) (b : Buffers) (cs : Cards) where
         Remembers k.table.words_per_region (kept_of k) (card_words k.config) (is_dirty x) (may_lead k.sets)) (sym flush) core.remembers
 
     pub closed_kept : IsCore (with_closed k b cs)
-    closed_kept = record {
-      suits = core.suits;
-      placed = core.placed;
-      layers = record {
-        region_size = core.layers.region_size;
-        region_count = core.layers.region_count;
-        buffer_size = ap (λ (x : Buffers). x.words) is ∙ core.layers.buffer_size;
-        open_buffers = ap (λ (x : Buffers). length x.open_buffers) is
-            ∙ length-replicate {A = Option Buffer} (length k.buffers.open_buffers) None ∙ core.layers.open_buffers;
-        logs = core.layers.logs;
-        buffers = stand k.table;
-        unmoved = core.layers.unmoved;
-        marker = core.layers.marker;
-        above_previous = above k.table (slice_index k.marker.tams.previous) core.layers.marker.previous.top;
-        above_next = above k.table (slice_index k.marker.tams.next) core.layers.marker.next.top;
-        room = core.layers.room;
-        halves = core.layers.halves;
-        wide = core.layers.wide;
-      };
-      cards = record {
-        whole_cards = core.cards.whole_cards;
-        each_region = core.cards.each_region;
-        each_card = ap (λ (x : Cards). length x.dirty) flush ∙ core.cards.each_card;
-        each_mutator =
-            ap (λ (x : Cards). length x.logs) flush ∙ length-replicate {A = List ℕ} (length k.cards.logs) [] ∙ core.cards.each_mutator;
-      };
-      remembers = closed_remembers;
-      room = core.room;
-      rows = core.rows;
-      places = core.places;
-      names = core.names;
-      footing = core.footing;
-      rests = record {
-        shows = closed_shows core.footing.graph core.rests.shows;
-        keeps = closed_keeps core.footing.snapshot core.rests.keeps;
-        sound = core.rests.sound;
-        unreached = core.rests.unreached;
-      };
-    }
+    closed_kept = core_stays k core k.table b k.marker cs k.sets k.roots refl (record {
+      region_size = core.layers.region_size;
+      region_count = core.layers.region_count;
+      buffer_size = ap (λ (x : Buffers). x.words) is ∙ core.layers.buffer_size;
+      open_buffers = ap (λ (x : Buffers). length x.open_buffers) is
+          ∙ length-replicate {A = Option Buffer} (length k.buffers.open_buffers) None ∙ core.layers.open_buffers;
+      logs = core.layers.logs;
+      buffers = stand k.table;
+      unmoved = core.layers.unmoved;
+      marker = core.layers.marker;
+      above_previous = above k.table (slice_index k.marker.tams.previous) core.layers.marker.previous.top;
+      above_next = above k.table (slice_index k.marker.tams.next) core.layers.marker.next.top;
+      room = core.layers.room;
+      halves = core.layers.halves;
+      wide = core.layers.wide;
+    }) (record {
+      whole_cards = core.cards.whole_cards;
+      each_region = core.cards.each_region;
+      each_card = ap (λ (x : Cards). length x.dirty) flush ∙ core.cards.each_card;
+      each_mutator =
+          ap (λ (x : Cards). length x.logs) flush ∙ length-replicate {A = List ℕ} (length k.cards.logs) [] ∙ core.cards.each_mutator;
+    }) closed_remembers closed_shows closed_keeps
 
 -- where nothing is listed no card is dirty
 none_dirty : (t : Cards) (n card : ℕ) → ListsDirtyOnce t → t.queue ≡ [] → t.logs ≡ replicate n [] → is_dirty t card ≡ false

@@ -1,8 +1,6 @@
 -- Cards are refined in a core, one after another: k is the core by its fields.
-use Rattle.std.proofs.Common.{◌≡◌, ◌+◌, ◌/◌, ◌<◌, ◌≤◌, ◌⊎◌, ◌∷◌, ◌∙◌}
-use Rattle.std.proofs.Common.{ℕ, zero, suc, Bool, true, false, Some, List, [], length, take, drop}
-use Rattle.std.proofs.Common.{min, get_or, refl, sym, ap, subst, arith, inl, inr}
-use Rattle.std.specs.Prelude.{Contains, slice_get}
+use Rattle.std.proofs.Common.{◌≡◌, ◌+◌, ◌/◌, ◌<◌, ◌≤◌, ◌⊎◌, ◌∷◌, ◌∙◌, ℕ, zero, suc, Bool, true, false, Some, List, [], length, take, drop}
+use Rattle.std.proofs.Common.{min, get_or, refl, sym, ap, subst, arith, inl, inr, Contains, slice_get}
 use Rattle.heap_model.specs.Graph.{Graph}
 use Rattle.heap_model.proofs.Shown.{closed}
 use Rattle.mark_bitmap.specs.Kept.{kept_in}
@@ -17,6 +15,7 @@ use Rattle.heap_words.specs.Configs.{card_words}
 use Rattle.std.proofs.Math.Nat.{mul-div_cancel}
 use Rattle.step_core.proofs.Mutating.Noting.{some_card, cards_a_region}
 use Rattle.step_core.specs.Stands.{CoreState, kept_of, heap_of, ShowsGraph, KeepsFrom, IsCore}
+use Rattle.step_core.proofs.Cores.Resting.{core_stays}
 use Rattle.step_core.specs.Refining.{GainsCards, RefinesCard, HasRefined}
 
 abbrev pub with_cards : CoreState → Cards → Sets → CoreState
@@ -58,29 +57,12 @@ module _ (k : CoreState) (core : IsCore k) (result : Bool) (cs : Cards) (ss : Se
 
   pub refined_kept : IsCore (with_cards k cs ss)
   unfolding kept_of
-  refined_kept = record {
-    suits = core.suits;
-    placed = core.placed;
-    layers = core.layers;
-    cards = record {
-      whole_cards = sym core.layers.region_size ∙ scan.fit.whole_cards;
-      each_region = scan.fit.each_region ∙ core.layers.region_count;
-      each_card = count;
-      each_mutator = ap (λ (ls : List (List ℕ)). length ls) (logs_stay result refines) ∙ core.cards.each_mutator;
-    };
-    remembers = remembers core.remembers;
-    room = core.room;
-    rows = core.rows;
-    places = core.places;
-    names = core.names;
-    footing = core.footing;
-    rests = record {
-      shows = cards_show core.footing.graph core.rests.shows;
-      keeps = cards_keep core.footing.snapshot core.rests.keeps;
-      sound = core.rests.sound;
-      unreached = core.rests.unreached;
-    };
-  }
+  refined_kept = core_stays k core k.table k.buffers k.marker cs ss k.roots refl core.layers (record {
+    whole_cards = sym core.layers.region_size ∙ scan.fit.whole_cards;
+    each_region = scan.fit.each_region ∙ core.layers.region_count;
+    each_card = count;
+    each_mutator = ap (λ (ls : List (List ℕ)). length ls) (logs_stay result refines) ∙ core.cards.each_mutator;
+  }) (remembers core.remembers) cards_show cards_keep
 
   -- what sets cover once the card was added
   gains : (card : ℕ)

@@ -1,11 +1,10 @@
 -- The candidates of a pause, region by region.
-use Rattle.std.proofs.Common.{◌≡◌, ◌+◌, ◌<◌, ◌≤◌, ◌∷◌, ◌++◌, ◌∙◌}
-use Rattle.std.proofs.Common.{ℕ, zero, suc, Bool, true, false, cond, eqb, List, [], length, get_or, refl, sym, ap, subst, arith, inl, inr}
-use Rattle.std.specs.Prelude.{All, IsPermutation, count_by, ◌==◌, ◌||◌}
+use Rattle.std.proofs.Common.{◌≡◌, ◌≢◌, ◌+◌, ◌<◌, ◌≤◌, ◌∷◌, ◌++◌, ◌∙◌, ℕ, suc, Bool, true, false, cond, eqb, List, [], length, refl, sym}
+use Rattle.std.proofs.Common.{ap, subst, arith, inl, inr, All, IsPermutation, count_by, ◌==◌, ◌||◌}
 use Rattle.std.specs.List.{list_any}
 use Rattle.std.proofs.lemmas.Bool.{cases_eq, cases_lt, eq-eqb, ne_eqb}
 use Rattle.std.proofs.lemmas.List.Sums.{sum_by-cons, sum_by-append}
-use Rattle.std.proofs.lemmas.List.Elements.{All-append}
+use Rattle.std.proofs.lemmas.List.Elements.{All-cons, All-nil, All-push, All-weaker}
 use Rattle.std.proofs.lemmas.List.Folds.{list_any-append}
 use Rattle.std.proofs.lemmas.List.Sorted.{All-permutation, sum_by-IsPermutation, list_any-IsPermutation}
 use Rattle.regions.specs.Table.{Table, kind_of}
@@ -16,31 +15,48 @@ use Rattle.evacuation.specs.Evacuates.{is_chosen}
 use Rattle.step_core.specs.Pause.{IsRowOf}
 use Rattle.step_core.specs.Pause.{IsCandidate, IsCandidateRow, AreCandidates}
 
-abbrev bit : ℕ → LiveRow → ℕ
+abbrev pub bit : ℕ → LiveRow → ℕ
 bit k row = cond (eqb row.region k) 1 0
 
-All_map : (P Q : LiveRow → Type 0) → ((x : LiveRow) → P x → Q x) → (rows : List LiveRow) → All P rows → All Q rows
-All_map P Q f rows a = λ k d lt. f (get_or rows k d) (a k d lt)
-
 pub All_one : (P : LiveRow → Type 0) (x : LiveRow) → P x → All P (x ∷ [])
-All_one P x p = go
-  where
-    go : (k : ℕ) (d : LiveRow) → k < 1 → P (get_or (x ∷ []) k d)
-    go zero d lt = p
-    go (suc k) d lt = absurd (omega (arith, lt))
+All_one P x p = All-cons P x [] p (All-nil P)
 
--- no row is of a region that all rows are below
-none_of : (rows : List LiveRow) (n : ℕ) → All (λ row. row.region < n) rows → count_by (λ row. row.region == n) rows ≡ 0
+-- no row is of a region that each row isn't of
+none_of : (rows : List LiveRow) (n : ℕ) → All (λ row. row.region ≢ n) rows → count_by (λ row. row.region == n) rows ≡ 0
 none_of [] n a = refl
 none_of (x ∷ rows) n a =
-    let first : x.region < n = a 0 x (omega arith) in
-    let other : eqb x.region n ≡ false = ne_eqb x.region n (λ e. omega (arith, e, first)) in
-    omega (
-      arith,
-      sum_by-cons (bit n) x rows,
-      ap {B = ℕ} (λ b. cond b 1 0) other,
-      none_of rows n (λ k d lt. a (suc k) d (omega (arith, lt))),
-    )
+    let other = ne_eqb x.region n (a 0 x (omega arith)) in
+    let rest = none_of rows n (λ k d lt. a (suc k) d (omega (arith, lt))) in
+    omega (arith, sum_by-cons (bit n) x rows, ap {B = ℕ} (λ b. cond b 1 0) other, rest)
+
+-- a row more, of another region than theirs: no region has two of them still
+pub once_more : (rows : List LiveRow) (row : LiveRow) → All (λ r. r.region ≢ row.region) rows
+    → ((k : ℕ) → count_by (λ r. r.region == k) rows ≤ 1) → (k : ℕ) → count_by (λ r. r.region == k) (rows ++ row ∷ []) ≤ 1
+once_more rows row others once k =
+    let sum = sum_by-append (bit k) rows (row ∷ []) in
+    let one = sum_by-cons (bit k) row [] in
+    elim (cases_eq row.region k) [
+      | inl q ↦
+          let none : count_by (λ (r : LiveRow). r.region == k) rows ≡ 0 =
+          subst (λ (j : ℕ). count_by (λ (r : LiveRow). r.region == j) rows ≡ 0) q (none_of rows row.region others) in
+          omega (arith, sum, one, none, ap {B = ℕ} (λ b. cond b 1 0) (eq-eqb row.region k q))
+      | inr ne ↦ omega (arith, sum, one, once k, ap {B = ℕ} (λ b. cond b 1 0) (ne_eqb row.region k ne))
+    ]
+
+-- it is chosen with them
+pub has_left : (rows more : List LiveRow) (k : ℕ) → is_chosen rows k ≡ true → is_chosen (rows ++ more) k ≡ true
+has_left rows more k e =
+    list_any-append (λ (r : LiveRow). r.region == k) rows more ∙ ap (λ (b : Bool). b || list_any (λ (r : LiveRow). r.region == k) more) e
+
+any_right : (a b : Bool) → b ≡ true → (a || b) ≡ true
+any_right true b e = refl
+any_right false b e = e
+
+pub has_last : (rows : List LiveRow) (row : LiveRow) (k : ℕ) → row.region ≡ k → is_chosen (rows ++ row ∷ []) k ≡ true
+has_last rows row k e =
+    list_any-append (λ (r : LiveRow). r.region == k) rows (row ∷ [])
+    ∙ any_right (list_any (λ (r : LiveRow). r.region == k) rows) (list_any (λ (r : LiveRow). r.region == k) (row ∷ []))
+    (ap (λ (b : Bool). b || false) (eq-eqb row.region k e))
 
 module _ (t : Table) (tams : Tops) (previous : List Bool) (running : Bool) where
   further : (n : ℕ) (row : LiveRow) → IsCandidateRow t tams previous running n row → IsCandidateRow t tams previous running (n + 1) row
@@ -51,29 +67,12 @@ module _ (t : Table) (tams : Tops) (previous : List Bool) (running : Bool) where
       → (IsCandidate t tams previous running n → ⊥) → AreCandidates t tams previous running (n + 1) rows
   row_passed n rows c other = record {
     are_rows = c.are_rows;
-    each = All_map (IsCandidateRow t tams previous running n) (IsCandidateRow t tams previous running (n + 1)) (further n) rows c.each;
+    each = All-weaker (IsCandidateRow t tams previous running n) (IsCandidateRow t tams previous running (n + 1)) (further n) rows c.each;
     all = λ k lt is. elim (cases_lt k n) [
       | inl less ↦ c.all k less is
       | inr last ↦ absurd (let same : k ≡ n = omega arith in other (subst (λ (j : ℕ). IsCandidate t tams previous running j) same is))
     ];
   }
-
-  any_left : (p : LiveRow → Bool) (rows more : List LiveRow) → list_any p rows ≡ true → list_any p (rows ++ more) ≡ true
-  any_left p rows more e = list_any-append p rows more ∙ ap (λ (b : Bool). b || list_any p more) e
-
-  any_right : (a b : Bool) → b ≡ true → (a || b) ≡ true
-  any_right true b e = refl
-  any_right false b e = e
-
-  has_left : (rows more : List LiveRow) (k : ℕ) → is_chosen rows k ≡ true → is_chosen (rows ++ more) k ≡ true
-  has_left rows more k e = any_left (λ row. row.region == k) rows more e
-
-  has_last : (rows : List LiveRow) (row : LiveRow) → is_chosen (rows ++ row ∷ []) row.region ≡ true
-  has_last rows row =
-      let here : (eqb row.region row.region || false) ≡ true = ap (λ (b : Bool). b || false) (eq-eqb row.region row.region refl) in
-      list_any-append (λ (r : LiveRow). r.region == row.region) rows (row ∷ [])
-      ∙ any_right (list_any (λ (r : LiveRow). r.region == row.region) rows)
-      (list_any (λ (r : LiveRow). r.region == row.region) (row ∷ [])) here
 
   -- the row of a candidate is written
   pub row_written : (n : ℕ) (rows : List LiveRow) (row : LiveRow) → AreCandidates t tams previous running n rows → n < length t.regions
@@ -89,38 +88,19 @@ module _ (t : Table) (tams : Tops) (previous : List Bool) (running : Bool) where
         candidate = subst (λ (j : ℕ). IsCandidate t tams previous running j) (sym at) is;
         below = omega arith;
       } in
-      let below : All (λ row. row.region < n) rows =
-      All_map (IsCandidateRow t tams previous running n) (λ row. row.region < n) (λ x r. r.below) rows c.each in
       record {
         are_rows = record {
-          each = All-append (IsRowOf t tams.previous previous) rows (row ∷ []) c.are_rows.each
-              (All_one (IsRowOf t tams.previous previous) row is_row);
-          once = λ k. once_more k below;
+          each = All-push (IsRowOf t tams.previous previous) rows row c.are_rows.each is_row;
+          once = once_more rows row (All-weaker (IsCandidateRow t tams previous running n) (λ r. r.region ≢ row.region)
+              (λ x r e. (let lt = r.below in omega (arith, e, lt, at))) rows c.each) c.are_rows.once;
         };
-        each = All-append (IsCandidateRow t tams previous running (n + 1)) rows (row ∷ [])
-            (All_map (IsCandidateRow t tams previous running n) (IsCandidateRow t tams previous running (n + 1)) (further n) rows c.each)
-            (All_one (IsCandidateRow t tams previous running (n + 1)) row is_here);
+        each = All-push (IsCandidateRow t tams previous running (n + 1)) rows row (All-weaker (IsCandidateRow t tams previous running n)
+            (IsCandidateRow t tams previous running (n + 1)) (further n) rows c.each) is_here;
         all = λ k lt cand. elim (cases_lt k n) [
           | inl less ↦ has_left rows (row ∷ []) k (c.all k less cand)
-          | inr last ↦
-              let same : row.region ≡ k = omega arith in
-              subst (λ (j : ℕ). is_chosen (rows ++ row ∷ []) j ≡ true) same (has_last rows row)
+          | inr last ↦ has_last rows row k (omega arith)
         ];
       }
-    where
-      once_more : (k : ℕ) → All (λ row. row.region < n) rows → count_by (λ (r : LiveRow). r.region == k) (rows ++ row ∷ []) ≤ 1
-      once_more k below =
-          let sum = sum_by-append (bit k) rows (row ∷ []) in
-          let one = sum_by-cons (bit k) row [] in
-          elim (cases_eq row.region k) [
-            | inl q ↦
-                let none = none_of rows n below in
-                let same : n ≡ k = sym at ∙ q in
-                let none' : count_by (λ (r : LiveRow). r.region == k) rows ≡ 0 =
-                subst (λ (j : ℕ). count_by (λ (r : LiveRow). r.region == j) rows ≡ 0) same none in
-                omega (arith, sum, one, none', ap {B = ℕ} (λ b. cond b 1 0) (eq-eqb row.region k q))
-            | inr ne ↦ omega (arith, sum, one, c.are_rows.once k, ap {B = ℕ} (λ b. cond b 1 0) (ne_eqb row.region k ne))
-          ]
 
 -- the same rows in another order
 pub candidates_sorted : (t : Table) (tams : Tops) (previous : List Bool) (running : Bool) (n : ℕ)

@@ -1,6 +1,5 @@
 -- After a pause each object that has a run is still a large one.
-use Rattle.std.proofs.Common.{◌≡◌, ◌≢◌, ◌/◌, ◌∙◌}
-use Rattle.std.proofs.Common.{ℕ, List, false, length, inl, inr, sym, ap, arith}
+use Rattle.std.proofs.Common.{◌≡◌, ◌≢◌, ◌/◌, ◌∙◌, ℕ, List, false, length, inl, inr, sym, ap, arith}
 use Rattle.std.proofs.lemmas.Bool.{cases_Bool}
 use Rattle.heap_model.specs.Heap.{Stored}
 use Rattle.regions.specs.Tiles.{Object, tile_size}
@@ -30,13 +29,7 @@ module _ (rows : List LiveRow) (t t' : Table) (r : RegionsAfter rows t t') where
   was_first : (k : ℕ) → kind_of t' k ≡ kinds.First → (is_chosen rows k ≡ false) × (kind_of t k ≢ kinds.Free)
   was_first k e = elim (cases_Bool (is_chosen rows k)) [
     | inl inside ↦ absurd (free_first (sym (r.chosen k inside) ∙ e))
-    | inr out ↦ (
-      out,
-      λ free. elim (r.was_free k free) [
-        | inl f ↦ free_first (sym f ∙ e)
-        | inr o ↦ ordinary_first (sym o ∙ e)
-      ],
-    )
+    | inr out ↦ (out, λ free. elim (r.was_free k free) [ inl f ↦ free_first (sym f ∙ e) | inr o ↦ ordinary_first (sym o ∙ e) ])
   ]
 
   pub wide_after : AreWide t → AreWide t'

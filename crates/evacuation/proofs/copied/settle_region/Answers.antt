@@ -69,8 +69,7 @@ tiles-init g c =
     let t = c.top.ensures in
     let at = c.new-at.ensures in
     let z = stands.premises.shaped.positive in
-    let used : 0 < used_of c.args.table.now c.args.region =
-    filled c.word.result (c.number.result * c.words_per_region.result)
+    let used : 0 < used_of c.args.table.now c.args.region = filled c.word.result (c.number.result * c.words_per_region.result)
     (used_of c.args.table.now c.args.region) a (omega (arith, e, b, t)) in
     let (u, there) = steps.bottom_tile c.args.table.now c.args.region c.law.ensures (stands.turn.taken c.args.region destination).1 used in
     let region : c.new-at.result / g.pause.start.words_per_region ≡ c.args.region =

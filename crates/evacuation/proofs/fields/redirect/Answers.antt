@@ -20,8 +20,7 @@ set_field-requires g c =
 pub returns : goal.returns
 returns g c =
     let (premises, (turn, (outside, (field, (names, inside))))) = c.requires in
-    let (now, noted) =
-    updates.updated g.pause premises c.args.table.now c.args.destinations.now turn c.args.at c.args.field outside field
+    let (now, noted) = updates.updated g.pause premises c.args.table.now c.args.destinations.now turn c.args.at c.args.field outside field
     c.new_place-to.new.table c.set_field.new.self c.new_place-to.new.destinations c.new_place-to.ensures.turn
     c.new_place-to.ensures.after c.new_place-to.ensures.frame c.args.target c.new_place-to.result names inside c.new_place-to.ensures.place
     c.law.ensures.positive c.set_field.ensures in

@@ -1,7 +1,7 @@
-use Rattle.std.proofs.Common.{◌∙◌, ℕ, sym, subst, arith, Some, None, inl, inr}
+use Rattle.std.proofs.Common.{refl, ◌∙◌, ℕ, sym, subst, arith, Some, None, inl, inr}
 use Rattle.evacuation.specs.Space.{NotesWord}
 use Rattle.evacuation.specs.Turns.{layout, space}
-use Rattle.evacuation.proofs.Turns.Following.{noted_after, stays_on}
+use Rattle.evacuation.proofs.Turns.Following.{noted_after, stays_on, turned}
 use Rattle.evacuation.proofs.FieldUpdates.InTable as updates
 use Rattle.evacuation.proofs.FieldUpdates.FieldCards.{field_pointer, pointer_is, word_within, all_small}
 use Rattle.evacuation.proofs.fields.settle_field.Goals as goal
@@ -49,18 +49,11 @@ pub returns-then-is_inside : goal.returns-then-is_inside
 returns-then-is_inside g c =
     let (stands, (outside, (field, taken))) = c.requires in
     let noted = c.args.context.now.noted in
-    let notes =
-    subst (λ (n : ℕ). NotesWord (layout g.pause) noted c.note.new.noted n c.redirect-to.result) c.field-word.ensures
+    let notes = subst (λ (n : ℕ). NotesWord (layout g.pause) noted c.note.new.noted n c.redirect-to.result) c.field-word.ensures
     c.note.ensures.notes in
     record {
       goes_on = record {
-        stands = record {
-          premises = stands.premises;
-          turn = c.redirect-to.ensures.turn;
-          flags = stands.flags;
-          card = stands.card;
-          each_card = c.note.ensures.each_card;
-        };
+        stands = turned stands refl refl c.redirect-to.ensures.turn c.note.ensures.each_card;
         after = c.redirect-to.ensures.after noted c.note.new.noted notes;
       };
       settled = c.redirect-to.ensures.settled noted c.note.new.noted notes;
@@ -74,13 +67,7 @@ returns g c =
     c.field-word.ensures c.note-2.ensures.notes in
     record {
       goes_on = record {
-        stands = record {
-          premises = stands.premises;
-          turn = stands.turn;
-          flags = stands.flags;
-          card = stands.card;
-          each_card = c.note-2.ensures.each_card;
-        };
+        stands = turned stands refl refl stands.turn c.note-2.ensures.each_card;
         after = noted_after (layout g.pause) c.args.context.now.noted c.note-2.new.noted (space g.pause c.args.table.now)
             c.args.context.now.destinations notes.grows notes.count (λ k e. elim (notes.only k e) [
               | inl o ↦ inl o

@@ -1,7 +1,7 @@
-use Rattle.std.proofs.Common.{◌≡◌, ◌∙◌, ◌/◌, ℕ, sym, ap, Some}
+use Rattle.std.proofs.Common.{refl, ◌≡◌, ◌∙◌, ◌/◌, ℕ, sym, ap, Some}
 use Rattle.refinement.specs.Remembering.{field_word}
 use Rattle.refinement.proofs.Fields.{region_of_card}
-use Rattle.evacuation.proofs.Turns.Following.{stays_on}
+use Rattle.evacuation.proofs.Turns.Following.{stays_on, turned}
 use Rattle.evacuation.proofs.FieldUpdates.InTable as updates
 use Rattle.evacuation.proofs.fields.update_field.Goals as goal
 
@@ -35,13 +35,7 @@ returns g c =
     let notes = c.note_card.ensures.notes word in_card home in
     record {
       goes_on = record {
-        stands = record {
-          premises = stands.premises;
-          turn = c.redirect-to.ensures.turn;
-          flags = stands.flags;
-          card = stands.card;
-          each_card = c.note_card.ensures.each_card;
-        };
+        stands = turned stands refl refl c.redirect-to.ensures.turn c.note_card.ensures.each_card;
         after = c.redirect-to.ensures.after c.args.context.now.noted c.note_card.new.noted notes;
       };
       clean = λ y w here is. (c.redirect-to.ensures.settled c.args.context.now.noted c.note_card.new.noted notes y w here is).0;

@@ -6,11 +6,7 @@ use Rattle.evacuation.proofs.outside.update_cards.Goals as goal
 pub loop-card-init : goal.loop-card-init
 loop-card-init g c =
     let (stands, (kept, visited)) = c.requires in
-    record {
-      on = stays_on stands;
-      inside = omega arith;
-      clean = cards_none g.pause c.args.visited.now c.args.table.now;
-    }
+    record { on = stays_on stands; inside = omega arith; clean = cards_none g.pause c.args.visited.now c.args.table.now }
 
 pub update_card-requires : goal.update_card-requires
 update_card-requires g c =

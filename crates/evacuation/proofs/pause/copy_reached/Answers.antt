@@ -1,6 +1,6 @@
-use Rattle.std.proofs.Common.{◌∙◌, length}
+use Rattle.std.proofs.Common.{refl, ◌∙◌, length}
 use Rattle.evacuation.specs.Turns.{PauseGoesOn, PauseStands, in_set, space}
-use Rattle.evacuation.proofs.Turns.Following.{goes_further}
+use Rattle.evacuation.proofs.Turns.Following.{goes_further, turned}
 use Rattle.evacuation.proofs.Loops.OutsideCards.{clean_on}
 use Rattle.evacuation.proofs.Turns.AllCopied.{all_copied}
 use Rattle.evacuation.proofs.Loops.RootWords.{roots_grow}
@@ -15,13 +15,7 @@ pub update_cards-requires : goal.update_cards-requires
 update_cards-requires g c =
     let (stands, (kept, (visited, (start, (roots, none))))) = c.requires in
     let now : PauseStands g.pause c.update_roots.new.table (record c.args.context.now { destinations = c.update_roots.new.destinations }) =
-    record {
-      premises = stands.premises;
-      turn = c.update_roots.ensures.turn;
-      flags = stands.flags;
-      card = stands.card;
-      each_card = stands.each_card;
-    } in
+    turned stands refl refl c.update_roots.ensures.turn stands.each_card in
     (now, (kept, visited.each_card))
 
 pub settle_copies-requires : goal.settle_copies-requires
@@ -33,13 +27,7 @@ returns g c =
     let rooted : PauseGoesOn g.pause c.args.table.now c.update_roots.new.table c.args.context.now
     (record c.args.context.now { destinations = c.update_roots.new.destinations }) =
     record {
-      stands = record {
-        premises = stands.premises;
-        turn = c.update_roots.ensures.turn;
-        flags = stands.flags;
-        card = stands.card;
-        each_card = stands.each_card;
-      };
+      stands = turned stands refl refl c.update_roots.ensures.turn stands.each_card;
       after = c.update_roots.ensures.after c.args.context.now.noted;
     } in
     let cards = c.update_cards.ensures.goes_on in

@@ -1,6 +1,5 @@
-use Rattle.std.proofs.Common.{◌≡◌, ◌∙◌, ◌+◌, ◌*◌, ◌/◌, ◌∷◌}
-use Rattle.std.proofs.Common.{ℕ, sym, ap, refl, subst, length, false, zero, suc, inl, inr, true, List, [], Bool, replicate, arith}
-use Rattle.std.specs.Prelude.{Vec, vec_len}
+use Rattle.std.proofs.Common.{◌≡◌, ◌∙◌, ◌+◌, ◌*◌, ◌/◌, ◌∷◌, ℕ, sym, ap, refl, subst, length, false, zero, suc, inl, inr, true, List, []}
+use Rattle.std.proofs.Common.{Bool, replicate, arith, Vec, vec_len}
 use Rattle.std.specs.Vec.{with_items}
 use Rattle.std.proofs.lemmas.List.{length-replicate, with_items_is}
 use Rattle.regions.proofs.Words.Sizes.{EachForwardedIn-imp}

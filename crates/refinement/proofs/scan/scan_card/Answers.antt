@@ -27,52 +27,35 @@ first_tile-requires c =
     c.new-from.ensures ∙ ap (λ (n : ℕ). n * c.args.card_words) c.number.ensures in
     omega (arith, e, z, from)
 
-pub returns-clause-covered : goal.returns-clause-covered
-returns-clause-covered c =
+pub returns : goal.returns
+returns c =
     let from : c.new-from.result ≡ c.args.card * c.args.card_words =
     c.new-from.ensures ∙ ap (λ (n : ℕ). n * c.args.card_words) c.number.ensures in
     let holder = subst (λ (w : ℕ). IsHolder c.args.table.now c.in-Some.first w) from c.in-Some.ensures.holder in
-    card_covered c.args.table.now c.law.ensures (kept_in c.args.table.now c.args.tams.now c.args.marks.now)
-    (kept_object c.args.table.now c.args.tams.now c.args.marks.now)
-    c.args.card_words c.args.card c.in-Some.first c.args.sets.now.cards_per_region c.requires.stands.fit.whole_cards
-    (may_lead c.scan_tiles.new.sets) holder c.scan_tiles.ensures.covered
-
-pub returns-clause-gains : goal.returns-clause-gains
-returns-clause-gains c =
-    let inside = subst (λ (n : ℕ).
-    LeadsInside c.args.table.now.words_per_region n (kept_in c.args.table.now c.args.tams.now c.args.marks.now))
-    (sym c.requires.stands.fit.each_region) c.requires.stands.inside in
-    adds_gains c.args.table.now.words_per_region (kept_in c.args.table.now c.args.tams.now c.args.marks.now) c.args.card_words c.args.card
-    c.args.sets.now c.scan_tiles.new.sets inside c.scan_tiles.ensures.adds
-
-pub returns-clause-leads : goal.returns-clause-leads
-returns-clause-leads c =
-    let inside = subst (λ (n : ℕ).
-    LeadsInside c.args.table.now.words_per_region n (kept_in c.args.table.now c.args.tams.now c.args.marks.now))
-    (sym c.requires.stands.fit.each_region) c.requires.stands.inside in
-    adds_lead c.args.table.now.words_per_region (kept_in c.args.table.now c.args.tams.now c.args.marks.now) c.args.card_words c.args.card
-    c.args.sets.now c.scan_tiles.new.sets inside c.scan_tiles.ensures.adds
-
-pub returns-clause-stands : goal.returns-clause-stands
-returns-clause-stands c = record {
-  fit = (adds_fit c.args.table.now (kept_in c.args.table.now c.args.tams.now c.args.marks.now) c.args.card_words c.args.card c.args.sets.now
-      c.scan_tiles.new.sets c.requires.stands.fit c.scan_tiles.ensures.adds).0;
-  each_word = c.requires.stands.each_word;
-  inside = c.requires.stands.inside;
-}
-
-pub returns-clause-count : goal.returns-clause-count
-returns-clause-count c =
-    (adds_fit c.args.table.now (kept_in c.args.table.now c.args.tams.now c.args.marks.now) c.args.card_words c.args.card c.args.sets.now
-    c.scan_tiles.new.sets c.requires.stands.fit c.scan_tiles.ensures.adds).1
+    let words = c.args.table.now.words_per_region in
+    let kept = kept_in c.args.table.now c.args.tams.now c.args.marks.now in
+    let adds = c.scan_tiles.ensures.adds in
+    let can = c.requires.stands in
+    let inside = subst (λ (n : ℕ). LeadsInside words n kept) (sym can.fit.each_region) can.inside in
+    let fit = adds_fit c.args.table.now kept c.args.card_words c.args.card c.args.sets.now c.scan_tiles.new.sets can.fit adds in
+    record {
+      looked = c.scan_tiles.ensures.looked;
+      covered = card_covered c.args.table.now c.law.ensures kept (kept_object c.args.table.now c.args.tams.now c.args.marks.now)
+          c.args.card_words c.args.card c.in-Some.first c.args.sets.now.cards_per_region can.fit.whole_cards
+          (may_lead c.scan_tiles.new.sets) holder c.scan_tiles.ensures.covered;
+      adds = adds;
+      gains = adds_gains words kept c.args.card_words c.args.card c.args.sets.now c.scan_tiles.new.sets inside adds;
+      leads = adds_lead words kept c.args.card_words c.args.card c.args.sets.now c.scan_tiles.new.sets inside adds;
+      stands = record { fit = fit.0; each_word = can.each_word; inside = can.inside };
+      count = fit.1;
+    }
 
 pub returns-in_default-clause-covered : goal.returns-in_default-clause-covered
 returns-in_default-clause-covered c =
     let from : c.new-from.result ≡ c.args.card * c.args.card_words =
     c.new-from.ensures ∙ ap (λ (n : ℕ). n * c.args.card_words) c.number.ensures in
     let high : top_of c.args.table.now (c.args.card * c.args.card_words / c.args.table.now.words_per_region)
-    ≤ c.args.card * c.args.card_words =
-    subst (λ (w : ℕ). top_of c.args.table.now (w / c.args.table.now.words_per_region) ≤ w) from
+    ≤ c.args.card * c.args.card_words = subst (λ (w : ℕ). top_of c.args.table.now (w / c.args.table.now.words_per_region) ≤ w) from
     (elim (cases_lt c.new-from.result (top_of c.args.table.now (c.new-from.result / c.args.table.now.words_per_region))) [
       | inl lt ↦ absurd (let y = c.in_default.ensures.found.1 lt in cc)
       | inr ge ↦ ge

@@ -1,5 +1,4 @@
-use Rattle.std.proofs.Common.{◌≡◌, ◌≢◌, ◌+◌, ◌/◌, ◌<◌, ◌≤◌, ◌∙◌, ap, refl, sym, subst, true, ℕ, Option, Some, arith}
-use Rattle.std.specs.Prelude.{slice_get}
+use Rattle.std.proofs.Common.{◌≡◌, ◌≢◌, ◌+◌, ◌/◌, ◌<◌, ◌≤◌, ◌∙◌, ap, refl, sym, subst, true, ℕ, Option, Some, arith, slice_get}
 use Rattle.regions.specs.Table.{fields_at, object_at}
 use Rattle.remembered_sets.specs.Sets.{may_lead}
 use Rattle.refinement.specs.Refining.{with_field}

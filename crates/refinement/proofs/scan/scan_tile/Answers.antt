@@ -1,3 +1,4 @@
+use Rattle.std.proofs.Common.{rules}
 use Rattle.mark_bitmap.specs.Kept.{kept_in}
 use Rattle.remembered_sets.specs.Sets.{may_lead}
 use Rattle.refinement.proofs.Entered.{adds_none}
@@ -10,19 +11,12 @@ scan_object-requires-clause-inside c =
     fields_inside c.args.table.now (kept_in c.args.table.now c.args.tams.now c.args.marks.now) c.args.at
     (kept_object c.args.table.now c.args.tams.now c.args.marks.now) c.requires.stands.inside (c.is_kept.ensures.0 c.if-is_kept.true)
 
-pub returns-then-is_kept-clause-adds : goal.returns-then-is_kept-clause-adds
-returns-then-is_kept-clause-adds c =
+pub returns-then-is_kept : goal.returns-then-is_kept
+returns-then-is_kept c =
     let kept = kept_in c.args.table.now c.args.tams.now c.args.marks.now in
-    let same = same_object c.args.table.now kept c.args.at (kept_object c.args.table.now c.args.tams.now c.args.marks.now)
-    (c.is_kept.ensures.0 c.if-is_kept.true) in
-    (c.scan_object.ensures.scanned kept same).adds
-
-pub returns-then-is_kept-clause-covered : goal.returns-then-is_kept-clause-covered
-returns-then-is_kept-clause-covered c =
-    let kept = kept_in c.args.table.now c.args.tams.now c.args.marks.now in
-    let same = same_object c.args.table.now kept c.args.at (kept_object c.args.table.now c.args.tams.now c.args.marks.now)
-    (c.is_kept.ensures.0 c.if-is_kept.true) in
-    (c.scan_object.ensures.scanned kept same).covered
+    let scanned = c.scan_object.ensures.scanned kept (same_object c.args.table.now kept c.args.at
+    (kept_object c.args.table.now c.args.tams.now c.args.marks.now) (c.is_kept.ensures.0 c.if-is_kept.true)) in
+    record { adds = scanned.adds; covered = scanned.covered; last = search rules }
 
 pub returns-clause-adds : goal.returns-clause-adds
 returns-clause-adds c =

@@ -1,5 +1,4 @@
-use Rattle.std.proofs.Common.{◌≡◌, ◌∙◌, ◌+◌, ◌<◌, ◌≤◌, ℕ, sym, ap, subst, take, drop}
-use Rattle.std.specs.Prelude.{All, count_by}
+use Rattle.std.proofs.Common.{◌≡◌, ◌∙◌, ◌+◌, ◌<◌, ◌≤◌, ℕ, sym, ap, subst, take, drop, All, count_by}
 use Rattle.regions.specs.Table.{is_free}
 use Rattle.region_choice.specs.Choice.{copy_limit, live_sum}
 use Rattle.step_core.proofs.Pauses.Others.{front_within}

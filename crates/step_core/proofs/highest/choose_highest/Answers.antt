@@ -1,6 +1,4 @@
-use Rattle.std.proofs.Common.{◌≡◌, ◌∙◌, ◌+◌, ◌*◌, ◌≤◌, ℕ, Bool, List, length, take, sym, ap, subst, arith}
-use Rattle.std.proofs.Common.{inl, inr}
-use Rattle.std.specs.Prelude.{count_by}
+use Rattle.std.proofs.Common.{◌≡◌, ◌∙◌, ◌+◌, ◌*◌, ◌≤◌, ℕ, Bool, List, length, take, sym, ap, subst, arith, inl, inr, count_by}
 use Rattle.std.proofs.lemmas.List.{take_all}
 use Rattle.regions.specs.Table.{is_free}
 use Rattle.region_choice.specs.declared.LiveRow.{LiveRow}

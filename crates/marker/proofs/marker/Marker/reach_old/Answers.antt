@@ -24,19 +24,13 @@ object_size-size-requires c =
     let object = kept_object c.args.table.now c.args.self.now.tams c.args.self.now.bitmaps.previous c.args.at kept.object kept.is in
     rw object refl
 
-pub add-requires-2-clause-known : goal.add-requires-2-clause-known
-add-requires-2-clause-known c =
+pub add-requires-2 : goal.add-requires-2
+add-requires-2 c =
     let unmarked = was_unmarked c.args.self.now.bitmaps.next c.args.at c.insert.result c.insert.ensures.came (let came =
     c.if-not-insert.false in cc) in
-    (mark_fits c.args.table.now c.args.self.now c.args.at c.region_of.result c.object_size-size.result c.law.ensures c.requires.stands
-    c.requires.below unmarked c.region_of.ensures c.object_size-size.ensures).0
-
-pub add-requires-2-clause-room : goal.add-requires-2-clause-room
-add-requires-2-clause-room c =
-    let unmarked = was_unmarked c.args.self.now.bitmaps.next c.args.at c.insert.result c.insert.ensures.came (let came =
-    c.if-not-insert.false in cc) in
-    (mark_fits c.args.table.now c.args.self.now c.args.at c.region_of.result c.object_size-size.result c.law.ensures c.requires.stands
-    c.requires.below unmarked c.region_of.ensures c.object_size-size.ensures).1
+    let fits = mark_fits c.args.table.now c.args.self.now c.args.at c.region_of.result c.object_size-size.result c.law.ensures
+    c.requires.stands c.requires.below unmarked c.region_of.ensures c.object_size-size.ensures in
+    record { known = fits.0; room = fits.1 }
 
 pub returns-clause-stands : goal.returns-clause-stands
 returns-clause-stands c =

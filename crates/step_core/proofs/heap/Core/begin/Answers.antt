@@ -10,17 +10,12 @@ invariant_of-self c = let r = c.retire_all.ensures in let b = c.begin.ensures in
     begun_kept _ c.self.invariant _ _ r.retired r.stand r.above b.stands b.running b.logs b.previous_tops
     b.previous_marks b.snapshot c.law.ensures b.tops
 
-pub returns-clause-shows : goal.returns-clause-shows
-returns-clause-shows c = let r = c.retire_all.ensures in let b = c.begin.ensures in
-    λ g s. begun_shows _ c.self.invariant _ _ r.retired r.stand r.above b.stands b.running b.logs b.previous_tops b.previous_marks
-    b.snapshot c.law.ensures b.tops g (to_fields _ _ c.self.view_is (λ d. ShowsGraph g d) s)
-
-pub returns-clause-keeps : goal.returns-clause-keeps
-returns-clause-keeps c = let r = c.retire_all.ensures in let b = c.begin.ensures in
-    λ g s. begun_keeps _ c.self.invariant _ _ r.retired r.stand r.above b.stands b.running b.logs b.previous_tops b.previous_marks
-    b.snapshot c.law.ensures b.tops g (to_fields _ _ c.self.view_is (λ d. ShowsGraph g d) s)
-
-pub returns-clause-begun : goal.returns-clause-begun
-returns-clause-begun c = let r = c.retire_all.ensures in let b = c.begin.ensures in
-    begun_from _ c.self.invariant _ _ r.retired r.stand r.above b.stands b.running b.logs b.previous_tops b.previous_marks b.snapshot
-    c.law.ensures b.tops _ c.self.view_is b.begins b.scans
+pub returns : goal.returns
+returns c = let r = c.retire_all.ensures in let b = c.begin.ensures in record {
+  shows = λ g s. begun_shows _ c.self.invariant _ _ r.retired r.stand r.above b.stands b.running b.logs b.previous_tops b.previous_marks
+      b.snapshot c.law.ensures b.tops g (to_fields _ _ c.self.view_is (λ d. ShowsGraph g d) s);
+  keeps = λ g s. begun_keeps _ c.self.invariant _ _ r.retired r.stand r.above b.stands b.running b.logs b.previous_tops b.previous_marks
+      b.snapshot c.law.ensures b.tops g (to_fields _ _ c.self.view_is (λ d. ShowsGraph g d) s);
+  begun = begun_from _ c.self.invariant _ _ r.retired r.stand r.above b.stands b.running b.logs b.previous_tops b.previous_marks b.snapshot
+      c.law.ensures b.tops _ c.self.view_is b.begins b.scans;
+}

@@ -1,4 +1,4 @@
-use Rattle.std.proofs.Common.{◌≡◌, ℕ, false, length, take, ◌∙◌, sym, ap}
+use Rattle.std.proofs.Common.{rules, ◌≡◌, ℕ, false, length, take, ◌∙◌, sym, ap}
 use Rattle.alloc_buffers.specs.Placement.{closed}
 use Rattle.cards.specs.Cards.{is_dirty}
 use Rattle.step_core.specs.Stands.{ShowsGraph, KeepsFrom}
@@ -42,42 +42,26 @@ invariant_of-self c =
     let e = c.evacuate.ensures in
     let ev = rw (c.card_words.ensures, c.deref-2.ensures.value) at e.evacuated in
     let places = sym (AllZip-length _ _ _ ev.relocates.roots) in
-    rw e.places (paused_kept _ c.self.invariant c.args.choice c.args.budget _ c.choose_set-count.ensures.chosen clean _ _ _ _ _ _ _ _ _ _ ev
-    (rw c.deref.ensures.value at c.forget_counts.ensures) closed_all e.room c.choose_set-count.ensures.room places)
+    rw (e.places, e.room, c.choose_set-count.ensures.room)
+    (paused_kept _ c.self.invariant c.args.choice c.args.budget _ c.choose_set-count.ensures.chosen clean _ _ _ _ _ _ _ _ ev
+    (rw c.deref.ensures.value at c.forget_counts.ensures) closed_all places)
 
-pub returns-clause-shows : goal.returns-clause-shows
-returns-clause-shows c =
+pub returns : goal.returns
+returns c =
     let clean = to_fields _ _ c.self.view_is (λ d. (card : ℕ) → is_dirty d.cards card ≡ false) c.requires.clean in
     let closed_all =
     to_fields _ _ c.self.view_is (λ d. d.buffers ≡ closed d.buffers.words (length d.buffers.open_buffers)) c.requires.closed in
     let e = c.evacuate.ensures in
     let ev = rw (c.card_words.ensures, c.deref-2.ensures.value) at e.evacuated in
-    let places = sym (AllZip-length _ _ _ ev.relocates.roots) in
-    λ g' s. rw e.places (paused_shows _ c.self.invariant c.args.choice c.args.budget _ c.choose_set-count.ensures.chosen clean _ _ _ _ _ _
-    _ _ _ _ ev
-    (rw c.deref.ensures.value at c.forget_counts.ensures) g' (to_fields _ _ c.self.view_is (λ d. ShowsGraph g' d) s))
-
-pub returns-clause-keeps : goal.returns-clause-keeps
-returns-clause-keeps c =
-    let clean = to_fields _ _ c.self.view_is (λ d. (card : ℕ) → is_dirty d.cards card ≡ false) c.requires.clean in
-    let closed_all =
-    to_fields _ _ c.self.view_is (λ d. d.buffers ≡ closed d.buffers.words (length d.buffers.open_buffers)) c.requires.closed in
-    let e = c.evacuate.ensures in
-    let ev = rw (c.card_words.ensures, c.deref-2.ensures.value) at e.evacuated in
-    let places = sym (AllZip-length _ _ _ ev.relocates.roots) in
-    λ s f. rw e.places (paused_keeps _ c.self.invariant c.args.choice c.args.budget _ c.choose_set-count.ensures.chosen clean _ _ _ _ _ _
-    _ _ _ _ ev
-    (rw c.deref.ensures.value at c.forget_counts.ensures) s (to_fields _ _ c.self.view_is (λ d. KeepsFrom s d) f))
-
-pub returns-clause-evacuates : goal.returns-clause-evacuates
-returns-clause-evacuates c =
-    let clean = to_fields _ _ c.self.view_is (λ d. (card : ℕ) → is_dirty d.cards card ≡ false) c.requires.clean in
-    let closed_all =
-    to_fields _ _ c.self.view_is (λ d. d.buffers ≡ closed d.buffers.words (length d.buffers.open_buffers)) c.requires.closed in
-    let e = c.evacuate.ensures in
-    let ev = rw (c.card_words.ensures, c.deref-2.ensures.value) at e.evacuated in
-    let places = sym (AllZip-length _ _ _ ev.relocates.roots) in
-    rw e.places (evacuates_from _ c.self.invariant c.args.choice c.args.budget _ c.choose_set-count.ensures.chosen clean _ _ _ _ _ _ _ _ _
-    _ ev
-    (rw c.deref.ensures.value at c.forget_counts.ensures) closed_all e.room c.choose_set-count.ensures.room _ c.self.view_is _
-    (e.regions ∙ ap (λ xs. length (take c.choose_set-count.result xs)) c.deref-2.ensures.value))
+    let forgets = rw c.deref.ensures.value at c.forget_counts.ensures in
+    let rows = c.choose_set-count.ensures in
+    record {
+      shows = λ g' s. rw (e.places, e.room, rows.room) (paused_shows _ c.self.invariant c.args.choice c.args.budget _ rows.chosen clean _ _
+          _ _ _ _ _ _ ev forgets g' (to_fields _ _ c.self.view_is (λ d. ShowsGraph g' d) s));
+      keeps = λ s f. rw (e.places, e.room, rows.room) (paused_keeps _ c.self.invariant c.args.choice c.args.budget _ rows.chosen clean _ _
+          _ _ _ _ _ _ ev forgets s (to_fields _ _ c.self.view_is (λ d. KeepsFrom s d) f));
+      evacuates = rw (e.places, e.room, rows.room) (evacuates_from _ c.self.invariant c.args.choice c.args.budget _ rows.chosen clean _ _ _
+          _ _ _ _ _ ev forgets closed_all _ c.self.view_is _
+          (e.regions ∙ ap (λ xs. length (take c.choose_set-count.result xs)) c.deref-2.ensures.value));
+      few = search rules;
+    }

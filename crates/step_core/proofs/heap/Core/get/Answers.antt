@@ -1,5 +1,4 @@
-use Rattle.std.proofs.Common.{◌∙◌, ap, arith, length, sym}
-use Rattle.std.specs.Prelude.{slice_get}
+use Rattle.std.proofs.Common.{◌∙◌, ap, arith, length, sym, slice_get}
 use Rattle.regions.specs.Table.{pointers_at}
 use Rattle.step_core.specs.Stands.{CoreState}
 use Rattle.step_core.proofs.Mutating.Acting.{get_past, get_done, refused_does}

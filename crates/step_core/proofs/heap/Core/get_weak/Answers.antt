@@ -1,5 +1,4 @@
-use Rattle.std.proofs.Common.{length, ap, sym, ◌∙◌, Option, ℕ, List, arith, refl}
-use Rattle.std.specs.Prelude.{slice_get}
+use Rattle.std.proofs.Common.{length, ap, sym, ◌∙◌, Option, ℕ, List, arith, refl, slice_get}
 use Rattle.step_core.proofs.Mutating.Acting.{get_weak_past, get_weak_done, slot_named}
 use Rattle.step_core.proofs.Cores.Keeping.{object_led, weaks_of, slot_of}
 use Rattle.step_core.proofs.Mutating.Done.{got_weak}

@@ -1,5 +1,4 @@
-use Rattle.std.proofs.Common.{Bool, sym, subst}
-use Rattle.std.specs.Prelude.{◌↔◌, IsTrue, is_some}
+use Rattle.std.proofs.Common.{Bool, sym, subst, ◌↔◌, IsTrue, is_some}
 use Rattle.step_core.specs.Stands.{CoreState}
 use Rattle.step_core.specs.Measures.{HasGrey}
 use Rattle.step_core.proofs.Measuring.{grey_found}

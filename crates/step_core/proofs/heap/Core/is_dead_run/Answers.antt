@@ -1,5 +1,4 @@
-use Rattle.std.proofs.Common.{◌≡◌, ◌*◌, ℕ, true, false, None, sym, subst, ap, ◌∙◌, not}
-use Rattle.std.specs.Prelude.{◌↔◌, IsTrue}
+use Rattle.std.proofs.Common.{◌≡◌, ◌*◌, ℕ, true, false, None, sym, subst, ap, ◌∙◌, not, ◌↔◌, IsTrue}
 use Rattle.regions.specs.declared.row.Kind.TheVariants as kinds
 use Rattle.regions.specs.Table.{kind_of}
 use Rattle.mark_bitmap.specs.Marks.{is_marked}

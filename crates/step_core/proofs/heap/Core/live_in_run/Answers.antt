@@ -1,5 +1,4 @@
-use Rattle.std.proofs.Common.{◌≡◌, ◌*◌, ℕ, None, ap, sym, ◌∙◌, subst}
-use Rattle.std.specs.Prelude.{IsSome}
+use Rattle.std.proofs.Common.{◌≡◌, ◌*◌, ℕ, None, ap, sym, ◌∙◌, subst, IsSome}
 use Rattle.regions.specs.Table.{object_at, object_words, stored_size}
 use Rattle.step_core.specs.Stands.{CoreState, kept_of}
 use Rattle.step_core.proofs.Cycles.Cycling.{to_fields}

@@ -10,23 +10,20 @@ invariant_of-result c =
     (first_is c.args.config.now c.in-Ok-new_collecting.collecting.marker _ _ (rw m.closed at m.stand) (c.in-Ok.ensures.suits refl)
     (rw k.room (record { regions = refl; cards = refl })) (omega (arith, k.rows)) (omega (arith, m.next, m.names)) k.idle k.logs k.stands)
 
-pub returns-clause-stands : goal.returns-clause-stands
-returns-clause-stands c =
+pub returns : goal.returns
+returns c =
     let m = c.in-Ok-new_mutating.ensures in
     let k = c.in-Ok-new_collecting.ensures in
-    rw (c.in-Ok.ensures.made, m.closed, m.roots, m.next, k.cards, k.sets)
-    (first_stands c.args.config.now c.in-Ok-new_collecting.collecting.marker _ _ k.idle)
-
-pub returns-clause-core : goal.returns-clause-core
-returns-clause-core c =
-    let m = c.in-Ok-new_mutating.ensures in
-    let k = c.in-Ok-new_collecting.ensures in
-    rw (c.in-Ok.ensures.made, m.closed, m.roots, m.next, k.cards, k.sets)
-    (first_is c.args.config.now c.in-Ok-new_collecting.collecting.marker _ _ (rw m.closed at m.stand) (c.in-Ok.ensures.suits refl)
-    (rw k.room (record { regions = refl; cards = refl })) (omega (arith, k.rows)) (omega (arith, m.next, m.names)) k.idle k.logs k.stands)
-
-pub returns-clause-fresh : goal.returns-clause-fresh
-returns-clause-fresh c =
-    let m = c.in-Ok-new_mutating.ensures in
-    let k = c.in-Ok-new_collecting.ensures in
-    rw (c.in-Ok.ensures.made, m.closed, m.roots, m.next, k.marker, k.cards, k.sets, k.room, k.rows) refl
+    let suits = c.in-Ok.ensures.suits refl in
+    record {
+      fresh = rw (c.in-Ok.ensures.made, m.closed, m.roots, m.next, k.marker, k.cards, k.sets, k.room, k.rows) refl;
+      core = rw (c.in-Ok.ensures.made, m.closed, m.roots, m.next, k.cards, k.sets)
+          (first_is c.args.config.now c.in-Ok-new_collecting.collecting.marker _ _ (rw m.closed at m.stand) suits
+          (rw k.room (record { regions = refl; cards = refl })) (omega (arith, k.rows)) (omega (arith, m.next, m.names)) k.idle k.logs
+          k.stands);
+      stands = rw (c.in-Ok.ensures.made, m.closed, m.roots, m.next, k.cards, k.sets)
+          (first_stands c.args.config.now c.in-Ok-new_collecting.collecting.marker _ _ k.idle);
+      config = refl;
+      suits = suits;
+      fault = tt;
+    }

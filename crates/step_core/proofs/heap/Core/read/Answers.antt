@@ -1,5 +1,4 @@
-use Rattle.std.proofs.Common.{◌∙◌, ap, arith, length, rules, sym}
-use Rattle.std.specs.Prelude.{slice_get}
+use Rattle.std.proofs.Common.{◌∙◌, ap, arith, length, rules, sym, slice_get}
 use Rattle.regions.specs.Table.{values_at}
 use Rattle.step_core.specs.Stands.{CoreState}
 use Rattle.step_core.proofs.Mutating.Acting.{read_past, read_done, refused_does}

@@ -21,25 +21,15 @@ invariant_of-self c =
     let r = rw words at c.refine_one.ensures in
     refined_kept _ c.self.invariant _ _ _ r.stands r.cards r.refines r.remembers
 
-pub returns-clause-shows : goal.returns-clause-shows
-returns-clause-shows c =
+pub returns : goal.returns
+returns c =
     let words : c.args.words ≡ card_words c.self.inside.config =
     c.requires ∙ ap (λ (d : CoreState). card_words d.config) (sym c.self.view_is) in
     let r = rw words at c.refine_one.ensures in
-    λ g s.
-    cards_show _ c.self.invariant _ _ _ r.stands r.cards r.refines r.remembers g (to_fields _ _ c.self.view_is (λ d. ShowsGraph g d) s)
-
-pub returns-clause-keeps : goal.returns-clause-keeps
-returns-clause-keeps c =
-    let words : c.args.words ≡ card_words c.self.inside.config =
-    c.requires ∙ ap (λ (d : CoreState). card_words d.config) (sym c.self.view_is) in
-    let r = rw words at c.refine_one.ensures in
-    λ s f.
-    cards_keep _ c.self.invariant _ _ _ r.stands r.cards r.refines r.remembers s (to_fields _ _ c.self.view_is (λ d. KeepsFrom s d) f)
-
-pub returns-clause-refined : goal.returns-clause-refined
-returns-clause-refined c =
-    let words : c.args.words ≡ card_words c.self.inside.config =
-    c.requires ∙ ap (λ (d : CoreState). card_words d.config) (sym c.self.view_is) in
-    let r = rw words at c.refine_one.ensures in
-    refined_from _ c.self.invariant _ _ _ r.stands r.cards r.refines r.remembers _ c.self.view_is
+    record {
+      shows = λ g s. cards_show _ c.self.invariant _ _ _ r.stands r.cards r.refines r.remembers g
+          (to_fields _ _ c.self.view_is (λ d. ShowsGraph g d) s);
+      keeps = λ s f. cards_keep _ c.self.invariant _ _ _ r.stands r.cards r.refines r.remembers s
+          (to_fields _ _ c.self.view_is (λ d. KeepsFrom s d) f);
+      refined = refined_from _ c.self.invariant _ _ _ r.stands r.cards r.refines r.remembers _ c.self.view_is;
+    }

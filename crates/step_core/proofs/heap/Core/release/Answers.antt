@@ -2,11 +2,11 @@ use Rattle.std.proofs.Common.{◌≡◌, ◌<◌, ◌∙◌, ap, false, length, 
 use Rattle.marker.specs.declared.marker.Marker.{Marker}
 use Rattle.regions.proofs.Tiles.Released.{untargeted}
 use Rattle.regions.specs.Table.{run_length}
-use Rattle.step_core.specs.Stands.{ShowsGraph}
+use Rattle.step_core.specs.Stands.{ShowsGraph, KeepsFrom}
 use Rattle.step_core.specs.Cleaning.{IsDeadHead}
 use Rattle.step_core.proofs.Cycles.Cycling.{to_fields}
 use Rattle.regions.proofs.LongRuns.Blocks.{block_within}
-use Rattle.step_core.proofs.Cycles.Releasing.{release_shows, release_kept, released_from}
+use Rattle.step_core.proofs.Cycles.Releasing.{release_shows, release_keeps, release_kept, released_from}
 use Rattle.step_core.proofs.heap.Core.release.Goals as goal
 
 pub forget-requires-clause-within : goal.forget-requires-clause-within
@@ -30,25 +30,19 @@ invariant_of-self c =
     (release_kept _ c.self.invariant c.law.ensures c.args.region c.args.count known dead together _
     (ap (λ (x : Marker). x.running) f.forgotten.same ∙ idle) f.stands f.forgotten _ f.cleared)
 
-pub returns-clause-shows : goal.returns-clause-shows
-returns-clause-shows c =
+pub returns : goal.returns
+returns c =
     let known = to_fields _ _ c.self.view_is (λ d. c.args.region < length d.table.regions) c.requires.known in
     let together = to_fields _ _ c.self.view_is (λ d. c.args.count ≡ run_length d.table c.args.region) c.requires.together in
     let dead = to_fields _ _ c.self.view_is (λ d. IsDeadHead d c.args.region) c.requires.dead in
     let idle = to_fields _ _ c.self.view_is (λ d. d.marker.running ≡ false) c.requires.idle in
     let f = c.forget.ensures in
-    λ g s. rw c.release.ensures
-    (release_shows _ c.self.invariant c.law.ensures c.args.region c.args.count known dead together _
-    (ap (λ (x : Marker). x.running) f.forgotten.same ∙ idle) f.stands f.forgotten _ f.cleared g
-    (to_fields _ _ c.self.view_is (λ d. ShowsGraph g d) s))
-
-pub returns-clause-released : goal.returns-clause-released
-returns-clause-released c =
-    let known = to_fields _ _ c.self.view_is (λ d. c.args.region < length d.table.regions) c.requires.known in
-    let together = to_fields _ _ c.self.view_is (λ d. c.args.count ≡ run_length d.table c.args.region) c.requires.together in
-    let dead = to_fields _ _ c.self.view_is (λ d. IsDeadHead d c.args.region) c.requires.dead in
-    let idle = to_fields _ _ c.self.view_is (λ d. d.marker.running ≡ false) c.requires.idle in
-    let f = c.forget.ensures in
-    rw c.release.ensures
-    (released_from _ c.self.invariant c.law.ensures c.args.region c.args.count known dead together _
-    (ap (λ (x : Marker). x.running) f.forgotten.same ∙ idle) f.stands f.forgotten _ f.cleared _ c.self.view_is)
+    let off = ap (λ (x : Marker). x.running) f.forgotten.same ∙ idle in
+    record {
+      shows = λ g s. rw c.release.ensures (release_shows _ c.self.invariant c.law.ensures c.args.region c.args.count known dead together _
+          off f.stands f.forgotten _ f.cleared g (to_fields _ _ c.self.view_is (λ d. ShowsGraph g d) s));
+      keeps = λ s k. rw c.release.ensures (release_keeps _ c.self.invariant c.law.ensures c.args.region c.args.count known dead together _
+          off f.stands f.forgotten _ f.cleared s (to_fields _ _ c.self.view_is (λ d. KeepsFrom s d) k));
+      released = rw c.release.ensures (released_from _ c.self.invariant c.law.ensures c.args.region c.args.count known dead together _
+          off f.stands f.forgotten _ f.cleared _ c.self.view_is);
+    }
