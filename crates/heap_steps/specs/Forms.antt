@@ -1,5 +1,8 @@
--- Steps by their forms: a verb, and numbers for the words after it.
-use Rattle.std.specs.Prelude.{ℕ, zero, suc, ◌^◌, ◌%◌, List, [], ◌∷◌, Option, Some, None, Bool, true, false, codes, get_or}
+-- Steps by their forms: a verb, and numbers for the words after it; and which replies a verb of the collector has.
+use Rattle.std.specs.Prelude.{ℕ, zero, suc, ◌^◌, ◌%◌, ◌==◌, List, [], ◌∷◌, Option, Some, None, Bool, true, false, codes, get_or}
+use Rattle.heap_steps.specs.declared.form.DoneReply.{DoneReply}
+use Rattle.heap_steps.specs.declared.form.DoneReply.TheVariants as dones
+use Rattle.heap_steps.specs.declared.form.Replies.{Replies}
 use Rattle.heap_steps.specs.declared.form.Operand.{Operand}
 use Rattle.heap_steps.specs.declared.form.Operand.TheVariants.{Register, Global, Value, Small, Byte, Large}
 use Rattle.heap_steps.specs.declared.form.ActionVerb.{ActionVerb}
@@ -11,6 +14,10 @@ use Rattle.heap_steps.specs.declared.step.Action.{Action}
 use Rattle.heap_steps.specs.declared.step.Action.TheVariants as actions
 use Rattle.heap_steps.specs.declared.step.CollectorStep.{CollectorStep}
 use Rattle.heap_steps.specs.declared.step.CollectorStep.TheVariants as collector
+use Rattle.heap_steps.specs.declared.step.Refusal.{Refusal}
+use Rattle.heap_steps.specs.declared.step.Refusal.TheVariants as refusals
+use Rattle.heap_steps.specs.declared.step.Reply.{Reply}
+use Rattle.heap_steps.specs.declared.step.Reply.TheVariants as replies
 
 -- a verb's row of the table: its word, what is after it, and whether the third format alone has it
 pub record Row : Type 0 where
@@ -52,6 +59,50 @@ collection_row collections.Cleanup = every (codes "cleanup") []
 collection_row collections.Refine = every (codes "refine") (Small ∷ [])
 collection_row collections.Pause = every (codes "pause") (Small ∷ [])
 collection_row collections.Compact = third (codes "compact") (Small ∷ [])
+
+-- the replies of each: what it replies where it is done, and what it may be refused for
+abbrev always : DoneReply → Replies
+always done = record { done = done; refused = None }
+
+abbrev unless : DoneReply → Refusal → Replies
+unless done why = record { done = done; refused = Some why }
+
+abbrev pub collection_replies : CollectionVerb → Replies
+collection_replies collections.Begin = unless dones.Ok refusals.MarkRunning
+collection_replies collections.Mark = unless dones.Ok refusals.NotMarking
+collection_replies collections.Remark = unless dones.Marked refusals.NotMarking
+collection_replies collections.Cleanup = unless dones.Reclaimed refusals.MarkRunning
+collection_replies collections.Refine = always dones.Refined
+collection_replies collections.Pause = always dones.Moved
+collection_replies collections.Compact = always dones.Moved
+
+-- the number of a refusal
+abbrev pub refusal_number : Refusal → ℕ
+refusal_number refusals.Nil = 1
+refusal_number refusals.NoField = 2
+refusal_number refusals.Full = 3
+refusal_number refusals.TooBig = 4
+refusal_number refusals.NamesSpent = 5
+refusal_number refusals.MarkRunning = 6
+refusal_number refusals.NotMarking = 7
+
+-- whether a reply tells so what was done
+abbrev pub is_done : DoneReply → Reply → Bool
+is_done dones.Ok replies.Done = true
+is_done dones.Marked (replies.Marked n) = true
+is_done dones.Reclaimed (replies.Reclaimed n) = true
+is_done dones.Refined (replies.Refined n) = true
+is_done dones.Moved (replies.Moved n w) = true
+is_done _ _ = false
+
+abbrev pub is_refused : Option Refusal → Refusal → Bool
+is_refused None why = false
+is_refused (Some r) why = refusal_number why == refusal_number r
+
+-- whether a reply is one of these
+abbrev pub is_among : Replies → Reply → Bool
+is_among rs (replies.Refused why) = is_refused rs.refused why
+is_among rs r = is_done rs.done r
 
 -- all verbs, in the order in which hints list them
 abbrev pub action_verbs : List ActionVerb

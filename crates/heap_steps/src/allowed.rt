@@ -101,10 +101,7 @@ impl CollectorStep {
     pub fn is_in(self, format: Format) -> bool
         ensures { IsTrue result ↔ HasCollection format self }
     {
-        match self {
-            CollectorStep::Compact(_) => is_third(format),
-            _ => true,
-        }
+        has_row(format, self.verb().row())
     }
 }
 

@@ -1,10 +1,12 @@
-//! How steps are spelled: a verb each, and what may be after it. The table of verbs is here and in `specs/Forms.antt`.
+//! How steps are spelled: a verb each, and what may be after it; and which replies the collector's have. The table of verbs is here and in
+//! `specs/Forms.antt`.
 
 ghost use Rattle.std.specs.Prelude.{◌≡◌, ◌≤◌, ◌%◌, ◌^◌, true, false, length, get_or};
 ghost use Rattle.heap_steps.specs.Forms.{action_verbs, action_row, action_by, collection_verbs, collection_row, collection_by};
-ghost use Rattle.heap_steps.specs.Forms.{low, numbered_value, numbers_in};
+ghost use Rattle.heap_steps.specs.Forms.{collection_verb, collection_numbers, collection_replies, refusal_number};
+ghost use Rattle.heap_steps.specs.Forms.{is_done, is_refused, is_among, low, numbered_value, numbers_in};
 
-use crate::step::{Action, CollectorStep, Counts, GlobalRoot, Register};
+use crate::step::{Action, CollectorStep, Counts, GlobalRoot, Refusal, Register, Reply};
 
 /// What a word after a verb is.
 #[derive(Clone, Copy)]
@@ -55,6 +57,30 @@ pub enum CollectionVerb {
     Compact,
 }
 
+/// What a step of the collector replies where it is done.
+#[derive(Clone, Copy, Debug, PartialEq, Eq)]
+pub enum DoneReply {
+    /// Nothing but that.
+    Ok,
+    /// How many objects it marked.
+    Marked,
+    /// How many regions it reclaimed.
+    Reclaimed,
+    /// How many cards it refined.
+    Refined,
+    /// How many regions it reclaimed, and how many words it copied.
+    Moved,
+}
+
+/// The replies that a step of the collector may have.
+#[derive(Clone, Copy)]
+pub struct Replies {
+    /// What it replies where it is done.
+    pub done: DoneReply,
+    /// What it may be refused for.
+    pub refused: Option<Refusal>,
+}
+
 /// A verb's row of the table.
 #[derive(Clone, Copy)]
 pub struct Row {
@@ -91,6 +117,75 @@ fn third(word: &'static [u8], operands: &'static [Operand]) -> Row
         word,
         operands,
         third: true,
+    }
+}
+
+/// The replies of a step that is always done.
+fn always(done: DoneReply) -> Replies
+    ensures { result ≡ record { done = done; refused = None } }
+{
+    Replies {
+        done,
+        refused: None,
+    }
+}
+
+/// The replies of a step that may be refused.
+fn unless(done: DoneReply, why: Refusal) -> Replies
+    ensures { result ≡ record { done = done; refused = Some why } }
+{
+    Replies {
+        done,
+        refused: Some(why),
+    }
+}
+
+impl Refusal {
+    /// Its number, which replies tell.
+    ///
+    /// ```rust
+    /// assert_eq!(rt; Refusal::Full.number(), 3);
+    /// ```
+    pub fn number(self) -> u32
+        ensures { result ≡ refusal_number self }
+    {
+        self as u32 + 1
+    }
+}
+
+impl DoneReply {
+    /// Whether a reply tells so what was done.
+    fn is(self, reply: Reply) -> bool
+        ensures { result ≡ is_done self reply }
+    {
+        match reply {
+            Reply::Done => self == DoneReply::Ok,
+            Reply::Marked(_) => self == DoneReply::Marked,
+            Reply::Reclaimed(_) => self == DoneReply::Reclaimed,
+            Reply::Refined(_) => self == DoneReply::Refined,
+            Reply::Moved { .. } => self == DoneReply::Moved,
+            _ => false,
+        }
+    }
+}
+
+impl Replies {
+    /// Whether a reply is one of these.
+    ///
+    /// ```rust
+    /// assert!(rt; CollectionVerb::Begin.replies().has(Reply::Refused(Refusal::MarkRunning)));
+    /// assert!(rt; !CollectionVerb::Pause.replies().has(Reply::Done));
+    /// ```
+    pub fn has(self, reply: Reply) -> bool
+        ensures { result ≡ is_among self reply }
+    {
+        let Reply::Refused(why) = reply else {
+            return self.done.is(reply);
+        };
+        match self.refused {
+            None => false,
+            Some(refusal) => why.number() == refusal.number(),
+        }
     }
 }
 
@@ -329,6 +424,25 @@ impl CollectionVerb {
         }
     }
 
+    /// The replies that its steps may have.
+    ///
+    /// ```rust
+    /// assert_eq!(rt; CollectionVerb::Pause.replies().done, DoneReply::Moved);
+    /// ```
+    pub fn replies(self) -> Replies
+        ensures { result ≡ collection_replies self }
+    {
+        match self {
+            CollectionVerb::Begin => unless(DoneReply::Ok, Refusal::MarkRunning),
+            CollectionVerb::Mark => unless(DoneReply::Ok, Refusal::NotMarking),
+            CollectionVerb::Remark => unless(DoneReply::Marked, Refusal::NotMarking),
+            CollectionVerb::Cleanup => unless(DoneReply::Reclaimed, Refusal::MarkRunning),
+            CollectionVerb::Refine => always(DoneReply::Refined),
+            CollectionVerb::Pause => always(DoneReply::Moved),
+            CollectionVerb::Compact => always(DoneReply::Moved),
+        }
+    }
+
     /// The step of the verb and these numbers, of which more than it has don't count.
     ///
     /// ```rust
@@ -345,6 +459,46 @@ impl CollectionVerb {
             CollectionVerb::Refine => CollectorStep::Refine(small(numbers, 0)),
             CollectionVerb::Pause => CollectorStep::Pause(small(numbers, 0)),
             CollectionVerb::Compact => CollectorStep::Compact(small(numbers, 0)),
+        }
+    }
+}
+
+impl CollectorStep {
+    /// Its verb.
+    ///
+    /// ```rust
+    /// assert_eq!(rt; CollectorStep::Pause(8).verb().row().word, b"pause".as_slice());
+    /// ```
+    #[inline(always)]
+    pub fn verb(self) -> CollectionVerb
+        ensures { result ≡ collection_verb self }
+    {
+        match self {
+            CollectorStep::Begin => CollectionVerb::Begin,
+            CollectorStep::Mark(_) => CollectionVerb::Mark,
+            CollectorStep::Remark => CollectionVerb::Remark,
+            CollectorStep::Cleanup => CollectionVerb::Cleanup,
+            CollectorStep::Refine(_) => CollectionVerb::Refine,
+            CollectorStep::Pause(_) => CollectionVerb::Pause,
+            CollectorStep::Compact(_) => CollectionVerb::Compact,
+        }
+    }
+
+    /// Its number, 0 where it has none.
+    ///
+    /// ```rust
+    /// assert_eq!(rt; CollectorStep::Pause(8).number(), 8);
+    /// ```
+    #[inline(always)]
+    pub fn number(self) -> u32
+        ensures { result ≡ get_or (collection_numbers self) 0 0 }
+    {
+        match self {
+            CollectorStep::Mark(number)
+            | CollectorStep::Refine(number)
+            | CollectorStep::Pause(number)
+            | CollectorStep::Compact(number) => number,
+            _ => 0,
         }
     }
 }
