@@ -1,7 +1,8 @@
 //! How steps are spelled: a verb each, and what may be after it; and which replies the collector's have. The table of verbs is here and in
 //! `specs/Forms.antt`.
 
-ghost use Rattle.std.specs.Prelude.{◌≡◌, ◌≤◌, ◌%◌, ◌^◌, true, false, length, get_or};
+ghost use Rattle.std.specs.Prelude.{◌≡◌, ◌≤◌, ◌%◌, ◌^◌, List, true, false, length, get_or};
+ghost use Rattle.heap_steps.specs.Forms as forms;
 ghost use Rattle.heap_steps.specs.Forms.{action_verbs, action_row, action_by, collection_verbs, collection_row, collection_by};
 ghost use Rattle.heap_steps.specs.Forms.{collection_verb, collection_numbers, collection_replies, refusal_number};
 ghost use Rattle.heap_steps.specs.Forms.{is_done, is_refused, is_among, low, numbered_value, numbers_in};
@@ -90,6 +91,34 @@ pub struct Row {
     pub operands: &'static [Operand],
     /// Whether the third format alone has it.
     pub third: bool,
+}
+
+/// A verb of the table: a mutator's or the collector's.
+pub trait Verb: Copy + 'static {
+    /// All of its kind, in the order in which hints list them.
+    ghost verbs: { List Self };
+
+    /// The row of each.
+    ghost row_of: { Self → forms.Row };
+
+    /// All of its kind, in the order in which hints list them.
+    ///
+    /// ```rust
+    /// assert_eq!(rt; CollectionVerb::all().len(), 7);
+    /// ```
+    fn all() -> &'static [Self]
+        ensures { result.now ≡ verbs };
+
+    /// Its row of the table.
+    ///
+    /// ```rust
+    /// assert_eq!(rt; CollectionVerb::Pause.row().word, b"pause".as_slice());
+    /// ```
+    fn row(self) -> Row
+        ensures word { result.word.now ≡ (row_of self).word }
+        ensures operands { result.operands.now ≡ (row_of self).operands }
+        ensures third { result.third ≡ (row_of self).third }
+        ensures few { length result.operands.now ≤ 4 };
 }
 
 /// A row of every format.
@@ -229,15 +258,12 @@ fn value(number: u64) -> Option<Register>
     })
 }
 
-impl ActionVerb {
-    /// All verbs, in the order in which hints list them.
-    ///
-    /// ```rust
-    /// assert_eq!(rt; ActionVerb::all().len(), 15);
-    /// ```
-    pub fn all() -> &'static [ActionVerb]
-        ensures { result.now ≡ action_verbs }
-    {
+impl Verb for ActionVerb {
+    ghost verbs = { action_verbs };
+
+    ghost row_of = { action_row };
+
+    fn all() -> &'static [ActionVerb] {
         &[
             ActionVerb::New,
             ActionVerb::NewWeak,
@@ -257,17 +283,7 @@ impl ActionVerb {
         ]
     }
 
-    /// The verb's row of the table.
-    ///
-    /// ```rust
-    /// assert_eq!(rt; ActionVerb::Drop.row().word, b"drop".as_slice());
-    /// ```
-    pub fn row(self) -> Row
-        ensures word { result.word.now ≡ (action_row self).word }
-        ensures operands { result.operands.now ≡ (action_row self).operands }
-        ensures third { result.third ≡ (action_row self).third }
-        ensures few { length result.operands.now ≤ 4 }
-    {
+    fn row(self) -> Row {
         match self {
             ActionVerb::New => every(b"new", &[Operand::Register, Operand::Small, Operand::Small]),
             ActionVerb::NewWeak => every(
@@ -306,7 +322,9 @@ impl ActionVerb {
             ActionVerb::Weaks => every(b"weaks", &[Operand::Register]),
         }
     }
+}
 
+impl ActionVerb {
     /// The action of the verb and these numbers, of which more than it has don't count.
     ///
     /// ```rust
@@ -382,15 +400,12 @@ impl ActionVerb {
     }
 }
 
-impl CollectionVerb {
-    /// All verbs, in the order in which hints list them.
-    ///
-    /// ```rust
-    /// assert_eq!(rt; CollectionVerb::all().len(), 7);
-    /// ```
-    pub fn all() -> &'static [CollectionVerb]
-        ensures { result.now ≡ collection_verbs }
-    {
+impl Verb for CollectionVerb {
+    ghost verbs = { collection_verbs };
+
+    ghost row_of = { collection_row };
+
+    fn all() -> &'static [CollectionVerb] {
         &[
             CollectionVerb::Begin,
             CollectionVerb::Mark,
@@ -402,17 +417,7 @@ impl CollectionVerb {
         ]
     }
 
-    /// The verb's row of the table.
-    ///
-    /// ```rust
-    /// assert_eq!(rt; CollectionVerb::Pause.row().word, b"pause".as_slice());
-    /// ```
-    pub fn row(self) -> Row
-        ensures word { result.word.now ≡ (collection_row self).word }
-        ensures operands { result.operands.now ≡ (collection_row self).operands }
-        ensures third { result.third ≡ (collection_row self).third }
-        ensures few { length result.operands.now ≤ 4 }
-    {
+    fn row(self) -> Row {
         match self {
             CollectionVerb::Begin => every(b"begin", &[]),
             CollectionVerb::Mark => every(b"mark", &[Operand::Small]),
@@ -423,7 +428,9 @@ impl CollectionVerb {
             CollectionVerb::Compact => third(b"compact", &[Operand::Small]),
         }
     }
+}
 
+impl CollectionVerb {
     /// The replies that its steps may have.
     ///
     /// ```rust
