@@ -1,5 +1,7 @@
 -- Steps by their forms: a verb, and numbers for the words after it; and which replies a verb of the collector has.
 use Rattle.std.specs.Prelude.{ℕ, zero, suc, ◌^◌, ◌%◌, ◌==◌, List, [], ◌∷◌, Option, Some, None, Bool, true, false, codes, get_or}
+use Rattle.std.specs.List.{position_or_len}
+use Rattle.std.specs.Str.{bytes_eq}
 use Rattle.heap_steps.specs.declared.form.DoneReply.{DoneReply}
 use Rattle.heap_steps.specs.declared.form.DoneReply.TheVariants as dones
 use Rattle.heap_steps.specs.declared.form.Replies.{Replies}
@@ -112,6 +114,10 @@ action_verbs = verbs.New ∷ verbs.NewWeak ∷ verbs.Get ∷ verbs.GetWeak ∷ v
 abbrev pub collection_verbs : List CollectionVerb
 collection_verbs = collections.Begin ∷ collections.Mark ∷ collections.Remark ∷ collections.Cleanup ∷ collections.Refine
     ∷ collections.Pause ∷ collections.Compact ∷ []
+
+-- the place of a verb among those of the collector, which its word tells
+abbrev pub collection_place : CollectionVerb → ℕ
+collection_place v = position_or_len (λ u. bytes_eq (collection_row u).word (collection_row v).word) collection_verbs
 
 -- the number of a value, and the value of a number: 0 is nil, and registers count from 1
 abbrev pub value_number : Option registers.Register → ℕ

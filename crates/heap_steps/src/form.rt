@@ -4,7 +4,7 @@
 ghost use Rattle.std.specs.Prelude.{◌≡◌, ◌≤◌, ◌%◌, ◌^◌, List, true, false, length, get_or};
 ghost use Rattle.heap_steps.specs.Forms as forms;
 ghost use Rattle.heap_steps.specs.Forms.{action_verbs, action_row, action_by, collection_verbs, collection_row, collection_by};
-ghost use Rattle.heap_steps.specs.Forms.{collection_verb, collection_numbers, collection_replies, refusal_number};
+ghost use Rattle.heap_steps.specs.Forms.{collection_verb, collection_numbers, collection_place, collection_replies, refusal_number};
 ghost use Rattle.heap_steps.specs.Forms.{is_done, is_refused, is_among, low, numbered_value, numbers_in};
 
 use crate::step::{Action, CollectorStep, Counts, GlobalRoot, Refusal, Register, Reply};
@@ -118,7 +118,8 @@ pub trait Verb: Copy + 'static {
         ensures word { result.word.now ≡ (row_of self).word }
         ensures operands { result.operands.now ≡ (row_of self).operands }
         ensures third { result.third ≡ (row_of self).third }
-        ensures few { length result.operands.now ≤ 4 };
+        ensures few { length result.operands.now ≤ 4 }
+        ensures short { length result.word.now ≤ 21 };
 }
 
 /// A row of every format.
@@ -431,6 +432,17 @@ impl Verb for CollectionVerb {
 }
 
 impl CollectionVerb {
+    /// Its place among those of the collector, from 0.
+    ///
+    /// ```rust
+    /// assert_eq!(rt; CollectionVerb::Mark.place(), 1);
+    /// ```
+    pub fn place(self) -> u32
+        ensures { result ≡ collection_place self }
+    {
+        self as u32
+    }
+
     /// The replies that its steps may have.
     ///
     /// ```rust
