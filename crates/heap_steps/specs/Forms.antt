@@ -63,20 +63,17 @@ collection_row collections.Pause = every (codes "pause") (Small ∷ [])
 collection_row collections.Compact = third (codes "compact") (Small ∷ [])
 
 -- the replies of each: what it replies where it is done, and what it may be refused for
-abbrev always : DoneReply → Replies
-always done = record { done = done; refused = None }
-
-abbrev unless : DoneReply → Refusal → Replies
-unless done why = record { done = done; refused = Some why }
+abbrev replies_by : DoneReply → Option Refusal → Replies
+replies_by done refused = record { done = done; refused = refused }
 
 abbrev pub collection_replies : CollectionVerb → Replies
-collection_replies collections.Begin = unless dones.Ok refusals.MarkRunning
-collection_replies collections.Mark = unless dones.Ok refusals.NotMarking
-collection_replies collections.Remark = unless dones.Marked refusals.NotMarking
-collection_replies collections.Cleanup = unless dones.Reclaimed refusals.MarkRunning
-collection_replies collections.Refine = always dones.Refined
-collection_replies collections.Pause = always dones.Moved
-collection_replies collections.Compact = always dones.Moved
+collection_replies collections.Begin = replies_by dones.Ok (Some refusals.MarkRunning)
+collection_replies collections.Mark = replies_by dones.Ok (Some refusals.NotMarking)
+collection_replies collections.Remark = replies_by dones.Marked (Some refusals.NotMarking)
+collection_replies collections.Cleanup = replies_by dones.Reclaimed (Some refusals.MarkRunning)
+collection_replies collections.Refine = replies_by dones.Refined None
+collection_replies collections.Pause = replies_by dones.Moved None
+collection_replies collections.Compact = replies_by dones.Moved None
 
 -- the number of a refusal
 abbrev pub refusal_number : Refusal → ℕ

@@ -150,24 +150,11 @@ fn third(word: &'static [u8], operands: &'static [Operand]) -> Row
     }
 }
 
-/// The replies of a step that is always done.
-fn always(done: DoneReply) -> Replies
-    ensures { result ≡ record { done = done; refused = None } }
+/// The replies of this form.
+fn replies_by(done: DoneReply, refused: Option<Refusal>) -> Replies
+    ensures { result ≡ record { done = done; refused = refused } }
 {
-    Replies {
-        done,
-        refused: None,
-    }
-}
-
-/// The replies of a step that may be refused.
-fn unless(done: DoneReply, why: Refusal) -> Replies
-    ensures { result ≡ record { done = done; refused = Some why } }
-{
-    Replies {
-        done,
-        refused: Some(why),
-    }
+    Replies { done, refused }
 }
 
 impl Refusal {
@@ -177,7 +164,8 @@ impl Refusal {
     /// assert_eq!(rt; Refusal::Full.number(), 3);
     /// ```
     pub fn number(self) -> u32
-        ensures { result ≡ refusal_number self }
+        ensures number { result ≡ refusal_number self }
+        ensures few { result ≤ 7 }
     {
         self as u32 + 1
     }
@@ -452,13 +440,13 @@ impl CollectionVerb {
         ensures { result ≡ collection_replies self }
     {
         match self {
-            CollectionVerb::Begin => unless(DoneReply::Ok, Refusal::MarkRunning),
-            CollectionVerb::Mark => unless(DoneReply::Ok, Refusal::NotMarking),
-            CollectionVerb::Remark => unless(DoneReply::Marked, Refusal::NotMarking),
-            CollectionVerb::Cleanup => unless(DoneReply::Reclaimed, Refusal::MarkRunning),
-            CollectionVerb::Refine => always(DoneReply::Refined),
-            CollectionVerb::Pause => always(DoneReply::Moved),
-            CollectionVerb::Compact => always(DoneReply::Moved),
+            CollectionVerb::Begin => replies_by(DoneReply::Ok, Some(Refusal::MarkRunning)),
+            CollectionVerb::Mark => replies_by(DoneReply::Ok, Some(Refusal::NotMarking)),
+            CollectionVerb::Remark => replies_by(DoneReply::Marked, Some(Refusal::NotMarking)),
+            CollectionVerb::Cleanup => replies_by(DoneReply::Reclaimed, Some(Refusal::MarkRunning)),
+            CollectionVerb::Refine => replies_by(DoneReply::Refined, None),
+            CollectionVerb::Pause => replies_by(DoneReply::Moved, None),
+            CollectionVerb::Compact => replies_by(DoneReply::Moved, None),
         }
     }
 

@@ -23,7 +23,7 @@ use std::alloc::Global;
 use std::io::{ErrorKind, Read, Write};
 
 /// The room that a verdict's line and its reason need.
-const ROOM: usize = 256;
+const ROOM: usize = 264;
 
 /// What a step of the collector replies where it is done.
 fn done_text(done: DoneReply) -> &'static [u8]

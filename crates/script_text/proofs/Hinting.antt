@@ -1,6 +1,6 @@
 -- What is told of a line with a fault, put together.
-use Rattle.std.proofs.Common.{◌≡◌, ◌∙◌, ◌+◌, ◌-◌, ◌++◌, ◌∷◌, ℕ, List, Some, true, false, ap, refl, sym, append_assoc, arith, codes, drop, get_or, length}
-use Rattle.std.proofs.Common.{◌<◌, slice_get}
+use Rattle.std.proofs.Common.{◌≡◌, ◌∙◌, ◌+◌, ◌-◌, ◌<◌, ◌++◌, ◌∷◌, ℕ, List, Some, true, false, ap, refl, sym, append_assoc, arith, codes}
+use Rattle.std.proofs.Common.{drop, get_or, length, slice_get}
 use Rattle.std.specs.Fmt.{decimal}
 use Rattle.std.proofs.lemmas.List.{length-append, drop_more}
 use Rattle.heap_words.specs.declared.config.Format.{Format}
@@ -50,7 +50,8 @@ next_put start front word b w mid last n ws vs e s p q r m l =
 pub next_end : (w : List ℕ) (ws vs : List (List ℕ)) → vs ≡ w ∷ ws
     → length (listed vs) ≡ length w + length (between (length ws)) + length (listed ws)
 next_end w ws vs e =
-    let one : length (listed (w ∷ ws)) ≡ length w + length (between (length ws) ++ listed ws) = length-append w (between (length ws) ++ listed ws) in
+    let others = between (length ws) ++ listed ws in
+    let one : length (listed (w ∷ ws)) ≡ length w + length others = length-append w others in
     let two = length-append (between (length ws)) (listed ws) in
     ap (λ (x : List (List ℕ)). length (listed x)) e ∙ omega arith
 

@@ -1,5 +1,6 @@
 -- The words of the collector's steps as they are put: the verb's, and a number where its row has an operand.
-use Rattle.std.proofs.Common.{◌≡◌, ◌∙◌, ◌==◌, ◌++◌, ◌∷◌, ℕ, true, false, List, [], codes, get_or, length, refl, sym, ap, append_assoc, arith}
+use Rattle.std.proofs.Common.{◌≡◌, ◌∙◌, ◌==◌, ◌++◌, ◌∷◌, ℕ, true, false, List, []}
+use Rattle.std.proofs.Common.{codes, get_or, length, refl, sym, ap, append_assoc, arith}
 use Rattle.std.specs.Fmt.{decimal}
 use Rattle.std.proofs.lemmas.Bool.{eqb-true}
 use Rattle.heap_steps.specs.Forms.{collection_numbers, collection_row, collection_verb}
@@ -22,7 +23,8 @@ text_bare : (ks : List Operand) (word : List ℕ) (n : ℕ) → (length ks == 0)
 text_bare [] word n e = refl
 text_bare (k ∷ ks) word n e = absurd (let some = eqb-true (length (k ∷ ks)) 0 e in omega (arith, some))
 
-text_numbered : (ks : List Operand) (word : List ℕ) (n : ℕ) → (length ks == 0) ≡ false → text_by ks word n ≡ word ++ (codes " " ++ decimal n)
+text_numbered : (ks : List Operand) (word : List ℕ) (n : ℕ) → (length ks == 0) ≡ false
+    → text_by ks word n ≡ word ++ (codes " " ++ decimal n)
 text_numbered [] word n e = absurd cc
 text_numbered (k ∷ ks) word n e = refl
 
