@@ -1,10 +1,10 @@
 -- Which events may follow one another.
-use Rattle.std.specs.Prelude.{◌≡◌, ℕ, ◌-◌, ◌<◌, ◌≤◌, ◌⊎◌, List, Option, Some, None, length, take, slice_get, ◌∷◌, [], IsTrue}
+use Rattle.std.specs.Prelude.{◌≡◌, ℕ, ◌-◌, ◌<◌, ◌≤◌, ◌⊎◌, List, Option, Some, None, length, take, slice_get, ◌∷◌, []}
 use Rattle.heap_model.specs.Graph.{Graph, next_name}
 use Rattle.heap_model.specs.Weak.{touched, Clears}
 use Rattle.graph_runs.specs.State.{State}
 use Rattle.graph_runs.specs.Machine.{outcome_of, reply_of}
-use Rattle.heap_steps.specs.Forms.{collection_replies, collection_verb, is_among}
+use Rattle.heap_steps.specs.Forms.{collection_replies, collection_verb, IsAmong}
 use Rattle.heap_steps.specs.declared.step.Action.{Action}
 use Rattle.heap_steps.specs.declared.step.Action.TheVariants as actions
 use Rattle.heap_steps.specs.declared.step.Op.{Op}
@@ -19,7 +19,7 @@ use Rattle.heap_steps.specs.declared.step.Refusal.TheVariants as refusals
 
 -- the replies that a step of the collector may have
 abbrev pub IsCollectorReply : CollectorStep → Reply → Type 0
-IsCollectorReply k reply = IsTrue (is_among (collection_replies (collection_verb k)) reply)
+IsCollectorReply k reply = IsAmong (collection_replies (collection_verb k)) reply
 
 -- the action asks for an object
 abbrev pub IsNew : Action → Type 0

@@ -1,5 +1,5 @@
 -- Steps by their forms: a verb, and numbers for the words after it; and which replies a verb of the collector has.
-use Rattle.std.specs.Prelude.{ℕ, zero, suc, ◌^◌, ◌%◌, ◌==◌, List, [], ◌∷◌, Option, Some, None, Bool, true, false, codes, get_or}
+use Rattle.std.specs.Prelude.{◌≡◌, ℕ, zero, suc, ◌^◌, ◌%◌, List, [], ◌∷◌, Option, Some, None, Bool, true, false, codes, get_or}
 use Rattle.std.specs.List.{position_or_len}
 use Rattle.std.specs.Str.{bytes_eq}
 use Rattle.heap_steps.specs.declared.form.DoneReply.{DoneReply}
@@ -85,23 +85,19 @@ refusal_number refusals.NamesSpent = 5
 refusal_number refusals.MarkRunning = 6
 refusal_number refusals.NotMarking = 7
 
--- whether a reply tells so what was done
-abbrev pub is_done : DoneReply → Reply → Bool
-is_done dones.Ok replies.Done = true
-is_done dones.Marked (replies.Marked n) = true
-is_done dones.Reclaimed (replies.Reclaimed n) = true
-is_done dones.Refined (replies.Refined n) = true
-is_done dones.Moved (replies.Moved n w) = true
-is_done _ _ = false
+-- the reply tells so what was done
+abbrev pub IsDone : DoneReply → Reply → Type 0
+IsDone dones.Ok replies.Done = Unit {0}
+IsDone dones.Marked (replies.Marked n) = Unit {0}
+IsDone dones.Reclaimed (replies.Reclaimed n) = Unit {0}
+IsDone dones.Refined (replies.Refined n) = Unit {0}
+IsDone dones.Moved (replies.Moved n w) = Unit {0}
+IsDone _ _ = ⊥
 
-abbrev pub is_refused : Option Refusal → Refusal → Bool
-is_refused None why = false
-is_refused (Some r) why = refusal_number why == refusal_number r
-
--- whether a reply is one of these
-abbrev pub is_among : Replies → Reply → Bool
-is_among rs (replies.Refused why) = is_refused rs.refused why
-is_among rs r = is_done rs.done r
+-- the reply is one of these
+abbrev pub IsAmong : Replies → Reply → Type 0
+IsAmong rs (replies.Refused why) = rs.refused ≡ Some why
+IsAmong rs reply = IsDone rs.done reply
 
 -- all verbs, in the order in which hints list them
 abbrev pub action_verbs : List ActionVerb

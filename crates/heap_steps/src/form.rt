@@ -1,11 +1,11 @@
 //! How steps are spelled: a verb each, and what may be after it; and which replies the collector's have. The table of verbs is here and in
 //! `specs/Forms.antt`.
 
-ghost use Rattle.std.specs.Prelude.{◌≡◌, ◌≤◌, ◌%◌, ◌^◌, List, true, false, length, get_or};
+ghost use Rattle.std.specs.Prelude.{◌≡◌, ◌↔◌, ◌≤◌, ◌%◌, ◌^◌, IsTrue, List, true, false, length, get_or};
 ghost use Rattle.heap_steps.specs.Forms as forms;
 ghost use Rattle.heap_steps.specs.Forms.{action_verbs, action_row, action_by, collection_verbs, collection_row, collection_by};
 ghost use Rattle.heap_steps.specs.Forms.{collection_verb, collection_numbers, collection_place, collection_replies, refusal_number};
-ghost use Rattle.heap_steps.specs.Forms.{is_done, is_refused, is_among, low, numbered_value, numbers_in};
+ghost use Rattle.heap_steps.specs.Forms.{IsDone, IsAmong, low, numbered_value, numbers_in};
 
 use crate::step::{Action, CollectorStep, Counts, GlobalRoot, Refusal, Register, Reply};
 
@@ -174,7 +174,7 @@ impl Refusal {
 impl DoneReply {
     /// Whether a reply tells so what was done.
     fn is(self, reply: Reply) -> bool
-        ensures { result ≡ is_done self reply }
+        ensures { IsTrue result ↔ IsDone self reply }
     {
         match reply {
             Reply::Done => self == DoneReply::Ok,
@@ -195,15 +195,12 @@ impl Replies {
     /// assert!(rt; !CollectionVerb::Pause.replies().has(Reply::Done));
     /// ```
     pub fn has(self, reply: Reply) -> bool
-        ensures { result ≡ is_among self reply }
+        ensures { IsTrue result ↔ IsAmong self reply }
     {
         let Reply::Refused(why) = reply else {
             return self.done.is(reply);
         };
-        match self.refused {
-            None => false,
-            Some(refusal) => why.number() == refusal.number(),
-        }
+        self.refused == Some(why)
     }
 }
 

@@ -56,20 +56,20 @@ refused k k' why b d c e reply same not_full does same_core is = takes k k' (rep
 -- refused since marking runs
 pub begin_refused : (k : CollectorStep) (d c : CoreState) → k ≡ collector.Begin → d ≡ c → d.marker.running ≡ true
     → Takes c (steps.Collector k) (replies.Refused refusals.MarkRunning) c
-begin_refused k d c e = refused k collector.Begin refusals.MarkRunning true d c e tt (λ s. refl) (λ f. cc) (λ h. inr h)
+begin_refused k d c e = refused k collector.Begin refusals.MarkRunning true d c e refl (λ s. refl) (λ f. cc) (λ h. inr h)
 
 pub cleanup_refused : (k : CollectorStep) (d c : CoreState) → k ≡ collector.Cleanup → d ≡ c → d.marker.running ≡ true
     → Takes c (steps.Collector k) (replies.Refused refusals.MarkRunning) c
-cleanup_refused k d c e = refused k collector.Cleanup refusals.MarkRunning true d c e tt (λ s. refl) (λ f. cc) (λ h. inr h)
+cleanup_refused k d c e = refused k collector.Cleanup refusals.MarkRunning true d c e refl (λ s. refl) (λ f. cc) (λ h. inr h)
 
 -- refused since it doesn't
 pub mark_refused : (k : CollectorStep) (units : ℕ) (d c : CoreState) → k ≡ collector.Mark units → d ≡ c → d.marker.running ≡ false
     → Takes c (steps.Collector k) (replies.Refused refusals.NotMarking) c
-mark_refused k units d c e = refused k (collector.Mark units) refusals.NotMarking false d c e tt (λ s. refl) (λ f. cc) (λ h. inr h)
+mark_refused k units d c e = refused k (collector.Mark units) refusals.NotMarking false d c e refl (λ s. refl) (λ f. cc) (λ h. inr h)
 
 pub remark_refused : (k : CollectorStep) (d c : CoreState) → k ≡ collector.Remark → d ≡ c → d.marker.running ≡ false
     → Takes c (steps.Collector k) (replies.Refused refusals.NotMarking) c
-remark_refused k d c e = refused k collector.Remark refusals.NotMarking false d c e tt (λ s. refl) (λ f. cc) (λ h. inr h)
+remark_refused k d c e = refused k collector.Remark refusals.NotMarking false d c e refl (λ s. refl) (λ f. cc) (λ h. inr h)
 
 pub begun : (k : CollectorStep) (d c c' : CoreState) → k ≡ collector.Begin → d ≡ c → d.marker.running ≡ false
     → ((g : Graph) → ShowsGraph g c → ShowsGraph g c') → ((g : Graph) → ShowsGraph g c → KeepsFrom g c')
