@@ -6,37 +6,20 @@
 // The lines are those that crates/page_parts/page/README.md describes, from `m` to `x`, with each region after each event, and with nothing
 // left out: all cards of the queue, all roots, all tiles, all fields. Beside that `d MUTATOR ADDRESS ..` is a deletion log, `t REGION
 // PREVIOUS NEXT` are the tops at mark start of a region in use, by address, and a field that leads to no object is `?` and its address. The
-// script has to be one: nothing is tested. It is what tools/check_page and tools/check_views compare with.
+// text with a fault ends it with status 1, and sizes aren't tested. It is what tools/check_page and tools/check_views compare with.
 
 #include <cstdio>
 #include <fstream>
 #include <set>
 #include <sstream>
-#include <stdexcept>
 #include <string>
 #include <vector>
 
-#include "plain_heap.h"
+#include "plain_script.h"
 
 namespace {
 
 using namespace plain;
-
-Sizes read_sizes(const std::string& line) {
-    std::istringstream words(line);
-    std::string format;
-    Sizes sizes{};
-    words >> format >> sizes.regions >> sizes.words >> sizes.buffer >> sizes.mutators >> sizes.first_name;
-    sizes.card = 8, sizes.globals = 16, sizes.registers = 8;
-    if (format != "heap") words >> sizes.card;
-    if (format == "heap3") sizes.format = 3, words >> sizes.globals >> sizes.registers;
-    return sizes;
-}
-
-// The number of a word, after its letter where it has one.
-Word number(const std::string& word) {
-    return std::stoull(word[0] == 'r' || word[0] == 'g' ? word.substr(1) : word);
-}
 
 // A heap that is told as lines.
 class Told : public Heap {
@@ -195,45 +178,6 @@ private:
     }
 };
 
-// Does a step of the collector, and answers how many words it copied.
-Word collect(Heap& heap, const std::vector<std::string>& words) {
-    const std::string& verb = words[1];
-    if (verb == "begin") heap.begin();
-    else if (verb == "mark") heap.mark(Number(number(words[2])));
-    else if (verb == "remark") heap.remark();
-    else if (verb == "cleanup") heap.cleanup();
-    else if (verb == "refine") heap.refine(Number(number(words[2])));
-    else if (verb == "pause") return heap.pause(Number(number(words[2]))).second;
-    else if (verb == "compact") return heap.compact(Number(number(words[2]))).second;
-    else throw std::invalid_argument(verb);
-    return 0;
-}
-
-void mutate(Heap& heap, const std::vector<std::string>& words) {
-    Number mutator = Number(std::stoul(words[0]));
-    const std::string& verb = words[1];
-    bool is_nil = words.back() == "nil";
-    std::vector<Word> with;
-    for (std::size_t place = 2; place < words.size(); ++place)
-        with.push_back(words[place] == "nil" ? 0 : number(words[place]));
-    Number first = Number(with[0]), second = with.size() > 1 ? Number(with[1]) : 0, third = with.size() > 2 ? Number(with[2]) : 0;
-    if (verb == "new") heap.make(mutator, first, with[1], 0, with[2]);
-    else if (verb == "newweak") heap.make(mutator, first, with[1], with[2], with[3]);
-    else if (verb == "get") heap.get(mutator, first, second, third);
-    else if (verb == "put" && is_nil) heap.put_nil(mutator, first, second);
-    else if (verb == "put") heap.put(mutator, first, second, third);
-    else if (verb == "getweak") heap.get_weak(mutator, first, second, third);
-    else if (verb == "putweak" && is_nil) heap.put_weak_nil(mutator, first, second);
-    else if (verb == "putweak") heap.put_weak(mutator, first, second, third);
-    else if (verb == "write") heap.write(mutator, first, second, with[2]);
-    else if (verb == "move") heap.move(mutator, first, second);
-    else if (verb == "drop") heap.drop(mutator, first);
-    else if (verb == "load") heap.load(mutator, first, second);
-    else if (verb == "save") heap.save(mutator, first, second);
-    else if (verb == "scope") heap.scope(mutator, first);
-    // What is left only reads: read, shape, weaks.
-}
-
 }  // namespace
 
 int main(int count, char** arguments) {
@@ -241,20 +185,20 @@ int main(int count, char** arguments) {
     std::set<unsigned long> asked;
     for (int place = 2; place < count; ++place) asked.insert(std::stoul(arguments[place]));
     std::ifstream file(arguments[1]);
-    std::string line;
-    std::getline(file, line);
-    Told heap(read_sizes(line));
+    std::stringstream text;
+    text << file.rdbuf();
+    Script script;
+    if (read_script(text.str(), script).line != 0) return 1;
+    Told heap(script.sizes);
     Word copied = 0;
     auto tell = [&](unsigned long event) {
         if (asked.empty() || asked.count(event) != 0) heap.tell(event, copied);
     };
     tell(0);
-    for (unsigned long event = 1; std::getline(file, line); ++event) {
-        std::istringstream text(line);
-        std::vector<std::string> words;
-        for (std::string word; text >> word;) words.push_back(word);
-        if (words[0] == "gc") copied += collect(heap, words);
-        else mutate(heap, words);
-        tell(event);
+    unsigned long event = 0;
+    for (const Step& step : script.steps) {
+        Reply reply = do_step(heap, step);
+        if (reply.form == Form::Moved) copied += reply.second;
+        tell(++event);
     }
 }

@@ -18,7 +18,7 @@ use Rattle.heap_steps.specs.declared.step.Step.TheVariants as steps
 use Rattle.graph_runs.specs.Run.{IsRun}
 use Rattle.graph_runs.specs.State.{State, first_state}
 use Rattle.step_core.specs.Answers.{Follows}
-use Rattle.step_core.specs.Cycle.{Does}
+use Rattle.step_core.specs.Cycle.{Does, IsRefused}
 use Rattle.step_core.specs.Fresh.{fresh_core}
 use Rattle.step_core.specs.Passages.{actor_in, actor_of}
 use Rattle.step_core.specs.Stands.{CoreState, Stands}
@@ -83,16 +83,17 @@ held_is : (c d : CoreState) → Some c ≡ Some d → c ≡ d
 held_is c d e = let f = e in cc
 
 -- ---- a step that is refused
+kept : {A B : Type 0} (why : Refusal) (reply : Reply) (c d : CoreState) → (A → ⊥) → A ⊎ (B × IsRefused why reply c d) → d ≡ c
+kept why reply c d never (inl h) = absurd (never h)
+kept why reply c d never (inr h) = h.1.same
+
 stays : (step : Step) (why : Refusal) (c d : CoreState) → Does step (replies.Refused why) c d → d ≡ c
 stays (steps.Mutator o) why c d h = h
-stays (steps.Collector collector.Begin) why c d (inl h) = absurd (let e = h.1 in cc)
-stays (steps.Collector (collector.Mark k)) why c d (inl h) = absurd (let e = h.1 in cc)
-stays (steps.Collector collector.Remark) why c d (inl h) = absurd (let e = h.2 in cc)
-stays (steps.Collector collector.Cleanup) why c d (inl h) = absurd (let e = h.2 in cc)
-stays (steps.Collector (collector.Refine k)) why c d h = absurd (let e = h.1 in cc)
-stays (steps.Collector (collector.Pause k)) why c d h = absurd (let e = h.2 in cc)
-stays (steps.Collector (collector.Compact k)) why c d h = absurd (let e = h.2 in cc)
-stays _ why c d (inr h) = h.1.same
+stays (steps.Collector collector.Begin) why c d h = kept _ _ c d (λ x. cc) h
+stays (steps.Collector (collector.Mark k)) why c d h = kept _ _ c d (λ x. cc) h
+stays (steps.Collector collector.Remark) why c d h = kept _ _ c d (λ x. cc) h
+stays (steps.Collector collector.Cleanup) why c d h = kept _ _ c d (λ x. cc) h
+stays _ why c d h = absurd cc
 
 keeps : (step : Step) (reply : Reply) (c d : CoreState) → Does step reply c d → KeepsIfRefused reply c d
 keeps step reply c d h why e = stays step why c d (subst (λ (r : Reply). Does step r c d) e h)

@@ -1,6 +1,6 @@
 -- Steps that are noted for who records them.
-use Rattle.std.specs.Prelude.{◌≡◌, ◌+◌, ◌-◌, ◌^◌, ℕ, min, slice_set}
-use Rattle.heap_steps.specs.declared.step.CollectorStep.TheVariants as collector
+use Rattle.std.specs.Prelude.{◌≡◌, ◌+◌, ◌-◌, ◌^◌, ℕ, get_or, length, min, slice_set}
+use Rattle.heap_steps.specs.Forms.{collection_numbers, collection_place, collection_verb, collection_verbs}
 use Rattle.heap_steps.specs.declared.step.Event.{Event}
 use Rattle.heap_steps.specs.declared.step.Step.{Step}
 use Rattle.heap_steps.specs.declared.step.Step.TheVariants as steps
@@ -8,24 +8,15 @@ use Rattle.heap_calls.specs.Numbers.{numbers}
 use Rattle.g1heap_c.specs.declared.noted.Entry.{Entry}
 use Rattle.g1heap_c.specs.declared.noted.Notes.{Notes}
 
--- which step it is: 7 for each of a mutator
+-- which step it is: one of the collector's by its verb's place in the table, and one past these each of a mutator
 abbrev pub step_code : Step → ℕ
-step_code (steps.Collector collector.Begin) = 0
-step_code (steps.Collector (collector.Mark objects)) = 1
-step_code (steps.Collector collector.Remark) = 2
-step_code (steps.Collector collector.Cleanup) = 3
-step_code (steps.Collector (collector.Refine cards)) = 4
-step_code (steps.Collector (collector.Pause words)) = 5
-step_code (steps.Collector (collector.Compact words)) = 6
-step_code (steps.Mutator op) = 7
+step_code (steps.Collector k) = collection_place (collection_verb k)
+step_code (steps.Mutator op) = length collection_verbs
 
 -- its number, 0 if it has none
 abbrev pub step_number : Step → ℕ
-step_number (steps.Collector (collector.Mark objects)) = objects
-step_number (steps.Collector (collector.Refine cards)) = cards
-step_number (steps.Collector (collector.Pause words)) = words
-step_number (steps.Collector (collector.Compact words)) = words
-step_number _ = 0
+step_number (steps.Collector k) = get_or (collection_numbers k) 0 0
+step_number (steps.Mutator op) = 0
 
 -- a step with its answer
 abbrev pub entry_of : Event → Entry

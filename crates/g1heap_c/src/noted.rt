@@ -5,10 +5,10 @@ ghost use Rattle.g1heap_c.specs.Noted.{entry_of, step_code, step_number};
 
 use collection::Watch;
 use heap_calls::answer::{Answer, answer_of};
-use heap_steps::{CollectorStep, Event, Step};
+use heap_steps::{CollectionVerb, Event, Step, Verb};
 
-/// A step that was taken, with its answer: 0 begin, 1 mark, 2 remark, 3 cleanup, 4 refine, 5 pause, 6 compact, each with its number, and
-/// 7 the mutator's own.
+/// A step that was taken, with its answer: one of the collector's by its verb's place in the table, 0 begin to 6 compact, with its number;
+/// and one past these the mutator's own.
 #[repr(C)]
 #[derive(Clone, Copy, Debug, PartialEq, Eq, Drop)]
 pub struct Entry {
@@ -30,14 +30,8 @@ fn numbers_of(step: Step) -> (u32, u32)
     ensures number { result.1 ≡ step_number step }
 {
     match step {
-        Step::Collector(CollectorStep::Begin) => (0, 0),
-        Step::Collector(CollectorStep::Mark(objects)) => (1, objects),
-        Step::Collector(CollectorStep::Remark) => (2, 0),
-        Step::Collector(CollectorStep::Cleanup) => (3, 0),
-        Step::Collector(CollectorStep::Refine(cards)) => (4, cards),
-        Step::Collector(CollectorStep::Pause(words)) => (5, words),
-        Step::Collector(CollectorStep::Compact(words)) => (6, words),
-        Step::Mutator(_) => (7, 0),
+        Step::Collector(collection) => (collection.verb().place(), collection.number()),
+        Step::Mutator(_) => (CollectionVerb::all().len() as u32, 0),
     }
 }
 

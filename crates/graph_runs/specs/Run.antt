@@ -4,6 +4,7 @@ use Rattle.heap_model.specs.Graph.{Graph, next_name}
 use Rattle.heap_model.specs.Weak.{touched, Clears}
 use Rattle.graph_runs.specs.State.{State}
 use Rattle.graph_runs.specs.Machine.{outcome_of, reply_of}
+use Rattle.heap_steps.specs.Forms.{collection_replies, collection_verb, IsAmong}
 use Rattle.heap_steps.specs.declared.step.Action.{Action}
 use Rattle.heap_steps.specs.declared.step.Action.TheVariants as actions
 use Rattle.heap_steps.specs.declared.step.Op.{Op}
@@ -18,18 +19,7 @@ use Rattle.heap_steps.specs.declared.step.Refusal.TheVariants as refusals
 
 -- the replies that a step of the collector may have
 abbrev pub IsCollectorReply : CollectorStep → Reply → Type 0
-IsCollectorReply collector.Begin replies.Done = Unit {0}
-IsCollectorReply collector.Begin (replies.Refused refusals.MarkRunning) = Unit {0}
-IsCollectorReply (collector.Mark k) replies.Done = Unit {0}
-IsCollectorReply (collector.Mark k) (replies.Refused refusals.NotMarking) = Unit {0}
-IsCollectorReply collector.Remark (replies.Marked n) = Unit {0}
-IsCollectorReply collector.Remark (replies.Refused refusals.NotMarking) = Unit {0}
-IsCollectorReply collector.Cleanup (replies.Reclaimed n) = Unit {0}
-IsCollectorReply collector.Cleanup (replies.Refused refusals.MarkRunning) = Unit {0}
-IsCollectorReply (collector.Refine k) (replies.Refined n) = Unit {0}
-IsCollectorReply (collector.Pause k) (replies.Moved n w) = Unit {0}
-IsCollectorReply (collector.Compact k) (replies.Moved n w) = Unit {0}
-IsCollectorReply _ _ = ⊥
+IsCollectorReply k reply = IsAmong (collection_replies (collection_verb k)) reply
 
 -- the action asks for an object
 abbrev pub IsNew : Action → Type 0

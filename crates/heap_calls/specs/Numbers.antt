@@ -1,9 +1,10 @@
 -- Steps and replies in numbers, as C gives and takes them.
-use Rattle.std.specs.Prelude.{ℕ, Option, Some, None, if◌then◌else◌, ◌==◌}
+use Rattle.std.specs.Prelude.{ℕ, ◌+◌, Option, Some, None, if◌then◌else◌, ◌==◌}
 use Rattle.heap_words.specs.declared.config.Config.{Config}
 use Rattle.heap_words.specs.declared.config.Format.TheVariants.{V3}
 use Rattle.heap_words.specs.declared.config.NewFault.{NewFault}
 use Rattle.heap_words.specs.declared.config.NewFault.TheVariants as faults
+use Rattle.heap_steps.specs.Forms.{refusal_number}
 use Rattle.heap_steps.specs.declared.step.Register.{Register}
 use Rattle.heap_steps.specs.declared.step.GlobalRoot.{GlobalRoot}
 use Rattle.heap_steps.specs.declared.step.Counts.{Counts}
@@ -13,7 +14,6 @@ use Rattle.heap_steps.specs.declared.step.Step.TheVariants as steps
 use Rattle.heap_steps.specs.declared.step.Reply.{Reply}
 use Rattle.heap_steps.specs.declared.step.Reply.TheVariants as replies
 use Rattle.heap_steps.specs.declared.step.Refusal.{Refusal}
-use Rattle.heap_steps.specs.declared.step.Refusal.TheVariants as refusals
 use Rattle.heap_calls.specs.declared.answer.Answer.{Answer}
 use Rattle.heap_calls.specs.declared.making.Sizes.{Sizes}
 
@@ -29,13 +29,7 @@ abbrev pub no_heap : Answer
 no_heap = told 33 0 0
 
 abbrev pub refused : Refusal → Answer
-refused refusals.Nil = told 16 0 0
-refused refusals.NoField = told 17 0 0
-refused refusals.Full = told 18 0 0
-refused refusals.TooBig = told 19 0 0
-refused refusals.NamesSpent = told 20 0 0
-refused refusals.MarkRunning = told 21 0 0
-refused refusals.NotMarking = told 22 0 0
+refused why = told (15 + refusal_number why) 0 0
 
 -- a reply in numbers
 abbrev pub numbers : Reply → Answer
@@ -53,14 +47,7 @@ numbers (replies.Refused refusal) = refused refusal
 -- the same, but that what is done is told by a count
 abbrev pub counted : ℕ → Reply → Answer
 counted count replies.Done = told 9 count 0
-counted count (replies.Named name) = numbers (replies.Named name)
-counted count (replies.Word value) = numbers (replies.Word value)
-counted count (replies.Shape pointers values) = numbers (replies.Shape pointers values)
-counted count (replies.Marked n) = numbers (replies.Marked n)
-counted count (replies.Reclaimed n) = numbers (replies.Reclaimed n)
-counted count (replies.Refined n) = numbers (replies.Refined n)
-counted count (replies.Moved regions words) = numbers (replies.Moved regions words)
-counted count (replies.Refused refusal) = numbers (replies.Refused refusal)
+counted count reply = numbers reply
 
 -- why no heap was made
 abbrev pub fault_code : NewFault → ℕ

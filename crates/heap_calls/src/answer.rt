@@ -63,15 +63,7 @@ pub fn number(count: u64) -> Answer
 fn refused(refusal: Refusal) -> Answer
     ensures { result ≡ spec.refused refusal }
 {
-    match refusal {
-        Refusal::Nil => bare(16),
-        Refusal::NoField => bare(17),
-        Refusal::Full => bare(18),
-        Refusal::TooBig => bare(19),
-        Refusal::NamesSpent => bare(20),
-        Refusal::MarkRunning => bare(21),
-        Refusal::NotMarking => bare(22),
-    }
+    bare(15 + refusal.number())
 }
 
 /// The reply in numbers.
@@ -98,14 +90,7 @@ pub fn counted(count: u32, reply: Reply) -> Answer
 {
     match reply {
         Reply::Done => told(9, u64::from(count), 0),
-        Reply::Named(_)
-        | Reply::Word(_)
-        | Reply::Shape { .. }
-        | Reply::Marked(_)
-        | Reply::Reclaimed(_)
-        | Reply::Refined(_)
-        | Reply::Moved { .. }
-        | Reply::Refused(_) => answer_of(reply),
+        _ => answer_of(reply),
     }
 }
 

@@ -1,5 +1,10 @@
--- Steps by their forms: a verb, and numbers for the words after it.
-use Rattle.std.specs.Prelude.{ℕ, zero, suc, ◌^◌, ◌%◌, List, [], ◌∷◌, Option, Some, None, Bool, true, false, codes, get_or}
+-- Steps by their forms: a verb, and numbers for the words after it; and which replies a verb of the collector has.
+use Rattle.std.specs.Prelude.{◌≡◌, ℕ, zero, suc, ◌^◌, ◌%◌, List, [], ◌∷◌, Option, Some, None, Bool, true, false, codes, get_or}
+use Rattle.std.specs.List.{position_or_len}
+use Rattle.std.specs.Str.{bytes_eq}
+use Rattle.heap_steps.specs.declared.form.DoneReply.{DoneReply}
+use Rattle.heap_steps.specs.declared.form.DoneReply.TheVariants as dones
+use Rattle.heap_steps.specs.declared.form.Replies.{Replies}
 use Rattle.heap_steps.specs.declared.form.Operand.{Operand}
 use Rattle.heap_steps.specs.declared.form.Operand.TheVariants.{Register, Global, Value, Small, Byte, Large}
 use Rattle.heap_steps.specs.declared.form.ActionVerb.{ActionVerb}
@@ -11,6 +16,10 @@ use Rattle.heap_steps.specs.declared.step.Action.{Action}
 use Rattle.heap_steps.specs.declared.step.Action.TheVariants as actions
 use Rattle.heap_steps.specs.declared.step.CollectorStep.{CollectorStep}
 use Rattle.heap_steps.specs.declared.step.CollectorStep.TheVariants as collector
+use Rattle.heap_steps.specs.declared.step.Refusal.{Refusal}
+use Rattle.heap_steps.specs.declared.step.Refusal.TheVariants as refusals
+use Rattle.heap_steps.specs.declared.step.Reply.{Reply}
+use Rattle.heap_steps.specs.declared.step.Reply.TheVariants as replies
 
 -- a verb's row of the table: its word, what is after it, and whether the third format alone has it
 pub record Row : Type 0 where
@@ -53,6 +62,43 @@ collection_row collections.Refine = every (codes "refine") (Small ∷ [])
 collection_row collections.Pause = every (codes "pause") (Small ∷ [])
 collection_row collections.Compact = third (codes "compact") (Small ∷ [])
 
+-- the replies of each: what it replies where it is done, and what it may be refused for
+abbrev replies_by : DoneReply → Option Refusal → Replies
+replies_by done refused = record { done = done; refused = refused }
+
+abbrev pub collection_replies : CollectionVerb → Replies
+collection_replies collections.Begin = replies_by dones.Ok (Some refusals.MarkRunning)
+collection_replies collections.Mark = replies_by dones.Ok (Some refusals.NotMarking)
+collection_replies collections.Remark = replies_by dones.Marked (Some refusals.NotMarking)
+collection_replies collections.Cleanup = replies_by dones.Reclaimed (Some refusals.MarkRunning)
+collection_replies collections.Refine = replies_by dones.Refined None
+collection_replies collections.Pause = replies_by dones.Moved None
+collection_replies collections.Compact = replies_by dones.Moved None
+
+-- the number of a refusal
+abbrev pub refusal_number : Refusal → ℕ
+refusal_number refusals.Nil = 1
+refusal_number refusals.NoField = 2
+refusal_number refusals.Full = 3
+refusal_number refusals.TooBig = 4
+refusal_number refusals.NamesSpent = 5
+refusal_number refusals.MarkRunning = 6
+refusal_number refusals.NotMarking = 7
+
+-- the reply tells so what was done
+abbrev pub IsDone : DoneReply → Reply → Type 0
+IsDone dones.Ok replies.Done = Unit {0}
+IsDone dones.Marked (replies.Marked n) = Unit {0}
+IsDone dones.Reclaimed (replies.Reclaimed n) = Unit {0}
+IsDone dones.Refined (replies.Refined n) = Unit {0}
+IsDone dones.Moved (replies.Moved n w) = Unit {0}
+IsDone _ _ = ⊥
+
+-- the reply is one of these
+abbrev pub IsAmong : Replies → Reply → Type 0
+IsAmong rs (replies.Refused why) = rs.refused ≡ Some why
+IsAmong rs reply = IsDone rs.done reply
+
 -- all verbs, in the order in which hints list them
 abbrev pub action_verbs : List ActionVerb
 action_verbs = verbs.New ∷ verbs.NewWeak ∷ verbs.Get ∷ verbs.GetWeak ∷ verbs.Put ∷ verbs.PutWeak ∷ verbs.Read ∷ verbs.Write ∷ verbs.Move
@@ -61,6 +107,10 @@ action_verbs = verbs.New ∷ verbs.NewWeak ∷ verbs.Get ∷ verbs.GetWeak ∷ v
 abbrev pub collection_verbs : List CollectionVerb
 collection_verbs = collections.Begin ∷ collections.Mark ∷ collections.Remark ∷ collections.Cleanup ∷ collections.Refine
     ∷ collections.Pause ∷ collections.Compact ∷ []
+
+-- the place of a verb among those of the collector, which its word tells
+abbrev pub collection_place : CollectionVerb → ℕ
+collection_place v = position_or_len (λ u. bytes_eq (collection_row u).word (collection_row v).word) collection_verbs
 
 -- the number of a value, and the value of a number: 0 is nil, and registers count from 1
 abbrev pub value_number : Option registers.Register → ℕ

@@ -4,7 +4,7 @@ ghost use Rattle.std.specs.Prelude.{◌≡◌, ◌↔◌, ◌<◌, ◌&&◌, ℕ
 ghost use Rattle.heap_steps.specs.Roots.{has_register, has_global, has_value, names_roots, IsOpAt};
 ghost use Rattle.heap_steps.specs.Actors.{has_action, has_row, has_root, is_third, allows, HasCollection, IsOp, IsStep, IsEvent};
 
-use crate::form::{Operand, Row};
+use crate::form::{Operand, Row, Verb};
 use crate::step::{Action, Actor, CollectorStep, Event, GlobalRoot, Op, Register, Step};
 use heap_words::config::{Config, Format};
 use root_table::RootCounts;
@@ -101,10 +101,7 @@ impl CollectorStep {
     pub fn is_in(self, format: Format) -> bool
         ensures { IsTrue result ↔ HasCollection format self }
     {
-        match self {
-            CollectorStep::Compact(_) => is_third(format),
-            _ => true,
-        }
+        has_row(format, self.verb().row())
     }
 }
 

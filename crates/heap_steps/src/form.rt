@@ -1,10 +1,13 @@
-//! How steps are spelled: a verb each, and what may be after it. The table of verbs is here and in `specs/Forms.antt`.
+//! How steps are spelled: a verb each, and what may be after it; and which replies the collector's have. The table of verbs is here and in
+//! `specs/Forms.antt`.
 
-ghost use Rattle.std.specs.Prelude.{◌≡◌, ◌≤◌, ◌%◌, ◌^◌, true, false, length, get_or};
+ghost use Rattle.std.specs.Prelude.{◌≡◌, ◌↔◌, ◌≤◌, ◌%◌, ◌^◌, IsTrue, List, true, false, length, get_or};
+ghost use Rattle.heap_steps.specs.Forms as forms;
 ghost use Rattle.heap_steps.specs.Forms.{action_verbs, action_row, action_by, collection_verbs, collection_row, collection_by};
-ghost use Rattle.heap_steps.specs.Forms.{low, numbered_value, numbers_in};
+ghost use Rattle.heap_steps.specs.Forms.{collection_verb, collection_numbers, collection_place, collection_replies, refusal_number};
+ghost use Rattle.heap_steps.specs.Forms.{IsDone, IsAmong, low, numbered_value, numbers_in};
 
-use crate::step::{Action, CollectorStep, Counts, GlobalRoot, Register};
+use crate::step::{Action, CollectorStep, Counts, GlobalRoot, Refusal, Register, Reply};
 
 /// What a word after a verb is.
 #[derive(Clone, Copy)]
@@ -55,6 +58,30 @@ pub enum CollectionVerb {
     Compact,
 }
 
+/// What a step of the collector replies where it is done.
+#[derive(Clone, Copy, Debug, PartialEq, Eq)]
+pub enum DoneReply {
+    /// Nothing but that.
+    Ok,
+    /// How many objects it marked.
+    Marked,
+    /// How many regions it reclaimed.
+    Reclaimed,
+    /// How many cards it refined.
+    Refined,
+    /// How many regions it reclaimed, and how many words it copied.
+    Moved,
+}
+
+/// The replies that a step of the collector may have.
+#[derive(Clone, Copy)]
+pub struct Replies {
+    /// What it replies where it is done.
+    pub done: DoneReply,
+    /// What it may be refused for.
+    pub refused: Option<Refusal>,
+}
+
 /// A verb's row of the table.
 #[derive(Clone, Copy)]
 pub struct Row {
@@ -64,6 +91,35 @@ pub struct Row {
     pub operands: &'static [Operand],
     /// Whether the third format alone has it.
     pub third: bool,
+}
+
+/// A verb of the table: a mutator's or the collector's.
+pub trait Verb: Copy + 'static {
+    /// All of its kind, in the order in which hints list them.
+    ghost verbs: { List Self };
+
+    /// The row of each.
+    ghost row_of: { Self → forms.Row };
+
+    /// All of its kind, in the order in which hints list them.
+    ///
+    /// ```rust
+    /// assert_eq!(rt; CollectionVerb::all().len(), 7);
+    /// ```
+    fn all() -> &'static [Self]
+        ensures { result.now ≡ verbs };
+
+    /// Its row of the table.
+    ///
+    /// ```rust
+    /// assert_eq!(rt; CollectionVerb::Pause.row().word, b"pause".as_slice());
+    /// ```
+    fn row(self) -> Row
+        ensures word { result.word.now ≡ (row_of self).word }
+        ensures operands { result.operands.now ≡ (row_of self).operands }
+        ensures third { result.third ≡ (row_of self).third }
+        ensures few { length result.operands.now ≤ 4 }
+        ensures short { length result.word.now ≤ 21 };
 }
 
 /// A row of every format.
@@ -91,6 +147,60 @@ fn third(word: &'static [u8], operands: &'static [Operand]) -> Row
         word,
         operands,
         third: true,
+    }
+}
+
+/// The replies of this form.
+fn replies_by(done: DoneReply, refused: Option<Refusal>) -> Replies
+    ensures { result ≡ record { done = done; refused = refused } }
+{
+    Replies { done, refused }
+}
+
+impl Refusal {
+    /// Its number, which replies tell.
+    ///
+    /// ```rust
+    /// assert_eq!(rt; Refusal::Full.number(), 3);
+    /// ```
+    pub fn number(self) -> u32
+        ensures number { result ≡ refusal_number self }
+        ensures few { result ≤ 7 }
+    {
+        self as u32 + 1
+    }
+}
+
+impl DoneReply {
+    /// Whether a reply tells so what was done.
+    fn is(self, reply: Reply) -> bool
+        ensures { IsTrue result ↔ IsDone self reply }
+    {
+        match reply {
+            Reply::Done => self == DoneReply::Ok,
+            Reply::Marked(_) => self == DoneReply::Marked,
+            Reply::Reclaimed(_) => self == DoneReply::Reclaimed,
+            Reply::Refined(_) => self == DoneReply::Refined,
+            Reply::Moved { .. } => self == DoneReply::Moved,
+            _ => false,
+        }
+    }
+}
+
+impl Replies {
+    /// Whether a reply is one of these.
+    ///
+    /// ```rust
+    /// assert!(rt; CollectionVerb::Begin.replies().has(Reply::Refused(Refusal::MarkRunning)));
+    /// assert!(rt; !CollectionVerb::Pause.replies().has(Reply::Done));
+    /// ```
+    pub fn has(self, reply: Reply) -> bool
+        ensures { IsTrue result ↔ IsAmong self reply }
+    {
+        let Reply::Refused(why) = reply else {
+            return self.done.is(reply);
+        };
+        self.refused == Some(why)
     }
 }
 
@@ -134,15 +244,12 @@ fn value(number: u64) -> Option<Register>
     })
 }
 
-impl ActionVerb {
-    /// All verbs, in the order in which hints list them.
-    ///
-    /// ```rust
-    /// assert_eq!(rt; ActionVerb::all().len(), 15);
-    /// ```
-    pub fn all() -> &'static [ActionVerb]
-        ensures { result.now ≡ action_verbs }
-    {
+impl Verb for ActionVerb {
+    ghost verbs = { action_verbs };
+
+    ghost row_of = { action_row };
+
+    fn all() -> &'static [ActionVerb] {
         &[
             ActionVerb::New,
             ActionVerb::NewWeak,
@@ -162,17 +269,7 @@ impl ActionVerb {
         ]
     }
 
-    /// The verb's row of the table.
-    ///
-    /// ```rust
-    /// assert_eq!(rt; ActionVerb::Drop.row().word, b"drop".as_slice());
-    /// ```
-    pub fn row(self) -> Row
-        ensures word { result.word.now ≡ (action_row self).word }
-        ensures operands { result.operands.now ≡ (action_row self).operands }
-        ensures third { result.third ≡ (action_row self).third }
-        ensures few { length result.operands.now ≤ 4 }
-    {
+    fn row(self) -> Row {
         match self {
             ActionVerb::New => every(b"new", &[Operand::Register, Operand::Small, Operand::Small]),
             ActionVerb::NewWeak => every(
@@ -211,7 +308,9 @@ impl ActionVerb {
             ActionVerb::Weaks => every(b"weaks", &[Operand::Register]),
         }
     }
+}
 
+impl ActionVerb {
     /// The action of the verb and these numbers, of which more than it has don't count.
     ///
     /// ```rust
@@ -287,15 +386,12 @@ impl ActionVerb {
     }
 }
 
-impl CollectionVerb {
-    /// All verbs, in the order in which hints list them.
-    ///
-    /// ```rust
-    /// assert_eq!(rt; CollectionVerb::all().len(), 7);
-    /// ```
-    pub fn all() -> &'static [CollectionVerb]
-        ensures { result.now ≡ collection_verbs }
-    {
+impl Verb for CollectionVerb {
+    ghost verbs = { collection_verbs };
+
+    ghost row_of = { collection_row };
+
+    fn all() -> &'static [CollectionVerb] {
         &[
             CollectionVerb::Begin,
             CollectionVerb::Mark,
@@ -307,17 +403,7 @@ impl CollectionVerb {
         ]
     }
 
-    /// The verb's row of the table.
-    ///
-    /// ```rust
-    /// assert_eq!(rt; CollectionVerb::Pause.row().word, b"pause".as_slice());
-    /// ```
-    pub fn row(self) -> Row
-        ensures word { result.word.now ≡ (collection_row self).word }
-        ensures operands { result.operands.now ≡ (collection_row self).operands }
-        ensures third { result.third ≡ (collection_row self).third }
-        ensures few { length result.operands.now ≤ 4 }
-    {
+    fn row(self) -> Row {
         match self {
             CollectionVerb::Begin => every(b"begin", &[]),
             CollectionVerb::Mark => every(b"mark", &[Operand::Small]),
@@ -326,6 +412,38 @@ impl CollectionVerb {
             CollectionVerb::Refine => every(b"refine", &[Operand::Small]),
             CollectionVerb::Pause => every(b"pause", &[Operand::Small]),
             CollectionVerb::Compact => third(b"compact", &[Operand::Small]),
+        }
+    }
+}
+
+impl CollectionVerb {
+    /// Its place among those of the collector, from 0.
+    ///
+    /// ```rust
+    /// assert_eq!(rt; CollectionVerb::Mark.place(), 1);
+    /// ```
+    pub fn place(self) -> u32
+        ensures { result ≡ collection_place self }
+    {
+        self as u32
+    }
+
+    /// The replies that its steps may have.
+    ///
+    /// ```rust
+    /// assert_eq!(rt; CollectionVerb::Pause.replies().done, DoneReply::Moved);
+    /// ```
+    pub fn replies(self) -> Replies
+        ensures { result ≡ collection_replies self }
+    {
+        match self {
+            CollectionVerb::Begin => replies_by(DoneReply::Ok, Some(Refusal::MarkRunning)),
+            CollectionVerb::Mark => replies_by(DoneReply::Ok, Some(Refusal::NotMarking)),
+            CollectionVerb::Remark => replies_by(DoneReply::Marked, Some(Refusal::NotMarking)),
+            CollectionVerb::Cleanup => replies_by(DoneReply::Reclaimed, Some(Refusal::MarkRunning)),
+            CollectionVerb::Refine => replies_by(DoneReply::Refined, None),
+            CollectionVerb::Pause => replies_by(DoneReply::Moved, None),
+            CollectionVerb::Compact => replies_by(DoneReply::Moved, None),
         }
     }
 
@@ -345,6 +463,46 @@ impl CollectionVerb {
             CollectionVerb::Refine => CollectorStep::Refine(small(numbers, 0)),
             CollectionVerb::Pause => CollectorStep::Pause(small(numbers, 0)),
             CollectionVerb::Compact => CollectorStep::Compact(small(numbers, 0)),
+        }
+    }
+}
+
+impl CollectorStep {
+    /// Its verb.
+    ///
+    /// ```rust
+    /// assert_eq!(rt; CollectorStep::Pause(8).verb().row().word, b"pause".as_slice());
+    /// ```
+    #[inline(always)]
+    pub fn verb(self) -> CollectionVerb
+        ensures { result ≡ collection_verb self }
+    {
+        match self {
+            CollectorStep::Begin => CollectionVerb::Begin,
+            CollectorStep::Mark(_) => CollectionVerb::Mark,
+            CollectorStep::Remark => CollectionVerb::Remark,
+            CollectorStep::Cleanup => CollectionVerb::Cleanup,
+            CollectorStep::Refine(_) => CollectionVerb::Refine,
+            CollectorStep::Pause(_) => CollectionVerb::Pause,
+            CollectorStep::Compact(_) => CollectionVerb::Compact,
+        }
+    }
+
+    /// Its number, 0 where it has none.
+    ///
+    /// ```rust
+    /// assert_eq!(rt; CollectorStep::Pause(8).number(), 8);
+    /// ```
+    #[inline(always)]
+    pub fn number(self) -> u32
+        ensures { result ≡ get_or (collection_numbers self) 0 0 }
+    {
+        match self {
+            CollectorStep::Mark(number)
+            | CollectorStep::Refine(number)
+            | CollectorStep::Pause(number)
+            | CollectorStep::Compact(number) => number,
+            _ => 0,
         }
     }
 }

@@ -33,7 +33,7 @@ mod step;
 
 pub use allowed::{has_row, is_third};
 pub use fault::{RunFault, run_fault};
-pub use form::{ActionVerb, CollectionVerb, Operand, Row};
+pub use form::{ActionVerb, CollectionVerb, DoneReply, Operand, Replies, Row, Verb};
 pub use record::{Plan, Record};
 pub use step::{
     Action, Actor, CollectorStep, Counts, Event, GlobalRoot, Op, Refusal, Register, Reply, Step,

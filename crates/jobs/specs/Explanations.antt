@@ -1,5 +1,5 @@
 -- A record that is read and judged, and the verdict that is written with its reason.
-use Rattle.std.specs.Prelude.{◌≡◌, ◌≢◌, ◌⊎◌, ℕ, ◌+◌, List, [], ◌∷◌, ◌++◌, Result, Ok, Err, codes}
+use Rattle.std.specs.Prelude.{◌≡◌, ◌≢◌, ◌⊎◌, ℕ, ◌+◌, List, [], ◌∷◌, ◌++◌, Option, Some, None, Result, Ok, Err, codes}
 use Rattle.std.specs.Fmt.{decimal}
 use Rattle.heap_words.specs.Configs.{Suits}
 use Rattle.heap_steps.specs.Actors.{EventList}
@@ -11,9 +11,13 @@ use Rattle.object_graph.specs.declared.judge.Finding.{Finding}
 use Rattle.object_graph.specs.declared.judge.Finding.TheVariants.{Allowed, Refused}
 use Rattle.object_graph.specs.declared.judge.Verdict.{Verdict}
 use Rattle.object_graph.specs.declared.judge.Verdict.TheVariants.{Yes, No}
+use Rattle.heap_steps.specs.Forms.{collection_replies, collection_verb}
+use Rattle.heap_steps.specs.declared.form.DoneReply.{DoneReply}
+use Rattle.heap_steps.specs.declared.form.DoneReply.TheVariants as dones
 use Rattle.heap_steps.specs.declared.step.CollectorStep.{CollectorStep}
-use Rattle.heap_steps.specs.declared.step.CollectorStep.TheVariants as collector
 use Rattle.heap_steps.specs.declared.step.Event.{Event}
+use Rattle.heap_steps.specs.declared.step.Refusal.{Refusal}
+use Rattle.heap_steps.specs.declared.step.Reply.TheVariants as replies
 use Rattle.script_text.specs.Events.{record_of}
 use Rattle.script_text.specs.Hints.{IsFaultReason}
 use Rattle.script_text.specs.Records.{reply_words, event_text}
@@ -28,15 +32,21 @@ use Rattle.jobs.specs.Verdicts.{verdict_line, IsUnjudged, TellsVerdict}
 use Rattle.job_ends.specs.declared.faults.JobFault.{JobFault}
 use Rattle.job_ends.specs.declared.faults.JobFault.TheVariants as faults
 
--- the replies that a step of the collector may have; a capital stands for any number
+-- what a step of the collector replies where it is done; a capital stands for any number
+abbrev pub done_text : DoneReply → List ℕ
+done_text dones.Ok = codes "ok"
+done_text dones.Marked = codes "marked N"
+done_text dones.Reclaimed = codes "reclaimed N"
+done_text dones.Refined = codes "refined N"
+done_text dones.Moved = codes "moved N W"
+
+abbrev pub refused_text : Option Refusal → List ℕ
+refused_text None = []
+refused_text (Some why) = codes " or " ++ spaced (reply_words (replies.Refused why))
+
+-- the replies that a step of the collector may have
 abbrev pub form_text : CollectorStep → List ℕ
-form_text collector.Begin = codes "ok or refused 6 MarkRunning"
-form_text (collector.Mark k) = codes "ok or refused 7 NotMarking"
-form_text collector.Remark = codes "marked N or refused 7 NotMarking"
-form_text collector.Cleanup = codes "reclaimed N or refused 6 MarkRunning"
-form_text (collector.Refine k) = codes "refined N"
-form_text (collector.Pause b) = codes "moved N W"
-form_text (collector.Compact b) = codes "moved N W"
+form_text k = done_text (collection_replies (collection_verb k)).done ++ refused_text (collection_replies (collection_verb k)).refused
 
 -- what the graph gives for a step
 abbrev pub given_text : Given → List ℕ

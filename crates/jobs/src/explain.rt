@@ -6,13 +6,13 @@ ghost use Rattle.script_text.specs.Watched.{TookBytes, TakesPart};
 ghost use Rattle.object_graph.specs.Reasons.{verdict_of};
 ghost use Rattle.object_graph.specs.declared.judge.Finding.{Finding};
 ghost use Rattle.jobs.specs.Verdicts.{IsJudged};
-ghost use Rattle.jobs.specs.Explanations.{form_text, given_text, reason_line, finding_text, judged_by, TellsHint, IsExplained};
+ghost use Rattle.jobs.specs.Explanations.{done_text, form_text, given_text, reason_line, finding_text, judged_by, TellsHint, IsExplained};
 ghost use Rattle.jobs.specs.Explanations.{Explains, PerformsExplain, TellsFinding};
 
 use crate::causes::conclude_unread;
 use crate::finding::find_in;
 use crate::judge::{conclude_verdict, put_verdict};
-use heap_steps::{CollectorStep, Event};
+use heap_steps::{CollectorStep, DoneReply, Event, Replies, Reply};
 use job_ends::JobFault;
 use object_graph::{Finding, Given, Verdict};
 use script_text::{
@@ -23,29 +23,42 @@ use std::alloc::Global;
 use std::io::{ErrorKind, Read, Write};
 
 /// The room that a verdict's line and its reason need.
-const ROOM: usize = 256;
+const ROOM: usize = 264;
+
+/// What a step of the collector replies where it is done.
+fn done_text(done: DoneReply) -> &'static [u8]
+    ensures text { result.now ≡ done_text done }
+    ensures short { length result.now ≤ 11 }
+{
+    match done {
+        DoneReply::Ok => b"ok",
+        DoneReply::Marked => b"marked N",
+        DoneReply::Reclaimed => b"reclaimed N",
+        DoneReply::Refined => b"refined N",
+        DoneReply::Moved => b"moved N W",
+    }
+}
 
 /// The replies that a step of the collector may have.
-fn form_text(step: CollectorStep) -> &'static [u8]
-    ensures text { result.now ≡ form_text step }
-    ensures short { length result.now ≤ 40 }
+fn put_form(buffer: &mut [u8], at: usize, step: CollectorStep) -> usize
+    requires { at + 47 ≤ length buffer.old }
+    ensures put { take result buffer.new ≡ take at buffer.old ++ form_text step }
+    ensures end { result ≤ at + 47 }
 {
-    match step {
-        CollectorStep::Begin => b"ok or refused 6 MarkRunning",
-        CollectorStep::Mark(_) => b"ok or refused 7 NotMarking",
-        CollectorStep::Remark => b"marked N or refused 7 NotMarking",
-        CollectorStep::Cleanup => b"reclaimed N or refused 6 MarkRunning",
-        CollectorStep::Refine(_) => b"refined N",
-        CollectorStep::Pause(_) => b"moved N W",
-        CollectorStep::Compact(_) => b"moved N W",
-    }
+    let Replies { done, refused } = step.verb().replies();
+    let at = put_text(buffer, at, done_text(done));
+    let Some(why) = refused else {
+        return at;
+    };
+    let at = put_text(buffer, at, b" or ");
+    put_reply(buffer, at, Reply::Refused(why))
 }
 
 /// What the graph gives for a step.
 fn put_given(buffer: &mut [u8], at: usize, given: Given) -> usize
-    requires { at + 40 ≤ length buffer.old }
+    requires { at + 47 ≤ length buffer.old }
     ensures put { take result buffer.new ≡ take at buffer.old ++ given_text given }
-    ensures end { result ≤ at + 40 }
+    ensures end { result ≤ at + 47 }
 {
     match given {
         Given::Reply(reply) => put_reply(buffer, at, reply),
@@ -54,7 +67,7 @@ fn put_given(buffer: &mut [u8], at: usize, given: Given) -> usize
             let at = put_number(buffer, at, name);
             put_text(buffer, at, b" or refused 3 Full")
         }
-        Given::Form(step) => put_text(buffer, at, form_text(step)),
+        Given::Form(step) => put_form(buffer, at, step),
     }
 }
 
@@ -73,9 +86,9 @@ fn put_next(buffer: &mut [u8], at: usize, number: u64) -> usize
 
 /// The line that tells why an event may not happen.
 fn put_reason(buffer: &mut [u8], at: usize, number: u64, event: &Event, given: Given) -> usize
-    requires { at + 220 ≤ length buffer.old }
+    requires { at + 227 ≤ length buffer.old }
     ensures put { take result buffer.new ≡ take at buffer.old ++ reason_line number event.now given }
-    ensures end { result ≤ at + 220 }
+    ensures end { result ≤ at + 227 }
 {
     let at = put_text(buffer, at, b"event ");
     let at = put_number(buffer, at, number);

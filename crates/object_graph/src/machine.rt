@@ -1,6 +1,6 @@
 //! The graph with its snapshot, which judges events.
 
-ghost use Rattle.std.specs.Prelude.{◌≡◌, ◌++◌, None, reverse, IsTrue, IfOk, OnOk, ◌↔◌};
+ghost use Rattle.std.specs.Prelude.{◌≡◌, ◌++◌, None, reverse, IfOk, OnOk};
 ghost use Rattle.heap_model.specs.Graph as model;
 ghost use Rattle.heap_model.specs.Weak.{touched, AreReached};
 ghost use Rattle.graph_runs.specs.State.{State, HoldsNames, IsSoundState, first_state};
@@ -184,7 +184,7 @@ impl Machine {
     {
         match event.step {
             Step::Collector(step) => {
-                if !is_collector_reply(step, event.reply) {
+                if !step.verb().replies().has(event.reply) {
                     return Ok(Some(Given::Form(step)));
                 }
                 self.collect(step, event.reply)?;
@@ -208,27 +208,5 @@ impl Machine {
             return Ok(None);
         }
         Ok(Some(given_by(op.action, given)))
-    }
-}
-
-/// Whether a step of the collector may have the reply.
-fn is_collector_reply(step: CollectorStep, reply: Reply) -> bool
-    ensures { IsTrue result ↔ IsCollectorReply step reply }
-{
-    match step {
-        CollectorStep::Begin => matches!(reply, Reply::Done | Reply::Refused(Refusal::MarkRunning)),
-        CollectorStep::Mark(_) => {
-            matches!(reply, Reply::Done | Reply::Refused(Refusal::NotMarking))
-        }
-        CollectorStep::Remark => matches!(
-            reply,
-            Reply::Marked(_) | Reply::Refused(Refusal::NotMarking)
-        ),
-        CollectorStep::Cleanup => matches!(
-            reply,
-            Reply::Reclaimed(_) | Reply::Refused(Refusal::MarkRunning)
-        ),
-        CollectorStep::Refine(_) => matches!(reply, Reply::Refined(_)),
-        CollectorStep::Pause(_) | CollectorStep::Compact(_) => matches!(reply, Reply::Moved { .. }),
     }
 }

@@ -5,3 +5,4 @@ pub mod RecordLaws
 pub mod LinesOut
 pub mod Counts
 pub mod Lines
+pub mod Collections

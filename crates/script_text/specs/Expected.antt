@@ -7,7 +7,7 @@ use Rattle.heap_words.specs.declared.config.Config.{Config}
 use Rattle.heap_words.specs.declared.config.Format.{Format}
 use Rattle.heap_words.specs.declared.config.Format.TheVariants.{V1}
 use Rattle.heap_steps.specs.Actors.{has_root}
-use Rattle.heap_steps.specs.Forms.{Grammar, actions_grammar, collections_grammar}
+use Rattle.heap_steps.specs.Forms.{Row, action_row, action_verbs, collection_row, collection_verbs}
 use Rattle.heap_steps.specs.declared.form.Operand.TheVariants as operands
 use Rattle.heap_steps.specs.declared.step.Actor.{Actor}
 use Rattle.heap_steps.specs.declared.step.Actor.TheVariants as actors
@@ -17,7 +17,7 @@ use Rattle.script_text.specs.declared.expected.Expected.TheVariants as expected
 use Rattle.script_text.specs.declared.expected.Stop.{Stop}
 use Rattle.script_text.specs.declared.expected.TextKind.{TextKind}
 use Rattle.script_text.specs.declared.expected.TextKind.TheVariants.{Script, Record}
-use Rattle.script_text.specs.Reading.{◌>>=◌, number_of, small, large, operand_of, verb_in}
+use Rattle.script_text.specs.Reading.{◌>>=◌, number_of, small, large, operand_of, known_among}
 use Rattle.script_text.specs.EventWords.{reply_of}
 use Rattle.script_text.specs.Lines.{mutator_of}
 use Rattle.script_text.specs.Events.{actor_of}
@@ -34,16 +34,16 @@ actor_in Script c word =
     if bytes_eq word (codes "gc") then Some actors.Collector else option_map actors.Mutator (when_read (mutator_of c word))
 
 -- what may be after a verb; nothing, if the word is none that the format has
-abbrev pub form_by : {V A : Type 0} → Grammar V A → Format → List ℕ → Option (List Expected)
-form_by g f word = do
-  v ← verb_in f g word
-  Some (map expected.Operand (g.row v).operands)
+abbrev pub form_among : {V : Type 0} → (V → Row) → Format → List V → List ℕ → Option (List Expected)
+form_among row f vs word = do
+  v ← known_among row f vs word
+  Some (map expected.Operand (row v).operands)
 
 unfoldable pub action_form : Format → List ℕ → Option (List Expected)
-action_form f word = form_by actions_grammar f word
+action_form f word = form_among action_row f action_verbs word
 
 unfoldable pub collection_form : Format → List ℕ → Option (List Expected)
-collection_form f word = form_by collections_grammar f word
+collection_form f word = form_among collection_row f collection_verbs word
 
 -- where a verb of the actor is
 abbrev pub verb_expected : Actor → Expected

@@ -1,9 +1,11 @@
 -- What a line with a fault lacks, as it is told.
-use Rattle.std.specs.Prelude.{◌≡◌, ℕ, ◌+◌, ◌-◌, Bool, true, false, List, [], ◌∷◌, ◌++◌, Some, Ok, codes, slice_get}
+use Rattle.std.specs.Prelude.{◌≡◌, ℕ, zero, suc, ◌+◌, ◌-◌, List, [], ◌∷◌, ◌++◌, Some, Ok, codes, if◌then◌else◌, length, slice_get}
 use Rattle.std.specs.Fmt.{decimal}
 use Rattle.heap_words.specs.declared.config.Config.{Config}
 use Rattle.heap_words.specs.Configs.{globals_of, registers_of}
-use Rattle.heap_steps.specs.Actors.{is_third}
+use Rattle.heap_words.specs.declared.config.Format.{Format}
+use Rattle.heap_steps.specs.Actors.{has_row}
+use Rattle.heap_steps.specs.Forms.{Row, action_row, action_verbs, collection_row, collection_verbs}
 use Rattle.heap_steps.specs.declared.form.Operand.{Operand}
 use Rattle.heap_steps.specs.declared.form.Operand.TheVariants as operands
 use Rattle.script_text.specs.declared.fault.Kind.{Kind}
@@ -26,31 +28,53 @@ operand_text operands.Small = codes "a number up to 4294967295"
 operand_text operands.Byte = codes "a number up to 255"
 operand_text operands.Large = codes "a number up to 18446744073709551615"
 
--- the words for a place, before the limit that a heap's sizes set
-abbrev pub expected_words : Expected → Bool → List ℕ
-expected_words (expected.Count n) third = codes "the count "
-expected_words expected.ScriptActor third = codes "gc, or a mutator below "
-expected_words expected.RecordActor third = codes "gc, m0 to m7, f0 to f7, or a mutator below "
-expected_words expected.Action true = codes
-    "new, newweak, get, getweak, put, putweak, read, write, move, drop, load, save, scope, shape or weaks"
-expected_words expected.Action false = codes "new, newweak, get, getweak, put, putweak, read, write, move, drop, load, save, shape or weaks"
-expected_words expected.Collection true = codes "begin, mark, remark, cleanup, refine, pause or compact"
-expected_words expected.Collection false = codes "begin, mark, remark, cleanup, refine or pause"
-expected_words expected.Marking third = codes "mark"
-expected_words expected.Refining third = codes "refine"
-expected_words (expected.Operand k) third = operand_text k
-expected_words expected.Equals third = codes "= and a reply"
-expected_words expected.Reply third = codes "a reply, such as ok, nil, #3, 7, 1 2 or refused 1 Nil"
-expected_words expected.End third = codes "the line's end"
-expected_words expected.Heap third = codes "heap, heap2 or heap3"
-expected_words expected.Regions third = codes "REGIONS, a number up to 4294967295"
-expected_words expected.RegionWords third = codes "WORDS, a number up to 4294967295"
-expected_words expected.Buffer third = codes "BUFFER, a number up to 4294967295"
-expected_words expected.Mutators third = codes "MUTATORS, a number up to 4294967295"
-expected_words expected.FirstName third = codes "FIRST, a number up to 18446744073709551615"
-expected_words expected.Card third = codes "CARD, a number up to 4294967295"
-expected_words expected.Globals third = codes "GLOBALS, a number up to 4294967295"
-expected_words expected.Registers third = codes "REGISTERS, a number up to 4294967295"
+-- what is between a word and so many more of a list
+abbrev pub between : ℕ → List ℕ
+between zero = []
+between (suc zero) = codes " or "
+between _ = codes ", "
+
+-- words as a sentence lists them: `a`, `a or b`, `a, b or c`
+abbrev pub listed : List (List ℕ) → List ℕ
+listed [] = []
+listed (w ∷ ws) = w ++ (between (length ws) ++ listed ws)
+
+-- the words of those verbs that a format has
+abbrev pub known_words : {V : Type 0} → (V → Row) → Format → List V → List (List ℕ)
+known_words row f [] = []
+known_words row f (v ∷ vs) = if has_row f (row v).third then (row v).word ∷ known_words row f vs else known_words row f vs
+
+abbrev pub verbs_text : {V : Type 0} → (V → Row) → Format → List V → List ℕ
+verbs_text row f vs = listed (known_words row f vs)
+
+-- the words for a place that is no verb's, before the limit that a heap's sizes set
+abbrev pub place_text : Expected → List ℕ
+place_text (expected.Count n) = codes "the count "
+place_text expected.ScriptActor = codes "gc, or a mutator below "
+place_text expected.RecordActor = codes "gc, m0 to m7, f0 to f7, or a mutator below "
+place_text expected.Action = []
+place_text expected.Collection = []
+place_text expected.Marking = codes "mark"
+place_text expected.Refining = codes "refine"
+place_text (expected.Operand k) = operand_text k
+place_text expected.Equals = codes "= and a reply"
+place_text expected.Reply = codes "a reply, such as ok, nil, #3, 7, 1 2 or refused 1 Nil"
+place_text expected.End = codes "the line's end"
+place_text expected.Heap = codes "heap, heap2 or heap3"
+place_text expected.Regions = codes "REGIONS, a number up to 4294967295"
+place_text expected.RegionWords = codes "WORDS, a number up to 4294967295"
+place_text expected.Buffer = codes "BUFFER, a number up to 4294967295"
+place_text expected.Mutators = codes "MUTATORS, a number up to 4294967295"
+place_text expected.FirstName = codes "FIRST, a number up to 18446744073709551615"
+place_text expected.Card = codes "CARD, a number up to 4294967295"
+place_text expected.Globals = codes "GLOBALS, a number up to 4294967295"
+place_text expected.Registers = codes "REGISTERS, a number up to 4294967295"
+
+-- the same of any place
+abbrev pub expected_words : Expected → Format → List ℕ
+expected_words expected.Action f = verbs_text action_row f action_verbs
+expected_words expected.Collection f = verbs_text collection_row f collection_verbs
+expected_words place f = place_text place
 
 -- the count, or the limit that the sizes of a heap set to a place
 abbrev pub limit_text : Config → Expected → List ℕ
@@ -64,7 +88,7 @@ limit_text c _ = []
 
 -- what may be at a place
 abbrev pub expected_text : Config → Expected → List ℕ
-expected_text c place = expected_words place (is_third c.format) ++ limit_text c place
+expected_text c place = expected_words place c.format ++ limit_text c place
 
 -- a word that doesn't fit, and what may be in its place
 abbrev pub stop_text : Config → Stop → List ℕ

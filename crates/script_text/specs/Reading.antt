@@ -74,10 +74,13 @@ abbrev pub verb_by : {V A : Type 0} → Grammar V A → List ℕ → Option V
 verb_by g word = verb_among g.row g.verbs word
 
 -- the same, if the format has it
+abbrev pub known_among : {V : Type 0} → (V → Row) → Format → List V → List ℕ → Option V
+known_among row f vs word = do
+  v ← verb_among row vs word
+  if has_row f (row v).third then Some v else None
+
 abbrev pub verb_in : {V A : Type 0} → Format → Grammar V A → List ℕ → Option V
-verb_in f g word = do
-  v ← verb_by g word
-  if has_row f (g.row v).third then Some v else None
+verb_in f g word = known_among g.row f g.verbs word
 
 -- what a verb and the words after it stand for
 abbrev pub made_by : {V A : Type 0} → Grammar V A → V → List (List ℕ) → Option A

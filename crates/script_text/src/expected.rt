@@ -5,15 +5,15 @@ ghost use Rattle.std.specs.Prelude.{◌∷◌, [], None, if◌then◌else◌};
 ghost use Rattle.std.specs.Str.{bytes_eq};
 ghost use Rattle.heap_words.specs.declared.config.Config.{Config};
 ghost use Rattle.script_text.specs.declared.expected.Expected.{Expected};
-ghost use Rattle.script_text.specs.Expected.{actor_in, action_form, collection_form, verb_expected, form_at, heap_form, fits_word, fits};
+ghost use Rattle.script_text.specs.Expected.{actor_in, form_among, verb_expected, form_at, heap_form, fits_word, fits};
 ghost use Rattle.script_text.specs.Expected.{actor_expected, expected_from_verb, expected_in_step, first_misfit, stop_in, no_sizes};
 ghost use Rattle.script_text.specs.Expected.{heap_stop_in};
 
 use crate::read::events::actor;
 use crate::read::replies::reply;
-use crate::read::steps::{action_verb_in, collection_verb_in, mutator};
+use crate::read::steps::{mutator, verb_in};
 use crate::read::words::{is_word, number, operand, small_number};
-use heap_steps::{Actor, Operand};
+use heap_steps::{ActionVerb, Actor, CollectionVerb, Operand, Verb};
 use heap_words::config::{Config, Format};
 
 /// What a text is read as.
@@ -86,25 +86,13 @@ fn actor_in(kind: TextKind, config: &Config, word: &[u8]) -> Option<Actor>
     }
 }
 
-/// What may be after a mutator's verb. `None`: the word is none that the format has.
-#[tactic(auto, unfolding(crate::specs::Expected::action_form))]
-fn action_form(format: Format, word: &[u8]) -> Option<&'static [Operand]>
-    ensures form { option_map (λ form. map Expected.Operand form.now) result ≡ action_form format word.now }
+/// What may be after a verb. `None`: the word is none that the format has.
+fn form<V: Verb>(format: Format, word: &[u8]) -> Option<&'static [Operand]>
+    ensures form { option_map (λ form. map Expected.Operand form.now) result ≡ form_among V.row_of format V.verbs word.now }
     ensures short { IfSome result (λ form. length form.now ≤ 8) }
 {
-    let Some(verb) = action_verb_in(format, word) else {
-        return None;
-    };
-    Some(verb.row().operands)
-}
-
-/// The same of a verb of the collector.
-#[tactic(auto, unfolding(crate::specs::Expected::collection_form))]
-fn collection_form(format: Format, word: &[u8]) -> Option<&'static [Operand]>
-    ensures form { option_map (λ form. map Expected.Operand form.now) result ≡ collection_form format word.now }
-    ensures short { IfSome result (λ form. length form.now ≤ 8) }
-{
-    let Some(verb) = collection_verb_in(format, word) else {
+    let known: Option<V> = verb_in(format, word);
+    let Some(verb) = known else {
         return None;
     };
     Some(verb.row().operands)
@@ -136,13 +124,14 @@ fn number_form(word: &[u8], verb: &'static [u8]) -> Option<&'static [Operand]>
 }
 
 /// What may be after a verb at such a place. `None`: the word is no verb there.
+#[tactic(auto, unfolding(crate::specs::Expected::action_form, crate::specs::Expected::collection_form))]
 fn form_at(format: Format, place: Expected, verb: &[u8]) -> Option<&'static [Operand]>
     ensures form { option_map (λ form. map Expected.Operand form.now) result ≡ form_at format place verb.now }
     ensures short { IfSome result (λ form. length form.now ≤ 8) }
 {
     match place {
-        Expected::Action => action_form(format, verb),
-        Expected::Collection => collection_form(format, verb),
+        Expected::Action => form::<ActionVerb>(format, verb),
+        Expected::Collection => form::<CollectionVerb>(format, verb),
         Expected::Marking => number_form(verb, b"mark"),
         Expected::Refining => number_form(verb, b"refine"),
         _ => None,
@@ -209,6 +198,7 @@ fn is_count(count: u64, word: &[u8]) -> bool
 }
 
 /// Whether a word may be at a place.
+#[tactic(auto, unfolding(crate::specs::Expected::action_form, crate::specs::Expected::collection_form))]
 fn fits_word(config: &Config, place: Expected, word: &[u8]) -> bool
     ensures { result ≡ fits_word config.now place word.now }
 {
@@ -220,8 +210,8 @@ fn fits_word(config: &Config, place: Expected, word: &[u8]) -> bool
         Expected::FirstName => number(word, u64::MAX).is_some(),
         Expected::Equals => is_word(word, b"="),
         Expected::Heap => heap_form(word).is_some(),
-        Expected::Action => action_form(config.format, word).is_some(),
-        Expected::Collection => collection_form(config.format, word).is_some(),
+        Expected::Action => form::<ActionVerb>(config.format, word).is_some(),
+        Expected::Collection => form::<CollectionVerb>(config.format, word).is_some(),
         Expected::Marking => is_word(word, b"mark"),
         Expected::Refining => is_word(word, b"refine"),
         Expected::Reply | Expected::End => false,

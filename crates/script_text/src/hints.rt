@@ -12,7 +12,8 @@ ghost use Rattle.std.specs.Fmt.{decimal};
 ghost use Rattle.heap_words.specs.declared.config.Config.{Config};
 ghost use Rattle.script_text.specs.Lines.{heap_line_of, pieces_of, words_of};
 ghost use Rattle.script_text.specs.Faults.{shown_byte, shown};
-ghost use Rattle.script_text.specs.Hints.{operand_text, expected_words, limit_text, expected_text, stop_text};
+ghost use Rattle.script_text.specs.Hints.{operand_text, between, known_words, verbs_text, place_text, expected_words};
+ghost use Rattle.script_text.specs.Hints.{limit_text, expected_text, stop_text};
 ghost use Rattle.script_text.specs.Hints.{IsLine, NamesMisfit, NamesHeapMisfit};
 ghost use Rattle.script_text.specs.Hints.{IsHint, IsFaultReason, IsLineReason};
 
@@ -22,8 +23,8 @@ use crate::mistakes::put_mistake;
 use crate::read::script::heap_line;
 use crate::read::words::split_line;
 use crate::write::bytes::{put_byte, put_number, put_text};
-use heap_steps::{Operand, is_third};
-use heap_words::config::Config;
+use heap_steps::{ActionVerb, CollectionVerb, Operand, Verb, has_row};
+use heap_words::config::{Config, Format};
 
 /// The room that the reason of a line's fault needs.
 pub const REASON_ROOM: usize = 480;
@@ -56,27 +57,16 @@ fn put_limit(buffer: &mut [u8], at: usize, config: &Config, kind: Operand) -> us
     }
 }
 
-/// The words that say what may be at a place, before the limit that a heap's sizes set, if they do.
-fn expected_words(place: Expected, third: bool) -> &'static [u8]
-    ensures words { result.now ≡ expected_words place third }
+/// The words for a place that is no verb's, before the limit that a heap's sizes set, if they do.
+fn place_text(place: Expected) -> &'static [u8]
+    ensures words { result.now ≡ place_text place }
     ensures short { length result.now ≤ 110 }
 {
     match place {
         Expected::Count(_) => b"the count ",
         Expected::ScriptActor => b"gc, or a mutator below ",
         Expected::RecordActor => b"gc, m0 to m7, f0 to f7, or a mutator below ",
-        Expected::Action => {
-            if third {
-                return b"new, newweak, get, getweak, put, putweak, read, write, move, drop, load, save, scope, shape or weaks";
-            }
-            b"new, newweak, get, getweak, put, putweak, read, write, move, drop, load, save, shape or weaks"
-        }
-        Expected::Collection => {
-            if third {
-                return b"begin, mark, remark, cleanup, refine, pause or compact";
-            }
-            b"begin, mark, remark, cleanup, refine or pause"
-        }
+        Expected::Action | Expected::Collection => b"",
         Expected::Marking => b"mark",
         Expected::Refining => b"refine",
         Expected::Operand(kind) => operand_text(kind),
@@ -95,13 +85,69 @@ fn expected_words(place: Expected, third: bool) -> &'static [u8]
     }
 }
 
+/// How many of some verbs a format has.
+fn known_count<V: Verb>(verbs: &[V], format: Format) -> usize
+    ensures { result ≡ length (known_words V.row_of format verbs.now) }
+{
+    let mut count = 0;
+    for verb in verbs {
+        if has_row(format, verb.row()) {
+            count += 1;
+        }
+    }
+    count
+}
+
+/// What is between a word and so many more of a list.
+fn between(more: usize) -> &'static [u8]
+    ensures { result.now ≡ between more }
+{
+    match more {
+        0 => b"",
+        1 => b" or ",
+        _ => b", ",
+    }
+}
+
+/// Those of some verbs that a format has, as a sentence lists them.
+fn put_verbs<V: Verb>(buffer: &mut [u8], at: usize, verbs: &[V], format: Format) -> usize
+    requires { at + length (verbs_text V.row_of format verbs.now) ≤ length buffer.old }
+    ensures put { take result buffer.new ≡ take at buffer.old ++ verbs_text V.row_of format verbs.now }
+    ensures end { result ≡ at + length (verbs_text V.row_of format verbs.now) }
+{
+    let mut end = at;
+    let mut more = known_count(verbs, format);
+    for verb in verbs {
+        let row = verb.row();
+        if has_row(format, row) {
+            more -= 1;
+            end = put_text(buffer, end, row.word);
+            end = put_text(buffer, end, between(more));
+        }
+    }
+    end
+}
+
+/// The words that say what may be at a place, before the limit that a heap's sizes set, if they do.
+fn put_words(buffer: &mut [u8], at: usize, format: Format, place: Expected) -> usize
+    requires { at + 110 ≤ length buffer.old }
+    ensures put { take result buffer.new ≡ take at buffer.old ++ expected_words place format }
+    ensures end { result ≤ at + 110 }
+{
+    match place {
+        Expected::Action => put_verbs(buffer, at, ActionVerb::all(), format),
+        Expected::Collection => put_verbs(buffer, at, CollectionVerb::all(), format),
+        _ => put_text(buffer, at, place_text(place)),
+    }
+}
+
 /// What may be at a place, in sizes.
 fn put_expected(buffer: &mut [u8], at: usize, config: &Config, place: Expected) -> usize
     requires { at + 130 ≤ length buffer.old }
     ensures put { take result buffer.new ≡ take at buffer.old ++ expected_text config.now place }
     ensures end { result ≤ at + 130 }
 {
-    let at = put_text(buffer, at, expected_words(place, is_third(config.format)));
+    let at = put_words(buffer, at, config.format, place);
     match place {
         Expected::Count(count) => put_number(buffer, at, count),
         Expected::ScriptActor | Expected::RecordActor => {

@@ -1,14 +1,16 @@
 //! Steps, read from the words of their lines.
 
 ghost use Rattle.std.specs.Prelude.{◌≡◌, ◌<◌, ◌≤◌, ℕ, List, None, Some, map, length, get_or, IfNone, IfOk, IfSome};
-ghost use Rattle.heap_steps.specs.Forms.{actions_grammar, collections_grammar, numbers_in};
-ghost use Rattle.script_text.specs.Reading.{operands_of, operand_at, verb_by, verb_in, allowed_of, collection_of};
+ghost use Rattle.heap_steps.specs.Forms.{numbers_in};
+ghost use Rattle.script_text.specs.Reading.{operands_of, operand_at, verb_among, known_among, allowed_of, collection_of};
 ghost use Rattle.script_text.specs.Lines.{mutator_of, step_of};
 ghost use Rattle.heap_steps.specs.Actors.{IsStep};
 
 use crate::fault::Kind;
 use crate::read::words::{is_word, operand, small_number};
-use heap_steps::{Action, ActionVerb, CollectionVerb, CollectorStep, Op, Operand, Step, has_row};
+use heap_steps::{
+    Action, ActionVerb, CollectionVerb, CollectorStep, Op, Operand, Step, Verb, has_row,
+};
 use heap_words::config::{Config, Format};
 
 /// The number of the word at a place, as the operand there; 0 where there is none.
@@ -41,23 +43,12 @@ fn numbers(form: &[Operand], words: &[&[u8]]) -> Option<[u64; 4]>
     Some([first, second, third, fourth])
 }
 
-/// The verb of a mutator that a word is.
-fn action_verb(word: &[u8]) -> Option<ActionVerb>
-    ensures { result ≡ verb_by actions_grammar word.now }
+/// The verb that a word is.
+fn verb<V: Verb>(word: &[u8]) -> Option<V>
+    ensures { result ≡ verb_among V.row_of V.verbs word.now }
 {
-    for verb in ActionVerb::all() {
-        if is_word(word, verb.row().word) {
-            return Some(*verb);
-        }
-    }
-    None
-}
-
-/// The verb of the collector that a word is.
-fn collection_verb(word: &[u8]) -> Option<CollectionVerb>
-    ensures { result ≡ verb_by collections_grammar word.now }
-{
-    for verb in CollectionVerb::all() {
+    let verbs = V::all();
+    for verb in verbs {
         if is_word(word, verb.row().word) {
             return Some(*verb);
         }
@@ -66,22 +57,10 @@ fn collection_verb(word: &[u8]) -> Option<CollectionVerb>
 }
 
 /// The same, if the format has it.
-pub(crate) fn action_verb_in(format: Format, word: &[u8]) -> Option<ActionVerb>
-    ensures { result ≡ verb_in format actions_grammar word.now }
+pub(crate) fn verb_in<V: Verb>(format: Format, word: &[u8]) -> Option<V>
+    ensures { result ≡ known_among V.row_of format V.verbs word.now }
 {
-    let verb = some!(action_verb(word));
-    if has_row(format, verb.row()) {
-        Some(verb)
-    } else {
-        None
-    }
-}
-
-/// The same, if the format has it.
-pub(crate) fn collection_verb_in(format: Format, word: &[u8]) -> Option<CollectionVerb>
-    ensures { result ≡ verb_in format collections_grammar word.now }
-{
-    let verb = some!(collection_verb(word));
+    let verb: V = some!(verb(word));
     if has_row(format, verb.row()) {
         Some(verb)
     } else {
@@ -97,7 +76,7 @@ pub(crate) fn allowed(config: &Config, words: &[&[u8]]) -> Option<Action>
     let [word, rest @ ..] = words else {
         return None;
     };
-    let verb = some!(action_verb(word));
+    let verb: ActionVerb = some!(verb(word));
     let numbers = some!(numbers(verb.row().operands, rest));
     let action = verb.action(&numbers);
     if action.is_in(config) {
@@ -115,7 +94,7 @@ pub(crate) fn collection(format: Format, words: &[&[u8]]) -> Option<CollectorSte
     let [word, rest @ ..] = words else {
         return None;
     };
-    let verb = some!(collection_verb_in(format, word));
+    let verb: CollectionVerb = some!(verb_in(format, word));
     let numbers = some!(numbers(verb.row().operands, rest));
     Some(verb.step(&numbers))
 }

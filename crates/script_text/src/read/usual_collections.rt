@@ -24,30 +24,26 @@ use crate::read::script::{LONGEST_LINE, StepLine};
 use crate::read::usual_events::EventLine;
 use heap_steps::{Actor, CollectorStep, Event, Refusal, Reply, Step};
 
-/// The collector's step with a number in a line from a place on.
-#[inline(always)]
-fn numbered_collection(text: &[u8], at: usize, more: bool) -> Option<Found<CollectorStep>>
-    requires ended { end_of text.now < length text.now }
-    requires within { at ≤ end_of text.now }
-    ensures { IfSome result (λ k. IsCollection text.now (words_from text.now at) k.value k.past more) }
-{
-    if let Some(cards) = number_after(text, at, b"refine", more) {
-        return Some(Found {
-            value: CollectorStep::Refine(cards.value),
-            past: cards.past,
-        });
-    }
-    if let Some(units) = number_after(text, at, b"mark", more) {
-        return Some(Found {
-            value: CollectorStep::Mark(units.value),
-            past: units.past,
-        });
-    }
-    let budget = some!(number_after(text, at, b"pause", more));
-    Some(Found {
-        value: CollectorStep::Pause(budget.value),
-        past: budget.past,
-    })
+/// Where one of these verbs is next in the line with a number after it, returns what the number makes.
+macro_rules! return_numbered {
+    ($text:ident, $at:ident, $more:expr; $($verb:literal $number:ident => $made:expr;)*) => {
+        $(
+            if let Some(Found { value: $number, past }) = number_after($text, $at, $verb, $more) {
+                return Some(Found { value: $made, past });
+            }
+        )*
+    };
+}
+
+/// Where one of these words is the next one in the line, returns what it is.
+macro_rules! return_literal {
+    ($text:ident, $at:ident, $more:expr; $($word:literal => $made:expr;)*) => {
+        $(
+            if let Some(past) = last_literal($text, $at, $word, $more) {
+                return Some(Found { value: $made, past });
+            }
+        )*
+    };
 }
 
 /// The collector's step in a line from a place on. The verbs that are used most are tried first.
@@ -57,26 +53,19 @@ fn usual_collection(text: &[u8], at: usize, more: bool) -> Option<Found<Collecto
     requires within { at ≤ end_of text.now }
     ensures { IfSome result (λ k. IsCollection text.now (words_from text.now at) k.value k.past more) }
 {
-    if let Some(last) = numbered_collection(text, at, more) {
-        return Some(last);
+    return_numbered! {
+        text, at, more;
+        b"refine" cards => CollectorStep::Refine(cards);
+        b"mark" units => CollectorStep::Mark(units);
+        b"pause" budget => CollectorStep::Pause(budget);
     }
-    if let Some(past) = last_literal(text, at, b"begin", more) {
-        return Some(Found {
-            value: CollectorStep::Begin,
-            past,
-        });
+    return_literal! {
+        text, at, more;
+        b"begin" => CollectorStep::Begin;
+        b"remark" => CollectorStep::Remark;
+        b"cleanup" => CollectorStep::Cleanup;
     }
-    if let Some(past) = last_literal(text, at, b"remark", more) {
-        return Some(Found {
-            value: CollectorStep::Remark,
-            past,
-        });
-    }
-    let past = some!(last_literal(text, at, b"cleanup", more));
-    Some(Found {
-        value: CollectorStep::Cleanup,
-        past,
-    })
+    None
 }
 
 /// The collector's step of the line at a text's front.
@@ -215,18 +204,18 @@ fn refused_reply(text: &[u8], at: usize) -> Option<Found<Reply>>
 {
     let number = some!(after_verb(text, at, b"refused"));
     if let Some(name) = after_verb(text, number, b"7") {
-        let past = some!(last_literal(text, name, b"NotMarking", false));
-        return Some(Found {
-            value: Reply::Refused(Refusal::NotMarking),
-            past,
-        });
+        return_literal! {
+            text, name, false;
+            b"NotMarking" => Reply::Refused(Refusal::NotMarking);
+        }
     }
-    let name = some!(after_verb(text, number, b"6"));
-    let past = some!(last_literal(text, name, b"MarkRunning", false));
-    Some(Found {
-        value: Reply::Refused(Refusal::MarkRunning),
-        past,
-    })
+    if let Some(name) = after_verb(text, number, b"6") {
+        return_literal! {
+            text, name, false;
+            b"MarkRunning" => Reply::Refused(Refusal::MarkRunning);
+        }
+    }
+    None
 }
 
 /// The reply to one of the collector's steps in a line from a place on, which ends the line.
@@ -238,29 +227,15 @@ fn collection_reply(text: &[u8], at: usize) -> Option<Found<Reply>>
     ensures fits { IfSome result (λ r. ReplyFits r.value) }
     ensures ends { IfSome result (λ r. r.past ≡ end_of text.now) }
 {
-    if let Some(past) = last_literal(text, at, b"ok", false) {
-        return Some(Found {
-            value: Reply::Done,
-            past,
-        });
+    return_literal! {
+        text, at, false;
+        b"ok" => Reply::Done;
     }
-    if let Some(cards) = number_after(text, at, b"refined", false) {
-        return Some(Found {
-            value: Reply::Refined(cards.value),
-            past: cards.past,
-        });
-    }
-    if let Some(objects) = number_after(text, at, b"marked", false) {
-        return Some(Found {
-            value: Reply::Marked(objects.value),
-            past: objects.past,
-        });
-    }
-    if let Some(regions) = number_after(text, at, b"reclaimed", false) {
-        return Some(Found {
-            value: Reply::Reclaimed(regions.value),
-            past: regions.past,
-        });
+    return_numbered! {
+        text, at, false;
+        b"refined" cards => Reply::Refined(cards);
+        b"marked" objects => Reply::Marked(objects);
+        b"reclaimed" regions => Reply::Reclaimed(regions);
     }
     if let Some(last) = moved_reply(text, at) {
         return Some(last);

@@ -12,7 +12,7 @@ ghost use Rattle.script_text.specs.Records.{actor_word, reply_words, event_text,
 use crate::write::bytes::{put_byte, put_literal, put_number, put_short, put_small, put_text};
 use crate::write::counts::Count;
 use heap_steps::{
-    Action, Actor, CollectorStep, Counts, Event, GlobalRoot, Refusal, Register, Reply, Step,
+    Action, Actor, CollectorStep, Counts, Event, GlobalRoot, Refusal, Register, Reply, Step, Verb,
 };
 use heap_words::config::{Config, Format};
 
@@ -302,27 +302,12 @@ fn put_collection(buffer: &mut [u8], at: usize, collection: CollectorStep) -> us
     ensures put { take result buffer.new ≡ take at buffer.old ++ spaced (collection_words collection) }
     ensures end { result ≤ at + 52 }
 {
-    match collection {
-        CollectorStep::Begin => put_literal(buffer, at, b"begin"),
-        CollectorStep::Mark(units) => {
-            let at = put_literal(buffer, at, b"mark ");
-            put_small(buffer, at, units)
-        }
-        CollectorStep::Remark => put_literal(buffer, at, b"remark"),
-        CollectorStep::Cleanup => put_literal(buffer, at, b"cleanup"),
-        CollectorStep::Refine(cards) => {
-            let at = put_literal(buffer, at, b"refine ");
-            put_small(buffer, at, cards)
-        }
-        CollectorStep::Pause(budget) => {
-            let at = put_literal(buffer, at, b"pause ");
-            put_small(buffer, at, budget)
-        }
-        CollectorStep::Compact(budget) => {
-            let at = put_literal(buffer, at, b"compact ");
-            put_small(buffer, at, budget)
-        }
+    let row = collection.verb().row();
+    let at = put_text(buffer, at, row.word);
+    if row.operands.is_empty() {
+        return at;
     }
+    put_count(buffer, at, b" ", collection.number())
 }
 
 fn refusal_text(refusal: Refusal) -> &'static [u8]

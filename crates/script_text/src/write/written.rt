@@ -84,13 +84,11 @@ fn collection_fits(step: CollectorStep)
     ensures { CollectionFits step }
 {
     match step {
-        CollectorStep::Begin => {}
         CollectorStep::Mark(units) => read_all!(units),
-        CollectorStep::Remark => {}
-        CollectorStep::Cleanup => {}
         CollectorStep::Refine(cards) => read_all!(cards),
         CollectorStep::Pause(budget) => read_all!(budget),
         CollectorStep::Compact(budget) => read_all!(budget),
+        _ => {}
     }
 }
 
