@@ -29,8 +29,8 @@ table_stays A t t' i e r = kinds_stay A t t' i (ap (λ (x : Table). kind_of x i)
 
 -- the collector's reply is never Full
 never_full : (k : CollectorStep) → IsCollectorReply k (replies.Refused refusals.Full) → ⊥
-never_full collector.Begin h = h
-never_full _ h = h
+never_full collector.Begin h = cc
+never_full _ h = cc
 
 -- the step of a plan is this one
 pub takes : (k k' : CollectorStep) (r : Reply) (c c' : CoreState) → k ≡ k' → IsCollectorReply k' r
@@ -65,70 +65,3 @@ pub refused : (k k' : CollectorStep) (why : Refusal) (b : Bool) (d c : CoreState
 refused k k' why b d c e reply same does same_core is =
     takes_nothing k k' (replies.Refused why) c e reply same
     (does (running_is d c b same_core is, record { reply_is = refl; same = refl }))
-<<<<<<< HEAD
-=======
-    (λ i x. table_stays _ c.table c.table i refl x)
-
--- refused since marking runs
-pub begin_refused : (k : CollectorStep) (d c : CoreState) → k ≡ collector.Begin → d ≡ c → d.marker.running ≡ true
-    → Takes c (steps.Collector k) (replies.Refused refusals.MarkRunning) c
-begin_refused k d c e = refused k collector.Begin refusals.MarkRunning true d c e refl (λ s. refl) (λ f. cc) (λ h. inr h)
-
-pub cleanup_refused : (k : CollectorStep) (d c : CoreState) → k ≡ collector.Cleanup → d ≡ c → d.marker.running ≡ true
-    → Takes c (steps.Collector k) (replies.Refused refusals.MarkRunning) c
-cleanup_refused k d c e = refused k collector.Cleanup refusals.MarkRunning true d c e refl (λ s. refl) (λ f. cc) (λ h. inr h)
-
--- refused since it doesn't
-pub mark_refused : (k : CollectorStep) (units : ℕ) (d c : CoreState) → k ≡ collector.Mark units → d ≡ c → d.marker.running ≡ false
-    → Takes c (steps.Collector k) (replies.Refused refusals.NotMarking) c
-mark_refused k units d c e = refused k (collector.Mark units) refusals.NotMarking false d c e refl (λ s. refl) (λ f. cc) (λ h. inr h)
-
-pub remark_refused : (k : CollectorStep) (d c : CoreState) → k ≡ collector.Remark → d ≡ c → d.marker.running ≡ false
-    → Takes c (steps.Collector k) (replies.Refused refusals.NotMarking) c
-remark_refused k d c e = refused k collector.Remark refusals.NotMarking false d c e refl (λ s. refl) (λ f. cc) (λ h. inr h)
-
-pub begun : (k : CollectorStep) (d c c' : CoreState) → k ≡ collector.Begin → d ≡ c → d.marker.running ≡ false
-    → ((g : Graph) → ShowsGraph g c → ShowsGraph g c') → ((g : Graph) → ShowsGraph g c → KeepsFrom g c')
-    → HasBegun c c' → Takes c (steps.Collector k) replies.Done c'
-begun k d c c' e same idle shows keeps h = takes k collector.Begin replies.Done c c' e (λ f. cc)
-    (λ s st. begins s c c' st h.running shows keeps) (inl (running_is d c false same idle, refl, h))
-    (λ i x. table_stays _ c.table c'.table i (ap (λ (d : CoreState). d.table) h.same) x)
-
-pub marked : (k : CollectorStep) (units : ℕ) (d c c' : CoreState) → k ≡ collector.Mark units → d ≡ c → d.marker.running ≡ true
-    → ((g : Graph) → ShowsGraph g c → ShowsGraph g c') → ((s : Graph) → KeepsFrom s c → KeepsFrom s c')
-    → HasMarked units c c' → Takes c (steps.Collector k) replies.Done c'
-marked k units d c c' e same runs shows keeps h = takes k (collector.Mark units) replies.Done c c' e (λ f. cc)
-    (λ s st. stays s (collector.Mark units) replies.Done c c' st tt refl (marked_running units c c' h) shows keeps)
-    (inl (running_is d c true same runs, refl, h))
-    (λ i x. table_stays _ c.table c'.table i (ap (λ (d : CoreState). d.table) h.same) x)
-
-pub remarked : (k : CollectorStep) (n : ℕ) (d c c' : CoreState) → k ≡ collector.Remark → d ≡ c → d.marker.running ≡ true
-    → ((s g : Graph) → ShowsGraph g c → KeepsFrom s c → ShowsCleared s g c') → HasRemarked n c c'
-    → Takes c (steps.Collector k) (replies.Marked n) c'
-remarked k n d c c' e same runs shows h = takes k collector.Remark (replies.Marked n) c c' e (λ f. cc)
-    (λ s st. ends s n c c' st (running_is d c true same runs) h.over shows) (inl (running_is d c true same runs, n, refl, h))
-    (λ i x. kinds_stay _ c.table c'.table i (h.cleared.kinds i) x)
-
-pub cleaned : (k : CollectorStep) (n : ℕ) (d c c' : CoreState) → k ≡ collector.Cleanup → d ≡ c → d.marker.running ≡ false
-    → ((g : Graph) → ShowsGraph g c → ShowsGraph g c') → ((s : Graph) → KeepsFrom s c → KeepsFrom s c') → HasCleaned n c c'
-    → Takes c (steps.Collector k) (replies.Reclaimed n) c'
-cleaned k n d c c' e same idle shows keeps h = takes k collector.Cleanup (replies.Reclaimed n) c c' e (λ f. cc)
-    (λ s st. stays s collector.Cleanup (replies.Reclaimed n) c c' st tt refl (cleaned_running n c c' h) shows keeps)
-    (inl (running_is d c false same idle, n, refl, h)) (λ i x. (h.reclaimed i).0 x)
-
-pub refined : (k : CollectorStep) (cards n : ℕ) (c c' : CoreState) → k ≡ collector.Refine cards
-    → ((g : Graph) → ShowsGraph g c → ShowsGraph g c') → ((s : Graph) → KeepsFrom s c → KeepsFrom s c')
-    → HasRefined cards n c c' → Takes c (steps.Collector k) (replies.Refined n) c'
-refined k cards n c c' e shows keeps h = takes k (collector.Refine cards) (replies.Refined n) c c' e (λ f. cc)
-    (λ s st. stays s (collector.Refine cards) (replies.Refined n) c c' st tt refl (refined_running cards n c c' h) shows keeps)
-    (n, refl, h) (λ i x. table_stays _ c.table c'.table i (ap (λ (d : CoreState). d.table) h.same) x)
-
-pub paused : (k : CollectorStep) (budget n w : ℕ) (c c' : CoreState) → k ≡ collector.Pause budget
-    → ((g : Graph) → ShowsGraph g c → ShowsGraph g c') → ((s : Graph) → KeepsFrom s c → KeepsFrom s c') → HasPaused budget n w c c'
-    → Takes c (steps.Collector k) (replies.Moved n w) c'
-paused k budget n w c c' e shows keeps h = takes k (collector.Pause budget) (replies.Moved n w) c c' e (λ f. cc)
-    (λ s st. stays s (collector.Pause budget) (replies.Moved n w) c c' st tt refl (moved_running choices.Best budget n w c c' h)
-    shows keeps)
-    (n, w, refl, h)
-    (λ i x. record { chosen = h.evacuates.chosen; choice = h.evacuates.choice; inside = (h.evacuates.reclaimed i).0 x })
->>>>>>> 73dff72ed41672e19f01ac14a129dda695c3baa6

@@ -7,7 +7,7 @@ use Rattle.step_core.proofs.Cores.Collecting.{begins, ends, moved_reclaims, move
 use Rattle.step_core.proofs.heap.Core.collect.Goals as goal
 
 pub returns-then-self : goal.returns-then-self
-returns-then-self c = refused _ collector.Begin _ _ _ _ c.in-Begin.is tt (λ s. refl) (λ h. inr h) c.self.view_is c.if-self.true
+returns-then-self c = refused _ collector.Begin _ _ _ _ c.in-Begin.is refl (λ s. refl) (λ h. inr h) c.self.view_is c.if-self.true
 
 pub returns-else-self : goal.returns-else-self
 returns-else-self c = let b = c.begin.ensures in
@@ -17,17 +17,17 @@ returns-else-self c = let b = c.begin.ensures in
 
 pub returns-then-not-self : goal.returns-then-not-self
 returns-then-not-self c =
-    refused _ (collector.Mark c.in-Mark.units) _ _ _ _ c.in-Mark.is tt (λ s. refl) (λ h. inr h) c.self-in-Mark.view_is c.if-not-self.true
+    refused _ (collector.Mark c.in-Mark.units) _ _ _ _ c.in-Mark.is refl (λ s. refl) (λ h. inr h) c.self-in-Mark.view_is c.if-not-self.true
 
 pub returns-else-not-self : goal.returns-else-not-self
 returns-else-not-self c = let m = c.mark.ensures in
-    takes_same _ (collector.Mark c.in-Mark.units) _ _ _ c.in-Mark.is tt (λ s. refl) m.marked.roles.running m.shows m.keeps
+    takes_same _ (collector.Mark c.in-Mark.units) _ _ _ c.in-Mark.is refl (λ s. refl) m.marked.roles.running m.shows m.keeps
     (inl (running_is _ _ _ c.self-in-Mark.view_is c.if-not-self.false, refl, m.marked))
     (λ i x. table_stays _ _ _ i (ap (λ (d : CoreState). d.table) m.marked.same) x)
 
 pub returns-then-not-self-2 : goal.returns-then-not-self-2
 returns-then-not-self-2 c =
-    refused _ collector.Remark _ _ _ _ c.in-Remark.is tt (λ s. refl) (λ h. inr h) c.self-in-Remark.view_is c.if-not-self-2.true
+    refused _ collector.Remark _ _ _ _ c.in-Remark.is refl (λ s. refl) (λ h. inr h) c.self-in-Remark.view_is c.if-not-self-2.true
 
 pub returns-else-not-self-2 : goal.returns-else-not-self-2
 returns-else-not-self-2 c = let m = c.remark.ensures in
@@ -37,11 +37,11 @@ returns-else-not-self-2 c = let m = c.remark.ensures in
 
 pub returns-then-self-2 : goal.returns-then-self-2
 returns-then-self-2 c =
-    refused _ collector.Cleanup _ _ _ _ c.in-Cleanup.is tt (λ s. refl) (λ h. inr h) c.self-in-Cleanup.view_is c.if-self-2.true
+    refused _ collector.Cleanup _ _ _ _ c.in-Cleanup.is refl (λ s. refl) (λ h. inr h) c.self-in-Cleanup.view_is c.if-self-2.true
 
 pub returns-else-self-2 : goal.returns-else-self-2
 returns-else-self-2 c = let m = c.cleanup.ensures in
-    takes_same _ collector.Cleanup _ _ _ c.in-Cleanup.is tt (λ s. refl) (ap (λ (x : Marker). x.running) m.cleaned.changes.marker)
+    takes_same _ collector.Cleanup _ _ _ c.in-Cleanup.is refl (λ s. refl) (ap (λ (x : Marker). x.running) m.cleaned.changes.marker)
     m.shows m.keeps (inl (running_is _ _ _ c.self-in-Cleanup.view_is c.if-self-2.false, _, refl, m.cleaned))
     (λ i x. (m.cleaned.reclaimed i).0 x)
 
