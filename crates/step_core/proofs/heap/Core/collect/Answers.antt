@@ -21,7 +21,7 @@ returns-then-not-self c =
 
 pub returns-else-not-self : goal.returns-else-not-self
 returns-else-not-self c = let m = c.mark.ensures in
-    takes_same _ (collector.Mark c.in-Mark.units) _ _ _ c.in-Mark.is refl (λ s. refl) m.marked.roles.running m.shows m.keeps
+    takes_same _ (collector.Mark c.in-Mark.units) _ _ _ c.in-Mark.is tt (λ s. refl) m.marked.roles.running m.shows m.keeps
     (inl (running_is _ _ _ c.self-in-Mark.view_is c.if-not-self.false, refl, m.marked))
     (λ i x. table_stays _ _ _ i (ap (λ (d : CoreState). d.table) m.marked.same) x)
 
@@ -41,7 +41,7 @@ returns-then-self-2 c =
 
 pub returns-else-self-2 : goal.returns-else-self-2
 returns-else-self-2 c = let m = c.cleanup.ensures in
-    takes_same _ collector.Cleanup _ _ _ c.in-Cleanup.is refl (λ s. refl) (ap (λ (x : Marker). x.running) m.cleaned.changes.marker)
+    takes_same _ collector.Cleanup _ _ _ c.in-Cleanup.is tt (λ s. refl) (ap (λ (x : Marker). x.running) m.cleaned.changes.marker)
     m.shows m.keeps (inl (running_is _ _ _ c.self-in-Cleanup.view_is c.if-self-2.false, _, refl, m.cleaned))
     (λ i x. (m.cleaned.reclaimed i).0 x)
 
