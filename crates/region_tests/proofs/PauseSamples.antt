@@ -104,7 +104,10 @@ itself_at : (q o : ℕ) (y : Stored)
     → tile_object (region_tile (get_or (Ordinary (Object selfish ∷ []) ∷ Free ∷ Free ∷ Free ∷ []) q Free) o) ≡ Some y
     → (q ≡ 0) × (o ≡ 0) × (selfish ≡ y)
 itself_at zero o y e = let (n, s) = tile_alone selfish o y e in (refl, n, s)
-itself_at (suc _) o y e = absurd cc
+itself_at (suc zero) o y e = absurd cc
+itself_at (suc (suc zero)) o y e = absurd cc
+itself_at (suc (suc (suc zero))) o y e = absurd cc
+itself_at (suc (suc (suc (suc q)))) o y e = absurd cc
 
 itself_only : (a : ℕ) (y : Stored) → object_at itself a ≡ Some y → (a ≡ 0) × (selfish ≡ y)
 unfolding object_at tile_in region_at
@@ -160,7 +163,9 @@ weak_at : (q o : ℕ) (y : Stored) → tile_object (region_tile (get_or (Ordinar
     → ((q ≡ 0) × (o ≡ 0) × (holder (Some 16) ≡ y)) ⊎ ((q ≡ 1) × (o ≡ 0) × (held ≡ y))
 weak_at zero o y e = let (n, s) = tile_alone (holder (Some 16)) o y e in inl (refl, n, s)
 weak_at (suc zero) o y e = let (n, s) = tile_alone held o y e in inr (refl, n, s)
-weak_at (suc (suc _)) o y e = absurd cc
+weak_at (suc (suc zero)) o y e = absurd cc
+weak_at (suc (suc (suc zero))) o y e = absurd cc
+weak_at (suc (suc (suc (suc q)))) o y e = absurd cc
 
 weak_only : (a : ℕ) (y : Stored) → object_at by_weak_slot a ≡ Some y → ((a ≡ 0) × (holder (Some 16) ≡ y)) ⊎ ((a ≡ 16) × (held ≡ y))
 unfolding object_at tile_in region_at

@@ -1,5 +1,5 @@
 -- The heaps that the tests evacuate.
-use Rattle.std.specs.Prelude.{◌≡◌, false, Some, Option, ℕ, List, [], ◌∷◌, replicate, ◌*◌, ◌/◌, ◌<◌, ◌≤◌, ◌⊎◌, length, slice_get, true}
+use Rattle.std.specs.Prelude.{◌≡◌, false, Some, Option, ℕ, List, [], ◌∷◌, replicate, ◌*◌, ◌/◌, ◌<◌, ◌≤◌, ◌⊎◌, length, slice_get, true, Bool}
 use Rattle.heap_model.specs.Heap.{Stored, fields}
 use Rattle.regions.specs.Tiles.{Object, tile_size}
 use Rattle.regions.specs.Table.{Region, Table, Free, Ordinary, HasNoForwarded, free_count, kind_of, object_at}
