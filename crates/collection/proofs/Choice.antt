@@ -1,6 +1,5 @@
 -- A pause that frees no region took what is more than half live.
-use Rattle.std.proofs.Common.{◌≡◌, ◌+◌, ◌*◌, ◌/◌, ◌<◌, ◌≤◌, ◌∷◌}
-use Rattle.std.proofs.Common.{ℕ, suc, zero, List, [], length, get_or, All, inl, inr, refl, ap, arith}
+use Rattle.std.proofs.Common.{◌≡◌, ◌+◌, ◌*◌, ◌/◌, ◌<◌, ◌≤◌, ◌∷◌, ℕ, suc, zero, List, [], length, get_or, All, inl, inr, refl, ap, arith}
 use Rattle.std.proofs.Math.Nat.{suc-mul, lt_of_mul-lt-mul_right}
 use Rattle.std.proofs.lemmas.Bool.{cases_lt}
 use Rattle.std.proofs.lemmas.Nat.{mul-le}
@@ -22,8 +21,7 @@ half_each words (x ∷ xs) h =
 -- half of two regions or more is a region
 half_free : (words frees : ℕ) → 2 ≤ frees → words ≤ frees * words / 2
 half_free words (suc (suc n)) h = let e = suc-mul (suc n) words in let f = suc-mul n words in omega (arith, e, f)
-half_free words (suc zero) h = absurd (omega arith)
-half_free words zero h = absurd (omega arith)
+half_free words _ h = absurd (omega arith)
 
 -- where so many rows have more than half of their words, and none more than r, that is more than half too
 above_half : (words k sum r : ℕ) → k * words < 2 * sum → sum ≤ k * r → words < 2 * r

@@ -72,9 +72,7 @@ more_free t t' e stays =
   where
     each : (k : ℕ) (o : Kind) → kind_of t k ≡ o → free_one (kind_of t k) ≤ free_one (kind_of t' k)
     each k kinds.Free q = let a = ap free_one q in let b = ap free_one (stays k q) in omega (arith, a, b)
-    each k kinds.Ordinary q = let a = ap free_one q in omega (arith, a)
-    each k kinds.First q = let a = ap free_one q in omega (arith, a)
-    each k kinds.Rest q = let a = ap free_one q in omega (arith, a)
+    each k _ q = let a = ap free_one q in omega (arith, a)
 
 -- ---- free regions after a pause
 -- d of them were taken for w words, at most s, which is at most half of f regions of r words; k were reclaimed

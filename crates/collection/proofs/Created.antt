@@ -1,18 +1,13 @@
 -- Whether the graph creates an object.
-use Rattle.std.proofs.Common.{◌≡◌, ◌^◌, ◌-◌, ◌≤◌, ◌∙◌}
-use Rattle.std.proofs.Common.{ℕ, Bool, true, false, Some, inl, inr, refl, sym, ap, arith}
-use Rattle.std.specs.Prelude.{nat_lt, ◌==◌, if◌then◌else◌}
+use Rattle.std.proofs.Common.{◌≡◌, ◌^◌, ◌-◌, ◌≤◌, ◌∙◌, ℕ, Bool, true, false, Some, inl, inr, refl, sym, ap, arith, nat_lt, ◌==◌}
+use Rattle.std.proofs.Common.{if◌then◌else◌}
 use Rattle.std.proofs.lemmas.Bool.{cases_lt, le-ltb, lt-ltb}
 use Rattle.std.proofs.lemmas.Bool.Decides.{eqb_tells}
 use Rattle.heap_words.specs.Configs.{object_limit}
 use Rattle.heap_words.specs.Sizes.{size_of}
 use Rattle.heap_model.specs.Graph.{Graph, next_name}
-use Rattle.heap_steps.specs.declared.step.Action.{Action}
+use Rattle.step_core.specs.Steps.{Action, Counts, Op, Register, Reply}
 use Rattle.heap_steps.specs.declared.step.Action.TheVariants as actions
-use Rattle.heap_steps.specs.declared.step.Counts.{Counts}
-use Rattle.heap_steps.specs.declared.step.Op.{Op}
-use Rattle.heap_steps.specs.declared.step.Register.{Register}
-use Rattle.heap_steps.specs.declared.step.Reply.{Reply}
 use Rattle.heap_steps.specs.declared.step.Reply.TheVariants as replies
 use Rattle.heap_steps.specs.declared.step.Refusal.TheVariants as refusals
 use Rattle.graph_runs.specs.Machine.{Outcome, act, made, refused}
@@ -66,10 +61,7 @@ module _ (g : Graph) (c : CoreState) (shows : ShowsGraph g c) where
       ∙ fits_named (next_name g)
     where
       left : (next_name g == 2 ^ 64 - 1) ≡ false
-      left = elim (eqb_tells (next_name g) (2 ^ 64 - 1)) [
-        | inl q ↦ absurd (names (sym shows.next ∙ q.1))
-        | inr q ↦ q.0
-      ]
+      left = elim (eqb_tells (next_name g) (2 ^ 64 - 1)) [ inl q ↦ absurd (names (sym shows.next ∙ q.1)) | inr q ↦ q.0 ]
 
   creates_new : (op : Op) → IsNew op.action → asked_words op.action ≤ object_limit c.config → (c.next ≡ 2 ^ 64 - 1 → ⊥)
       → Creates g op

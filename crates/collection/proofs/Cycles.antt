@@ -1,6 +1,5 @@
 -- Steps of a full collection.
-use Rattle.std.proofs.Common.{◌≡◌, ◌≤◌, ◌∙◌}
-use Rattle.std.proofs.Common.{ℕ, Bool, true, false, Some, length, inl, inr, refl, sym, ap, subst}
+use Rattle.std.proofs.Common.{◌≡◌, ◌≤◌, ◌∙◌, ℕ, Bool, true, false, Some, length, inl, inr, refl, sym, ap, subst}
 use Rattle.heap_model.specs.Graph.{Graph}
 use Rattle.heap_model.specs.Weak.{Clears}
 use Rattle.heap_model.proofs.Cleared.{reach_on}

@@ -1,7 +1,6 @@
 -- Where an object of at most half a region needs no free region.
-use Rattle.std.proofs.Common.{◌≡◌, ◌+◌, ◌*◌, ◌<◌, ◌≤◌, ◌∙◌}
-use Rattle.std.proofs.Common.{ℕ, Bool, true, false, Option, Some, None, [], length, refl, sym, ap, subst, arith}
-use Rattle.std.specs.Prelude.{if◌then◌else◌, slice_get, slice_index_or, ◌↔◌}
+use Rattle.std.proofs.Common.{◌≡◌, ◌+◌, ◌*◌, ◌<◌, ◌≤◌, ◌∙◌, ℕ, Bool, true, false, Option, Some, None, [], length, refl, sym, ap, subst}
+use Rattle.std.proofs.Common.{arith, if◌then◌else◌, slice_get, slice_index_or, ◌↔◌}
 use Rattle.std.proofs.lemmas.Bool.{le-leb, lt-leb}
 use Rattle.std.proofs.lemmas.Option.{slice_get-get_or}
 use Rattle.heap_model.specs.Heap.{Stored}
@@ -48,8 +47,8 @@ module _ (t : Table) where
   fit None n h = absurd (n refl)
   fit (Some x) n h = record { place = x; is = refl; free = h x refl }
 
-  room_as : (r x : Room) → free_count r.table ≡ free_count t → Some r ≡ Some x → free_count x.table + 0 ≡ free_count t
-  room_as r x same e = let a = ap (λ (y : Room). free_count y.table) (some_is r x e) in omega (arith, a, same)
+  room_as : (r x : Room) → free_count r.table ≡ free_count t → Some r ≡ Some x → free_count x.table ≡ free_count t
+  room_as r x same e = subst (λ (y : Room). free_count y.table ≡ free_count t) (some_is r x e) same
 
   new_fits : (b : Buffers) (m size : ℕ) → has_rest t b.current b.words ≡ true
       → IsFitting t (in_new_buffer b m size (room_for t b.current b.words))
@@ -57,21 +56,21 @@ module _ (t : Table) where
       let (r, is, same) = rest_here b.current b.words e in
       subst (λ (o : Option Room). IsFitting t (in_new_buffer b m size o)) (sym is)
       (fit (in_new_buffer b m size (Some r)) (λ f. some_none _ f)
-      (λ x f s. (let h = new_as t b m size 0 (Some r) (λ y g. room_as r y same g) x f s in omega (arith, h))))
+      (new_as b m size (λ n. n ≡ free_count t) (Some r) (λ y g. room_as r y same g)))
 
   alone_fits : (b : Buffers) (size : ℕ) → has_rest t b.current size ≡ true → IsFitting t (alone b size (room_for t b.current size))
   alone_fits b size e =
       let (r, is, same) = rest_here b.current size e in
       subst (λ (o : Option Room). IsFitting t (alone b size o)) (sym is)
       (fit (alone b size (Some r)) (λ f. some_none _ f)
-      (λ x f s. (let h = alone_as t b size 0 (Some r) (λ y g. room_as r y same g) x f s in omega (arith, h))))
+      (alone_as b size (λ n. n ≡ free_count t) (Some r) (λ y g. room_as r y same g)))
 
   new_out : (b : Buffers) (m size : ℕ) → has_rest t b.current b.words ≡ false
       → IsOutside t (in_new_buffer b m size (room_for t b.current b.words))
-  new_out b m size e x f s = new_as t b m size 1 (room_for t b.current b.words) (rest_next b.current b.words e) x f s
+  new_out b m size e = new_as b m size (λ n. n + 1 ≡ free_count t) (room_for t b.current b.words) (rest_next b.current b.words e)
 
   alone_out : (b : Buffers) (size : ℕ) → has_rest t b.current size ≡ false → IsOutside t (alone b size (room_for t b.current size))
-  alone_out b size e x f s = alone_as t b size 1 (room_for t b.current size) (rest_next b.current size e) x f s
+  alone_out b size e = alone_as b size (λ n. n + 1 ≡ free_count t) (room_for t b.current size) (rest_next b.current size e)
 
   not_both : (o : Option Placement) → IsOutside t o → IsFitting t o → ⊥
   not_both o out f =
@@ -134,33 +133,22 @@ module _ (c : CoreState) (m size : ℕ) (small : 2 * size ≤ c.table.words_per_
   placed_alone out h = out ∙ ap (λ (q : Bool). if q then in_new_buffer b m size (room_for t b.current b.words) else alone b size
       (room_for t b.current size)) (lt-leb size b.words h)
 
-  -- where neither the buffer nor the region has room a region is taken
-  pub new_taken : IsOut → size ≤ b.words → (r : Bool) → r ≡ has_rest t b.current b.words → r ≡ false → TakesRegion c m size
-  new_taken out h r e f = record {
-    less = λ p s is. new_out t b m size (sym e ∙ f) p (sym (placed_new out h) ∙ is) s;
-  }
-
-  pub alone_taken : IsOut → b.words < size → (r : Bool) → r ≡ has_rest t b.current size → r ≡ false → TakesRegion c m size
-  alone_taken out h r e f = record {
-    less = λ p s is. alone_out t b size (sym e ∙ f) p (sym (placed_alone out h) ∙ is) s;
-  }
-
-  pub in_new : IsOut → size ≤ b.words → (r : Bool) → r ≡ has_rest t b.current b.words → (r ≡ true) ↔ FitsOpen c m size
-  in_new out h r e = (
-    λ f. fits_by (in_new_buffer b m size (room_for t b.current b.words)) (placed_new out h) (new_fits t b m size (sym e ∙ f)),
-    λ f. yes r refl f,
+  -- where neither the buffer nor the region has room a region is taken, and else none
+  decided : (o : Option Placement) (r rest : Bool) → allocation_of t b m size ≡ o → r ≡ rest → (rest ≡ true → IsFitting t o)
+      → (rest ≡ false → IsOutside t o) → ((r ≡ true) ↔ FitsOpen c m size) × (r ≡ false → TakesRegion c m size)
+  decided o r rest at e fits out = (
+    (λ f. fits_by o at (fits (sym e ∙ f)), λ f. yes r refl f),
+    λ f. record { less = λ p s is. out (sym e ∙ f) p (sym at ∙ is) s },
   )
     where
       yes : (q : Bool) → r ≡ q → FitsOpen c m size → r ≡ true
       yes true g f = g
-      yes false g f = absurd (not_both t _ (new_out t b m size (sym e ∙ g)) (by_fits _ (placed_new out h) f))
+      yes false g f = absurd (not_both t o (out (sym e ∙ g)) (by_fits o at f))
 
-  pub alone_in : IsOut → b.words < size → (r : Bool) → r ≡ has_rest t b.current size → (r ≡ true) ↔ FitsOpen c m size
-  alone_in out h r e = (
-    λ f. fits_by (alone b size (room_for t b.current size)) (placed_alone out h) (alone_fits t b size (sym e ∙ f)),
-    λ f. yes r refl f,
-  )
-    where
-      yes : (q : Bool) → r ≡ q → FitsOpen c m size → r ≡ true
-      yes true g f = g
-      yes false g f = absurd (not_both t _ (alone_out t b size (sym e ∙ g)) (by_fits _ (placed_alone out h) f))
+  pub in_new : IsOut → size ≤ b.words → (r : Bool) → r ≡ has_rest t b.current b.words
+      → ((r ≡ true) ↔ FitsOpen c m size) × (r ≡ false → TakesRegion c m size)
+  in_new out h r e = decided _ r _ (placed_new out h) e (new_fits t b m size) (new_out t b m size)
+
+  pub alone_in : IsOut → b.words < size → (r : Bool) → r ≡ has_rest t b.current size
+      → ((r ≡ true) ↔ FitsOpen c m size) × (r ≡ false → TakesRegion c m size)
+  alone_in out h r e = decided _ r _ (placed_alone out h) e (alone_fits t b size) (alone_out t b size)

@@ -1,15 +1,11 @@
 -- Whether a heap has regions enough, of one configuration and the same.
-use Rattle.std.proofs.Common.{◌≡◌, ◌+◌, ◌*◌, ◌≤◌, ◌⊎◌}
-use Rattle.std.proofs.Common.{ℕ, Bool, true, false, inl, inr, sym, ap, subst, arith}
-use Rattle.std.specs.Prelude.{if◌then◌else◌}
+use Rattle.std.proofs.Common.{◌≡◌, ◌+◌, ◌*◌, ◌≤◌, ◌⊎◌, ℕ, Bool, true, false, inl, inr, sym, ap, subst, arith, if◌then◌else◌}
 use Rattle.std.proofs.lemmas.Bool.{cases_lt, le-leb}
 use Rattle.heap_words.specs.declared.config.Config.{Config}
 use Rattle.heap_steps.specs.Actors.{IsThird}
-use Rattle.heap_steps.specs.declared.step.Action.{Action}
-use Rattle.heap_steps.specs.declared.step.Op.{Op}
+use Rattle.step_core.specs.Steps.{Action, Event, Op}
 use Rattle.graph_runs.specs.State.{State}
 use Rattle.step_core.specs.Stands.{CoreState, Stands}
-use Rattle.heap_steps.specs.declared.step.Event.{Event}
 use Rattle.alloc_buffers.specs.Placement.{run_count}
 use Rattle.collection.specs.Steps.{CollectsWithin, LeavesTwo, asked_words, regions_for}
 use Rattle.collection.specs.Rooms.{IsFilled, IsLastResort, IsSpared}

@@ -1,9 +1,8 @@
 -- A compaction of a region of words: what it takes lowers the highest ordinary region, and where it takes nothing none is above a free
 -- one.
-use Rattle.std.proofs.Common.{◌≡◌, ◌≢◌, ◌+◌, ◌-◌, ◌*◌, ◌<◌, ◌≤◌, ◌⊎◌, ◌∷◌, ◌++◌, ◌∙◌}
-use Rattle.std.proofs.Common.{ℕ, suc, zero, Bool, true, false, List, [], Option, Some, None, length, get_or, All, sum_by, cond, inl, inr}
-use Rattle.std.proofs.Common.{refl, sym, ap, subst, arith}
-use Rattle.std.specs.Prelude.{if◌then◌else◌, count_by, ◌==◌, ◌||◌}
+use Rattle.std.proofs.Common.{◌≡◌, ◌≢◌, ◌+◌, ◌-◌, ◌*◌, ◌<◌, ◌≤◌, ◌⊎◌, ◌∷◌, ◌++◌, ◌∙◌, ℕ, suc, zero, Bool, true, false, List, [], Option}
+use Rattle.std.proofs.Common.{Some, None, length, get_or, All, sum_by, cond, inl, inr, refl, sym, ap, subst, arith, if◌then◌else◌}
+use Rattle.std.proofs.Common.{count_by, ◌==◌, ◌||◌}
 use Rattle.std.proofs.lemmas.Bool.{cases_eq, cases_lt, cases_Bool, eq-eqb, eqb-true}
 use Rattle.std.proofs.lemmas.Nat.{mul-le}
 use Rattle.std.proofs.lemmas.List.Sums.{sum_by-cons}
@@ -172,9 +171,7 @@ module _ (budget n w : ℕ) (c c' : CoreState) (core : IsCore c) (shape : IsShap
     where
       cases_free : (o : Kind) → (o ≡ kinds.Free) ⊎ (o ≢ kinds.Free)
       cases_free kinds.Free = inl refl
-      cases_free kinds.Ordinary = inr (λ e. cc)
-      cases_free kinds.First = inr (λ e. cc)
-      cases_free kinds.Rest = inr (λ e. cc)
+      cases_free _ = inr (λ e. cc)
 
   kind_cases : (o : Kind) → (o ≡ kinds.Free) ⊎ (o ≢ kinds.Free)
   kind_cases kinds.Free = inl refl
@@ -359,10 +356,7 @@ module _ (budget n w : ℕ) (c c' : CoreState) (core : IsCore c) (shape : IsShap
           let last : ordinary_end t ≡ o + 1 = omega (arith, above) in
           let top = end_at t (length t.regions) o last in
           let low : j < o = omega (arith, less, above, last) in
-          let row : LiveRow = record {
-            region = o;
-            live_bound = live_bound_of t c.marker.tams.previous c.marker.bitmaps.previous o;
-          } in
+          let row : LiveRow = record { region = o; live_bound = live_bound_of t c.marker.tams.previous c.marker.bitmaps.previous o } in
           let few = exact_few c o shape exact (ordinary_known t o top) top in
           let one = sum_by-cons (λ (r : LiveRow). r.live_bound) row [] in
           let some : 1 ≤ free_below t o = (let a = below_free t (j + 1) j refl (omega (arith, ordinary_known t o top, low)) free in

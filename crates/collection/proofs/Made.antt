@@ -1,8 +1,7 @@
 -- How many free regions it takes to make an object.
-use Rattle.std.proofs.Common.{◌≡◌, ◌+◌, ◌-◌, ◌*◌, ◌/◌, ◌%◌, ◌≤◌, ◌∷◌, ◌++◌, ◌∙◌, min}
-use Rattle.std.proofs.Common.{ℕ, suc, zero, Bool, true, false, cond, List, [], Option, Some, None, get_or, set, sum_by, take, drop}
-use Rattle.std.proofs.Common.{length, refl, sym, ap, subst, arith}
-use Rattle.std.specs.Prelude.{nat_le, if◌then◌else◌, slice_index_or}
+use Rattle.std.proofs.Common.{◌≡◌, ◌+◌, ◌-◌, ◌*◌, ◌/◌, ◌%◌, ◌≤◌, ◌∷◌, ◌++◌, ◌∙◌, min, ℕ, suc, zero, Bool, true, false, cond, List, []}
+use Rattle.std.proofs.Common.{Option, Some, None, get_or, set, sum_by, take, drop, length, refl, sym, ap, subst, arith, nat_le}
+use Rattle.std.proofs.Common.{if◌then◌else◌, slice_index_or}
 use Rattle.std.proofs.lemmas.Bool.{le-leb}
 use Rattle.std.proofs.lemmas.List.Sums.{sum_by-cons, sum_by-append, count_by-le-length}
 use Rattle.std.proofs.lemmas.List.{take-append-drop, drop-drop}
@@ -75,6 +74,21 @@ if_room : (t : Table) (b : Bool) (x y : Option Room) → IsRoom t x → IsRoom t
 if_room t true x y p q = p
 if_room t false x y p q = q
 
+-- an object that is made where there is room leaves as many regions free as the room's table has: cut off a new buffer, or by itself
+pub new_as : (b : Buffers) (m size : ℕ) (P : ℕ → Type 0) (o : Option Room) → ((r : Room) → o ≡ Some r → P (free_count r.table))
+    → (x : Placement) → in_new_buffer b m size o ≡ Some x → (s : Stored) → P (free_count (made_at x.table x.place s))
+new_as b m size P None h x f s = absurd (no_some x f)
+new_as b m size P (Some r) h x f s = subst (λ (q : Placement). P (free_count (made_at q.table q.place s))) (some_is _ x f)
+    (subst P (sym (twice_free (push_tile r.table r.region (Filler b.words)) (top_of r.table r.region)
+    (Filler size ∷ remainder (b.words - size)) (Object s ∷ []) ∙ pushed_free r.table r.region (Filler b.words))) (h r refl))
+
+pub alone_as : (b : Buffers) (size : ℕ) (P : ℕ → Type 0) (o : Option Room) → ((r : Room) → o ≡ Some r → P (free_count r.table))
+    → (x : Placement) → alone b size o ≡ Some x → (s : Stored) → P (free_count (made_at x.table x.place s))
+alone_as b size P None h x f s = absurd (no_some x f)
+alone_as b size P (Some r) h x f s = subst (λ (q : Placement). P (free_count (made_at q.table q.place s))) (some_is _ x f)
+    (subst P (sym (replaced_free (push_tile r.table r.region (Filler size)) (top_of r.table r.region) (Object s ∷ [])
+    ∙ pushed_free r.table r.region (Filler size))) (h r refl))
+
 module _ (t : Table) where
   fresh : (o : Option ℕ) → first_free t ≡ o → IsRoom t (fresh_room t o)
   fresh None e r f = absurd (no_some r f)
@@ -86,28 +100,10 @@ module _ (t : Table) where
   room (Some k) w = if_room t (nat_le (used_of t k + w) t.words_per_region) _ _
       (λ r f. subst (λ (q : Room). free_count t ≤ free_count q.table + 1) (some_is _ r f) (omega arith)) (fresh (first_free t) refl)
 
-  new_near : (b : Buffers) (m size : ℕ) (r : Option Room) → IsRoom t r → IsNear t (in_new_buffer b m size r)
-  new_near b m size None h x f s = absurd (no_some x f)
-  new_near b m size (Some r) h x f s =
-      subst (λ (q : Placement). free_count t ≤ free_count (made_at q.table q.place s) + 1) (some_is _ x f)
-      (let a = h r refl in
-      let d = pushed_free r.table r.region (Filler b.words) in
-      let e = twice_free (push_tile r.table r.region (Filler b.words)) (top_of r.table r.region) (Filler size ∷ remainder (b.words - size))
-      (Object s ∷ []) in
-      omega (arith, a, d, e))
-
-  alone_near : (b : Buffers) (size : ℕ) (r : Option Room) → IsRoom t r → IsNear t (alone b size r)
-  alone_near b size None h x f s = absurd (no_some x f)
-  alone_near b size (Some r) h x f s =
-      subst (λ (q : Placement). free_count t ≤ free_count (made_at q.table q.place s) + 1) (some_is _ x f)
-      (let a = h r refl in
-      let d = pushed_free r.table r.region (Filler size) in
-      let g = replaced_free (push_tile r.table r.region (Filler size)) (top_of r.table r.region) (Object s ∷ []) in
-      omega (arith, a, d, g))
-
   outside_near : (b : Buffers) (m size : ℕ) → IsNear t (outside t b m size)
-  outside_near b m size = if_near t (nat_le size b.words) _ _ (new_near b m size (room_for t b.current b.words) (room b.current b.words))
-      (alone_near b size (room_for t b.current size) (room b.current size))
+  outside_near b m size = if_near t (nat_le size b.words) _ _
+      (new_as b m size (λ n. free_count t ≤ n + 1) (room_for t b.current b.words) (room b.current b.words))
+      (alone_as b size (λ n. free_count t ≤ n + 1) (room_for t b.current size) (room b.current size))
 
   by_near : (b : Buffers) (m size : ℕ) (o : Option Buffer) → IsNear t (allocation_by t b m size o)
   by_near b m size None = outside_near b m size
@@ -134,27 +130,6 @@ abbrev pub IsOutside : Table → Option Placement → Type 0
 IsOutside t o = (x : Placement) → o ≡ Some x → (s : Stored) → free_count (made_at x.table x.place s) + 1 ≡ free_count t
 
 module _ (t : Table) where
-  pub new_as : (b : Buffers) (m size n : ℕ) (o : Option Room) → ((r : Room) → o ≡ Some r → free_count r.table + n ≡ free_count t)
-      → (x : Placement) → in_new_buffer b m size o ≡ Some x → (s : Stored) → free_count (made_at x.table x.place s) + n ≡ free_count t
-  new_as b m size n None h x f s = absurd (no_some x f)
-  new_as b m size n (Some r) h x f s =
-      subst (λ (q : Placement). free_count (made_at q.table q.place s) + n ≡ free_count t) (some_is _ x f)
-      (let a = h r refl in
-      let d = pushed_free r.table r.region (Filler b.words) in
-      let e = twice_free (push_tile r.table r.region (Filler b.words)) (top_of r.table r.region) (Filler size ∷ remainder (b.words - size))
-      (Object s ∷ []) in
-      omega (arith, a, d, e))
-
-  pub alone_as : (b : Buffers) (size n : ℕ) (o : Option Room) → ((r : Room) → o ≡ Some r → free_count r.table + n ≡ free_count t)
-      → (x : Placement) → alone b size o ≡ Some x → (s : Stored) → free_count (made_at x.table x.place s) + n ≡ free_count t
-  alone_as b size n None h x f s = absurd (no_some x f)
-  alone_as b size n (Some r) h x f s =
-      subst (λ (q : Placement). free_count (made_at q.table q.place s) + n ≡ free_count t) (some_is _ x f)
-      (let a = h r refl in
-      let d = pushed_free r.table r.region (Filler size) in
-      let g = replaced_free (push_tile r.table r.region (Filler size)) (top_of r.table r.region) (Object s ∷ []) in
-      omega (arith, a, d, g))
-
   pub next_room : (o : Option ℕ) → first_free t ≡ o → IsNext t (fresh_room t o)
   next_room None e r f = absurd (no_some r f)
   next_room (Some k) e r f =
@@ -170,9 +145,11 @@ take_most zero rs = omega arith
 take_most (suc m) [] = omega arith
 take_most (suc m) (r ∷ rs) = let h = take_most m rs in omega (arith, h)
 
--- m regions give way to others: m less are free at most
-pub run_free : (t : Table) (k m : ℕ) (block : List Region) → free_count t ≤ free_count (with_regions t k m block) + m
-run_free t k m block =
+-- m regions give way to others: of the free ones these are counted in their place
+given_way : (t : Table) (k m : ℕ) (block : List Region)
+    → free_count (with_regions t k m block) + sum_by (λ (x : Region). cond (is_free x) 1 0) (take m (drop k t.regions))
+    ≡ free_count t + sum_by (λ (x : Region). cond (is_free x) 1 0) block
+given_way t k m block =
     let bit : Region → ℕ = λ (x : Region). cond (is_free x) 1 0 in
     let rs = t.regions in
     let a = sum_by-append bit (take k rs) (block ++ drop (k + m) rs) in
@@ -182,9 +159,14 @@ run_free t k m block =
     let f = ap (sum_by bit) (take-append-drop m (drop k rs)) in
     let g = sum_by-append bit (take m (drop k rs)) (drop m (drop k rs)) in
     let h = ap (sum_by bit) (drop-drop m k rs) in
-    let i = count_by-le-length is_free (take m (drop k rs)) in
-    let j = take_most m (drop k rs) in
-    omega (arith, a, b, d, e, f, g, h, i, j)
+    omega (arith, a, b, d, e, f, g, h)
+
+-- m less are free at most
+pub run_free : (t : Table) (k m : ℕ) (block : List Region) → free_count t ≤ free_count (with_regions t k m block) + m
+run_free t k m block =
+    let i = count_by-le-length is_free (take m (drop k t.regions)) in
+    let j = take_most m (drop k t.regions) in
+    omega (arith, given_way t k m block, i, j)
 
 -- where these were free all of them are less
 front_free : (m : ℕ) (rs : List Region) → m ≤ front_count is_free rs → sum_by (λ (x : Region). cond (is_free x) 1 0) (take m rs) ≡ m
@@ -219,17 +201,6 @@ run_regions_free size (suc m) s =
 pub run_taken : (t : Table) (k m : ℕ) (s : Stored) → first_run is_free m t.regions ≡ Some k
     → free_count (with_regions t k m (run_regions t.words_per_region s m)) + m ≡ free_count t
 run_taken t k m s found =
-    let bit : Region → ℕ = λ (x : Region). cond (is_free x) 1 0 in
-    let rs = t.regions in
-    let block : List Region = run_regions t.words_per_region s m in
-    let p = run_passes is_free m k rs found in
-    let a = sum_by-append bit (take k rs) (block ++ drop (k + m) rs) in
-    let b = sum_by-append bit block (drop (k + m) rs) in
-    let d = ap (sum_by bit) (take-append-drop k rs) in
-    let e = sum_by-append bit (take k rs) (drop k rs) in
-    let f = ap (sum_by bit) (take-append-drop m (drop k rs)) in
-    let g = sum_by-append bit (take m (drop k rs)) (drop m (drop k rs)) in
-    let h = ap (sum_by bit) (drop-drop m k rs) in
-    let i = front_free m (drop k rs) p.1 in
+    let i = front_free m (drop k t.regions) (run_passes is_free m k t.regions found).1 in
     let j = run_regions_free t.words_per_region m s in
-    omega (arith, a, b, d, e, f, g, h, i, j)
+    omega (arith, given_way t k m (run_regions t.words_per_region s m), i, j)

@@ -1,7 +1,6 @@
 -- The names of kept objects: of those of ordinary regions, and of all.
-use Rattle.std.proofs.Common.{◌≡◌, ◌≢◌, ◌+◌, ◌*◌, ◌/◌, ◌<◌, ◌≤◌, ◌∷◌, ◌∙◌}
-use Rattle.std.proofs.Common.{ℕ, suc, zero, Bool, true, List, [], Option, Some, None, length, refl, sym, ap, subst, arith}
-use Rattle.std.specs.Prelude.{slice_get}
+use Rattle.std.proofs.Common.{◌≡◌, ◌≢◌, ◌+◌, ◌*◌, ◌/◌, ◌<◌, ◌≤◌, ◌∷◌, ◌∙◌, ℕ, suc, zero, Bool, true, List, [], Option, Some, None, length}
+use Rattle.std.proofs.Common.{refl, sym, ap, subst, arith, slice_get}
 use Rattle.std.proofs.Math.Nat.{suc-mul}
 use Rattle.heap_model.specs.Graph.{Graph, IsReachable, object_named}
 use Rattle.heap_model.specs.Heap.{Stored, Shows}
@@ -59,8 +58,7 @@ total_split f zero m whole a b e h =
     let q : b ≡ a = omega (arith, h) in
     omega (arith, ap (total f a) p, ap (λ (x : ℕ). total f x m) q)
 total_split f (suc n) m zero a b e h = absurd (omega (arith, e))
-total_split f (suc n) m (suc whole) a b e h =
-    omega (arith, total_split f n m whole (suc a) b (omega (arith, e)) (omega (arith, h)))
+total_split f (suc n) m (suc whole) a b e h = omega (arith, total_split f n m whole (suc a) b (omega (arith, e)) (omega (arith, h)))
 
 total_regions : (f : ℕ → Option Stored) (words n : ℕ) → total f 0 (n * words) ≡ sum_below (λ k. total f (k * words) words) n
 total_regions f words zero = let z : zero * words ≡ 0 = omega arith in ap (λ (m : ℕ). total f 0 m) z
@@ -224,8 +222,7 @@ module _ (c : CoreState) where
       by_kind : (o : Kind) → total (λ a. kept_if o (kept_of c a)) (k * words) words ≡ kept_by_kind o c k
       by_kind kinds.Free = total_none words (k * words)
       by_kind kinds.Ordinary = total_kept c words (k * words)
-      by_kind kinds.First = total_none words (k * words)
-      by_kind kinds.Rest = total_none words (k * words)
+      by_kind _ = total_none words (k * words)
 
   pub ordinary_total : total in_ordinary 0 (length t.regions * words) ≡ kept_sum c
   ordinary_total =

@@ -1,16 +1,11 @@
 -- What is due at a look, and what comes after it.
-use Rattle.std.proofs.Common.{◌≡◌, ◌+◌, ◌≤◌, ◌∙◌, ℕ, Bool, true, false, refl, sym, subst, arith}
-use Rattle.std.specs.Prelude.{if◌then◌else◌, not}
+use Rattle.std.proofs.Common.{◌≡◌, ◌+◌, ◌≤◌, ◌∙◌, ℕ, Bool, true, false, refl, sym, subst, arith, if◌then◌else◌, not}
 use Rattle.heap_words.specs.Configs.{object_limit}
 use Rattle.heap_words.specs.declared.config.Config.{Config}
-use Rattle.heap_steps.specs.declared.step.Action.{Action}
+use Rattle.step_core.specs.Steps.{Action, Event, Op, Refusal, Reply}
 use Rattle.heap_steps.specs.declared.step.Action.TheVariants as actions
-use Rattle.heap_steps.specs.declared.step.Refusal.{Refusal}
 use Rattle.heap_steps.specs.declared.step.Reply.TheVariants as replies
 use Rattle.step_core.specs.Making.{HasMade}
-use Rattle.heap_steps.specs.declared.step.Event.{Event}
-use Rattle.heap_steps.specs.declared.step.Op.{Op}
-use Rattle.heap_steps.specs.declared.step.Reply.{Reply}
 use Rattle.step_core.specs.Stands.{CoreState}
 use Rattle.collection.specs.Asked.{MakesByPolicy, MakesRoom, due_steps}
 use Rattle.collection.specs.Rooms.{IsCreatable}

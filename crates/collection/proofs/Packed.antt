@@ -1,7 +1,6 @@
 -- What a pause leaves that frees no region.
-use Rattle.std.proofs.Common.{◌≡◌, ◌≢◌, ◌+◌, ◌-◌, ◌*◌, ◌/◌, ◌<◌, ◌≤◌, ◌⊎◌, ◌∷◌, ◌∙◌, ◌^◌}
-use Rattle.std.proofs.Common.{ℕ, true, false, List, [], Some, length, All, inl, inr, refl, sym, ap, subst, arith}
-use Rattle.std.specs.Prelude.{slice_get}
+use Rattle.std.proofs.Common.{◌≡◌, ◌≢◌, ◌+◌, ◌-◌, ◌*◌, ◌/◌, ◌<◌, ◌≤◌, ◌⊎◌, ◌∷◌, ◌∙◌, ◌^◌, ℕ, true, false, List, [], Some, length, All, inl}
+use Rattle.std.proofs.Common.{inr, refl, sym, ap, subst, arith, slice_get}
 use Rattle.std.proofs.lemmas.Bool.{cases_Bool, cases_eq, cases_lt}
 use Rattle.std.proofs.lemmas.Nat.{mul-le}
 use Rattle.std.proofs.lemmas.List.Elements.{All-head, All-take}
@@ -131,10 +130,8 @@ kept_bound c exact =
     (λ k lt. each k lt (kind_of c.table k) refl)
   where
     each : (k : ℕ) → k < length c.table.regions → (o : Kind) → kind_of c.table k ≡ o → bound_by_kind o c k ≤ kept_by_kind o c k
-    each k lt kinds.Free e = omega arith
     each k lt kinds.Ordinary e = exact.exact k lt e
-    each k lt kinds.First e = omega arith
-    each k lt kinds.Rest e = omega arith
+    each k lt _ e = omega arith
 
 pub dense_packed : (s : State) (c : CoreState) → IsCore c → IsShaped c.table → IsQuiet s c → IsDense c → IsPacked s.graph c
 dense_packed s c core shape q dense =
@@ -192,12 +189,7 @@ module _ (which : Choice) (budget n w : ℕ) (c c' : CoreState) (shape : IsShape
         | inl f ↦ ap run_one f ∙ sym (ap run_one e)
         | inr o ↦ ap run_one o ∙ sym (ap run_one e)
       ]
-      by_kind k out kinds.Ordinary e = ap run_one (moved_regions.kinds_same k out (λ f. let q : kinds.Free ≡ kinds.Ordinary = sym f
-          ∙ e in absurd {A = ⊥} cc))
-      by_kind k out kinds.First e = ap run_one (moved_regions.kinds_same k out (λ f. let q : kinds.Free ≡ kinds.First = sym f
-          ∙ e in absurd {A = ⊥} cc))
-      by_kind k out kinds.Rest e = ap run_one (moved_regions.kinds_same k out (λ f. let q : kinds.Free ≡ kinds.Rest = sym f
-          ∙ e in absurd {A = ⊥} cc))
+      by_kind k out _ e = ap run_one (moved_regions.kinds_same k out (λ f. let g = e in absurd {A = ⊥} cc))
 
   pub runs_stay : run_count c'.table ≡ run_count c.table
   runs_stay =
@@ -355,12 +347,7 @@ module _ (g : Graph) (c : CoreState) (p : IsPacked g c)
 pub all_free : (g : Graph) (c : CoreState) → IsCore c → c.config.regions ≤ free_count c.table → IsPacked g c
 all_free g c core all = record {
   words = 0;
-  reachable = record {
-    names = [];
-    distinct = λ i j n e f. absurd (no_name i n e);
-    each = λ i n e. absurd (no_name i n e);
-    total = refl;
-  };
+  reachable = record { names = []; distinct = λ i j n e f. absurd (no_name i n e); each = λ i n e. absurd (no_name i n e); total = refl };
   small = λ i n e. absurd (no_name i n e);
   half = λ some. absurd (let a = count_all c.table in let b = core.layers.region_count in omega (arith, a, b, all, some));
   in_use = λ ne some. absurd (let a = count_all c.table in let b = core.layers.region_count in omega (arith, a, b, all, some));

@@ -1,13 +1,11 @@
 -- After a pause live words are exact where they were, and what is kept was.
-use Rattle.std.proofs.Common.{◌≡◌, ◌+◌, ◌-◌, ◌*◌, ◌/◌, ◌%◌, ◌<◌, ◌≤◌, ◌⊎◌, ◌∷◌, ◌∙◌}
-use Rattle.std.proofs.Common.{ℕ, suc, zero, Bool, true, false, List, [], Option, Some, None, length, get_or, inl, inr, refl, sym, ap}
-use Rattle.std.proofs.Common.{subst, arith}
-use Rattle.std.specs.Prelude.{if◌then◌else◌, nat_lt}
+use Rattle.std.proofs.Common.{◌≡◌, ◌+◌, ◌-◌, ◌*◌, ◌/◌, ◌%◌, ◌<◌, ◌≤◌, ◌⊎◌, ◌∷◌, ◌∙◌, ℕ, suc, zero, Bool, true, false, List, [], Option}
+use Rattle.std.proofs.Common.{Some, None, length, get_or, inl, inr, refl, sym, ap, subst, arith, if◌then◌else◌, nat_lt}
 use Rattle.std.proofs.lemmas.Bool.{cases_Bool, le-ltb}
 use Rattle.heap_model.specs.Graph.{Graph, IsReachable}
 use Rattle.heap_model.specs.Heap.{Stored}
 use Rattle.regions.specs.Tiles.{Tile, Object, tile_size, tile_at, total_size}
-use Rattle.regions.specs.Table.{Table, Region, Free, Ordinary, First, Rest, kind_of, top_of, used_of, nth_region, region_kind}
+use Rattle.regions.specs.Table.{Table, Region, Free, Ordinary, kind_of, top_of, used_of, nth_region, region_kind}
 use Rattle.regions.specs.Table.{region_at, region_tile, region_used}
 use Rattle.regions.specs.Table.{tile_in, tile_object, object_at, object_words, stored_size}
 use Rattle.regions.specs.Shaped.{IsShaped}
@@ -101,9 +99,6 @@ filled_region t k shape o all = go (nth_region t k) refl o
   where
     go : (r : Region) → nth_region t k ≡ r → region_kind r ≡ kinds.Ordinary
         → region_used t.words_per_region (nth_region t k) ≤ total (object_at t) (k * t.words_per_region) t.words_per_region
-    go Free e f = absurd (let q : kinds.Free ≡ kinds.Ordinary = f in cc)
-    go (First s) e f = absurd (let q : kinds.First ≡ kinds.Ordinary = f in cc)
-    go (Rest n) e f = absurd (let q : kinds.Rest ≡ kinds.Ordinary = f in cc)
     go (Ordinary ts) e f =
         let words : ℕ = t.words_per_region in
         let fit = shape.fitting k in
@@ -119,6 +114,7 @@ filled_region t k shape o all = go (nth_region t k) refl o
         (λ p l u. ap tile_object (tile_here t k p (k * words + p) ts e (omega (arith, u)) refl)) in
         let used : region_used words (nth_region t k) ≡ total_size ts = ap (region_used words) e in
         omega (arith, a, b, d, used)
+    go _ e f = absurd (let g = f in cc)
 
 -- ---- a region that stays
 same_live : (t t' : Table) (tops tops' : List ℕ) (marks marks' : List Bool) (k : ℕ) → t'.words_per_region ≡ t.words_per_region
@@ -134,8 +130,7 @@ same_live t t' tops tops' marks marks' k size top start le each sizes =
     let bottom : k * t'.words_per_region ≡ k * words = ap (λ (w : ℕ). k * w) size in
     let inside : (x : ℕ) → x < k * words + n → k * words ≤ x → x < k * words + words = λ x h l. omega (arith, h, l, le) in
     let below : marked_words t' marks' (k * t'.words_per_region) (get_or tops' k 0 - k * t'.words_per_region)
-    ≡ marked_words t marks (k * words) n =
-    ap (λ (b : ℕ). marked_words t' marks' b (get_or tops' k 0 - k * t'.words_per_region)) bottom
+    ≡ marked_words t marks (k * words) n = ap (λ (b : ℕ). marked_words t' marks' b (get_or tops' k 0 - k * t'.words_per_region)) bottom
     ∙ ap (marked_words t' marks' (k * words)) at
     ∙ same_words t t' marks marks' n (k * words) (λ x l h. each x l (inside x h l)) (λ x l h. sizes x l (inside x h l)) in
     omega (arith, below, top, start)
@@ -171,12 +166,6 @@ option_cases (Some s) = inr (s, refl)
 
 free_ordinary : kinds.Free ≡ kinds.Ordinary → ⊥
 free_ordinary e = cc
-
-first_ordinary : kinds.First ≡ kinds.Ordinary → ⊥
-first_ordinary e = cc
-
-rest_ordinary : kinds.Rest ≡ kinds.Ordinary → ⊥
-rest_ordinary e = cc
 
 if_not : (b : Bool) (m n : ℕ) → b ≡ false → (if b then m else n) ≡ n
 if_not true m n e = absurd cc
@@ -340,16 +329,7 @@ module _ (which : Choice) (budget n w : ℕ) (c c' : CoreState) (core : IsCore c
           → kept_live k
       by_kind k o out lt kinds.Free e = fresh k lt out e o
       by_kind k o out lt kinds.Ordinary e = stays k lt out e
-      by_kind k o out lt kinds.First e =
-          absurd (first_ordinary (sym (ev.regions.kinds_same k out (λ g. first_free (sym e ∙ g)) ∙ e) ∙ o))
-        where
-          first_free : kinds.First ≡ kinds.Free → ⊥
-          first_free e = cc
-      by_kind k o out lt kinds.Rest e =
-          absurd (rest_ordinary (sym (ev.regions.kinds_same k out (λ g. rest_free (sym e ∙ g)) ∙ e) ∙ o))
-        where
-          rest_free : kinds.Rest ≡ kinds.Free → ⊥
-          rest_free e = cc
+      by_kind k o out lt _ e = absurd (let same = ev.regions.kinds_same k out (λ g. (let h = e in cc)) in let h = e in let now = o in cc)
 
   pub paused_exact : IsExact c'
   unfolding kept_live

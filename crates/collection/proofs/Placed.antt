@@ -1,7 +1,6 @@
 -- A small object has a place where a region is free.
-use Rattle.std.proofs.Common.{◌≡◌, ◌+◌, ◌*◌, ◌<◌, ◌≤◌, ◌∙◌}
-use Rattle.std.proofs.Common.{ℕ, Bool, true, false, Option, Some, None, refl, sym, ap}
-use Rattle.std.specs.Prelude.{nat_le, if◌then◌else◌, slice_index_or}
+use Rattle.std.proofs.Common.{◌≡◌, ◌+◌, ◌*◌, ◌<◌, ◌≤◌, ◌∙◌, ℕ, Bool, true, false, Option, Some, None, refl, sym, ap, nat_le, if◌then◌else◌}
+use Rattle.std.proofs.Common.{slice_index_or}
 use Rattle.std.proofs.lemmas.Bool.{le-leb}
 use Rattle.regions.specs.Table.{Table, free_count, first_free, used_of}
 use Rattle.object_copy.proofs.Frees.{some_free}

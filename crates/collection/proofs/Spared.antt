@@ -1,18 +1,13 @@
 -- An object for which there is room beside two free regions, and its step.
-use Rattle.std.proofs.Common.{◌≡◌, ◌*◌, ◌<◌, ◌≤◌, ◌∙◌}
-use Rattle.std.proofs.Common.{ℕ, Bool, Option, Some, None, refl, sym, ap, subst, arith}
-use Rattle.std.specs.Prelude.{if◌then◌else◌}
+use Rattle.std.proofs.Common.{◌≡◌, ◌*◌, ◌<◌, ◌≤◌, ◌∙◌, ℕ, Bool, Option, Some, None, refl, sym, ap, subst, arith, if◌then◌else◌}
 use Rattle.std.proofs.lemmas.Bool.{lt-leb}
 use Rattle.heap_model.specs.Graph.{Graph}
 use Rattle.heap_model.specs.Heap.{Stored}
 use Rattle.regions.specs.Table.{first_run, free_count, is_free, new_object, run_regions}
 use Rattle.alloc_buffers.specs.declared.placement.Allocation.TheVariants as allocations
 use Rattle.alloc_buffers.specs.Placement.{Placement, in_run, made_at, allocation_of, run_count, run_allocation_of, small_allocation_of}
-use Rattle.heap_steps.specs.declared.step.Action.{Action}
+use Rattle.step_core.specs.Steps.{Action, Counts, Op, Reply}
 use Rattle.heap_steps.specs.declared.step.Action.TheVariants as actions
-use Rattle.heap_steps.specs.declared.step.Counts.{Counts}
-use Rattle.heap_steps.specs.declared.step.Op.{Op}
-use Rattle.heap_steps.specs.declared.step.Reply.{Reply}
 use Rattle.heap_steps.specs.declared.step.Reply.TheVariants as replies
 use Rattle.graph_runs.specs.Run.{IsNew}
 use Rattle.step_core.specs.Stands.{CoreState}
@@ -33,8 +28,7 @@ none_some x o e f = cc
 module _ (c : CoreState) where
   made_two : (p : ℕ) (counts : Counts) (weaks : ℕ) (o : Option Placement) (x : Placement) → o ≡ Some x
       → ((s : Stored) → 2 ≤ free_count (made_at x.table x.place s)) → 2 ≤ free_count (with_made c p counts weaks o).table
-  made_two p counts weaks o x e h =
-      subst (λ (q : Option Placement). 2 ≤ free_count (with_made c p counts weaks q).table) (sym e) (h _)
+  made_two p counts weaks o x e h = subst (λ (q : Option Placement). 2 ≤ free_count (with_made c p counts weaks q).table) (sym e) (h _)
 
   after_two : (m : ℕ) (a : Action) → IsNew a → (x : Placement) → allocation_of c.table c.buffers m (asked_words a) ≡ Some x
       → ((s : Stored) → 2 ≤ free_count (made_at x.table x.place s)) → 2 ≤ free_count (core_after c m a).table
@@ -44,10 +38,7 @@ module _ (c : CoreState) where
 
   by_place : (op : Op) → IsNew op.action → (x : Placement) → allocation_of c.table c.buffers op.mutator (asked_words op.action) ≡ Some x
       → (2 ≤ free_count c.table → (s : Stored) → 2 ≤ free_count (made_at x.table x.place s)) → IsSpared c op
-  by_place op new x e h = record {
-    place = none_some x _ e;
-    two = λ two. after_two op.mutator op.action new x e (h two);
-  }
+  by_place op new x e h = record { place = none_some x _ e; two = λ two. after_two op.mutator op.action new x e (h two) }
 
   -- a third region is free
   pub small_spared : (op : Op) → IsNew op.action → 2 * asked_words op.action ≤ c.table.words_per_region → 2 < free_count c.table

@@ -1,7 +1,6 @@
 -- Sums over regions.
-use Rattle.std.proofs.Common.{◌≡◌, ◌≢◌, ◌+◌, ◌*◌, ◌<◌, ◌≤◌, ◌∷◌}
-use Rattle.std.proofs.Common.{ℕ, suc, zero, Bool, true, false, List, [], All, sum_by, count_by, cond, inl, inr, refl, ap, subst, arith}
-use Rattle.std.specs.Prelude.{◌||◌, ◌==◌, if◌then◌else◌}
+use Rattle.std.proofs.Common.{◌≡◌, ◌≢◌, ◌+◌, ◌*◌, ◌<◌, ◌≤◌, ◌∷◌, ℕ, suc, zero, Bool, true, false, List, [], All, sum_by, count_by, cond}
+use Rattle.std.proofs.Common.{inl, inr, refl, ap, subst, arith, ◌||◌, ◌==◌, if◌then◌else◌}
 use Rattle.std.specs.List.{list_any}
 use Rattle.std.proofs.lemmas.Bool.{cases_eq, cases_Bool, eq-eqb, eqb-true}
 use Rattle.std.proofs.lemmas.Bool.Decides.{eqb_tells}

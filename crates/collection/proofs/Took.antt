@@ -1,21 +1,15 @@
 -- Steps of the collector, one after another.
-use Rattle.std.proofs.Common.{◌≡◌, ◌⊎◌, ◌+◌, ◌≤◌, ◌∷◌, ◌++◌, ◌∙◌}
-use Rattle.std.proofs.Common.{ℕ, List, [], All, inl, inr, refl, sym, ap, subst, arith}
+use Rattle.std.proofs.Common.{◌≡◌, ◌⊎◌, ◌+◌, ◌≤◌, ◌∷◌, ◌++◌, ◌∙◌, ℕ, List, [], All, inl, inr, refl, sym, ap, subst, arith, ◌↔◌}
 use Rattle.std.proofs.lemmas.List.{length-append}
 use Rattle.std.proofs.lemmas.List.Elements.{All-append, All-nil, All-cons, All-head, All-tail}
 use Rattle.cards.specs.Cards.{ListsDirtyOnce}
 use Rattle.heap_model.specs.Graph.{Graph}
 use Rattle.regions.specs.Table.{free_count}
 use Rattle.heap_steps.specs.declared.step.Actor.TheVariants as actors
-use Rattle.heap_steps.specs.declared.step.CollectorStep.{CollectorStep}
-use Rattle.heap_steps.specs.declared.step.Event.{Event}
-use Rattle.heap_steps.specs.declared.step.Op.{Op}
-use Rattle.heap_steps.specs.declared.step.Reply.{Reply}
+use Rattle.step_core.specs.Steps.{CollectorStep, Event, Op, Reply, Step}
 use Rattle.heap_steps.specs.declared.step.Reply.TheVariants as replies
 use Rattle.heap_steps.specs.declared.step.Refusal.TheVariants as refusals
-use Rattle.heap_steps.specs.declared.step.Step.{Step}
 use Rattle.heap_steps.specs.declared.step.Step.TheVariants as steps
-use Rattle.std.specs.Prelude.{◌↔◌}
 use Rattle.graph_runs.specs.State.{State}
 use Rattle.graph_runs.specs.Run.{Happens}
 use Rattle.graph_runs.proofs.Collected.{kind}
@@ -73,6 +67,20 @@ passage_reached s last c c' (e ∷ es) all h =
 pub one_passage : (s : State) (e : Event) (c c' : CoreState) → Passes s c e c' → Runs s c (e ∷ []) c'
 one_passage s e c c' p = record { last = p.follows.after; stands = p.follows.stands; passage = (c', p, (refl, refl)) }
 
+-- the same steps, seen by another watch, and no fewer allowed
+seen_by : {W V : Type 0} (sees : W → Event → W → Type 0) (sees' : V → Event → V → Type 0) (m n : ℕ) (c c' : CoreState) (x x' : W) (y y' : V)
+    → m ≤ n → (a : CollectsWithin sees m c x c' x') → Sees sees' y a.events y' → CollectsWithin sees' n c y c' y'
+seen_by sees sees' m n c c' x x' y y' h a seen = record {
+  events = a.events;
+  few = let few = a.few in omega (arith, few, h);
+  collectors = a.collectors;
+  seen = seen;
+  runs = a.runs;
+  two = a.two;
+  config = a.config;
+  next = a.next;
+}
+
 -- ---- what a watch sees
 module _ {W : Type 0} (sees : W → Event → W → Type 0) where
   sees_then : (x y z : W) (es fs : List Event) → Sees sees x es y → Sees sees y fs z → Sees sees x (es ++ fs) z
@@ -91,31 +99,8 @@ module _ {W : Type 0} (sees : W → Event → W → Type 0) where
     next = refl;
   }
 
-  pub one : (c c' : CoreState) (x x' : W) (e : Event) (k : CollectorStep) → e.step ≡ steps.Collector k → e.actor ≡ actors.Collector
-      → sees x e x' → ((s : State) → Stands s c → Passes s c e c') → (2 ≤ free_count c.table → 2 ≤ free_count c'.table)
-      → c'.config ≡ c.config → c'.next ≡ c.next → CollectsWithin sees 1 c x c' x'
-  one c c' x x' e k is actor seen passes two config next = record {
-    events = e ∷ [];
-    few = omega arith;
-    collectors = All-cons IsCollectors e [] (record { step = k; is = is; actor = actor }) (All-nil IsCollectors);
-    seen = (x', seen, refl);
-    runs = λ s stands. one_passage s e c c' (passes s stands);
-    two = two;
-    config = config;
-    next = next;
-  }
-
   pub more : (m n : ℕ) (c c' : CoreState) (x x' : W) → m ≤ n → CollectsWithin sees m c x c' x' → CollectsWithin sees n c x c' x'
-  more m n c c' x x' h a = record {
-    events = a.events;
-    few = let few = a.few in omega (arith, few, h);
-    collectors = a.collectors;
-    seen = a.seen;
-    runs = a.runs;
-    two = a.two;
-    config = a.config;
-    next = a.next;
-  }
+  more m n c c' x x' h a = seen_by sees sees m n c c' x x' x x' h a a.seen
 
   pub chain : (m n o : ℕ) (c d c' : CoreState) (x y x' : W) → m + n ≤ o → CollectsWithin sees m c x d y → CollectsWithin sees n d y c' x'
       → CollectsWithin sees o c x c' x'
@@ -139,14 +124,22 @@ module _ {W : Type 0} (sees : W → Event → W → Type 0) where
   pub one_some : (c c' : CoreState) (x x' : W) (e : Event) (k : CollectorStep) → e.step ≡ steps.Collector k → e.actor ≡ actors.Collector
       → sees x e x' → ((s : State) → Stands s c → Passes s c e c') → (2 ≤ free_count c.table → 2 ≤ free_count c'.table)
       → c'.config ≡ c.config → c'.next ≡ c.next → CollectsSome sees 1 c x c' x'
-  unfolding one
   one_some c c' x x' e k is actor seen passes two config next = record {
-    collects = one c c' x x' e k is actor seen passes two config next;
+    collects = record {
+      events = e ∷ [];
+      few = omega arith;
+      collectors = All-cons IsCollectors e [] (record { step = k; is = is; actor = actor }) (All-nil IsCollectors);
+      seen = (x', seen, refl);
+      runs = λ s stands. one_passage s e c c' (passes s stands);
+      two = two;
+      config = config;
+      next = next;
+    };
     some = omega arith;
   }
 
   pub some_more : (m n : ℕ) (c c' : CoreState) (x x' : W) → m ≤ n → CollectsSome sees m c x c' x' → CollectsSome sees n c x c' x'
-  unfolding more
+  unfolding more seen_by
   some_more m n c c' x x' h a = record { collects = more m n c c' x x' h a.collects; some = a.some }
 
   pub some_then : (m n o : ℕ) (c d c' : CoreState) (x y x' : W) → m + n ≤ o → CollectsSome sees m c x d y → CollectsWithin sees n d y c' x'
@@ -190,20 +183,12 @@ sees_none (e ∷ es) = (nobody, tt, sees_none es)
 
 pub unseen : {W : Type 0} (sees : W → Event → W → Type 0) (most : ℕ) (c c' : CoreState) (x x' : W) → CollectsWithin sees most c x c' x'
     → CollectsWithin {W = Unit {0}} (λ x e y. Unit {0}) most c nobody c' nobody
-unseen sees most c c' x x' a = record {
-  events = a.events;
-  few = a.few;
-  collectors = a.collectors;
-  seen = sees_none a.events;
-  runs = a.runs;
-  two = a.two;
-  config = a.config;
-  next = a.next;
-}
+unseen sees most c c' x x' a =
+    seen_by sees (λ x e y. Unit {0}) most most c c' x x' nobody nobody (omega arith) a (sees_none a.events)
 
 pub unseen_some : {W : Type 0} (sees : W → Event → W → Type 0) (most : ℕ) (c c' : CoreState) (x x' : W) → CollectsSome sees most c x c' x'
     → CollectsSome {W = Unit {0}} (λ x e y. Unit {0}) most c nobody c' nobody
-unfolding unseen
+unfolding unseen seen_by
 unseen_some sees most c c' x x' a = record { collects = unseen sees most c c' x x' a.collects; some = a.some }
 
 unseen_own : {W : Type 0} (sees : W → Event → W → Type 0) (op : Op) (reply : Reply) (c c' : CoreState) (x x' : W)

@@ -1,18 +1,13 @@
 -- An object that the graph wouldn't create takes no free region.
-use Rattle.std.proofs.Common.{◌≡◌, ◌⊎◌, ◌+◌, ◌^◌, ◌-◌, ◌≤◌}
-use Rattle.std.proofs.Common.{ℕ, Option, Some, None, inl, inr, refl, ap, subst, arith}
+use Rattle.std.proofs.Common.{◌≡◌, ◌⊎◌, ◌+◌, ◌^◌, ◌-◌, ◌≤◌, ℕ, Option, Some, None, inl, inr, refl, ap, subst, arith}
 use Rattle.std.proofs.lemmas.Bool.Decides.{eqb_tells}
 use Rattle.heap_words.specs.declared.config.Config.{Config}
 use Rattle.heap_words.specs.Configs.{object_limit}
 use Rattle.regions.specs.Table.{free_count}
 use Rattle.alloc_buffers.specs.Placement.{Placement, allocation_of}
-use Rattle.heap_steps.specs.declared.step.Action.{Action}
+use Rattle.step_core.specs.Steps.{Action, Counts, Op, Refusal, Reply}
 use Rattle.heap_steps.specs.declared.step.Action.TheVariants as actions
-use Rattle.heap_steps.specs.declared.step.Counts.{Counts}
-use Rattle.heap_steps.specs.declared.step.Op.{Op}
-use Rattle.heap_steps.specs.declared.step.Reply.{Reply}
 use Rattle.heap_steps.specs.declared.step.Reply.TheVariants as replies
-use Rattle.heap_steps.specs.declared.step.Refusal.{Refusal}
 use Rattle.graph_runs.specs.Run.{IsNew}
 use Rattle.step_core.specs.Stands.{CoreState, IsCore}
 use Rattle.step_core.specs.Answers.{IsWithin}
@@ -46,10 +41,7 @@ within_new config _ _ new h = absurd new
 module _ (c d : CoreState) (op : Op) (new : IsNew op.action) (core' : IsCore d)
     (not : IsCreatable c op.action → ⊥) (two : 2 ≤ free_count c.table) where
   spent : asked_words op.action ≤ object_limit c.config → c.next ≡ 2 ^ 64 - 1
-  spent fits = elim (eqb_tells c.next (2 ^ 64 - 1)) [
-    | inl q ↦ q.1
-    | inr q ↦ absurd (not (record { fits = fits; named = q.1 }))
-  ]
+  spent fits = elim (eqb_tells c.next (2 ^ 64 - 1)) [ inl q ↦ q.1 | inr q ↦ absurd (not (record { fits = fits; named = q.1 })) ]
 
   acted : asked_words op.action ≤ object_limit c.config → HasActed op.mutator op.action c d → 2 ≤ free_count d.table
   acted fits h = elim (after_next c op.mutator op.action new) [

@@ -2,10 +2,8 @@
 use Rattle.std.specs.Prelude.{◌≡◌, ◌+◌, ◌*◌, ◌/◌, ◌≤◌, ℕ, Bool, true, false, if◌then◌else◌}
 use Rattle.heap_words.specs.declared.config.Config.{Config}
 use Rattle.regions.specs.Table.{free_count}
-use Rattle.heap_steps.specs.declared.step.Event.{Event}
-use Rattle.heap_steps.specs.declared.step.Op.{Op}
+use Rattle.step_core.specs.Steps.{Event, Op, Reply}
 use Rattle.heap_steps.specs.declared.step.Refusal.TheVariants as refusals
-use Rattle.heap_steps.specs.declared.step.Reply.{Reply}
 use Rattle.heap_steps.specs.declared.step.Reply.TheVariants as replies
 use Rattle.graph_runs.specs.State.{State}
 use Rattle.step_core.specs.Making.{HasMade}

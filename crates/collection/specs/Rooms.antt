@@ -6,8 +6,7 @@ use Rattle.heap_model.specs.Heap.{Stored}
 use Rattle.regions.specs.Table.{Table, first_run, free_count, is_free, used_of}
 use Rattle.alloc_buffers.specs.Placement.{Placement, made_at, allocation_of, run_count}
 use Rattle.heap_steps.specs.Actors.{IsThird}
-use Rattle.heap_steps.specs.declared.step.Action.{Action}
-use Rattle.heap_steps.specs.declared.step.Op.{Op}
+use Rattle.step_core.specs.Steps.{Action, Op}
 use Rattle.graph_runs.specs.State.{State}
 use Rattle.step_core.specs.Stands.{CoreState, Stands}
 use Rattle.step_core.specs.Mutators.{core_after}

@@ -4,13 +4,9 @@ use Rattle.heap_words.specs.declared.config.Config.{Config}
 use Rattle.heap_words.specs.Sizes.{size_of}
 use Rattle.regions.specs.Table.{free_count}
 use Rattle.alloc_buffers.specs.Placement.{allocation_of, run_count}
-use Rattle.heap_steps.specs.declared.step.Action.{Action}
+use Rattle.step_core.specs.Steps.{Action, CollectorStep, Event, Op, Reply}
 use Rattle.heap_steps.specs.declared.step.Action.TheVariants as actions
 use Rattle.heap_steps.specs.declared.step.Actor.TheVariants as actors
-use Rattle.heap_steps.specs.declared.step.CollectorStep.{CollectorStep}
-use Rattle.heap_steps.specs.declared.step.Event.{Event}
-use Rattle.heap_steps.specs.declared.step.Op.{Op}
-use Rattle.heap_steps.specs.declared.step.Reply.{Reply}
 use Rattle.heap_steps.specs.declared.step.Reply.TheVariants as replies
 use Rattle.heap_steps.specs.declared.step.Refusal.TheVariants as refusals
 use Rattle.heap_steps.specs.declared.step.Step.TheVariants as steps
@@ -33,6 +29,13 @@ pub record AsksFor (config : Config) (o : Op) (words : ℕ) : Type 0 where
   pub op : IsOp config o
   pub new : IsNew o.action
   pub size : words ≡ asked_words o.action
+
+-- and all regions together have as many
+pub record AsksWithin (config : Config) (o : Op) (words : ℕ) : Type 0 where
+  pub op : IsOp config o
+  pub new : IsNew o.action
+  pub size : words ≡ asked_words o.action
+  pub within : words ≤ config.regions * config.words
 
 -- how many regions of so many words an object takes: one, of which others may have a part, or a run
 abbrev pub regions_for : ℕ → ℕ → ℕ

@@ -8,7 +8,7 @@ ghost use Rattle.regions.specs.Table.{free_count};
 ghost use Rattle.graph_runs.specs.State.{State};
 ghost use Rattle.graph_runs.specs.Run.{IsNew};
 ghost use Rattle.collection.specs.Space.{IsPacked, IsQuiet, LieBelowFree, ordinary_end};
-ghost use Rattle.collection.specs.Steps.{CollectsWithin, FitsLeavingTwo, AsksFor};
+ghost use Rattle.collection.specs.Steps.{CollectsWithin, FitsLeavingTwo, AsksWithin};
 ghost use Rattle.collection.specs.Rooms.{HasRun, IsSpared};
 
 use crate::numbers::Policy;
@@ -52,9 +52,8 @@ pub(crate) fn compact_for<W: Watch>(
     watch: &mut W,
 ) -> bool
     requires third { IsThird core.old.config.format }
-    requires asked { AsksFor core.old.config op.now size }
+    requires asked { AsksWithin core.old.config op.now size }
     requires large { core.old.config.words < 2 * size }
-    requires within { size ≤ core.old.config.regions * core.old.config.words }
     ensures collects { CollectsWithin W.sees (core.old.config.regions + 1) core.old watch.old core.new watch.new }
     ensures quiet { (s : State) → IsQuiet s core.old → IsQuiet s core.new }
     ensures packed { (g : Graph) → IsPacked g core.old → IsPacked g core.new }

@@ -11,7 +11,7 @@ ghost use Rattle.heap_steps.specs.Actors.{IsOp, IsThird};
 ghost use Rattle.heap_steps.specs.declared.step.Reply.TheVariants as replies;
 ghost use Rattle.heap_steps.specs.declared.step.Refusal.TheVariants as refusals;
 ghost use Rattle.collection.specs.Asked.{MakesByPolicy, MakesRoom, due_steps};
-ghost use Rattle.collection.specs.Steps.{CollectsWithin, CollectsSome, FitsLeavingTwo, AsksFor, IsDue, LeavesTwo, asked_words};
+ghost use Rattle.collection.specs.Steps.{CollectsWithin, CollectsSome, FitsLeavingTwo, AsksFor, AsksWithin, IsDue, LeavesTwo, asked_words};
 ghost use Rattle.collection.specs.Space.{IsPacked, IsQuiet, LieBelowFree};
 ghost use Rattle.collection.specs.Rooms.{HasRun, IsCreatable, IsFilled, IsLastResort, IsSpared};
 
@@ -45,9 +45,8 @@ fn compact_all<W: Watch>(
     watch: &mut W,
 ) -> bool
     requires third { IsThird core.old.config.format }
-    requires asked { AsksFor core.old.config op.now size }
+    requires asked { AsksWithin core.old.config op.now size }
     requires large { core.old.config.words < 2 * size }
-    requires within { size ≤ core.old.config.regions * core.old.config.words }
     ensures collects { CollectsWithin W.sees (core.old.config.regions + 1) core.old watch.old core.new watch.new }
     ensures quiet { (s : State) → IsQuiet s core.old → IsQuiet s core.new }
     ensures packed { (g : Graph) → IsPacked g core.old → IsPacked g core.new }
@@ -74,8 +73,7 @@ fn collect_all<W: Watch>(
     size: u32,
     watch: &mut W,
 ) -> bool
-    requires asked { AsksFor core.old.config op.now size }
-    requires within { size ≤ core.old.config.regions * core.old.config.words }
+    requires asked { AsksWithin core.old.config op.now size }
     ensures collects { CollectsWithin W.sees (5 + 2 * core.old.config.regions) core.old watch.old core.new watch.new }
     ensures room { result ≡ true → IsSpared core.new op.now ⊎ IsLastResort core.old op.now core.new }
     ensures leaves { result ≡ false → LeavesTwo core.old.config op.now.action }
@@ -105,8 +103,7 @@ fn make_room<W: Watch>(
     due: bool,
     watch: &mut W,
 ) -> bool
-    requires asked { AsksFor core.old.config op.now size }
-    requires within { size ≤ core.old.config.regions * core.old.config.words }
+    requires asked { AsksWithin core.old.config op.now size }
     ensures collects { CollectsWithin W.sees (4 * core.old.config.regions + 12) core.old watch.old core.new watch.new }
     ensures paced { MakesRoom W.sees due policy.old.begin_at op.now core.old watch.old core.new watch.new }
     ensures room { result ≡ true → IsSpared core.new op.now ⊎ IsLastResort core.old op.now core.new }

@@ -5,7 +5,7 @@ ghost use Rattle.heap_steps.specs.Actors.{IsOp, IsThird};
 ghost use Rattle.regions.specs.Table.{free_count};
 ghost use Rattle.graph_runs.specs.Run.{IsNew};
 ghost use Rattle.alloc_buffers.specs.Placement.{run_count};
-ghost use Rattle.collection.specs.Steps.{FitsLeavingTwo, AsksFor, LeavesTwo, asked_words};
+ghost use Rattle.collection.specs.Steps.{FitsLeavingTwo, AsksWithin, LeavesTwo, asked_words};
 ghost use Rattle.collection.specs.Rooms.{FitsOpen, HasRun, IsCreatable, IsSpared, TakesRegion, has_rest};
 
 use heap_steps::{Action, Op};
@@ -96,8 +96,7 @@ fn has_run(core: &Core, size: u32) -> bool
 
 /// Whether the object can be made so that two free regions stay two, if they are: then it has a place too.
 pub(crate) fn is_spared(core: &Core, op: &Op, size: u32) -> bool
-    requires asked { AsksFor core.now.config op.now size }
-    requires within { size ≤ core.now.config.regions * core.now.config.words }
+    requires asked { AsksWithin core.now.config op.now size }
     ensures spared { result ≡ true → IsSpared core.now op.now }
     ensures full { result ≡ false → FitsLeavingTwo core.now op.now → ⊥ }
     ensures small { result ≡ false → 2 * size ≤ core.now.config.words → free_count core.now.table ≤ 2 }

@@ -1,4 +1,4 @@
-use Rattle.std.proofs.Common.{ℕ, ap, arith}
+use Rattle.std.proofs.Common.{◌≡◌, ℕ, ap, arith}
 use Rattle.heap_words.specs.declared.config.Config.{Config}
 use Rattle.step_core.specs.declared.candidates.Choice.TheVariants as choices
 use Rattle.collection.proofs.Cycles.{compacted_stands}
@@ -6,37 +6,21 @@ use Rattle.collection.proofs.Packed.{compacted_packed, quiet_stays}
 use Rattle.collection.proofs.Lowered.{lowered, nothing_above}
 use Rattle.collection.proofs.compaction.compact_once.Goals as goal
 
-pub returns-clause-quiet : goal.returns-clause-quiet
-returns-clause-quiet g c s q =
+pub returns : goal.returns
+returns g c =
     let b : ℕ = c.config-words.result.words in
-    let (n, w, is, p) = c.take-reply.ensures.does in
-    quiet_stays choices.Highest b n w c.args.core.now c.take-reply.new.core c.take-reply.ensures.shaped_before p
-    c.take-reply.ensures.before c.take-reply.ensures.shaped s
-    (compacted_stands b c.take-reply.result s c.take-reply.new.core (c.take-reply.ensures.follows s q.stands)) q
-
-pub returns-clause-packed : goal.returns-clause-packed
-returns-clause-packed g c graph packed =
-    let b : ℕ = c.config-words.result.words in
-    let (n, w, is, p) = c.take-reply.ensures.does in
-    let size = c.take-reply.ensures.before.layers.region_size in
+    let t = c.take-reply.ensures in
+    let (n, w, is, p) = t.does in
     let words = ap (λ (x : Config). x.words) c.config-words.ensures.config in
-    compacted_packed b n w c.args.core.now c.take-reply.new.core c.take-reply.ensures.shaped_before p (omega (arith, size, words))
-    graph packed
-
-pub returns-clause-lower : goal.returns-clause-lower
-returns-clause-lower g c e =
-    let b : ℕ = c.config-words.result.words in
-    let (n, w, is, p) = c.take-reply.ensures.does in
-    let size = c.take-reply.ensures.before.layers.region_size in
-    let words = ap (λ (x : Config). x.words) c.config-words.ensures.config in
-    lowered b n w c.args.core.now c.take-reply.new.core c.take-reply.ensures.before c.take-reply.ensures.shaped_before p
-    (omega (arith, size, words)) (c.took_some.ensures.some e n w is)
-
-pub returns-clause-below : goal.returns-clause-below
-returns-clause-below g c e s q two =
-    let b : ℕ = c.config-words.result.words in
-    let (n, w, is, p) = c.take-reply.ensures.does in
-    let size = c.take-reply.ensures.before.layers.region_size in
-    let words = ap (λ (x : Config). x.words) c.config-words.ensures.config in
-    nothing_above b n w c.args.core.now c.take-reply.new.core c.take-reply.ensures.before c.take-reply.ensures.shaped_before p
-    (c.took_some.ensures.none e n w is) q.exact two (omega (arith, size, words))
+    let same : c.args.core.now.table.words_per_region ≡ b = omega (arith, t.before.layers.region_size, words) in
+    record {
+      collects = t.collects;
+      quiet = λ s q. quiet_stays choices.Highest b n w c.args.core.now c.take-reply.new.core t.shaped_before p t.before t.shaped s
+          (compacted_stands b c.take-reply.result s c.take-reply.new.core (t.follows s q.stands)) q;
+      packed = λ graph packed. compacted_packed b n w c.args.core.now c.take-reply.new.core t.shaped_before p
+          (omega (arith, same)) graph packed;
+      lower = λ e. lowered b n w c.args.core.now c.take-reply.new.core t.before t.shaped_before p
+          (omega (arith, same)) (c.took_some.ensures.some e n w is);
+      below = λ e s q two. nothing_above b n w c.args.core.now c.take-reply.new.core t.before t.shaped_before p
+          (c.took_some.ensures.none e n w is) q.exact two (omega (arith, same));
+    }

@@ -5,7 +5,7 @@ use Rattle.heap_steps.specs.Actors.{IsThird}
 use Rattle.regions.specs.Table.{free_count}
 use Rattle.step_core.specs.Stands.{kept_of}
 use Rattle.collection.specs.Space.{IsPackedAt, ordinary_count, run_count}
-use Rattle.collection.specs.Steps.{AsksFor, LeavesTwo, asked_words}
+use Rattle.collection.specs.Steps.{AsksWithin, LeavesTwo, asked_words}
 use Rattle.collection.specs.Rooms.{HasRun}
 use Rattle.collection.proofs.Counts.{count_all}
 use Rattle.collection.proofs.Leaving.{clash, leaves_four, leaves_not, leaves_still}
@@ -17,13 +17,10 @@ some_kept : (o : Option Stored) → o ≢ None → (x : Stored) × (o ≡ Some x
 some_kept None n = absurd (n refl)
 some_kept (Some x) n = (x, refl)
 
-pub is_spared-requires-clause-asked : goal.is_spared-requires-clause-asked
-is_spared-requires-clause-asked g c =
-    subst (λ (x : Config). AsksFor x c.args.op.now c.args.size) (sym c.collect.ensures.collects.config) c.requires.asked
-
-pub is_spared-requires-clause-within : goal.is_spared-requires-clause-within
-is_spared-requires-clause-within g c =
-    subst (λ (x : Config). c.args.size ≤ x.regions * x.words) (sym c.collect.ensures.collects.config) c.requires.within
+pub is_spared-requires : goal.is_spared-requires
+is_spared-requires g c = record {
+  asked = subst (λ (x : Config). AsksWithin x c.args.op.now c.args.size) (sym c.collect.ensures.collects.config) c.requires.asked;
+}
 
 pub returns-then-is_spared-clause-collects : goal.returns-then-is_spared-clause-collects
 returns-then-is_spared-clause-collects g c =
@@ -103,17 +100,13 @@ compact_all-requires-clause-third g c =
 
 pub compact_all-requires-clause-asked : goal.compact_all-requires-clause-asked
 compact_all-requires-clause-asked g c =
-    subst (λ (x : Config). AsksFor x c.args.op.now c.args.size) (sym c.collect.ensures.collects.config) c.requires.asked
+    subst (λ (x : Config). AsksWithin x c.args.op.now c.args.size) (sym c.collect.ensures.collects.config) c.requires.asked
 
 pub compact_all-requires-clause-large : goal.compact_all-requires-clause-large
 compact_all-requires-clause-large g c =
     let words = ap (λ (x : Config). x.words) c.config-2.ensures.config in
     let large = (c.may_compact.ensures.0 c.if-may_compact.true).0 in
     omega (arith, words, large)
-
-pub compact_all-requires-clause-within : goal.compact_all-requires-clause-within
-compact_all-requires-clause-within g c =
-    subst (λ (x : Config). c.args.size ≤ x.regions * x.words) (sym c.collect.ensures.collects.config) c.requires.within
 
 pub returns-then-may_compact-clause-collects : goal.returns-then-may_compact-clause-collects
 returns-then-may_compact-clause-collects g c =

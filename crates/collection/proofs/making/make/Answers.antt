@@ -1,5 +1,4 @@
-use Rattle.std.proofs.Common.{◌≡◌, ◌-◌, ◌∙◌, false, true, sym, ap, ℕ}
-use Rattle.std.specs.Prelude.{if◌then◌else◌, nat_le}
+use Rattle.std.proofs.Common.{◌≡◌, ◌-◌, ◌∙◌, false, true, sym, ap, ℕ, if◌then◌else◌, nat_le}
 use Rattle.collection.specs.Steps.{asked_words}
 use Rattle.collection.proofs.Asked.{own_at_once, spared_full}
 use Rattle.collection.proofs.Leaving.{clash}

@@ -1,9 +1,9 @@
-use Rattle.std.proofs.Common.{◌+◌, ◌*◌, ◌≤◌, ◌∙◌, Bool, inl, refl, sym, ap, subst, arith}
+use Rattle.std.proofs.Common.{◌+◌, ◌*◌, ◌∙◌, Bool, inl, refl, sym, ap, subst, arith}
 use Rattle.heap_words.specs.declared.config.Config.{Config}
 use Rattle.heap_steps.specs.declared.step.Event.{Event}
 use Rattle.step_core.specs.Stands.{CoreState}
 use Rattle.collection.specs.Asked.{due_steps}
-use Rattle.collection.specs.Steps.{CollectsWithin, AsksFor}
+use Rattle.collection.specs.Steps.{CollectsWithin, AsksWithin}
 use Rattle.collection.proofs.Leaving.{filled_after, last_after, leaves_after}
 use Rattle.collection.proofs.Paced.{look_most}
 use Rattle.collection.proofs.Took.{chain, more, none}
@@ -18,13 +18,10 @@ looked_on sees due c d e x y z h k =
     chain sees (c.config.regions + 5) (2 + d.config.regions) (7 + 2 * c.config.regions) c d e x y z (omega (arith, regions))
     (look_most sees due c d x y h) k
 
-pub is_spared-requires-clause-asked : goal.is_spared-requires-clause-asked
-is_spared-requires-clause-asked g c =
-    subst (λ (x : Config). AsksFor x c.args.op.now c.args.size) (sym c.look.ensures.collects.config) c.requires.asked
-
-pub is_spared-requires-clause-within : goal.is_spared-requires-clause-within
-is_spared-requires-clause-within g c = subst (λ (x : Config). c.args.size ≤ x.regions * x.words)
-    (sym c.look.ensures.collects.config) c.requires.within
+pub is_spared-requires : goal.is_spared-requires
+is_spared-requires g c = record {
+  asked = subst (λ (x : Config). AsksWithin x c.args.op.now c.args.size) (sym c.look.ensures.collects.config) c.requires.asked;
+}
 
 pub returns-then-is_spared-clause-collects : goal.returns-then-is_spared-clause-collects
 returns-then-is_spared-clause-collects g c =
@@ -34,14 +31,11 @@ returns-then-is_spared-clause-collects g c =
 pub returns-then-is_spared-clause-room : goal.returns-then-is_spared-clause-room
 returns-then-is_spared-clause-room g c e = inl (c.is_spared.ensures.spared c.if-is_spared.true)
 
-pub is_spared-requires-2-clause-asked : goal.is_spared-requires-2-clause-asked
-is_spared-requires-2-clause-asked g c = subst (λ (x : Config). AsksFor x c.args.op.now c.args.size)
-    (sym (c.finish_cycle.ensures.config ∙ c.look.ensures.collects.config)) c.requires.asked
-
-pub is_spared-requires-2-clause-within : goal.is_spared-requires-2-clause-within
-is_spared-requires-2-clause-within g c =
-    subst (λ (x : Config). c.args.size ≤ x.regions * x.words) (sym (c.finish_cycle.ensures.config
-    ∙ c.look.ensures.collects.config)) c.requires.within
+pub is_spared-requires-2 : goal.is_spared-requires-2
+is_spared-requires-2 g c = record {
+  asked = subst (λ (x : Config). AsksWithin x c.args.op.now c.args.size)
+      (sym (c.finish_cycle.ensures.config ∙ c.look.ensures.collects.config)) c.requires.asked;
+}
 
 pub returns-then-is_spared-2-clause-collects : goal.returns-then-is_spared-2-clause-collects
 returns-then-is_spared-2-clause-collects g c =
@@ -52,14 +46,11 @@ returns-then-is_spared-2-clause-collects g c =
 pub returns-then-is_spared-2-clause-room : goal.returns-then-is_spared-2-clause-room
 returns-then-is_spared-2-clause-room g c e = inl (c.is_spared-2.ensures.spared c.if-is_spared-2.true)
 
-pub collect_all-requires-clause-asked : goal.collect_all-requires-clause-asked
-collect_all-requires-clause-asked g c = subst (λ (x : Config). AsksFor x c.args.op.now c.args.size)
-    (sym (c.finish_cycle.ensures.config ∙ c.look.ensures.collects.config)) c.requires.asked
-
-pub collect_all-requires-clause-within : goal.collect_all-requires-clause-within
-collect_all-requires-clause-within g c =
-    subst (λ (x : Config). c.args.size ≤ x.regions * x.words) (sym (c.finish_cycle.ensures.config
-    ∙ c.look.ensures.collects.config)) c.requires.within
+pub collect_all-requires : goal.collect_all-requires
+collect_all-requires g c = record {
+  asked = subst (λ (x : Config). AsksWithin x c.args.op.now c.args.size)
+      (sym (c.finish_cycle.ensures.config ∙ c.look.ensures.collects.config)) c.requires.asked;
+}
 
 pub returns-clause-collects : goal.returns-clause-collects
 returns-clause-collects g c =
