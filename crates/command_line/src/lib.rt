@@ -506,18 +506,11 @@ fn task_of(name: &str, found: &ArgMatches) -> Option<Task>
     }
 }
 
-/// The path that was given.
-fn path_in<'a>(found: &ArgMatches<'a>) -> Option<&'a str>
-    ensures { option_map (λ text. text.now) result ≡ first_of (codes "FILE") (rows_of (found_of found.now)) }
+/// The text that was given for an option, or the path for `FILE`.
+fn text_in<'a>(found: &ArgMatches<'a>, name: &str) -> Option<&'a str>
+    ensures { option_map (λ text. text.now) result ≡ first_of name.now (rows_of (found_of found.now)) }
 {
-    found.get_str("FILE")
-}
-
-/// The path of a file of names for shapes, where one was given.
-fn names_in<'a>(found: &ArgMatches<'a>) -> Option<&'a str>
-    ensures { option_map (λ text. text.now) result ≡ names_in (rows_of (found_of found.now)) }
-{
-    found.get_str("names")
+    found.get_str(name)
 }
 
 /// What a subcommand's words ask for. `None`: the subcommand is unknown, or a value isn't there.
@@ -526,10 +519,10 @@ fn job_of<'a>(name: &str, found: &ArgMatches<'a>) -> Option<Job<'a>>
     ensures names { IfSome result (λ job. names_by job ≡ names_in (rows_of (found_of found.now))) }
 {
     let task = task_of(name, found)?;
-    let file = path_in(found)?;
+    let file = text_in(found, "FILE")?;
     Some(Job {
         file,
-        names: names_in(found),
+        names: text_in(found, "names"),
         task,
         explained: flag_in(found, "explain"),
     })

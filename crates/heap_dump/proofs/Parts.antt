@@ -1,41 +1,22 @@
--- The tiles of a region by parts, and the object of a run.
-use Rattle.std.proofs.Common.{◌≡◌, ℕ, suc, ◌+◌, ◌*◌, ◌<◌, ◌≤◌, Bool, true, false, List, [], ◌∷◌}
+-- The tiles of a region by parts.
+use Rattle.std.proofs.Common.{◌≡◌, ℕ, suc, ◌+◌, ◌*◌, ◌<◌, ◌≤◌, Bool, List, [], ◌∷◌}
 use Rattle.std.proofs.Common.{length, refl, ap, ◌∙◌, subst, zero-add, arith}
 use Rattle.std.specs.Prelude.{IsSome}
 use Rattle.std.proofs.Math.Nat.{mul-le-mul_right}
 use Rattle.heap_words.specs.declared.addr.Addr.{Addr}
 use Rattle.regions.specs.declared.row.Shape.{Shape}
-use Rattle.regions.specs.declared.row.Kind.TheVariants as kinds
 use Rattle.regions.specs.Tiles.{Tile, Object, Filler, Forwarded, tile_size, total_size}
 use Rattle.regions.specs.Shapes.{tile_shape, size_of_shape}
-use Rattle.regions.specs.Table.{Table, Region, Free, Ordinary, First, Rest, nth_region, kind_of, object_at, object_words, stored_size}
+use Rattle.regions.specs.Table.{Table, Region, Free, Ordinary, First, Rest, nth_region, kind_of, object_at}
 use Rattle.regions.specs.Walks.{placed, tiles_of}
 use Rattle.regions.specs.Shaped.{IsShaped}
-use Rattle.regions.proofs.LongRuns.Blocks.{first_number}
 use Rattle.regions.proofs.Tiles.ShapedMade.{first_object}
 use Rattle.refinement.proofs.Holders.{object_within}
-use Rattle.mark_bitmap.specs.Marks.{is_marked}
-use Rattle.mark_bitmap.specs.Tops.{is_below}
-use Rattle.step_core.specs.Stands.{CoreState, kept_of}
+use Rattle.step_core.specs.Stands.{CoreState}
 use Rattle.step_core.proofs.Objects.{object_word}
 use Rattle.heap_dump.specs.declared.shares.Part.{Part}
 use Rattle.heap_dump.specs.declared.shares.Part.TheVariants as parts
-use Rattle.heap_dump.specs.Shares.{kept_words, words_if, words_in, part_in}
-
--- ---- the object of a run
-
-pub run_object : (t : Table) (k : ℕ) → IsShaped t → kind_of t k ≡ kinds.First → IsSome (object_at t (k * t.words_per_region))
-run_object t k shaped f = let (s, is) = first_number t k f in let e = first_object t k s shaped.positive is in rw e refl
-
-pub kept_size : (c : CoreState) (a : ℕ) → kept_words c a ≡ stored_size (kept_of c a)
-unfolding kept_of object_words
-kept_size c a = go (is_below c.table.words_per_region c.marker.tams.previous a) (is_marked c.marker.bitmaps.previous a) refl refl
-  where
-    go : (below marked : Bool) → is_below c.table.words_per_region c.marker.tams.previous a ≡ below
-        → is_marked c.marker.bitmaps.previous a ≡ marked → kept_words c a ≡ stored_size (kept_of c a)
-    go true true e f = rw (e, f) refl
-    go true false e f = rw (e, f) refl
-    go false marked e f = rw e refl
+use Rattle.heap_dump.specs.Shares.{words_if, words_in, part_in}
 
 -- an object starts at a word that may be marked
 pub marked_word : (c : CoreState) (t : Table) (marks : List Bool) (a : ℕ)
@@ -53,21 +34,10 @@ sizes (x ∷ xs) = size_of_shape x.1 + sizes xs
 
 at_most : (p q : Part) (n : ℕ) → words_if p q n ≤ n
 at_most parts.Marked parts.Marked n = omega arith
-at_most parts.Marked parts.Dead n = omega arith
-at_most parts.Marked parts.New n = omega arith
-at_most parts.Marked parts.Filler n = omega arith
-at_most parts.Dead parts.Marked n = omega arith
 at_most parts.Dead parts.Dead n = omega arith
-at_most parts.Dead parts.New n = omega arith
-at_most parts.Dead parts.Filler n = omega arith
-at_most parts.New parts.Marked n = omega arith
-at_most parts.New parts.Dead n = omega arith
 at_most parts.New parts.New n = omega arith
-at_most parts.New parts.Filler n = omega arith
-at_most parts.Filler parts.Marked n = omega arith
-at_most parts.Filler parts.Dead n = omega arith
-at_most parts.Filler parts.New n = omega arith
 at_most parts.Filler parts.Filler n = omega arith
+at_most _ _ n = omega arith
 
 within_sizes : (c : CoreState) (p : Part) (xs : List (Addr × Shape)) → words_in c p xs ≤ sizes xs
 unfolding sizes

@@ -1,7 +1,7 @@
 -- Pieces that are put into a text one after another.
-use Rattle.std.proofs.Common.{◌≡◌, ◌∙◌, ◌+◌, ℕ, List, [], ◌∷◌, ◌++◌, Option, Some, None}
+use Rattle.std.proofs.Common.{◌≡◌, ◌∙◌, ◌+◌, ℕ, Bool, true, false, List, [], ◌∷◌, ◌++◌, Option, Some, None}
 use Rattle.std.proofs.Common.{take, refl, sym, ap, subst, append_assoc, add-one}
-use Rattle.std.specs.Prelude.{Result, Ok, Err, IfOk, slice_get}
+use Rattle.std.specs.Prelude.{Result, Ok, Err, IfOk, slice_get, if◌then◌else◌}
 use Rattle.std.specs.List.{flat_map}
 use Rattle.std.proofs.lemmas.List.{append-nil, take_more}
 use Rattle.std.proofs.lemmas.Option.{slice_get_within, get_or_from_slice_get}
@@ -25,6 +25,14 @@ adds_as a b x y e p = subst (λ (l : List ℕ). Adds a l b) e p
 
 pub adds_at : {A : Type 0} (f : A → List ℕ) (a b : Option (List ℕ)) (u v : A) → u ≡ v → Adds a (f v) b → Adds a (f u) b
 adds_at f a b u v e p = adds_as a b (f v) (f u) (sym (ap f e)) p
+
+pub adds_if : (a b : Option (List ℕ)) (c : Bool) (x y : List ℕ) → c ≡ true → Adds a x b → Adds a (if c then x else y) b
+adds_if a b true x y e p = p
+adds_if a b false x y e p = cc
+
+pub adds_else : (a b : Option (List ℕ)) (c : Bool) (x y : List ℕ) → c ≡ false → Adds a y b → Adds a (if c then x else y) b
+adds_else a b true x y e p = cc
+adds_else a b false x y e p = p
 
 -- ---- item by item
 flat_map_one : {A : Type 0} (f : A → List ℕ) (xs : List A) (x : A) → flat_map f (xs ++ x ∷ []) ≡ flat_map f xs ++ f x

@@ -1,4 +1,5 @@
 pub mod Lists
+pub mod Fields
 pub mod Tiles
 pub mod Shares
 pub mod Numbers

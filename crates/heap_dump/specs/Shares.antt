@@ -4,7 +4,6 @@ use Rattle.heap_words.specs.declared.addr.Addr.{Addr}
 use Rattle.regions.specs.declared.row.Shape.{Shape}
 use Rattle.regions.specs.declared.row.Shape.TheVariants.{Object, Filler, Forwarded}
 use Rattle.regions.specs.Shapes.{size_of_shape}
-use Rattle.regions.specs.Table.{object_words}
 use Rattle.regions.specs.Walks.{placed, tiles_of}
 use Rattle.mark_bitmap.specs.Marks.{is_marked}
 use Rattle.mark_bitmap.specs.Tops.{is_below}
@@ -50,23 +49,14 @@ pub record AreSharesOf (c : CoreState) (k : ℕ) (s : Shares) : Type 0 where
   pub new : s.new ≡ part_words c parts.New k
   pub filler : s.filler ≡ part_words c parts.Filler k
 
--- the words of an object that the last marking kept: it is new since then, or was marked
-abbrev pub kept_words : CoreState → ℕ → ℕ
-kept_words c a =
-    if not (is_below c.table.words_per_region c.marker.tams.previous a) then object_words c.table a
-    else (if is_marked c.marker.bitmaps.previous a then object_words c.table a else 0)
-
--- the marking that runs found the object at an address, and hasn't scanned it
-abbrev pub is_grey_at : CoreState → ℕ → Bool
-is_grey_at c a = is_marked c.marker.bitmaps.next a && not (is_marked c.marker.grey.scanned a)
-
-abbrev pub is_grey_tile : CoreState → ℕ → Shape → Bool
-is_grey_tile c a (Object p w d) = is_grey_at c a
-is_grey_tile c a _ = false
+-- the tile is an object that the marking that runs found, and hasn't scanned
+abbrev pub is_grey : CoreState → ℕ → Shape → Bool
+is_grey c a (Object p w d) = is_marked c.marker.bitmaps.next a && not (is_marked c.marker.grey.scanned a)
+is_grey c a _ = false
 
 abbrev pub grey_in : CoreState → List (Addr × Shape) → ℕ
 grey_in c [] = 0
-grey_in c (x ∷ xs) = (if is_grey_tile c x.0 x.1 then 1 else 0) + grey_in c xs
+grey_in c (x ∷ xs) = (if is_grey c x.0 x.1 then 1 else 0) + grey_in c xs
 
 -- how many grey objects start in region k, as far as it fits 32 bits
 abbrev pub grey_objects : CoreState → ℕ → ℕ

@@ -1,25 +1,72 @@
-//! Rows of numbers, each after a space.
+//! Rows of numbers, each after a space; a region's remembered set.
 
-ghost use Rattle.std.specs.Prelude.{◌<◌, ◌≤◌, [], IsSome, length, take, flat_map, slice_index_or};
-ghost use Rattle.regions.specs.Table.{object_at, values_at};
+ghost use Rattle.std.specs.Prelude.{◌<◌, ◌≤◌, [], length, take, flat_map, slice_index_or};
 ghost use Rattle.remembered_sets.specs.Sets.{set_of};
 ghost use Rattle.script_text.specs.Texts.{Adds, spaced_number};
-ghost use Rattle.heap_dump.specs.Lists.{first};
+ghost use Rattle.heap_dump.specs.Lists.{set_text, source_text, text_below};
 
 use cards::CardTable;
-use heap_words::addr::{Addr, RegionNo};
-use regions::RegionTable;
+use heap_words::addr::RegionNo;
 use remembered_sets::RememberedSets;
 use script_text::Text;
+use step_core::Core;
 
 /// Adds the cards that are one by one in a region's remembered set.
-pub fn put_cards(sets: &RememberedSets, text: &mut Text, region: RegionNo)
+fn put_cards(sets: &RememberedSets, text: &mut Text, region: RegionNo)
     requires { region < length sets.now.sets }
     ensures { Adds text.old (flat_map spaced_number (set_of sets.now region).inline) text.new }
 {
     for place in 0..sets.card_count(region) {
         text.put_number(u64::from(sets.card(region, place).number()));
     }
+}
+
+/// Adds a region after a text, if all its cards are in a region's set.
+fn put_source(core: &Core, text: &mut Text, region: RegionNo, source: u32, before: &str)
+    requires region { region < length core.now.table.regions }
+    requires source { source < length core.now.table.regions }
+    ensures { Adds text.old (source_text (set_of core.now.sets region) before.now source) text.new }
+{
+    core.law_remembers();
+    if core.sets().is_whole(region, RegionNo::new(source)) {
+        text.put(before);
+        text.put_digits(u64::from(source));
+    }
+}
+
+/// Adds each region after a text, if all its cards are in a region's set.
+fn put_sources(core: &Core, text: &mut Text, region: RegionNo, before: &str)
+    requires { region < length core.now.table.regions }
+    ensures { Adds text.old (text_below (source_text (set_of core.now.sets region) before.now) (length core.now.table.regions)) text.new }
+{
+    for source in 0..core.table().region_count() {
+        put_source(core, text, region, source, before);
+    }
+}
+
+/// Adds a region's remembered set as a line, if it isn't empty: a title, its cards, what is between, and each region all of whose cards are
+/// in it after a text. Regions are in it only beside cards.
+pub fn put_set(
+    core: &Core,
+    text: &mut Text,
+    region: RegionNo,
+    title: &str,
+    between: &str,
+    before: &str,
+)
+    requires { region < length core.now.table.regions }
+    ensures { Adds text.old (set_text core.now title.now between.now before.now region) text.new }
+{
+    core.law_remembers();
+    let sets = core.sets();
+    if sets.card_count(region) == 0 {
+        return;
+    }
+    text.put(title);
+    put_cards(sets, text, region);
+    text.put(between);
+    put_sources(core, text, region, before);
+    text.put("\n");
 }
 
 /// Adds so many cards of the queue of refinement, from its front on.
@@ -39,15 +86,5 @@ pub fn put_logged(cards: &CardTable, text: &mut Text, mutator: u32)
 {
     for place in 0..cards.logged(mutator) {
         text.put_number(u64::from(cards.logged_card(mutator, place).number()));
-    }
-}
-
-/// Adds the first data words of an object, at most so many.
-pub fn put_values(table: &RegionTable, text: &mut Text, object: Addr, most: u32)
-    requires { IsSome (object_at table.now object) }
-    ensures { Adds text.old (flat_map spaced_number (first most (values_at table.now object))) text.new }
-{
-    for field in 0..table.value_count(object).min(most) {
-        text.put_number(table.get_value(object, field));
     }
 }

@@ -1,11 +1,9 @@
 //! The numbers of a heap as a whole, at a moment.
 
-ghost use Rattle.std.specs.Prelude.{◌≡◌, ◌<◌, ◌≤◌, length};
-ghost use Rattle.regions.specs.Table.{used_of};
+ghost use Rattle.std.specs.Prelude.{◌≡◌, ◌<◌, ◌≤◌};
 ghost use Rattle.step_core.specs.Measures.{sum_below};
 ghost use Rattle.heap_dump.specs.Numbers.{logged_of, IsNumbersOf};
 
-use heap_words::addr::RegionNo;
 use step_core::Core;
 
 /// The numbers of a heap.
@@ -21,16 +19,6 @@ pub struct Numbers {
     pub queued: u32,
     /// How many cards are dirty: those that wait, and those in the logs of mutators.
     pub dirty: u64,
-}
-
-/// How many words of a region are handed out.
-pub fn used_words(core: &Core, region: RegionNo) -> u32
-    requires { region < length core.now.table.regions }
-    ensures { result ≡ used_of core.now.table region }
-{
-    let table = core.table();
-    table.law();
-    table.top(region).word() - region.number() * table.words_per_region()
 }
 
 /// How many cards are in a mutator's log.

@@ -1,15 +1,11 @@
 //! What the words of a region are: live by the last marking, dead, new since it began, or of fillers.
 
-ghost use Rattle.std.specs.Prelude.{◌≡◌, ◌*◌, ◌<◌, IsSome, length};
-ghost use Rattle.regions.specs.Table.{kind_of, object_at, stored_size};
-ghost use Rattle.regions.specs.declared.row.Kind.TheVariants as kinds;
-ghost use Rattle.regions.specs.Walks.{IsPlacedTile};
-ghost use Rattle.step_core.specs.Stands.{kept_of};
-ghost use Rattle.step_core.specs.Measures.{live_in};
-ghost use Rattle.heap_dump.specs.Shares.{part_in, AreSharesOf, kept_words, is_grey_at, is_grey_tile, grey_objects};
+ghost use Rattle.std.specs.Prelude.{◌≡◌, ◌<◌, length};
+ghost use Rattle.regions.specs.Walks.{ArePlaced, IsPlacedTile};
+ghost use Rattle.heap_dump.specs.Shares.{part_in, AreSharesOf, is_grey, grey_objects, region_tiles};
 
 use heap_words::addr::{Addr, RegionNo};
-use regions::{Kind, Shape};
+use regions::{Shape, Walk};
 use step_core::Core;
 
 /// What a tile's words count as, by the marking that last came to its end.
@@ -32,6 +28,16 @@ pub struct Shares {
     pub dead: u32,
     pub new: u32,
     pub filler: u32,
+}
+
+/// The tiles that start in a region, from its bottom to its top.
+pub fn walk_region(core: &Core, region: RegionNo) -> Walk<'_>
+    requires { region < length core.now.table.regions }
+    ensures tiles { result ≡ region_tiles core.now region }
+    ensures placed { ArePlaced core.now.table result }
+{
+    core.table().law();
+    core.table().walk(region)
 }
 
 /// What the words of a tile count as.
@@ -70,7 +76,7 @@ pub fn shares_of(core: &Core, region: RegionNo) -> Shares
     let mut dead = 0;
     let mut new = 0;
     let mut filler = 0;
-    for (at, shape) in core.table().walk(region) {
+    for (at, shape) in walk_region(core, region) {
         let size = shape.size();
         match part_of(core, at, shape) {
             Part::Marked => marked += size,
@@ -87,73 +93,16 @@ pub fn shares_of(core: &Core, region: RegionNo) -> Shares
     }
 }
 
-/// The words of an object, if it is kept.
-fn kept_words(core: &Core, at: Addr) -> u32
-    requires { IsSome (object_at core.now.table at) }
-    ensures { result ≡ kept_words core.now at }
-{
-    core.law_remembers();
-    core.table().law();
-    let marker = core.marker();
-    if !marker
-        .tams
-        .is_below_previous(core.table().words_per_region(), at)
-    {
-        return core.table().object_size(at);
-    }
-    if marker.bitmaps.previous.get(at) {
-        core.table().object_size(at)
-    } else {
-        0
-    }
-}
-
-/// The words of the object of a run, if it is kept.
-fn run_words(core: &Core, region: RegionNo) -> u32
-    requires known { region < length core.now.table.regions }
-    requires first { kind_of core.now.table region ≡ kinds.First }
-    ensures { result ≡ stored_size (kept_of core.now (region * core.now.table.words_per_region)) }
-{
-    core.law_remembers();
-    core.table().law();
-    let bottom = region.number() * core.table().words_per_region();
-    kept_words(core, Addr::new(bottom))
-}
-
-/// How many words are live in a region: of an ordinary one its live bound, of a run's first the words of its object, if that is kept.
-pub fn live_words(core: &Core, region: RegionNo) -> u32
-    requires { region < length core.now.table.regions }
-    ensures { result ≡ live_in core.now region }
-{
-    core.law_remembers();
-    match core.table().kind(region) {
-        Kind::Ordinary => core.marker().live_bound(core.table(), region),
-        Kind::First => run_words(core, region),
-        Kind::Free | Kind::Rest => 0,
-    }
-}
-
-/// Whether an object is grey: found by the marking that runs, and not scanned yet.
-fn is_grey(core: &Core, object: Addr) -> bool
-    requires { IsSome (object_at core.now.table object) }
-    ensures { result ≡ is_grey_at core.now object }
-{
-    core.law_remembers();
-    core.table().law();
-    let marker = core.marker();
-    if !marker.bitmaps.next.get(object) {
-        return false;
-    }
-    !marker.grey.is_scanned(object)
-}
-
-/// Whether a tile is a grey object.
-fn is_grey_tile(core: &Core, at: Addr, shape: Shape) -> bool
+/// Whether a tile is a grey object: found by the marking that runs, and not scanned yet.
+fn is_grey(core: &Core, at: Addr, shape: Shape) -> bool
     requires { IsPlacedTile core.now.table at shape }
-    ensures { result ≡ is_grey_tile core.now at shape }
+    ensures { result ≡ is_grey core.now at shape }
 {
+    core.law_remembers();
+    core.table().law();
+    let marker = core.marker();
     match shape {
-        Shape::Object { .. } => is_grey(core, at),
+        Shape::Object { .. } => marker.bitmaps.next.get(at) && !marker.grey.is_scanned(at),
         Shape::Filler { .. } | Shape::Forwarded { .. } => false,
     }
 }
@@ -163,10 +112,9 @@ pub fn grey_count(core: &Core, region: RegionNo) -> u32
     requires { region < length core.now.table.regions }
     ensures { result ≡ grey_objects core.now region }
 {
-    core.table().law();
     let mut count = 0u32;
-    for (at, shape) in core.table().walk(region) {
-        if is_grey_tile(core, at, shape) {
+    for (at, shape) in walk_region(core, region) {
+        if is_grey(core, at, shape) {
             count = count.saturating_add(1);
         }
     }

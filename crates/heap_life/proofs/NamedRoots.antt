@@ -1,4 +1,4 @@
--- The roots that aren't nil, one after another; the current region; an object's text.
+-- The roots that aren't nil, one after another; an object's text.
 use Rattle.std.proofs.Common.{◌≡◌, ◌∙◌, ◌+◌, ◌-◌, ◌<◌, ◌≤◌, ℕ, zero, suc, List, [], ◌∷◌, ◌++◌, Option, Some, None, length, take, drop}
 use Rattle.std.proofs.Common.{ap, sym, refl, arith, inl, inr, drop-cons, add-one}
 use Rattle.std.specs.Prelude.{IfSome, IsSome, codes, slice_index_or}
@@ -12,7 +12,9 @@ use Rattle.script_text.specs.Texts.{Adds}
 use Rattle.step_core.specs.Stands.{CoreState}
 use Rattle.heap_dump.specs.Lists.{named}
 use Rattle.heap_life.specs.Telling.{root_at, root_text}
-use Rattle.heap_life.specs.RegionTexts.{fields_text, letter_text, progress_text, stored_text}
+use Rattle.heap_dump.specs.Fields.{fields_text}
+use Rattle.heap_dump.specs.declared.fields.Spelling.TheVariants.{Page}
+use Rattle.heap_life.specs.RegionTexts.{letter_text, progress_text, stored_text}
 use Rattle.heap_dump.specs.declared.shares.Part.{Part}
 use Rattle.heap_dump.proofs.Putting.{adds_at}
 
@@ -68,15 +70,11 @@ told_none ws from n nil = ap (λ (l : List (ℕ × ℕ)). flat_map root_text (ta
 pub told_enough : (ws : List (Option ℕ)) (from n : ℕ) → n ≡ 0 → flat_map root_text (take n (named from (drop from ws))) ≡ []
 told_enough ws from n e = ap (λ (k : ℕ). flat_map root_text (take k (named from (drop from ws)))) e
 
-pub no_current : (o : Option ℕ) (n : ℕ) → ((k : ℕ) → o ≡ Some k → k < n) → ((k : ℕ) → k < n → o ≡ Some k → ⊥) → o ≡ None
-no_current None n known none = refl
-no_current (Some k) n known none = absurd (none k (known k refl) refl)
-
 pub object_told : (c : CoreState) (a : ℕ) (part : Part) (name : ℕ) (o : Option Stored) → IsSome o → IfSome o (λ s. name ≡ s.name)
     → (x y : Option (List ℕ))
-    → Adds x (decimal name ++ codes " " ++ letter_text part ++ progress_text c a ++ fields_text c.table a) y
+    → Adds x (decimal name ++ codes " " ++ letter_text part ++ progress_text c a ++ fields_text Page c.table a) y
     → Adds x (stored_text c a part o) y
 object_told c a part name None some named x y h = absurd (cc)
 object_told c a part name (Some s) some named x y h =
     adds_at (λ (n : ℕ). decimal n ++ codes " " ++ letter_text part ++ progress_text c a
-    ++ fields_text c.table a) x y s.name name (sym named) h
+    ++ fields_text Page c.table a) x y s.name name (sym named) h

@@ -1,18 +1,13 @@
 -- A run of a list of events on its way.
-use Rattle.std.specs.Prelude.{◌≡◌, ℕ, ◌+◌, ◌%◌, ◌==◌, ◌||◌, ◌&&◌, min, Bool, List, [], ◌∷◌, ◌++◌}
+use Rattle.std.specs.Prelude.{◌≡◌, ℕ, ◌+◌, ◌%◌, ◌==◌, ◌||◌, min, List, [], ◌∷◌, ◌++◌}
 use Rattle.heap_steps.specs.declared.step.Event.{Event}
-use Rattle.heap_steps.specs.declared.step.Step.{Step}
 use Rattle.graph_runs.specs.State.{State}
 use Rattle.step_core.specs.Stands.{CoreState}
 use Rattle.step_core.specs.Passages.{Runs}
-use Rattle.heap_life.specs.Paces.{counts, one_if}
-use Rattle.heap_life.specs.Lives.{moved_by, NotesIf, ToldBy}
+use Rattle.heap_life.specs.Paces.{counts, one_if, shows}
+use Rattle.heap_life.specs.Lives.{moved_by, NotesTold}
 use Rattle.heap_life.specs.declared.pace.Pace.{Pace}
 use Rattle.heap_life.specs.declared.course.Course.{Course}
-
--- whether the pace shows a step, where so many counted before it
-abbrev pub shows : Pace → Step → ℕ → Bool
-shows p step count = counts p step && count % p.stride == 0
 
 -- the step of an event was done in core c, which led to c': the event that was made of it has the reply
 pub record IsDoneIn (e made : Event) (c c' : CoreState) : Type 0 where
@@ -30,6 +25,5 @@ pub record PassesEvent (p : Pace) (e : Event) (n : ℕ) (c c' : CoreState) (x y 
   pub counted : y.counted ≡ x.counted + one_if (counts p e.step)
   pub copied : y.copied ≡ min (x.copied + moved_by made.reply) 18446744073709551615
   pub behind : y.behind ≡ shows p e.step x.counted
-  pub notes : NotesIf (x.behind || shows p e.step x.counted || n % p.every == 0) c n x.copied x.moments.items y.moments.items
-  pub told : ToldBy (x.behind || shows p e.step x.counted || n % p.every == 0) c n x.copied x.moments.items y.moments.items notes x.teller
+  pub notes : NotesTold (x.behind || shows p e.step x.counted || n % p.every == 0) c n x.copied x.moments.items y.moments.items x.teller
       y.teller

@@ -1,6 +1,6 @@
 -- Which moments of a run are shown.
-use Rattle.std.specs.Prelude.{◌≡◌, ◌<◌, ◌≤◌, ◌+◌, ◌*◌, ◌/◌, ◌%◌, ◌⊎◌, ◌∷◌}
-use Rattle.std.specs.Prelude.{ℕ, suc, min, max, Bool, true, false, List, [], Some, length, take, slice_get}
+use Rattle.std.specs.Prelude.{◌≡◌, ◌<◌, ◌≤◌, ◌+◌, ◌*◌, ◌/◌, ◌%◌, ◌==◌, ◌&&◌, ◌||◌, ◌∷◌, ◌++◌, if◌then◌else◌}
+use Rattle.std.specs.Prelude.{ℕ, zero, suc, min, max, Bool, true, false, List, [], Option, None, Some, length, take, slice_get}
 use Rattle.heap_words.specs.declared.config.Config.{Config}
 use Rattle.heap_steps.specs.declared.step.Step.{Step}
 use Rattle.heap_steps.specs.declared.step.Step.TheVariants as steps
@@ -31,16 +31,32 @@ counted_with small (e ∷ es) = one_if (counts_with small e.step) + counted_with
 abbrev pub counted : Pace → List Event → ℕ
 counted p es = counted_with p.small es
 
--- event i, from 0, has a moment before it and one after it: it counts, and it is one of `stride`
-pub record IsShownEvent (p : Pace) (es : List Event) (i : ℕ) : Type 0 where
-  pub event : Event
-  pub at : slice_get es i ≡ Some event
-  pub counts : counts p event.step ≡ true
-  pub nth : counted p (take i es) % p.stride ≡ 0
+-- whether the pace shows a step, where so many counted before it: it counts, and it is one of `stride`
+abbrev pub shows : Pace → Step → ℕ → Bool
+shows p step count = counts p step && count % p.stride == 0
 
--- n events done are a moment: none, all, a multiple of `every`, those before an event that is shown, or those up to it
-abbrev pub IsMoment : Pace → List Event → ℕ → Type 0
-IsMoment p es n = (n ≡ 0) ⊎ (n ≡ length es) ⊎ (n % p.every ≡ 0) ⊎ IsShownEvent p es n ⊎ ((i : ℕ) × (suc i ≡ n) × IsShownEvent p es i)
+-- whether an event has a moment before it and one after it, where so many counted before it
+abbrev pub shows_event : Pace → ℕ → Option Event → Bool
+shows_event p count None = false
+shows_event p count (Some e) = shows p e.step count
+
+-- the same of event i, from 0
+abbrev pub shows_at : Pace → List Event → ℕ → Bool
+shows_at p es i = shows_event p (counted p (take i es)) (slice_get es i)
+
+-- whether there is a moment after n events for the last of them: for none, or where it is shown
+abbrev pub shows_last : Pace → List Event → ℕ → Bool
+shows_last p es zero = true
+shows_last p es (suc i) = shows_at p es i
+
+-- whether n events done are a moment: none, those up to an event that is shown, those before one, a multiple of `every`, or all
+abbrev pub is_moment : Pace → List Event → ℕ → Bool
+is_moment p es n = shows_last p es n || shows_at p es n || n % p.every == 0 || n == length es
+
+-- the moments of fewer than n events, in rising order
+abbrev pub moments_below : Pace → List Event → ℕ → List ℕ
+moments_below p es zero = []
+moments_below p es (suc n) = moments_below p es n ++ (if is_moment p es n then n ∷ [] else [])
 
 -- about how many moments a life of such a heap has at most: few where a moment has many regions, or many words are looked at for it
 abbrev pub most_moments : Config → ℕ

@@ -1,19 +1,20 @@
 -- What is told of a region.
-use Rattle.std.specs.Prelude.{◌-◌, ◌*◌, ◌==◌, ℕ, Bool, false, if◌then◌else◌, List, [], ◌++◌, Option, Some, None}
-use Rattle.std.specs.Prelude.{length, codes, flat_map, slice_index, slice_index_or, nat_lt, nat_le}
+use Rattle.std.specs.Prelude.{◌-◌, ◌*◌, ℕ, Bool, if◌then◌else◌, List, [], ◌++◌, Option, Some, None}
+use Rattle.std.specs.Prelude.{length, codes, flat_map, slice_index, nat_le}
 use Rattle.std.specs.Fmt.{decimal}
 use Rattle.heap_words.specs.declared.addr.Addr.{Addr}
 use Rattle.heap_model.specs.Heap.{Stored}
 use Rattle.script_text.specs.Texts.{spaced_number}
-use Rattle.regions.specs.Table.{Table, kind_of, used_of, object_at, pointers_at, weaks_at, values_at}
+use Rattle.regions.specs.Table.{kind_of, used_of, object_at}
 use Rattle.regions.specs.declared.row.Kind.{Kind}
 use Rattle.regions.specs.declared.row.Kind.TheVariants as kinds
 use Rattle.regions.specs.declared.row.Shape.{Shape}
 use Rattle.regions.specs.declared.row.Shape.TheVariants.{Object, Filler, Forwarded}
-use Rattle.remembered_sets.specs.Sets.{CardSet, set_of}
-use Rattle.step_core.specs.Stands.{CoreState, name_in}
+use Rattle.step_core.specs.Stands.{CoreState}
 use Rattle.step_core.specs.Measures.{live_in}
-use Rattle.heap_dump.specs.Lists.{first, text_below}
+use Rattle.heap_dump.specs.Lists.{set_text}
+use Rattle.heap_dump.specs.Fields.{fields_text}
+use Rattle.heap_dump.specs.declared.fields.Spelling.TheVariants.{Page}
 use Rattle.heap_dump.specs.Tiles.{progress_of}
 use Rattle.heap_dump.specs.Shares.{grey_objects, part_in, part_words, region_tiles}
 use Rattle.heap_dump.specs.declared.shares.Part.{Part}
@@ -43,39 +44,7 @@ kind_text c k kinds.Rest = codes " t" ++ spaced_number (used_of c.table k)
 abbrev pub region_line : CoreState → ℕ → List ℕ
 region_line c k = codes "r" ++ spaced_number k ++ kind_text c k (kind_of c.table k) ++ codes "\n"
 
-abbrev pub whole_text : CardSet → ℕ → List ℕ
-whole_text s k = if slice_index_or s.sources k false then spaced_number k else []
-
--- a remembered set: its cards, and the regions all of whose cards are in it; nothing where it has no card
-abbrev pub set_text : CoreState → CardSet → List ℕ
-set_text c s = if length s.inline == 0 then []
-    else codes "s" ++ flat_map spaced_number s.inline ++ codes " ;" ++ text_below (whole_text s) (length c.table.regions) ++ codes "\n"
-
 -- ---- tiles
-
-abbrev pub name_text : Option ℕ → List ℕ
-name_text None = codes " ?"
-name_text (Some name) = spaced_number name
-
--- what a field names: nil, an object, or no object
-abbrev pub field_text : Table → Option ℕ → List ℕ
-field_text t None = codes " -"
-field_text t (Some a) = name_text (name_in t (Some a))
-
--- how many there are above 16
-abbrev pub more_text : ℕ → List ℕ
-more_text n = if nat_lt 16 n then codes " +" ++ decimal (n - 16) else []
-
--- the first 16 of a kind of fields, and how many more there are
-abbrev pub pointers_text : Table → List (Option ℕ) → List ℕ
-pointers_text t xs = flat_map (field_text t) (first 16 xs) ++ more_text (length xs)
-
-abbrev pub values_text : List ℕ → List ℕ
-values_text xs = flat_map spaced_number (first 16 xs) ++ more_text (length xs)
-
-abbrev pub fields_text : Table → ℕ → List ℕ
-fields_text t a = pointers_text t (pointers_at t a) ++ codes " ;" ++ pointers_text t (weaks_at t a) ++ codes " ;"
-    ++ values_text (values_at t a)
 
 abbrev pub letter_text : Part → List ℕ
 letter_text parts.Marked = codes "m"
@@ -96,7 +65,7 @@ progress_text c a = if c.marker.running then progress_letter (progress_of c a) e
 -- an object's name, its state and its fields
 abbrev pub stored_text : CoreState → ℕ → Part → Option Stored → List ℕ
 stored_text c a part None = []
-stored_text c a part (Some s) = decimal s.name ++ codes " " ++ letter_text part ++ progress_text c a ++ fields_text c.table a
+stored_text c a part (Some s) = decimal s.name ++ codes " " ++ letter_text part ++ progress_text c a ++ fields_text Page c.table a
 
 abbrev pub object_text : CoreState → ℕ → Part → List ℕ
 object_text c a part = stored_text c a part (object_at c.table a)
@@ -119,7 +88,7 @@ tiles_text c k = if nat_le (length (region_tiles c k)) 400 then flat_map (tile_t
 
 abbrev pub rest_text : Bool → CoreState → ℕ → Kind → List ℕ
 rest_text tiles c k kinds.Free = []
-rest_text tiles c k _ = set_text c (set_of c.sets k) ++ (if tiles then tiles_text c k else [])
+rest_text tiles c k _ = set_text c (codes "s") (codes " ;") (codes " ") k ++ (if tiles then tiles_text c k else [])
 
 -- a region, with its tiles where they are told
 abbrev pub region_text : Bool → CoreState → ℕ → List ℕ

@@ -10,7 +10,7 @@
 //!   r ..                                                                                    regions, as `region_text` has them
 //! ```
 
-ghost use Rattle.std.specs.Prelude.{◌≡◌, ◌<◌, ◌&&◌, ℕ, [], None, Some, All, IfOk};
+ghost use Rattle.std.specs.Prelude.{◌≡◌, ◌<◌, ◌&&◌, [], None, Some, All, IfOk};
 ghost use Rattle.std.specs.Prelude.{length, take, flat_map, slice_index_or, nat_le};
 ghost use Rattle.script_text.specs.Texts.{Adds, spaced_number};
 ghost use Rattle.satb_log.specs.Logs as deletion_logs;
@@ -38,17 +38,13 @@ const MOST_CARDS: u32 = 512;
 const MOST_ROOTS: u32 = 64;
 
 /// The current region's number, or a dash.
-fn put_current(buffers: &AllocBuffers, text: &mut Text, regions: u32)
-    requires { (k : ℕ) → buffers.now.current ≡ Some k → k < regions }
+fn put_current(buffers: &AllocBuffers, text: &mut Text)
     ensures { Adds text.old (current_text buffers.now.current) text.new }
 {
-    for number in 0..regions {
-        if buffers.is_current(RegionNo::new(number)) {
-            text.put_number(u64::from(number));
-            return;
-        }
+    match buffers.current() {
+        Some(number) => text.put_number(u64::from(number)),
+        None => text.put(" -"),
     }
-    text.put(" -");
 }
 
 /// Begins a moment's line: how many events are done, and the heap's numbers.
@@ -73,8 +69,7 @@ fn put_state(core: &Core, text: &mut Text)
     text.put_number(if core.marking() { 1 } else { 0 });
     text.put_number(u64::from(core.scans()));
     text.put_number(core.next_name());
-    core.law_remembers();
-    put_current(core.buffers(), text, core.table().region_count());
+    put_current(core.buffers(), text);
     text.put("\n");
 }
 

@@ -12,13 +12,11 @@
 
 ghost use Rattle.std.specs.Prelude.{◌<◌, length};
 ghost use Rattle.script_text.specs.Texts.{Adds};
-ghost use Rattle.remembered_sets.specs.Sets.{set_of};
 ghost use Rattle.regions.specs.Table.{kind_of};
-ghost use Rattle.heap_dump.specs.Lists.{text_below};
-ghost use Rattle.heap_life.specs.RegionTexts.{kind_text, region_line, region_text, rest_text, set_text, shares_text, tops_text, whole_text};
+ghost use Rattle.heap_life.specs.RegionTexts.{kind_text, region_line, region_text, rest_text, shares_text, tops_text};
 
 use crate::tile_text::put_tiles;
-use heap_dump::{grey_count, live_words, put_cards, shares_of, used_words};
+use heap_dump::{grey_count, put_set, shares_of};
 use heap_words::addr::RegionNo;
 use regions::Kind;
 use script_text::Text;
@@ -46,12 +44,12 @@ fn put_shares(core: &Core, text: &mut Text, region: RegionNo)
 {
     core.law_remembers();
     let shares = shares_of(core, region);
-    text.put_number(u64::from(used_words(core, region)));
+    text.put_number(u64::from(core.used_in(region)));
     text.put_number(u64::from(shares.marked));
     text.put_number(u64::from(shares.dead));
     text.put_number(u64::from(shares.new));
     text.put_number(u64::from(shares.filler));
-    text.put_number(u64::from(live_words(core, region)));
+    text.put_number(u64::from(core.live_in(region)));
     put_tops(core, text, region);
 }
 
@@ -72,7 +70,7 @@ fn put_kind(core: &Core, text: &mut Text, region: RegionNo)
         }
         Kind::Rest => {
             text.put(" t");
-            text.put_number(u64::from(used_words(core, region)));
+            text.put_number(u64::from(core.used_in(region)));
         }
     }
 }
@@ -88,44 +86,6 @@ fn put_line(core: &Core, text: &mut Text, region: RegionNo)
     text.put("\n");
 }
 
-/// Adds a region, if all its cards are in the remembered set of another.
-fn put_source(core: &Core, text: &mut Text, region: RegionNo, source: u32)
-    requires region { region < length core.now.table.regions }
-    requires source { source < length core.now.table.regions }
-    ensures { Adds text.old (whole_text (set_of core.now.sets region) source) text.new }
-{
-    core.law_remembers();
-    if core.sets().is_whole(region, RegionNo::new(source)) {
-        text.put_number(u64::from(source));
-    }
-}
-
-/// Adds the regions all of whose cards are in a region's remembered set.
-fn put_sources(core: &Core, text: &mut Text, region: RegionNo)
-    requires { region < length core.now.table.regions }
-    ensures { Adds text.old (text_below (whole_text (set_of core.now.sets region)) (length core.now.table.regions)) text.new }
-{
-    for source in 0..core.table().region_count() {
-        put_source(core, text, region, source);
-    }
-}
-
-/// Adds a region's remembered set, if it has cards.
-fn put_set(core: &Core, text: &mut Text, region: RegionNo)
-    requires { region < length core.now.table.regions }
-    ensures { Adds text.old (set_text core.now (set_of core.now.sets region)) text.new }
-{
-    core.law_remembers();
-    if core.sets().card_count(region) == 0 {
-        return;
-    }
-    text.put("s");
-    put_cards(core.sets(), text, region);
-    text.put(" ;");
-    put_sources(core, text, region);
-    text.put("\n");
-}
-
 /// Adds what is told of a region below its line.
 fn put_rest(core: &Core, text: &mut Text, region: RegionNo, tiles: bool)
     requires { region < length core.now.table.regions }
@@ -134,7 +94,7 @@ fn put_rest(core: &Core, text: &mut Text, region: RegionNo, tiles: bool)
     if let Kind::Free = core.table().kind(region) {
         return;
     }
-    put_set(core, text, region);
+    put_set(core, text, region, "s", " ;", " ");
     if tiles {
         put_tiles(core, text, region);
     }

@@ -10,92 +10,19 @@
 
 ghost use Rattle.std.specs.Prelude.{◌≡◌, ◌*◌, ◌<◌, IsSome, length, flat_map, nat_le};
 ghost use Rattle.script_text.specs.Texts.{Adds};
-ghost use Rattle.regions.specs.Table.{object_at, pointers_at, weaks_at, values_at};
+ghost use Rattle.regions.specs.Table.{object_at};
 ghost use Rattle.regions.specs.Walks.{IsPlacedTile, placed, tiles_of};
-ghost use Rattle.heap_life.specs.RegionTexts.{field_text, fields_text, filler_text, letter_text, more_text, object_text, pointers_text};
-ghost use Rattle.heap_life.specs.RegionTexts.{progress_letter, progress_text, tile_text, tiles_text, values_text};
+ghost use Rattle.heap_life.specs.RegionTexts.{filler_text, letter_text, object_text, progress_letter, progress_text, tile_text, tiles_text};
 ghost use Rattle.heap_dump.specs.Shares.{region_tiles};
 
-use heap_dump::{Part, Progress, part_of, progress_of, put_values};
-use heap_words::addr::{Addr, Ptr, RegionNo};
+use heap_dump::{Part, Progress, Spelling, part_of, progress_of, put_fields, walk_region};
+use heap_words::addr::{Addr, RegionNo};
 use regions::{RegionTable, Shape};
 use script_text::Text;
-use step_core::{Core, object_name};
-
-/// How many fields of a kind are told.
-const SHOWN: u32 = 16;
+use step_core::Core;
 
 /// Up to how many tiles a region has its tiles told.
 const MOST_TILES: u32 = 400;
-
-/// Adds what a field names.
-fn put_field(table: &RegionTable, text: &mut Text, pointer: Ptr)
-    ensures { Adds text.old (field_text table.now pointer) text.new }
-{
-    let Some(at) = pointer else {
-        text.put(" -");
-        return;
-    };
-    match object_name(table, at) {
-        Some(name) => text.put_number(name),
-        None => text.put(" ?"),
-    }
-}
-
-/// Adds how many fields aren't told, if there are some.
-fn put_more(text: &mut Text, count: u32)
-    ensures { Adds text.old (more_text count) text.new }
-{
-    if SHOWN < count {
-        text.put(" +");
-        text.put_digits(u64::from(count - SHOWN));
-    }
-}
-
-/// Adds an object's pointers.
-fn put_pointers(table: &RegionTable, text: &mut Text, object: Addr)
-    requires { IsSome (object_at table.now object) }
-    ensures { Adds text.old (pointers_text table.now (pointers_at table.now object)) text.new }
-{
-    let count = table.pointer_count(object);
-    for field in 0..count.min(SHOWN) {
-        put_field(table, text, table.get_ptr(object, field));
-    }
-    put_more(text, count);
-}
-
-/// Adds an object's weak slots.
-fn put_weaks(table: &RegionTable, text: &mut Text, object: Addr)
-    requires { IsSome (object_at table.now object) }
-    ensures { Adds text.old (pointers_text table.now (weaks_at table.now object)) text.new }
-{
-    let count = table.weak_count(object);
-    for slot in 0..count.min(SHOWN) {
-        put_field(table, text, table.get_weak(object, slot));
-    }
-    put_more(text, count);
-}
-
-/// Adds an object's data.
-fn put_data(table: &RegionTable, text: &mut Text, object: Addr)
-    requires { IsSome (object_at table.now object) }
-    ensures { Adds text.old (values_text (values_at table.now object)) text.new }
-{
-    put_values(table, text, object, SHOWN);
-    put_more(text, table.value_count(object));
-}
-
-/// Adds an object's fields.
-fn put_fields(table: &RegionTable, text: &mut Text, object: Addr)
-    requires { IsSome (object_at table.now object) }
-    ensures { Adds text.old (fields_text table.now object) text.new }
-{
-    put_pointers(table, text, object);
-    text.put(" ;");
-    put_weaks(table, text, object);
-    text.put(" ;");
-    put_data(table, text, object);
-}
 
 /// The letter of what an object counts as.
 fn letter(part: Part) -> &'static str
@@ -141,7 +68,7 @@ fn put_object(core: &Core, text: &mut Text, object: Addr, part: Part)
     text.put(" ");
     text.put(letter(part));
     put_progress(core, text, object);
-    put_fields(table, text, object);
+    put_fields(table, text, object, Spelling::Page);
 }
 
 /// Adds a tile that is no object.
@@ -194,8 +121,7 @@ fn put_each(core: &Core, text: &mut Text, region: RegionNo)
     requires { region < length core.now.table.regions }
     ensures { Adds text.old (flat_map (tile_text core.now region) (region_tiles core.now region)) text.new }
 {
-    core.table().law();
-    for (at, shape) in core.table().walk(region) {
+    for (at, shape) in walk_region(core, region) {
         put_tile(core, text, region, at, shape);
     }
 }

@@ -1,5 +1,4 @@
 pub mod FreeRegions
 pub mod Fronts
 pub mod Rows
-pub mod Sizes
 pub mod Titles

@@ -11,8 +11,9 @@ use Rattle.satb_log.specs.Logs as logs
 use Rattle.heap_model.specs.Graph.{register_place}
 use Rattle.step_core.specs.Stands.{CoreState, root_counts_of}
 use Rattle.heap_dump.specs.Lists.{named, text_below}
+use Rattle.heap_dump.specs.Fields.{pointer_text, spaced_pointer}
+use Rattle.heap_dump.specs.declared.fields.Spelling.TheVariants.{Lines}
 use Rattle.heap_view.specs.Lists.{titled_line}
-use Rattle.heap_view.specs.Tiles.{pointer_text, spaced_pointer}
 
 -- the cards that wait for refinement, from the front of the queue
 abbrev pub queue_line : List ℕ → List ℕ
@@ -21,7 +22,7 @@ queue_line xs = if length xs == 0 then codes "queue of cards: none\n"
 
 -- a root by its letter, its number and its object, and where that is
 abbrev pub root_text : Table → List ℕ → ℕ × ℕ → List ℕ
-root_text t letter root = codes " " ++ letter ++ decimal root.0 ++ codes " " ++ pointer_text t (Some root.1)
+root_text t letter root = codes " " ++ letter ++ decimal root.0 ++ codes " " ++ pointer_text Lines t (Some root.1)
     ++ codes " at " ++ decimal root.1
 
 -- the same after others
@@ -63,7 +64,7 @@ buffer_line _ = []
 
 -- what a deletion log's address leads to
 abbrev pub logged_text : Table → ℕ → List ℕ
-logged_text t a = spaced_pointer t (Some a)
+logged_text t a = spaced_pointer Lines t (Some a)
 
 -- a mutator's buffer and its logs
 abbrev pub held_lines : CoreState → ℕ → List ℕ

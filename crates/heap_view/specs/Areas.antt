@@ -1,16 +1,12 @@
 -- The lines of a region: its kind and its words, its tops at mark start and its live bound, its remembered set and its tiles.
-use Rattle.std.specs.Prelude.{ℕ, ◌==◌, Bool, false, List, [], ◌++◌, Option, Some, None, length, slice_index, slice_index_or, codes}
-use Rattle.std.specs.Prelude.{if◌then◌else◌}
-use Rattle.std.specs.List.{flat_map}
+use Rattle.std.specs.Prelude.{ℕ, ◌==◌, Bool, false, List, [], ◌++◌, Option, Some, None, slice_index, codes, if◌then◌else◌}
 use Rattle.std.specs.Fmt.{decimal}
 use Rattle.regions.specs.declared.row.Kind.{Kind}
 use Rattle.regions.specs.declared.row.Kind.TheVariants as kinds
 use Rattle.regions.specs.Table.{Table, kind_of, run_length, used_of}
-use Rattle.remembered_sets.specs.Sets.{CardSet, set_of}
 use Rattle.step_core.specs.Stands.{CoreState}
 use Rattle.step_core.specs.Measures.{live_in}
-use Rattle.script_text.specs.Texts.{spaced_number}
-use Rattle.heap_dump.specs.Lists.{text_below}
+use Rattle.heap_dump.specs.Lists.{set_text}
 use Rattle.heap_view.specs.Tiles.{tile_lines}
 
 -- which kind a region is of
@@ -49,15 +45,6 @@ next_top_text c k = if c.marker.running then codes ", next " ++ decimal (slice_i
 abbrev pub tops_text : CoreState → ℕ → List ℕ
 tops_text c k = codes "  top at mark start " ++ decimal (slice_index c.marker.tams.previous k) ++ next_top_text c k
 
--- a region all of whose cards are in a set
-abbrev pub source_text : CardSet → ℕ → List ℕ
-source_text set source = if slice_index_or set.sources source false then codes ", all of region " ++ decimal source else []
-
--- a remembered set's line: the cards that are in it one by one, and those regions; none where no card does
-abbrev pub set_line : CardSet → ℕ → List ℕ
-set_line set regions = if length set.inline == 0 then [] else
-    codes "  remembered cards:" ++ flat_map spaced_number set.inline ++ text_below (source_text set) regions ++ codes "\n"
-
 -- what is said of the words of a region that isn't free
 abbrev pub use_text : CoreState → ℕ → List ℕ
 use_text c k = current_text c k ++ words_text c.table k
@@ -65,7 +52,7 @@ use_text c k = current_text c k ++ words_text c.table k
 -- the same, and the lines below it
 abbrev pub use_lines : CoreState → ℕ → List ℕ
 use_lines c k = use_text c k ++ codes "\n" ++ tops_text c k ++ live_text c k (kind_of c.table k) ++ codes "\n"
-    ++ set_line (set_of c.sets k) (length c.table.regions) ++ tile_lines c k
+    ++ set_text c (codes "  remembered cards:") [] (codes ", all of region ") k ++ tile_lines c k
 
 -- what follows a region's kind: of a free one nothing but the line's end
 abbrev pub body_lines : CoreState → ℕ → Kind → List ℕ

@@ -1,13 +1,19 @@
 -- A folded summary: free regions side by side are one line.
-use Rattle.std.specs.Prelude.{ℕ, zero, suc, ◌+◌, ◌-◌, nat_lt, Bool, false, List, [], ◌++◌, drop, codes, if◌then◌else◌}
+use Rattle.std.specs.Prelude.{ℕ, zero, suc, ◌+◌, ◌-◌, nat_lt, Bool, true, false, List, [], ◌++◌, drop, codes, if◌then◌else◌}
 use Rattle.std.specs.Fmt.{decimal}
-use Rattle.regions.specs.Table.{Table, front_count, is_free, nth_region}
+use Rattle.regions.specs.declared.row.Kind.{Kind}
+use Rattle.regions.specs.declared.row.Kind.TheVariants as kinds
+use Rattle.regions.specs.Table.{Table, front_count, kind_of, region_kind}
 use Rattle.step_core.specs.Stands.{CoreState}
 use Rattle.heap_view.specs.Areas.{region_line}
 
--- whether region k is free
+-- whether a region of this kind is free
+abbrev pub is_free_kind : Kind → Bool
+is_free_kind kinds.Free = true
+is_free_kind _ = false
+
 abbrev pub is_free_at : Table → ℕ → Bool
-is_free_at t k = is_free (nth_region t k)
+is_free_at t k = is_free_kind (kind_of t k)
 
 -- whether the region below k is free
 abbrev pub is_below_free : Table → ℕ → Bool
@@ -16,7 +22,7 @@ is_below_free t (suc j) = is_free_at t j
 
 -- how many free regions are side by side from region k on
 abbrev pub free_run : Table → ℕ → ℕ
-free_run t k = front_count is_free (drop k t.regions)
+free_run t k = front_count (λ r. is_free_kind (region_kind r)) (drop k t.regions)
 
 -- free regions side by side, n of them from k on: one line
 abbrev pub run_line : CoreState → ℕ → ℕ → List ℕ

@@ -1,10 +1,8 @@
 -- The text of a view, by what of the heap is viewed.
 use Rattle.std.specs.Prelude.{ℕ, ◌*◌, nat_lt, ◌&&◌, Bool, true, false, List, ◌++◌, Option, Some, None, length, codes, if◌then◌else◌}
-use Rattle.std.specs.List.{flat_map}
 use Rattle.std.specs.Fmt.{decimal}
-use Rattle.heap_words.specs.declared.config.Format.{Format}
 use Rattle.heap_steps.specs.Actors.{is_third}
-use Rattle.script_text.specs.Spelling.{format_words, heap_words, line}
+use Rattle.script_text.specs.Spelling.{heap_words, line}
 use Rattle.regions.specs.Table.{free_count}
 use Rattle.step_core.specs.Stands.{CoreState}
 use Rattle.step_core.specs.Measures.{used_words, live_words}
@@ -13,10 +11,6 @@ use Rattle.heap_dump.specs.Lists.{text_below}
 use Rattle.heap_view.specs.Areas.{region_line, region_lines}
 use Rattle.heap_view.specs.Folds.{folded_line}
 use Rattle.heap_view.specs.Actors.{queue_line, actor_lines}
-
--- what the first line has after the first name, each after a space
-abbrev pub format_text : Format → List ℕ
-format_text format = flat_map (λ word. codes " " ++ word) (format_words format)
 
 -- whether marking runs
 abbrev pub marking_line : CoreState → List ℕ

@@ -1,32 +1,17 @@
 -- The lines of tiles: objects by their names, fields and state, fillers, and what has moved.
-use Rattle.std.specs.Prelude.{ℕ, List, [], ◌++◌, Option, Some, None, is_some, codes, if◌then◌else◌}
+use Rattle.std.specs.Prelude.{ℕ, List, [], ◌++◌, Some, is_some, codes, if◌then◌else◌}
 use Rattle.std.specs.List.{flat_map}
 use Rattle.std.specs.Fmt.{decimal}
 use Rattle.heap_words.specs.declared.addr.Addr.{Addr}
 use Rattle.regions.specs.declared.row.Shape.{Shape}
 use Rattle.regions.specs.declared.row.Shape.TheVariants as shapes
-use Rattle.regions.specs.Table.{Table, pointers_at, weaks_at, values_at}
-use Rattle.script_text.specs.Texts.{spaced_number}
-use Rattle.step_core.specs.Stands.{CoreState, kept_of, name_in}
+use Rattle.step_core.specs.Stands.{CoreState, kept_of}
+use Rattle.heap_dump.specs.Fields.{fields_text, pointer_text}
+use Rattle.heap_dump.specs.declared.fields.Spelling.TheVariants.{Lines}
 use Rattle.heap_dump.specs.Shares.{region_tiles}
 use Rattle.heap_dump.specs.Tiles.{progress_of}
 use Rattle.heap_dump.specs.declared.tiles.Progress.{Progress}
 use Rattle.heap_dump.specs.declared.tiles.Progress.TheVariants as progress
-use Rattle.heap_view.specs.Lists.{titled}
-
--- an object by its name; or the address, where none starts there
-abbrev pub named_text : ℕ → Option ℕ → List ℕ
-named_text a None = codes "no object at " ++ decimal a
-named_text a (Some name) = codes "#" ++ decimal name
-
--- what a pointer or a weak slot leads to
-abbrev pub pointer_text : Table → Option ℕ → List ℕ
-pointer_text t None = codes "nil"
-pointer_text t (Some a) = named_text a (name_in t (Some a))
-
--- a space, and that
-abbrev pub spaced_pointer : Table → Option ℕ → List ℕ
-spaced_pointer t p = codes " " ++ pointer_text t p
 
 -- what the marking that runs knows of an object
 abbrev pub progress_text : Progress → List ℕ
@@ -43,15 +28,9 @@ keeping_text c a = if is_some (kept_of c a) then codes ", kept" else codes ", de
 abbrev pub marking_text : CoreState → ℕ → List ℕ
 marking_text c a = if c.marker.running then codes ", " ++ progress_text (progress_of c a) else []
 
--- the fields of an object: its pointers, its weak slots and its data
-abbrev pub fields_text : Table → ℕ → List ℕ
-fields_text t a = titled (codes ", pointers") (spaced_pointer t) (pointers_at t a)
-    ++ titled (codes ", weak slots") (spaced_pointer t) (weaks_at t a)
-    ++ titled (codes ", data") spaced_number (values_at t a)
-
 -- an object: its name, its fields, whether it is kept, and what marking knows of it
 abbrev pub object_text : CoreState → ℕ → List ℕ
-object_text c a = pointer_text c.table (Some a) ++ fields_text c.table a ++ keeping_text c a ++ marking_text c a
+object_text c a = pointer_text Lines c.table (Some a) ++ fields_text Lines c.table a ++ keeping_text c a ++ marking_text c a
 
 -- what a tile is
 abbrev pub shape_text : CoreState → ℕ → Shape → List ℕ

@@ -37,7 +37,6 @@ mod card_lines;
 mod folds;
 mod glance;
 mod heads;
-mod names;
 mod region_lines;
 mod review;
 mod root_lines;

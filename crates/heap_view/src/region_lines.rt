@@ -2,14 +2,12 @@
 
 ghost use Rattle.std.specs.Prelude.{◌<◌, length};
 ghost use Rattle.regions.specs.Table.{kind_of};
-ghost use Rattle.remembered_sets.specs.Sets.{set_of};
 ghost use Rattle.script_text.specs.Texts.{Adds};
 ghost use Rattle.heap_view.specs.Areas.{kind_text, current_text, words_text, head_text, live_text, next_top_text, tops_text, body_lines};
-ghost use Rattle.heap_view.specs.Areas.{region_lines, use_lines, use_text, line_body, region_line, set_line};
+ghost use Rattle.heap_view.specs.Areas.{region_lines, use_lines, use_text, line_body, region_line};
 
-use crate::card_lines::put_set;
 use crate::tile_lines::put_tiles;
-use heap_dump::{live_words, used_words};
+use heap_dump::put_set;
 use heap_words::addr::RegionNo;
 use regions::{Kind, RegionTable};
 use script_text::Text;
@@ -47,7 +45,7 @@ fn put_live(core: &Core, text: &mut Text, region: RegionNo)
 {
     if let Kind::Ordinary = core.table().kind(region) {
         text.put(", live bound ");
-        text.put_digits(u64::from(live_words(core, region)));
+        text.put_digits(u64::from(core.live_in(region)));
     }
 }
 
@@ -57,7 +55,7 @@ fn put_words(core: &Core, text: &mut Text, region: RegionNo)
     ensures { Adds text.old (words_text core.now.table region) text.new }
 {
     text.put(", ");
-    text.put_digits(used_words(core, region) as u64);
+    text.put_digits(core.used_in(region) as u64);
     text.put(" of ");
     text.put_digits(core.table().words_per_region() as u64);
     text.put(" words handed out");
@@ -109,15 +107,6 @@ fn put_use(core: &Core, text: &mut Text, region: RegionNo)
     put_words(core, text, region);
 }
 
-/// Puts a region's remembered set, if it isn't empty.
-fn put_remembered(core: &Core, text: &mut Text, region: RegionNo)
-    requires { region < length core.now.table.regions }
-    ensures { Adds text.old (set_line (set_of core.now.sets region) (length core.now.table.regions)) text.new }
-{
-    core.law_remembers();
-    put_set(core.sets(), text, region, core.table().region_count());
-}
-
 /// Puts what is said of the words of a region in use, and the lines below it.
 fn put_lines(core: &Core, text: &mut Text, region: RegionNo)
     requires { region < length core.now.table.regions }
@@ -128,7 +117,14 @@ fn put_lines(core: &Core, text: &mut Text, region: RegionNo)
     put_tops(core, text, region);
     put_live(core, text, region);
     text.put("\n");
-    put_remembered(core, text, region);
+    put_set(
+        core,
+        text,
+        region,
+        "  remembered cards:",
+        "",
+        ", all of region ",
+    );
     put_tiles(core, text, region);
 }
 

@@ -9,8 +9,8 @@ ghost use Rattle.heap_view.specs.Actors.{none_text, place_text, root_text, roots
 ghost use Rattle.heap_view.specs.Actors.{globals_line, registers_line, buffer_line, held_lines, logged_text, mutator_lines, actor_lines};
 
 use crate::card_lines::put_card_log;
-use crate::names::{put_pointer, put_spaced_pointer};
 use alloc_buffers::AllocBuffers;
+use heap_dump::{Spelling, put_pointer, put_spaced_pointer};
 use heap_words::addr::{Addr, Ptr};
 use regions::RegionTable;
 use root_table::Roots;
@@ -26,7 +26,7 @@ fn put_root(table: &RegionTable, text: &mut Text, letter: &'static str, number: 
     text.put(letter);
     text.put_digits(number);
     text.put(" ");
-    put_pointer(table, text, Some(at));
+    put_pointer(table, text, Some(at), Spelling::Lines);
     text.put(" at ");
     text.put_digits(at.word() as u64);
 }
@@ -111,7 +111,12 @@ fn put_deletion_log(table: &RegionTable, logs: &DeletionLogs, text: &mut Text, m
     }
     text.put("  deletion log:");
     for place in 0..count {
-        put_spaced_pointer(table, text, Some(logs.logged(mutator, place)));
+        put_spaced_pointer(
+            table,
+            text,
+            Some(logs.logged(mutator, place)),
+            Spelling::Lines,
+        );
     }
     text.put("\n");
 }

@@ -65,7 +65,7 @@ pub use read::script::parse;
 pub use read::script_steps::{ScriptLine, ScriptSteps};
 pub use watched::{WatchedReader, WatchedWriter};
 pub use write::bytes::{put_number, put_text};
-pub use write::lines::{put_event_text, put_reply};
+pub use write::lines::{LINE_ROOM, put_event_text, put_heap, put_reply};
 pub use write::record_lines::{RecordLines, write_record};
 pub use write::text::Text;
 pub use write::writing::write_bytes;

@@ -39,7 +39,14 @@ impl Core {
     }
 
     /// How many words of a region are handed out.
-    fn used_in(&self, region: RegionNo) -> u32
+    ///
+    /// ```rust
+    /// use heap_words::addr::RegionNo;
+    ///
+    /// core.step(new);
+    /// assert_eq!(rt; core.used_in(RegionNo::new(0)), 8); // an allocation buffer, from which the object was cut
+    /// ```
+    pub fn used_in(&self, region: RegionNo) -> u32
         requires { region < length self.now.table.regions }
         ensures { result ≡ used_of self.now.table region }
     {
@@ -77,8 +84,15 @@ impl Core {
         self.table.object_size(Addr::new(region.number() * words))
     }
 
-    /// The live words of a region.
-    fn live_in(&self, region: RegionNo) -> u32
+    /// The live words of a region: of an ordinary one its live bound, of a run's first the words of its object, if that is kept.
+    ///
+    /// ```rust
+    /// use heap_words::addr::RegionNo;
+    ///
+    /// core.step(new);
+    /// assert_eq!(rt; core.live_in(RegionNo::new(0)), 8); // no marking is complete: all that was handed out counts
+    /// ```
+    pub fn live_in(&self, region: RegionNo) -> u32
         requires { region < length self.now.table.regions }
         ensures { result ≡ live_in self.now region }
     {

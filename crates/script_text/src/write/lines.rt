@@ -17,7 +17,7 @@ use heap_steps::{
 use heap_words::config::{Config, Format};
 
 /// The room that a line needs: no line of a record is longer, nor one that a script's line of 120 bytes would tell.
-pub(crate) const LINE_ROOM: usize = 192;
+pub const LINE_ROOM: usize = 192;
 
 /// A text that ends in a space, and a number.
 #[inline(always)]
@@ -65,7 +65,13 @@ fn put_ending(buffer: &mut [u8], at: usize, first_name: u64, format: Format) -> 
 }
 
 /// The heap line.
-pub(crate) fn put_heap(buffer: &mut [u8], at: usize, config: &Config) -> usize
+///
+/// ```rust
+/// let mut buffer = [0; LINE_ROOM];
+/// let end = put_heap(&mut buffer, 0, &parse(alloc, script)?.config());
+/// assert_eq!(rt; &buffer[..end], b"heap 4 16 8 1 0\n".as_slice());
+/// ```
+pub fn put_heap(buffer: &mut [u8], at: usize, config: &Config) -> usize
     requires { at + LINE_ROOM ≤ length buffer.old }
     ensures put { take result buffer.new ≡ take at buffer.old ++ line (heap_words config.now) }
     ensures end { result ≤ at + LINE_ROOM }

@@ -10,8 +10,6 @@ returns c =
     let p = c.args.pace.now in
     let due = c.is_due-due.ensures
     ∙ ap (λ (ahead : Bool). x.behind || ahead || c.args.index % p.every == 0) c.shows-ahead.ensures in
-    let noted = subst (λ (b : Bool). NotesTold b c.args.core.now c.args.index x.copied x.moments.items c.note_if.new.moments.items x.teller
-    c.note_if.new.teller) due c.in_ok-note_if.ensures in
     record {
       made = c.do_step-made.result;
       passed = c.do_step-made.ensures;
@@ -20,6 +18,6 @@ returns c =
       counted = c.count_on-course.ensures;
       copied = c.saturating_add-course.ensures ∙ ap (λ (n : ℕ). min (x.copied + n) 18446744073709551615) c.words_moved.ensures;
       behind = c.shows-ahead.ensures;
-      notes = noted.0;
-      told = noted.1;
+      notes = subst (λ (b : Bool). NotesTold b c.args.core.now c.args.index x.copied x.moments.items c.note_if.new.moments.items x.teller
+          c.note_if.new.teller) due c.in_ok-note_if.ensures;
     }

@@ -1,4 +1,4 @@
-use Rattle.std.proofs.Common.{◌≡◌, ◌∙◌, ◌≤◌, ℕ, List, length, map, take, ap, subst, sym}
+use Rattle.std.proofs.Common.{◌≡◌, ◌∙◌, suc, List, length, map, ap, ap₂, subst, sym}
 use Rattle.step_core.specs.Stands.{CoreState}
 use Rattle.heap_life.specs.Tolds.{nothing_told, tells_tiles, told_of}
 use Rattle.std.specs.Prelude.{All}
@@ -10,11 +10,11 @@ use Rattle.graph_runs.specs.State.{first_state}
 use Rattle.heap_steps.specs.Faults.{IsRunFault}
 use Rattle.step_core.specs.Passages.{RunsTo, step_in, actor_in}
 use Rattle.step_core.proofs.Cores.Following.{passage_is_run}
-use Rattle.heap_life.specs.Paces.{IsMoment}
+use Rattle.heap_life.specs.Paces.{moments_below}
 use Rattle.heap_life.specs.declared.pace.Pace.{Pace}
 use Rattle.heap_life.specs.declared.life.Moment.{Moment}
-use Rattle.heap_life.specs.Lives.{IsMomentOf, HasMoment}
-use Rattle.heap_life.proofs.Moments.{runs_to, all_of_new, pace_for}
+use Rattle.heap_life.specs.Lives.{IsMomentIn}
+use Rattle.heap_life.proofs.Moments.{runs_to, of_new, pace_for}
 use Rattle.heap_life.proofs.life.live.Goals as goal
 
 pub returns-in-Err-clause-fault : goal.returns-in-Err-clause-fault
@@ -32,7 +32,6 @@ pub returns-in-Ok-life_of-clause-life : goal.returns-in-Ok-life_of-clause-life
 returns-in-Ok-life_of-clause-life c =
     let life = c.in-Ok-life_of.life in
     let es = life.history.events in
-    let ms = life.moments.items in
     let made = c.in-Ok.ensures in
     let from = c.in-Ok-life_of.ensures.lived in
     let lived = from.lived in
@@ -41,7 +40,7 @@ returns-in-Ok-life_of-clause-life c =
     let events = c.events-2.ensures.events in
     let config = c.config-config.result in
     let is = c.config-config.ensures in
-    let runs = lived.runs (first_state config) made.stands in
+    let runs = lived.leads (first_state config) made.stands in
     record {
       config = lived.config ∙ made.config ∙ is;
       steps = lived.steps ∙ ap (λ (events : List Event). map step_in events) events;
@@ -51,22 +50,14 @@ returns-in-Ok-life_of-clause-life c =
       end = c.life_of.new.core;
       ends = subst (λ (k : Config). RunsTo k es c.life_of.new.core) is
           (runs_to config c.in-Ok.core c.life_of.new.core es made.fresh made.core made.stands runs);
-      each = subst (λ (k : Config). All (IsMomentOf k es) ms) is
-          (all_of_new config c.in-Ok.core es ms made.fresh made.core made.stands lived.each);
       pace = pace_for c.args.every c.from.result c.most_moments.result config c.args.events.now.config c.events.result.now
           c.args.events.now.events life.pace c.pace_of-pace.result
           c.pace_of-pace.ensures c.from.ensures c.most_moments.ensures is c.events.ensures.events pace;
-      due = subst (λ (p : Pace). (n : ℕ) → n ≤ length c.args.events.now.events → IsMoment p c.args.events.now.events n → HasMoment ms n)
-          (sym pace) (subst (λ (l : List Event). (n : ℕ) → n ≤ length l → IsMoment c.pace_of-pace.result l n
-          → HasMoment ms n) events lived.due);
-      only = subst (λ (p : Pace). All (λ (m : Moment). IsMoment p c.args.events.now.events m.event) ms) (sym pace)
-          (subst (λ (l : List Event). All (λ (m : Moment). IsMoment c.pace_of-pace.result l m.event) ms) events lived.only);
-      rising = lived.rising;
+      due = lived.due ∙ ap₂ (λ (p : Pace) (l : List Event). moments_below p l (suc (length l))) (sym pace) events;
       shown = shown;
       moments = lived.told.moments;
-      cores = subst (λ (k : Config). All (λ (x : Moment × CoreState). RunsTo k (take x.0.event es) x.1) shown) is
-          (λ i d lt. let after = lived.told.cores i d lt in
-          runs_to config c.in-Ok.core _ _ made.fresh made.core made.stands (after.runs (first_state config) made.stands));
+      each = subst (λ (k : Config). All (λ (x : Moment × CoreState). IsMomentIn (RunsTo k) es x.0 x.1) shown) is
+          (λ i d lt. of_new config c.in-Ok.core es _ _ made.fresh made.core made.stands (lived.told.each i d lt));
       told = subst (λ (k : Config). life.told.items ≡ (told_of 8000000 (nothing_told (tells_tiles k)) shown).text) (made.config ∙ is)
           (lived.told.told life.told.items from.told).0;
     }

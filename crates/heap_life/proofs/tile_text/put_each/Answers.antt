@@ -1,24 +1,18 @@
-use Rattle.std.proofs.Common.{◌∙◌, ◌*◌, List, ap, sym, subst}
+use Rattle.std.proofs.Common.{◌∙◌, List, ap, sym, subst}
 use Rattle.std.specs.List.{flat_map}
 use Rattle.heap_words.specs.declared.addr.Addr.{Addr}
 use Rattle.regions.specs.declared.row.Shape.{Shape}
-use Rattle.regions.specs.Table.{Table}
-use Rattle.regions.specs.Shaped.{IsShaped}
-use Rattle.regions.specs.Walks.{ArePlaced, placed, tiles_of}
-use Rattle.regions.proofs.Walks.WalkTiles.{walk_placed}
+use Rattle.regions.specs.Walks.{ArePlaced}
 use Rattle.heap_life.specs.RegionTexts.{tile_text}
 use Rattle.heap_dump.proofs.Putting.{leads_first, leads_on, leads_all}
 use Rattle.heap_life.proofs.tile_text.put_each.Goals as goal
 
 pub loop-at-init : goal.loop-at-init
 loop-at-init c =
-    let shaped = subst IsShaped c.table.ensures c.law.ensures in
-    let walk = c.into_iter-at-iterator.ensures.into_iter_gives ∙ c.walk-at-items.ensures
-    ∙ ap (λ (t : Table). placed (c.args.region * t.words_per_region) (tiles_of t c.args.region)) c.table-2.ensures in
+    let is = c.into_iter-at-iterator.ensures.into_iter_gives in
     record {
-      placed = subst (λ (l : List (Addr × Shape)). ArePlaced c.args.core.now.table l) (sym walk)
-          (walk_placed c.args.core.now.table c.args.region shaped);
-      leads = leads_first _ _ _ (ap (flat_map (tile_text c.args.core.now c.args.region)) walk);
+      placed = subst (λ (l : List (Addr × Shape)). ArePlaced c.args.core.now.table l) (sym is) c.walk_region-at-items.ensures.placed;
+      leads = leads_first _ _ _ (ap (flat_map (tile_text c.args.core.now c.args.region)) (is ∙ c.walk_region-at-items.ensures.tiles));
     }
 
 pub put_tile-requires : goal.put_tile-requires

@@ -1,6 +1,7 @@
 use Rattle.std.proofs.Common.{◌≢◌, ◌∙◌, length, ne_eqb}
 use Rattle.script_text.specs.Texts.{spaced_number}
-use Rattle.heap_view.proofs.Titles.{adds_else, all_added, line_some}
+use Rattle.heap_dump.proofs.Putting.{adds_else}
+use Rattle.heap_view.proofs.Titles.{all_added, line_some}
 use Rattle.heap_view.proofs.card_lines.put_queue.Goals as goal
 
 pub returns : goal.returns

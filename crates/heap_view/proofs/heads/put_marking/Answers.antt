@@ -1,7 +1,6 @@
 use Rattle.std.proofs.Common.{◌∙◌, sym}
 use Rattle.std.specs.Fmt.{decimal}
-use Rattle.heap_dump.proofs.Putting.{then_adds, adds_at}
-use Rattle.heap_view.proofs.Titles.{adds_if}
+use Rattle.heap_dump.proofs.Putting.{then_adds, adds_at, adds_if}
 use Rattle.heap_view.proofs.heads.put_marking.Goals as goal
 
 pub returns : goal.returns

@@ -9,4 +9,4 @@ pub returns-in-Ordinary : goal.returns-in-Ordinary
 returns-in-Ordinary c =
     adds_at (live_text c.args.core.now c.args.region) _ _ _ _
     (ap (λ (t : Table). kind_of t c.args.region) (sym c.table.ensures) ∙ sym c.kind.ensures ∙ c.in-Ordinary.is)
-    (then_adds _ _ _ _ _ c.put.ensures (adds_at decimal _ _ _ _ (sym (c.from.ensures ∙ c.live_words.ensures)) c.put_digits.ensures))
+    (then_adds _ _ _ _ _ c.put.ensures (adds_at decimal _ _ _ _ (sym (c.from.ensures ∙ c.live_in.ensures)) c.put_digits.ensures))

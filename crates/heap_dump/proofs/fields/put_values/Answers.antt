@@ -1,7 +1,7 @@
 use Rattle.regions.specs.Table.{values_at}
 use Rattle.script_text.specs.Texts.{spaced_number}
 use Rattle.heap_dump.proofs.Putting.{adds_more}
-use Rattle.heap_dump.proofs.lists.put_values.Goals as goal
+use Rattle.heap_dump.proofs.fields.put_values.Goals as goal
 
 pub loop-field-preserved : goal.loop-field-preserved
 loop-field-preserved c =

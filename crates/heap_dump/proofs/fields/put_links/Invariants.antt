@@ -1,0 +1,9 @@
+use Rattle.std.proofs.Common.{take}
+use Rattle.std.specs.List.{flat_map}
+use Rattle.script_text.specs.Texts.{Adds}
+use Rattle.heap_dump.specs.Fields.{links_at, spaced_pointer}
+use Rattle.heap_dump.proofs.fields.put_links.Given as goal
+
+abbrev pub invariant-loop-index : goal.invariant-loop-index
+invariant-loop-index l =
+    Adds l.initial.text (flat_map (spaced_pointer l.spelling l.table) (take l.index (links_at l.weak l.table l.object))) l.text

@@ -1,0 +1,177 @@
+//! The fields of an object, spelled for a terminal or for a page: of each kind the first ones, and how many more there are.
+
+ghost use Rattle.std.specs.Prelude.{◌≡◌, ◌<◌, IsSome, Some, length, slice_get};
+ghost use Rattle.regions.specs.Table.{object_at, values_at};
+ghost use Rattle.script_text.specs.Texts.{Adds};
+ghost use Rattle.heap_dump.specs.Fields.{fields_text, links_at, links_text, more_text, named_text, pointer_text, shown, spaced_pointer};
+ghost use Rattle.heap_dump.specs.Fields.{title_text, values_text};
+
+use heap_words::addr::{Addr, Ptr};
+use regions::RegionTable;
+use script_text::Text;
+use step_core::object_name;
+
+/// Whom a text is spelled for.
+#[derive(Clone, Copy, Debug, PartialEq, Eq)]
+pub enum Spelling {
+    /// A person at a terminal.
+    Lines,
+    /// A page's scripts.
+    Page,
+}
+
+/// How many fields of a kind are told.
+fn shown(spelling: Spelling) -> u32
+    ensures { result ≡ shown spelling }
+{
+    match spelling {
+        Spelling::Lines => 8,
+        Spelling::Page => 16,
+    }
+}
+
+/// Puts how many of an object's fields of a kind aren't told, if there are some.
+fn put_more(text: &mut Text, count: u32, spelling: Spelling)
+    ensures { Adds text.old (more_text spelling count) text.new }
+{
+    let shown = shown(spelling);
+    if count <= shown {
+        return;
+    }
+    match spelling {
+        Spelling::Lines => {
+            text.put(" and ");
+            text.put_digits(u64::from(count - shown));
+            text.put(" more");
+        }
+        Spelling::Page => {
+            text.put(" +");
+            text.put_digits(u64::from(count - shown));
+        }
+    }
+}
+
+/// Puts the object at an address by its name, or that none starts there.
+fn put_named(text: &mut Text, at: Addr, name: Option<u64>, spelling: Spelling)
+    ensures { Adds text.old (named_text spelling at name) text.new }
+{
+    match spelling {
+        Spelling::Lines => match name {
+            None => {
+                text.put("no object at ");
+                text.put_digits(at.word() as u64);
+            }
+            Some(name) => {
+                text.put("#");
+                text.put_digits(name);
+            }
+        },
+        Spelling::Page => match name {
+            None => text.put("?"),
+            Some(name) => text.put_digits(name),
+        },
+    }
+}
+
+/// Puts a pointer or a weak slot by the name that it leads to, or that it is nil.
+pub fn put_pointer(table: &RegionTable, text: &mut Text, pointer: Ptr, spelling: Spelling)
+    ensures { Adds text.old (pointer_text spelling table.now pointer) text.new }
+{
+    match pointer {
+        None => match spelling {
+            Spelling::Lines => text.put("nil"),
+            Spelling::Page => text.put("-"),
+        },
+        Some(at) => put_named(text, at, object_name(table, at), spelling),
+    }
+}
+
+/// Puts a space, and such a pointer.
+pub fn put_spaced_pointer(table: &RegionTable, text: &mut Text, pointer: Ptr, spelling: Spelling)
+    ensures { Adds text.old (spaced_pointer spelling table.now pointer) text.new }
+{
+    text.put(" ");
+    put_pointer(table, text, pointer, spelling);
+}
+
+/// Puts what comes before so many fields of a kind: in lines a title, unless there are none.
+fn put_title(text: &mut Text, count: u32, line: &str, page: &str, spelling: Spelling)
+    ensures { Adds text.old (title_text spelling count line.now page.now) text.new }
+{
+    match spelling {
+        Spelling::Lines => {
+            if count != 0 {
+                text.put(line);
+            }
+        }
+        Spelling::Page => text.put(page),
+    }
+}
+
+/// How many pointers, or weak slots, an object has.
+fn link_count(table: &RegionTable, object: Addr, weak: bool) -> u32
+    requires { IsSome (object_at table.now object) }
+    ensures { result ≡ length (links_at weak table.now object) }
+{
+    if weak {
+        table.weak_count(object)
+    } else {
+        table.pointer_count(object)
+    }
+}
+
+/// A pointer, or a weak slot, of an object.
+fn link_at(table: &RegionTable, object: Addr, weak: bool, index: u32) -> Ptr
+    requires { index < length (links_at weak table.now object) }
+    ensures { slice_get (links_at weak table.now object) index ≡ Some result }
+{
+    if weak {
+        table.get_weak(object, index)
+    } else {
+        table.get_ptr(object, index)
+    }
+}
+
+/// Puts an object's pointers, or its weak slots, after their title.
+fn put_links(
+    table: &RegionTable,
+    text: &mut Text,
+    object: Addr,
+    weak: bool,
+    line: &str,
+    page: &str,
+    spelling: Spelling,
+)
+    requires { IsSome (object_at table.now object) }
+    ensures { Adds text.old (links_text spelling line.now page.now table.now (links_at weak table.now object)) text.new }
+{
+    let count = link_count(table, object, weak);
+    put_title(text, count, line, page, spelling);
+    for index in 0..count.min(shown(spelling)) {
+        put_spaced_pointer(table, text, link_at(table, object, weak, index), spelling);
+    }
+    put_more(text, count, spelling);
+}
+
+/// Puts an object's data words after their title.
+fn put_values(table: &RegionTable, text: &mut Text, object: Addr, spelling: Spelling)
+    requires { IsSome (object_at table.now object) }
+    ensures { Adds text.old (values_text spelling (values_at table.now object)) text.new }
+{
+    let count = table.value_count(object);
+    put_title(text, count, ", data", " ;", spelling);
+    for field in 0..count.min(shown(spelling)) {
+        text.put_number(table.get_value(object, field));
+    }
+    put_more(text, count, spelling);
+}
+
+/// Puts the fields of an object: its pointers, its weak slots and its data.
+pub fn put_fields(table: &RegionTable, text: &mut Text, object: Addr, spelling: Spelling)
+    requires { IsSome (object_at table.now object) }
+    ensures { Adds text.old (fields_text spelling table.now object) text.new }
+{
+    put_links(table, text, object, false, ", pointers", "", spelling);
+    put_links(table, text, object, true, ", weak slots", " ;", spelling);
+    put_values(table, text, object, spelling);
+}
