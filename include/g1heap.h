@@ -78,8 +78,11 @@ typedef struct g1_sizes {
 #define G1_MAX_OBJECT_WORDS 16777216 /* its header and its name are two of them */
 #define G1_MAX_WEAKS 255
 
-/* The version of this header and of the library, as pkg-config tells it. */
+/* The version of this header and of the library, as pkg-config tells it, and its numbers, for #if. VERSIONING.md tells what may change. */
 #define G1_VERSION "0.1.0"
+#define G1_VERSION_MAJOR 0
+#define G1_VERSION_MINOR 1
+#define G1_VERSION_PATCH 0
 
 /* What came of a call. Below 16 it was done. From 16 on it wasn't, and objects and roots are as they were; but g1_make and g1_make_filled
    may take steps of the collector before they refuse an object, so that weak slots become nil, and counts and the policy's numbers differ.
