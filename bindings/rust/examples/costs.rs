@@ -18,7 +18,7 @@ fn room(f: &Frame<'_, '_>) -> u32 {
 fn main() -> Result<(), Box<dyn std::error::Error>> {
     let mut words = std::env::args().skip(1);
     let (call, times) = (words.next().ok_or("a call")?, words.next().ok_or("a number")?.parse::<u64>()?);
-    let mut heap = Heap::new(&Sizes { buffer: 128, globals: 16, registers: 64, policy: call.starts_with("make"), ..Sizes::default() })?;
+    let mut heap = Heap::new(&Sizes::default().buffer(128).globals(16).registers(64).policy(call.starts_with("make")))?;
     let sum = heap.run(|f| {
         let a = f.alloc::<Node>()?;
         let b = f.alloc::<Node>()?;

@@ -272,7 +272,7 @@ impl<'f, 'h> Frame<'f, 'h> {
     ///
     /// ```
     /// # use g1heap::*;
-    /// # let mut heap = Heap::new(&Sizes { registers: 2, ..Sizes::default() })?;
+    /// # let mut heap = Heap::new(&Sizes::default().registers(2))?;
     /// # heap.run(|f| {
     /// f.alloc_any(1, 0, 0)?;
     /// assert_eq!(f.room(), 1);

@@ -24,7 +24,7 @@ use std::fmt;
 ///     while steps.pause(10_000).regions > 0 {}
 ///     assert!(steps.live_words() == 0 && steps.free_regions() > 250);
 /// }
-/// let mut heap = Heap::new(&Sizes { policy: false, ..Sizes::default() })?;
+/// let mut heap = Heap::new(&Sizes::default().policy(false))?;
 /// heap.run(|f| {
 ///     while f.steps().free_regions() > 2 {
 ///         f.scope(|g| g.alloc::<Cell>().map(drop))?;
@@ -161,7 +161,7 @@ impl Frame<'_, '_> {
     ///
     /// ```
     /// # use g1heap::*;
-    /// # let mut heap = Heap::new(&Sizes { policy: false, ..Sizes::default() })?;
+    /// # let mut heap = Heap::new(&Sizes::default().policy(false))?;
     /// # heap.run(|f| {
     /// let steps = f.steps();
     /// assert!(steps.begin() && steps.is_marking());

@@ -4,7 +4,7 @@ use g1heap::*;
 layout! { struct Symbol { pointers { name: Text, also: Any } } }
 
 fn heap() -> Heap {
-    Heap::new(&Sizes { regions: 16, words: 64, buffer: 7, registers: 16, ..Sizes::default() }).unwrap()
+    Heap::new(&Sizes::default().regions(16).words(64).buffer(7).registers(16)).unwrap()
 }
 
 #[test]
@@ -225,7 +225,7 @@ fn numbers<'h>(f: &mut Frame<'_, 'h>, array: Local<'_, 'h, Array<Number>>) -> Ve
 
 #[test]
 fn items_are_copied_and_told() {
-    let mut heap = Heap::new(&Sizes { registers: 4, ..Sizes::default() }).unwrap();
+    let mut heap = Heap::new(&Sizes::default().registers(4)).unwrap();
     heap.run(|f| {
         let (one, other) = (f.alloc_array::<Number>(10).unwrap(), f.alloc_array::<Number>(6).unwrap());
         for (from, to, into_other) in

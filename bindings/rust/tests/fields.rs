@@ -22,7 +22,7 @@ layout! {
 }
 
 fn sizes() -> Sizes {
-    Sizes { regions: 16, words: 64, buffer: 7, registers: 16, ..Sizes::default() }
+    Sizes::default().regions(16).words(64).buffer(7).registers(16)
 }
 fn cell<'f, 'h>(f: &Frame<'f, 'h>, n: u64) -> Local<'f, 'h, Cell> {
     f.new::<Cell>(|p| p.write(Cell::n, n)).unwrap()
@@ -99,7 +99,7 @@ fn a_nil_field_is_named() {
 #[test]
 fn objects_are_filled() {
     for policy in [true, false] {
-        let mut heap = Heap::new(&Sizes { policy, ..sizes() }).unwrap();
+        let mut heap = Heap::new(&sizes().policy(policy)).unwrap();
         heap.run(|f| {
             let (one, two) = (cell(f, 1), cell(f, 2));
             let first = f.new::<Cell>(|p| p.put(Cell::next, one)).unwrap();
@@ -130,39 +130,40 @@ fn objects_are_filled() {
     }
 }
 
-#[test]
-fn objects_are_filled_where_the_heap_is_full() {
-    Heap::new(&sizes()).unwrap().run(|f| {
-        for _ in 0..3 {
-            let made = f.scope(|g| {
-                let mut list = g.nil_var::<Cell>().unwrap();
-                for made in 0.. {
-                    let pushed = g.scope(|h| {
-                        let cell = h.new::<Cell>(|p| {
-                            p.put(Cell::next, &list);
-                            p.write(Cell::n, made);
-                        })?;
-                        list.set(h, cell);
-                        Ok::<_, Error>(())
-                    });
-                    if let Err(error) = pushed {
-                        assert_eq!(error, Error::Full);
-                        break;
-                    }
-                }
-                let mut made = 0;
-                while let Some(cell) = list.local() {
-                    (made, _) = (g.read(cell, Cell::n).max(made), list.follow(g, Cell::next));
-                }
-                made
+/// Makes a list of so many cells at most in a scope, and answers how many there were.
+fn fill(f: &mut Frame<'_, '_>, most: u64) -> u64 {
+    f.scope(|g| {
+        let mut list = g.nil_var::<Cell>().unwrap();
+        for n in 0..most {
+            let pushed = g.scope(|h| {
+                let cell = h.new::<Cell>(|p| {
+                    p.put(Cell::next, &list);
+                    p.write(Cell::n, n);
+                })?;
+                list.set(h, cell);
+                Ok::<_, Error>(())
             });
-            assert!(made > 100, "{made}");
-            for n in 0..100 {
-                f.scope(|g| g.new::<Cell>(|p| p.write(Cell::n, n)).map(drop)).unwrap();
-                // what the scope held goes
+            if let Err(error) = pushed {
+                assert_eq!((error, g.read(list.local().unwrap(), Cell::n)), (Error::Full, n - 1));
+                return n;
             }
         }
-    });
+        most
+    })
+}
+
+#[test]
+fn what_a_left_frame_held_is_no_reason_to_be_full() {
+    let most = Heap::new(&sizes()).unwrap().run(|f| fill(f, u64::MAX));
+    assert!(most > 100, "{most}");
+    for count in most - 20..=most + 1 {
+        Heap::new(&sizes()).unwrap().run(|f| {
+            assert_eq!(fill(f, count), count.min(most));
+            for n in 0..100 {
+                f.scope(|g| g.new::<Cell>(|p| p.write(Cell::n, n)).map(drop)).unwrap();
+            }
+        });
+    }
 }
 
 #[test]
@@ -201,7 +202,7 @@ fn a_root_is_lifted_with_a_value() {
 #[test]
 fn weak_slots_are_cleared_where_markings_end() {
     for policy in [true, false] {
-        let mut heap = Heap::new(&Sizes { policy, ..sizes() }).unwrap();
+        let mut heap = Heap::new(&sizes().policy(policy)).unwrap();
         heap.run(|f| {
             let observer = f.alloc::<Observer>().unwrap();
             assert_eq!(f.markings(), 0);
