@@ -24,7 +24,7 @@ TOP = Path(counting.TOP)
 # A call, as the example names it and as the C program does.
 CALLS = [("get", "get"), ("get into a place", "get"), ("read", "read"), ("write", "write"), ("put", "put"),
          ("put while marking", "put while marking"), ("move", "move"), ("new 2 + 1", "new 2 + 1"),
-         ("make 2 + 1", "make 2 + 1"), ("name", "name"), ("scope", "scope")]
+         ("make 2 + 1", "make 2 + 1"), ("make filled 2 + 1", "make filled 2 + 1"), ("name", "name"), ("scope", "scope")]
 # A program: its name, its C, its example, and its words where instructions are counted and where time is taken.
 PROGRAMS = [("GCBench", "clients/gcbench.c", "gcbench", "12", "16"), ("binary-trees", "clients/binary_trees.c", "binary_trees", "12", "16"),
             ("stack machine", "tools/measuring/stack_vm.c", "vm", "500 100", "500 2000")]
