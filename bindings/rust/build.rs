@@ -1,6 +1,7 @@
-//! Finds the archive: in the folder that G1HEAP_LIB_DIR names; else in one that pkg-config names; else in lib/ of the checkout that this
-//! crate is in. Its version has to be this crate's, where pkg-config or a g1heap.pc beside the archive tells it: both lay out the structs
-//! that they share.
+//! Finds the archive: in the folder that G1HEAP_LIB_DIR names; else in one that pkg-config names; else in vendor/TARGET of this package,
+//! which bindings/rust/package makes; else in lib/ of the checkout that this crate is in. Its version has to be this crate's, where
+//! pkg-config or a g1heap.pc beside the archive tells it: both lay out the structs that they share. Where docs.rs builds the documents, no archive
+//! is looked for: nothing is linked there.
 use std::path::{Path, PathBuf};
 use std::{env, fs, process};
 
@@ -42,13 +43,20 @@ fn places() -> Vec<(PathBuf, Option<String>)> {
     let found = pkg_config("--libs-only-L").unwrap_or_default();
     let mut all: Vec<_> = folders(&found).into_iter().map(|folder| (folder, pkg_config("--modversion"))).collect();
     let here = env::var_os("CARGO_MANIFEST_DIR").map(PathBuf::from).unwrap_or_default();
+    let vendor = here.join("vendor");
+    if vendor.is_dir() {
+        all.push(beside(vendor.join(env::var_os("TARGET").unwrap_or_default())));
+    }
     all.push(beside(here.join("../../lib")));
     all
 }
 
 fn main() {
-    for name in ["G1HEAP_LIB_DIR", "PKG_CONFIG", "PKG_CONFIG_PATH", "PKG_CONFIG_LIBDIR"] {
+    for name in ["DOCS_RS", "G1HEAP_LIB_DIR", "PKG_CONFIG", "PKG_CONFIG_PATH", "PKG_CONFIG_LIBDIR"] {
         println!("cargo:rerun-if-env-changed={name}");
+    }
+    if env::var_os("DOCS_RS").is_some() {
+        return;
     }
     let name = if env::var_os("CARGO_FEATURE_RECORDED").is_some() { "g1heap_recorded" } else { "g1heap" };
     let own = env::var("CARGO_PKG_VERSION").unwrap_or_default();

@@ -1,11 +1,12 @@
 """The crate for Rust beside C over the same archive: tables for bindings/rust/README.md.
 
-    tools/measure rust [--folder FOLDER] [--runs 9] [--only calls programs seconds]
+    tools/measure rust [--folder FOLDER] [--runs 9] [--only calls programs lox seconds]
 
 FOLDER has libg1heap.a; lib/ where it is left out. `calls` counts the instructions of a call with the making of the question, by callgrind,
 from two runs that differ by 20,000 calls: of tools/measuring/library_costs.c and of the crate's example `costs`. `programs` counts those of
 whole programs: clients/gcbench.c, clients/binary_trees.c and tools/measuring/stack_vm.c, and the crate's examples of the same; these also
-inlined, as the crate's page has it, where the kit and the module are there. `seconds` takes the user time of larger ones, the best of some
+inlined, as the crate's page has it, where the kit and the module are there. `lox` counts those of the crate's two interpreters of Lox, over
+the heap and over Rc, for each program of examples/lox that comes to its end. `seconds` takes the user time of larger ones, the best of some
 runs in turns. It needs cc, cargo and valgrind.
 """
 import argparse
@@ -23,7 +24,7 @@ TOP = Path(counting.TOP)
 # A call, as the example names it and as the C program does.
 CALLS = [("get", "get"), ("get into a place", "get"), ("read", "read"), ("write", "write"), ("put", "put"),
          ("put while marking", "put while marking"), ("move", "move"), ("new 2 + 1", "new 2 + 1"),
-         ("make 2 + 1", "make 2 + 1"), ("name", "name"), ("scope", "scope")]
+         ("make 2 + 1", "make 2 + 1"), ("make filled 2 + 1", "make filled 2 + 1"), ("name", "name"), ("scope", "scope")]
 # A program: its name, its C, its example, and its words where instructions are counted and where time is taken.
 PROGRAMS = [("GCBench", "clients/gcbench.c", "gcbench", "12", "16"), ("binary-trees", "clients/binary_trees.c", "binary_trees", "12", "16"),
             ("stack machine", "tools/measuring/stack_vm.c", "vm", "500 100", "500 2000")]
@@ -77,7 +78,7 @@ def main():
     parser = argparse.ArgumentParser(description=__doc__, formatter_class=argparse.RawDescriptionHelpFormatter)
     parser.add_argument("--folder", type=Path, default=TOP / "lib")
     parser.add_argument("--runs", type=int, default=9)
-    parser.add_argument("--only", nargs="+", default=["calls", "programs", "seconds"])
+    parser.add_argument("--only", nargs="+", default=["calls", "programs", "lox", "seconds"])
     chosen = parser.parse_args()
     folder = chosen.folder.resolve()
     with tempfile.TemporaryDirectory() as scratch:
@@ -101,6 +102,11 @@ def main():
                 counts = [instructions(it, *few.split()) / 1e6 for it in (c, rust, *([inlined / rust.name] if inlined else []))]
                 print(f"| {name}, {few} | {counts[0]:,.0f} | {counts[1]:,.0f} | {counts[1] / counts[0]:.2f} | "
                       f"{f'{counts[2]:,.0f}' if inlined else '-'} |", flush=True)
+        if "lox" in chosen.only:
+            table(["Millions of instructions", "Rc", "g1heap", "g1heap to Rc"])
+            for program in sorted((TOP / "bindings" / "rust" / "examples" / "lox").glob("*.lox")):
+                if "\n[line " not in program.with_suffix(".out").read_text():
+                    row(program.name, *(instructions(examples / name, program) / 1e6 for name in ("lox_rc", "lox")), 0)
         if "seconds" in chosen.only:
             table(["Seconds", "C", "Rust", "Rust to C"])
             for name, c, rust, _, many in programs:

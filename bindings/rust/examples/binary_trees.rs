@@ -54,7 +54,7 @@ fn main() -> Result<(), Box<dyn std::error::Error>> {
     if !(6..=19).contains(&deepest) {
         return Err("usage: binary_trees [DEPTH], a depth of 6 to 19".into());
     }
-    let mut sizes = Sizes { registers: 64, globals: 16, ..Sizes::default() };
+    let mut sizes = Sizes::default().registers(64).globals(16);
     if deepest > 12 {
         sizes.words = 16384;
         sizes.regions = if deepest <= 17 { 256 } else { 1024 };

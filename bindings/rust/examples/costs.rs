@@ -18,7 +18,8 @@ fn room(f: &Frame<'_, '_>) -> u32 {
 fn main() -> Result<(), Box<dyn std::error::Error>> {
     let mut words = std::env::args().skip(1);
     let (call, times) = (words.next().ok_or("a call")?, words.next().ok_or("a number")?.parse::<u64>()?);
-    let mut heap = Heap::new(&Sizes { buffer: 128, globals: 16, registers: 64, policy: call.starts_with("make"), ..Sizes::default() })?;
+    let sizes = Sizes::default().buffer(128).globals(16).registers(64).policy(call.starts_with("make"));
+    let mut heap = Heap::new(&if call.contains("filled") { sizes.regions(16).words(1 << 18) } else { sizes })?;
     let sum = heap.run(|f| {
         let a = f.alloc::<Node>()?;
         let b = f.alloc::<Node>()?;
@@ -62,6 +63,17 @@ fn main() -> Result<(), Box<dyn std::error::Error>> {
             "new 2 + 1" | "make 2 + 1" => {
                 for _ in 0..times {
                     f.scope(|g| g.alloc::<Three>().map(drop))?;
+                }
+            }
+            "make filled 2 + 1" => {
+                for _ in 0..times {
+                    f.scope(|g| {
+                        g.new::<Three>(|p| {
+                            p.put(Three::left, a);
+                            p.write(Three::a, 7);
+                        })
+                        .map(drop)
+                    })?;
                 }
             }
             "name" => {

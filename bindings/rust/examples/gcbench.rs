@@ -83,7 +83,7 @@ fn main() -> Result<(), Box<dyn std::error::Error>> {
         return Err("usage: gcbench [DEPTH], a depth of 4 to 17".into());
     }
     let length = 500_000 >> (16 - deepest.min(16));
-    let mut sizes = Sizes { registers: 64, globals: 16, ..Sizes::default() };
+    let mut sizes = Sizes::default().registers(64).globals(16);
     if deepest > 12 {
         sizes.words = 16384;
         sizes.regions = if deepest <= 16 { 400 } else { 800 };

@@ -327,7 +327,7 @@ const PROGRAM: &str = r#"
 
 fn main() -> Result<(), Box<dyn std::error::Error>> {
     let program = std::env::args().nth(1).map_or_else(|| Ok(PROGRAM.into()), std::fs::read_to_string)?;
-    let mut heap = Heap::new(&Sizes { registers: 65536, ..Sizes::default() })?;
+    let mut heap = Heap::new(&Sizes::default().registers(65536))?;
     let mut lisp = Lisp { names: Vec::new(), globals: heap.new_global()? };
     heap.run(|f| -> Result<(), Wrong> {
         for (number, name) in PRIMITIVES.iter().enumerate() {

@@ -102,7 +102,7 @@ fn main() -> Result<(), Box<dyn std::error::Error>> {
     let mut words = std::env::args().skip(1);
     let n = words.next().map_or(Ok(500), |it| it.parse())?;
     let times: u32 = words.next().map_or(Ok(200), |it| it.parse())?;
-    let mut heap = Heap::new(&Sizes { regions: 64, ..Sizes::default() })?;
+    let mut heap = Heap::new(&Sizes::default().regions(64))?;
     let mut sum = 0;
     for _ in 0..times {
         sum = heap.run(|f| f.stack(|stack| run(stack, &program(n))))?;

@@ -1,28 +1,107 @@
 //! Objects of any length: bytes, texts, arrays, and runs of words.
 use crate::frame::{done, of_field, Frame};
-use crate::layout::Any;
+use crate::layout::{Any, Word};
 use crate::local::{Local, Source, Typed};
 use crate::Error;
 use std::convert::Infallible;
 use std::marker::PhantomData;
 
-/// Bytes, of any number, which is fixed when they are made by [`Frame::alloc_bytes`]: data word 0 is their number, and each further one has
-/// 8 of them, the first one lowest.
+/// Bytes, of any number, which is fixed when they are made by [`Frame::alloc_bytes`]. Data word 0 is [the program's own](Bytes::own). Each
+/// further one has 8 of them, the first one lowest, and the last one has 7 at most: its highest byte tells how many of these it lacks.
 #[derive(Debug)]
 pub enum Bytes {}
 /// A text, of any length, made by [`Frame::alloc_text`]: [`Bytes`] that are UTF-8.
 #[derive(Debug)]
 pub enum Text {}
-/// An array of pointers to objects of layout `T`, of any length, which is fixed when it is made by [`Frame::alloc_array`].
+/// An array of pointers to objects of layout `T`, of any length, which is fixed when it is made by [`Frame::alloc_array`]. Its only data
+/// word is [the program's own](Array::own).
 #[derive(Debug)]
 pub struct Array<T = Any>(PhantomData<fn() -> T>, Infallible);
+impl Bytes {
+    /// Data word 0, which is the program's own, 0 at first: [`Frame::read`] and [`Frame::write`] reach it, as a field of a layout.
+    ///
+    /// ```
+    /// # use g1heap::*;
+    /// # let mut heap = Heap::new(&Sizes::default())?;
+    /// # heap.run(|f| {
+    /// let bytes = f.alloc_bytes(&[1, 2, 3])?;
+    /// f.write(bytes, Bytes::own(), -1i64);
+    /// assert_eq!((f.read(bytes, Bytes::own::<i64>()), f.bytes(bytes)), (-1, vec![1, 2, 3]));
+    /// # Ok::<_, Error>(())
+    /// # })?;
+    /// # Ok::<_, Box<dyn std::error::Error>>(())
+    /// ```
+    pub const fn own<V>() -> Word<Bytes, V> {
+        Word::number(0)
+    }
+}
+impl Text {
+    /// Data word 0, which is the program's own, 0 at first: [`Frame::read`] and [`Frame::write`] reach it, as a field of a layout. So a
+    /// tag may be where other objects of the program have theirs.
+    ///
+    /// ```
+    /// # use g1heap::*;
+    /// layout! {
+    ///     struct Tagged { words { tag: u8 } }
+    ///     struct Int { words { tag: u8, value: i64 } }
+    /// }
+    /// # let mut heap = Heap::new(&Sizes::default())?;
+    /// # heap.run(|f| {
+    /// let text = f.alloc_text("name")?;
+    /// f.write(text, Text::own(), 7u8);
+    /// for (any, tag) in [(text.any(), 7), (f.alloc::<Int>()?.any(), 0)] {
+    ///     assert_eq!(f.read(any.assume(), Tagged::tag), tag);
+    /// }
+    /// # Ok::<_, Error>(())
+    /// # })?;
+    /// # Ok::<_, Box<dyn std::error::Error>>(())
+    /// ```
+    pub const fn own<V>() -> Word<Text, V> {
+        Word::number(0)
+    }
+}
+impl<T> Array<T> {
+    /// Data word 0, which is the program's own, 0 at first: [`Frame::read`] and [`Frame::write`] reach it, as a field of a layout.
+    ///
+    /// ```
+    /// # use g1heap::*;
+    /// # let mut heap = Heap::new(&Sizes::default())?;
+    /// # heap.run(|f| {
+    /// const COUNT: Word<Array, u32> = Array::own(); // how many of its items are in use
+    /// let array = f.alloc_array(100)?;
+    /// f.write(array, COUNT, 5);
+    /// assert_eq!(f.read(array, COUNT), 5);
+    /// # Ok::<_, Error>(())
+    /// # })?;
+    /// # Ok::<_, Box<dyn std::error::Error>>(())
+    /// ```
+    pub const fn own<V>() -> Word<Array<T>, V> {
+        Word::number(0)
+    }
+}
 impl Typed for Bytes {}
 impl Typed for Text {}
 impl<T> Typed for Array<T> {}
 
 /// Words that bytes are moved by at once.
 const RUN: usize = 32;
+/// How many bytes the last word can have, and where in it is how many it lacks.
+const LAST: u64 = 7;
+const LACKS: u32 = 56;
 
+/// Some bytes, 8 at most, as a word.
+pub(crate) fn word_of(bytes: &[u8]) -> u64 {
+    let mut eight = [0; 8];
+    eight[..bytes.len()].copy_from_slice(bytes);
+    u64::from_le_bytes(eight)
+}
+/// How many bytes of the last word are none of those of the object.
+#[track_caller]
+fn lacks(last: u64) -> usize {
+    let lacks = last >> LACKS;
+    assert!(lacks <= LAST, "the object isn't of the layout that it was assumed to be");
+    lacks as usize + 1
+}
 fn count(len: usize) -> Result<u32, Error> {
     u32::try_from(len).map_err(|_| Error::TooBig)
 }
@@ -106,40 +185,54 @@ impl<'f, 'h> Frame<'f, 'h> {
     }
 
     fn new_bytes<T>(&self, bytes: &[u8]) -> Result<Local<'f, 'h, T>, Error> {
-        let object = self.make::<T>(0, 0, count(bytes.len() / 8 + 2)?)?;
+        let last = count(bytes.len() / 8 + 1)?;
+        let object = self.make::<T>(0, 0, last + 1)?;
         let (raw, mutator, register) = (self.raw(), self.mutator(), object.register());
-        done(raw.write(mutator, register, 0, bytes.len() as u64));
-        for (part, from) in bytes.chunks(8 * RUN).zip((1..).step_by(RUN)) {
-            let (mut eights, mut words) = ([[0; 8]; RUN], [0; RUN]);
-            for (eight, of) in eights.iter_mut().zip(part.chunks(8)) {
-                eight[..of.len()].copy_from_slice(of);
+        let (eights, rest) = bytes.split_at(bytes.len() / 8 * 8);
+        for (part, from) in eights.chunks(8 * RUN).zip((1..).step_by(RUN)) {
+            let mut words = [0; RUN];
+            for (word, eight) in words.iter_mut().zip(part.chunks(8)) {
+                *word = word_of(eight);
             }
-            for (word, eight) in words.iter_mut().zip(eights) {
-                *word = u64::from_le_bytes(eight);
-            }
-            done(raw.write_words(mutator, register, from, &words[..(part.len() + 7) / 8]));
+            done(raw.write_words(mutator, register, from, &words[..part.len() / 8]));
         }
+        done(raw.write(mutator, register, last, word_of(rest) | (LAST - rest.len() as u64) << LACKS));
         Ok(object)
     }
-    fn bytes_of<T>(&self, object: Local<'_, 'h, T>, out: &mut Vec<u8>) {
-        let (raw, mutator, register) = (self.raw(), self.mutator(), object.register());
-        let (mut words, mut left) = ([0; RUN], self.len_of(object) as usize);
-        for from in (1..).step_by(RUN) {
-            let bytes = left.min(8 * RUN);
-            if bytes == 0 {
-                return;
-            }
-            let run = &mut words[..(bytes + 7) / 8];
+    /// Hands the bytes to `take`, some at a time, until it answers false; a multiple of 8 of them but at the end. Answers whether it
+    /// took all.
+    #[track_caller]
+    pub(crate) fn runs_of<T>(&self, object: Local<'_, 'h, T>, mut take: impl FnMut(&[u8]) -> bool) -> bool {
+        let (raw, mutator, register, end) = (self.raw(), self.mutator(), object.register(), self.shape(object).1);
+        let (mut words, mut bytes) = ([0; RUN], [0; 8 * RUN]);
+        for from in (1..end).step_by(RUN) {
+            let run = &mut words[..RUN.min((end - from) as usize)];
             done(raw.read_words(mutator, register, from, run));
-            let end = out.len() + bytes;
-            out.extend(run.iter().flat_map(|word| word.to_le_bytes()));
-            out.truncate(end);
-            left -= bytes;
+            for (eight, word) in bytes.chunks_mut(8).zip(&*run) {
+                eight.copy_from_slice(&word.to_le_bytes());
+            }
+            let mut len = 8 * run.len();
+            if from as usize + run.len() == end as usize {
+                len -= lacks(run[run.len() - 1]);
+            }
+            if !take(&bytes[..len]) {
+                return false;
+            }
         }
+        true
+    }
+    fn bytes_of<T>(&self, object: Local<'_, 'h, T>) -> Vec<u8> {
+        let mut out = Vec::new();
+        self.runs_of(object, |run| {
+            out.extend_from_slice(run);
+            true
+        });
+        out
     }
     #[track_caller]
-    fn len_of<T>(&self, object: Local<'_, 'h, T>) -> u64 {
-        done(self.raw().read(self.mutator(), object.register(), 0)).first
+    fn len_of<T>(&self, object: Local<'_, 'h, T>) -> usize {
+        let last = self.shape(object).1.max(2) - 1; // where there are fewer words than 2, this one isn't there
+        8 * last as usize - lacks(done(self.raw().read(self.mutator(), object.register(), last)).first)
     }
 
     /// A new object of these bytes.
@@ -170,9 +263,7 @@ impl<'f, 'h> Frame<'f, 'h> {
     /// # Ok::<_, Box<dyn std::error::Error>>(())
     /// ```
     pub fn bytes(&self, object: Local<'_, 'h, Bytes>) -> Vec<u8> {
-        let mut bytes = Vec::new();
-        self.bytes_of(object, &mut bytes);
-        bytes
+        self.bytes_of(object)
     }
     /// How many bytes there are.
     ///
@@ -186,7 +277,7 @@ impl<'f, 'h> Frame<'f, 'h> {
     /// # Ok::<_, Box<dyn std::error::Error>>(())
     /// ```
     pub fn bytes_len(&self, object: Local<'_, 'h, Bytes>) -> usize {
-        self.len_of(object) as usize
+        self.len_of(object)
     }
     /// A new object of this text.
     ///
@@ -218,9 +309,7 @@ impl<'f, 'h> Frame<'f, 'h> {
     /// # Ok::<_, Box<dyn std::error::Error>>(())
     /// ```
     pub fn text(&self, object: Local<'_, 'h, Text>) -> String {
-        let mut bytes = Vec::new();
-        self.bytes_of(object, &mut bytes);
-        String::from_utf8(bytes).unwrap_or_else(|error| String::from_utf8_lossy(error.as_bytes()).into_owned())
+        String::from_utf8(self.bytes_of(object)).unwrap_or_else(|error| String::from_utf8_lossy(error.as_bytes()).into_owned())
     }
     /// The length of the text in bytes.
     ///
@@ -234,7 +323,7 @@ impl<'f, 'h> Frame<'f, 'h> {
     /// # Ok::<_, Box<dyn std::error::Error>>(())
     /// ```
     pub fn text_len(&self, object: Local<'_, 'h, Text>) -> usize {
-        self.len_of(object) as usize
+        self.len_of(object)
     }
 
     /// A new array of so many pointers, all nil.
@@ -253,7 +342,7 @@ impl<'f, 'h> Frame<'f, 'h> {
     /// ```
     #[inline]
     pub fn alloc_array<T>(&self, len: u32) -> Result<Local<'f, 'h, Array<T>>, Error> {
-        self.make(len, 0, 0)
+        self.make(len, 0, 1)
     }
     /// How many pointers the array has.
     ///

@@ -1,8 +1,7 @@
 use crate::base::Core;
-use crate::heap::{Counts, Error, Global, Kept};
+use crate::heap::{Error, Global, Kept};
 use crate::layout::{Any, Bits, Layout, Pointer, Weak, Word};
 use crate::local::{Brand, Local, Name, Nil, Source, Value, Var};
-use crate::steps::Steps;
 use crate::sys::*;
 use std::cell::Cell;
 use std::fmt;
@@ -57,6 +56,13 @@ fn refused(code: u32) -> ! {
         _ => unreachable!("the heap answered {}", code),
     }
 }
+#[cold]
+#[inline(never)]
+#[track_caller]
+fn nil_field<T: Layout>(index: u32) -> ! {
+    let name = T::NAMES.get(index as usize).map_or_else(String::new, |name| format!(" `{}`,", name));
+    panic!("pointer {},{} of {} is nil", index, name, std::any::type_name::<T>())
+}
 /// An answer that is no refusal, where no number that was given can lead to one, but for a wrong layout.
 #[inline(always)]
 #[track_caller]
@@ -77,7 +83,7 @@ pub(crate) fn of_field(answer: g1_answer) -> Result<g1_answer, Error> {
 }
 
 /// Whether a new object was made, and else why not.
-fn made(code: u32, weaks: u32) -> Result<(), Error> {
+pub(crate) fn made(code: u32, weaks: u32) -> Result<(), Error> {
     match code {
         NAME => Ok(()),
         FULL => Err(Error::Full),
@@ -93,6 +99,10 @@ impl<'f, 'h> Frame<'f, 'h> {
     #[inline(always)]
     pub(crate) fn raw(&self) -> &'h Raw {
         &self.core.raw
+    }
+    #[inline(always)]
+    pub(crate) fn core(&self) -> &'h Core {
+        self.core
     }
     #[inline(always)]
     pub(crate) fn mutator(&self) -> u32 {
@@ -216,6 +226,39 @@ impl<'f, 'h> Frame<'f, 'h> {
         let found = body(&mut self.inner(self.top()))?.map(Local::register);
         Ok(found.map(|from| self.lifted(from)))
     }
+    /// The same where `body` also answers a value that is no root: a number, a text of the program's own.
+    ///
+    /// ```
+    /// # use g1heap::*;
+    /// # layout! { struct Cell { pointers { next: Cell } } }
+    /// /// The last cell of a list, and how many cells there are.
+    /// fn last<'f, 'h>(f: &mut Frame<'f, 'h>, list: Local<'_, 'h, Cell>) -> Result<(Local<'f, 'h, Cell>, u64), Error> {
+    ///     f.lift_with(|g| {
+    ///         let (mut at, mut next, mut count) = (g.var(list)?, g.var(list)?, 1);
+    ///         while next.follow(g, Cell::next) {
+    ///             at.set(g, &next);
+    ///             count += 1;
+    ///         }
+    ///         Ok((at.into_local().expect("a cell"), count))
+    ///     })
+    /// }
+    /// # let mut heap = Heap::new(&Sizes::default())?;
+    /// # heap.run(|f| {
+    /// #     let cell = f.alloc()?;
+    /// #     let (end, count) = last(f, cell)?;
+    /// #     assert!(f.same(end, cell) && count == 1);
+    /// #     Ok::<_, Error>(())
+    /// # })?;
+    /// # Ok::<_, Box<dyn std::error::Error>>(())
+    /// ```
+    #[inline]
+    pub fn lift_with<T, V, E>(
+        &mut self,
+        body: impl for<'g> FnOnce(&mut Frame<'g, 'h>) -> Result<(Local<'g, 'h, T>, V), E>,
+    ) -> Result<(Local<'f, 'h, T>, V), E> {
+        let (from, value) = body(&mut self.inner(self.top())).map(|(root, value)| (root.register(), value))?;
+        Ok((self.lifted(from), value))
+    }
     #[inline]
     fn lifted<T>(&self, from: u32) -> Local<'f, 'h, T> {
         let top = self.top.get();
@@ -229,7 +272,7 @@ impl<'f, 'h> Frame<'f, 'h> {
     ///
     /// ```
     /// # use g1heap::*;
-    /// # let mut heap = Heap::new(&Sizes { registers: 2, ..Sizes::default() })?;
+    /// # let mut heap = Heap::new(&Sizes::default().registers(2))?;
     /// # heap.run(|f| {
     /// f.alloc_any(1, 0, 0)?;
     /// assert_eq!(f.room(), 1);
@@ -401,6 +444,36 @@ impl<'f, 'h> Frame<'f, 'h> {
     #[track_caller]
     pub fn get<T, U>(&self, object: Local<'_, 'h, T>, field: Pointer<T, U>) -> Result<Option<Local<'f, 'h, U>>, Error> {
         self.pushed(self.raw().get(self.mutator, self.top.get(), object.register(), field.index))
+    }
+    /// What a pointer holds that is never nil, in a new root: as indexing does, it panics where it is nil, and says which one that is.
+    ///
+    /// ```
+    /// # use g1heap::*;
+    /// # layout! { struct Class { words { number: u64 } } struct Instance { pointers { class: Class } } }
+    /// # let mut heap = Heap::new(&Sizes::default())?;
+    /// # heap.run(|f| {
+    /// let instance = f.alloc::<Instance>()?;
+    /// f.put(instance, Instance::class, f.alloc()?);
+    /// let class = f.field(instance, Instance::class)?; // no Option
+    /// f.write(class, Class::number, 1);
+    /// # Ok::<_, Error>(())
+    /// # })?;
+    /// # Ok::<_, Box<dyn std::error::Error>>(())
+    /// ```
+    ///
+    /// ```should_panic
+    /// # use g1heap::*;
+    /// # layout! { struct Instance { pointers { class: Any } } }
+    /// # let mut heap = Heap::new(&Sizes::default()).unwrap();
+    /// heap.run(|f| f.field(f.alloc::<Instance>()?, Instance::class).map(drop)); // pointer 0, `class`, of Instance is nil
+    /// ```
+    #[inline]
+    #[track_caller]
+    pub fn field<T: Layout, U>(&self, object: Local<'_, 'h, T>, field: Pointer<T, U>) -> Result<Local<'f, 'h, U>, Error> {
+        match self.get(object, field)? {
+            Some(found) => Ok(found),
+            None => nil_field::<T>(field.index),
+        }
     }
     /// Sets a pointer.
     ///
@@ -646,72 +719,11 @@ impl<'f, 'h> Frame<'f, 'h> {
     /// Makes all nil that isn't held any more, before steps of the collector.
     #[cold]
     #[inline(never)]
-    fn ready(&self) {
+    pub(crate) fn ready(&self) {
         self.clear();
         if self.room() > 0 {
             self.core.empty_left(self.mutator, self.top.get());
         }
-    }
-    /// A whole collection: weak slots are cleared whose objects no root reaches, and each region is free again that can be.
-    ///
-    /// ```
-    /// # use g1heap::*;
-    /// # let mut heap = Heap::new(&Sizes::default())?;
-    /// # heap.run(|f| {
-    /// f.scope(|g| g.alloc_any(0, 0, 100).map(drop))?;
-    /// f.collect();
-    /// assert_eq!(f.steps().live_words(), 0);
-    /// # Ok::<_, Error>(())
-    /// # })?;
-    /// # Ok::<_, Box<dyn std::error::Error>>(())
-    /// ```
-    pub fn collect(&self) {
-        self.ready();
-        self.raw().collect_all();
-    }
-    /// The steps of the collector that are due by the policy, in the midst of work that makes no objects.
-    ///
-    /// ```
-    /// # use g1heap::*;
-    /// # let mut heap = Heap::new(&Sizes::default())?;
-    /// # heap.run(|f| {
-    /// f.collect_due();
-    /// assert_eq!(f.counts(), Counts::default()); // nothing is due in a new heap
-    /// # });
-    /// # Ok::<_, BadSizes>(())
-    /// ```
-    pub fn collect_due(&self) {
-        self.ready();
-        self.raw().collect();
-    }
-    /// The steps of the collector, one by one, for a policy of the program's own, and what it steers by.
-    ///
-    /// ```
-    /// # use g1heap::*;
-    /// # let mut heap = Heap::new(&Sizes { policy: false, ..Sizes::default() })?;
-    /// # heap.run(|f| {
-    /// let steps = f.steps();
-    /// assert!(steps.begin() && steps.is_marking());
-    /// # });
-    /// # Ok::<_, BadSizes>(())
-    /// ```
-    pub fn steps(&self) -> Steps<'_> {
-        self.ready();
-        Steps::new(self.raw())
-    }
-    /// What the policy did so far.
-    ///
-    /// ```
-    /// # use g1heap::*;
-    /// # let mut heap = Heap::new(&Sizes::default())?;
-    /// # heap.run(|f| {
-    /// f.collect();
-    /// assert_eq!(f.counts().cycles, 1);
-    /// # });
-    /// # Ok::<_, BadSizes>(())
-    /// ```
-    pub fn counts(&self) -> Counts {
-        Counts::of(self.core)
     }
     /// Gives the lock of a [`Shared`](crate::Shared) heap to other threads while `body` runs. Where some wait for it, the one that waits
     /// longest gets it, even where `body` does nothing. All roots of this thread stay. In a run of a [`Heap`](crate::Heap) there is no

@@ -46,7 +46,7 @@ impl std::error::Error for Error {}
 ///
 /// ```
 /// use g1heap::{BadSizes, Heap, Sizes};
-/// let error = Heap::new(&Sizes { words: 100, ..Sizes::default() }).unwrap_err();
+/// let error = Heap::new(&Sizes::default().words(100)).unwrap_err();
 /// assert_eq!(error, BadSizes::Words);
 /// let said = "no heap has these sizes: words of a region, a power of two up to 4,194,304, or of all, up to 2,147,483,648 (16 GiB)";
 /// assert_eq!(error.to_string(), said);
@@ -110,15 +110,35 @@ impl fmt::Display for BadSizes {
 }
 impl std::error::Error for BadSizes {}
 
-/// The sizes of a heap, which are fixed when it is made. A word is 64 bits.
+/// For each field a method that answers the same with another value of it.
+macro_rules! with {
+    ($type:ident { $($field:ident: $of:ty),* }) => {
+        impl $type { $(
+            #[doc = concat!("The same with another `", stringify!($field), "`.")]
+            #[must_use]
+            pub const fn $field(mut self, $field: $of) -> $type {
+                self.$field = $field;
+                self
+            }
+        )* }
+    };
+}
+
+/// The sizes of a heap, which are fixed when it is made. A word is 64 bits. Each is set by the method of its name; later versions may have
+/// more of them.
 ///
 /// ```
 /// use g1heap::{Heap, Sizes};
-/// let mut heap = Heap::new(&Sizes { registers: 16, ..Sizes::mebibytes(8) })?;
+/// let mut heap = Heap::new(&Sizes::mebibytes(8).registers(16).globals(2))?;
 /// heap.run(|f| assert_eq!(f.room(), 16));
 /// # Ok::<_, g1heap::BadSizes>(())
 /// ```
+///
+/// ```compile_fail,E0639
+/// let sizes = g1heap::Sizes { registers: 16, ..g1heap::Sizes::default() };
+/// ```
 #[derive(Clone, Copy, Debug, PartialEq, Eq)]
+#[non_exhaustive]
 pub struct Sizes {
     /// Regions: 4 or more, better 64, at most 4,096.
     pub regions: u32,
@@ -136,6 +156,7 @@ pub struct Sizes {
     /// them, by [`Frame::steps`].
     pub policy: bool,
 }
+with! { Sizes { regions: u32, words: u32, buffer: u32, card: u32, globals: u32, registers: u32, policy: bool } }
 impl Default for Sizes {
     /// 2 MiB in regions of 1,024 words, 64 globals, 4,096 registers, and the policy.
     fn default() -> Self {
@@ -160,7 +181,7 @@ impl Sizes {
     }
 }
 
-/// What the policy did so far; all 0 where [`Sizes::policy`] is false.
+/// What the policy did so far; all 0 where [`Sizes::policy`] is false. Later versions may count more.
 ///
 /// ```
 /// # use g1heap::*;
@@ -170,6 +191,7 @@ impl Sizes {
 /// # Ok::<_, BadSizes>(())
 /// ```
 #[derive(Clone, Copy, Debug, Default, PartialEq, Eq)]
+#[non_exhaustive]
 pub struct Counts {
     /// Whole cycles of marking.
     pub cycles: u64,
@@ -192,17 +214,19 @@ impl Counts {
     }
 }
 
-/// What of the policy may be set at any time: how much it does at once. Any numbers will do.
+/// What of the policy may be set at any time: how much it does at once. Any numbers will do. [`Heap::pace`] tells it, and each number is
+/// set by the method of its name; later versions may have more of them.
 ///
 /// ```
 /// # use g1heap::*;
 /// # let mut heap = Heap::new(&Sizes::default())?;
 /// let pace = heap.pace();
-/// heap.set_pace(Pace { pause_words: 4096, ..pace });
+/// heap.set_pace(pace.pause_words(4096));
 /// assert_eq!(heap.pace().pause_words, 4096);
 /// # Ok::<_, BadSizes>(())
 /// ```
 #[derive(Clone, Copy, Debug, PartialEq, Eq)]
+#[non_exhaustive]
 pub struct Pace {
     /// Regions: a cycle of marking ends before fewer are free.
     pub reserve: u32,
@@ -217,6 +241,8 @@ pub struct Pace {
     /// Cards: where more are queued at a look, it refines all but so many.
     pub cards_left: u32,
 }
+
+with! { Pace { reserve: u32, pause_words: u32, mark_objects: u32, cycle_words: u32, young_words: u32, cards_left: u32 } }
 
 /// A heap. It may go to another thread. Threads that are in it at once share a [`Shared`](crate::Shared), or a `Mutex<Heap>`.
 ///
@@ -245,7 +271,7 @@ impl Heap {
     /// ```
     /// # use g1heap::*;
     /// assert!(Heap::new(&Sizes::default()).is_ok());
-    /// assert_eq!(Heap::new(&Sizes { card: 9, ..Sizes::default() }).unwrap_err(), BadSizes::Card);
+    /// assert_eq!(Heap::new(&Sizes::default().card(9)).unwrap_err(), BadSizes::Card);
     /// ```
     pub fn new(sizes: &Sizes) -> Result<Heap, BadSizes> {
         Ok(Heap { core: new_core(sizes, 1, None)? })
@@ -322,7 +348,7 @@ impl Heap {
     /// ```
     /// # use g1heap::*;
     /// let mut heap = Heap::new(&Sizes::default())?;
-    /// heap.set_pace(Pace { mark_objects: 100, ..heap.pace() });
+    /// heap.set_pace(heap.pace().mark_objects(100));
     /// # Ok::<_, BadSizes>(())
     /// ```
     pub fn set_pace(&mut self, pace: Pace) {
@@ -417,7 +443,7 @@ impl<T> fmt::Debug for Global<T> {
 /// ```
 /// # use g1heap::*;
 /// # layout! { struct Cell { words { number: u64 } } }
-/// # let mut heap = Heap::new(&Sizes { globals: 1, ..Sizes::default() })?;
+/// # let mut heap = Heap::new(&Sizes::default().globals(1))?;
 /// let kept: Kept<Cell> = heap.run(|f| f.keep(f.alloc()?))?;
 /// assert_eq!(heap.run(|f| f.keep(f.alloc::<Cell>()?)).unwrap_err(), Error::NoGlobals);
 /// std::thread::spawn(move || drop(kept)).join().unwrap();

@@ -18,6 +18,8 @@ pub trait Layout: 'static {
     const WEAKS: u32;
     /// How many data words of 64 bits an object has.
     const WORDS: u32;
+    /// The names of its pointers, as far as they are known, for what a panic says.
+    const NAMES: &'static [&'static str] = &[];
 }
 
 /// Any object, of whichever layout. It's what [`Frame::alloc_any`](crate::Frame::alloc_any) makes, and what a field holds whose
@@ -47,6 +49,11 @@ macro_rules! field {
             /// The field of this number, counted from 0. Where there is none, the compiler refuses it in a `const`, and else it panics.
             pub const fn at(index: u32) -> Self {
                 assert!(index < T::$count, "the layout has no such field");
+                $name::number(index)
+            }
+        }
+        impl<T, V> $name<T, V> {
+            pub(crate) const fn number(index: u32) -> Self {
                 $name { index, of: PhantomData }
             }
         }
@@ -187,6 +194,16 @@ bits! {
 /// }
 /// assert_eq!((Pair::POINTERS, Pair::WEAKS, Pair::WORDS), (2, 0, 1));
 /// assert_eq!((Entry::POINTERS, Entry::WEAKS, Entry::WORDS), (1, 1, 2));
+/// assert_eq!(Pair::NAMES, ["car", "cdr"]);
+/// ```
+///
+/// Two dots after the last pointer, or after the last word, make it a tail: a field that there is as often as is said when the object is
+/// made, see [`Tailed`](crate::Tailed).
+///
+/// ```
+/// use g1heap::{layout, Any, Layout, Tail, Tailed};
+/// layout! { struct Closure { pointers { name: Any, upvalues: Any.. } words { code: u64 } } }
+/// assert_eq!((Closure::POINTERS, Closure::TAIL), (1, Tail::Pointers));
 /// ```
 ///
 /// A field that isn't there is refused by the compiler:
@@ -203,8 +220,36 @@ bits! {
 /// let _ = Pair::caddr;
 /// # }
 /// ```
+///
+/// And so are two tails:
+///
+/// ```compile_fail,E0119
+/// g1heap::layout! { struct Both { pointers { all: g1heap::Any.. } words { more: u64.. } } }
+/// # fn main() {}
+/// ```
 #[macro_export]
 macro_rules! layout {
+    // How many fields there are before the tail, and their names.
+    (@count $(#[$doc:meta])* $field:ident: $type:ty, $($rest:tt)*) => { 1 + $crate::layout!(@count $($rest)*) };
+    (@count $(#[$doc:meta])* $field:ident: $type:ty) => { 1 };
+    (@count $($tail:tt)*) => { 0 };
+    (@names [$($names:tt)*] $(#[$doc:meta])* $field:ident: $type:ty, $($rest:tt)*) => {
+        $crate::layout!(@names [$($names)* stringify!($field),] $($rest)*)
+    };
+    (@names [$($names:tt)*] $(#[$doc:meta])* $field:ident: $type:ty) => { &[$($names)* stringify!($field)] };
+    (@names [$($names:tt)*] $($tail:tt)*) => { &[$($names)*] };
+    // That there is a tail.
+    (@tail $name:ident $kind:ident;) => {};
+    (@tail $name:ident $kind:ident; $(#[$doc:meta])* $field:ident: $type:ty, $($rest:tt)*) => {
+        $crate::layout!(@tail $name $kind; $($rest)*);
+    };
+    (@tail $name:ident $kind:ident; $(#[$doc:meta])* $field:ident: $type:ty) => {};
+    (@tail $name:ident $kind:ident; $($tail:tt)*) => {
+        impl $crate::Tailed for $name {
+            const TAIL: $crate::Tail = $crate::Tail::$kind;
+        }
+    };
+    // A constant for each field, and for the tail.
     (@ $name:ident $kind:ident $at:expr;) => {};
     (@ $name:ident $kind:ident $at:expr; $(#[$doc:meta])* $field:ident: $type:ty, $($rest:tt)*) => {
         #[doc = concat!(stringify!($kind), " `", stringify!($field), "`.")]
@@ -212,25 +257,41 @@ macro_rules! layout {
         pub const $field: $crate::$kind<$name, $type> = $crate::$kind::at($at);
         $crate::layout!(@ $name $kind $at + 1; $($rest)*);
     };
+    (@ $name:ident $kind:ident $at:expr; $(#[$doc:meta])* $field:ident: $type:ty) => {
+        $crate::layout!(@ $name $kind $at; $(#[$doc])* $field: $type,);
+    };
+    (@ $name:ident Pointer $at:expr; $(#[$doc:meta])* $field:ident: $($path:ident)::+ $(<$($of:ty),+>)? .. $(,)?) => {
+        #[doc = concat!("Pointers `", stringify!($field), "`.")]
+        $(#[$doc])*
+        pub const $field: $crate::Pointers<$name, $($path)::+ $(<$($of),+>)?> = $crate::Pointers::tail();
+    };
+    (@ $name:ident Word $at:expr; $(#[$doc:meta])* $field:ident: $($path:ident)::+ $(<$($of:ty),+>)? .. $(,)?) => {
+        #[doc = concat!("Words `", stringify!($field), "`.")]
+        $(#[$doc])*
+        pub const $field: $crate::Words<$name, $($path)::+ $(<$($of),+>)?> = $crate::Words::tail();
+    };
     ($($(#[$doc:meta])* $vis:vis struct $name:ident {
-        $(pointers { $($(#[$pd:meta])* $p:ident: $pt:ty),* $(,)? })?
-        $(weaks { $($(#[$sd:meta])* $s:ident: $st:ty),* $(,)? })?
-        $(words { $($(#[$wd:meta])* $w:ident: $wt:ty),* $(,)? })?
+        $(pointers { $($pointers:tt)* })?
+        $(weaks { $($weaks:tt)* })?
+        $(words { $($words:tt)* })?
     })*) => { $(
         $(#[$doc])*
         #[derive(Debug)]
         #[allow(dead_code)]
         $vis enum $name {}
         impl $crate::Layout for $name {
-            const POINTERS: u32 = 0 $($(+ { let _ = stringify!($p); 1 })*)?;
-            const WEAKS: u32 = 0 $($(+ { let _ = stringify!($s); 1 })*)?;
-            const WORDS: u32 = 0 $($(+ { let _ = stringify!($w); 1 })*)?;
+            const POINTERS: u32 = $crate::layout!(@count $($($pointers)*)?);
+            const WEAKS: u32 = $crate::layout!(@count $($($weaks)*)?);
+            const WORDS: u32 = $crate::layout!(@count $($($words)*)?);
+            const NAMES: &'static [&'static str] = $crate::layout!(@names [] $($($pointers)*)?);
         }
+        $crate::layout!(@tail $name Pointers; $($($pointers)*)?);
+        $crate::layout!(@tail $name Words; $($($words)*)?);
         #[allow(non_upper_case_globals, dead_code)]
         impl $name {
-            $($crate::layout!(@ $name Pointer 0; $($(#[$pd])* $p: $pt,)*);)?
-            $($crate::layout!(@ $name Weak 0; $($(#[$sd])* $s: $st,)*);)?
-            $($crate::layout!(@ $name Word 0; $($(#[$wd])* $w: $wt,)*);)?
+            $($crate::layout!(@ $name Pointer 0; $($pointers)*);)?
+            $($crate::layout!(@ $name Weak 0; $($weaks)*);)?
+            $($crate::layout!(@ $name Word 0; $($words)*);)?
         }
     )* };
 }

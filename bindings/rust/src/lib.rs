@@ -5,21 +5,28 @@ mod base;
 mod bulk;
 #[macro_use]
 mod calls;
+mod filled;
 mod frame;
 mod heap;
+mod items;
 mod layout;
 mod local;
 mod numbered;
 mod stack;
 mod steps;
 mod sys;
+mod tail;
+mod texts;
 mod threads;
 
 pub use bulk::{Array, Bytes, Text};
+pub use filled::Fields;
 pub use frame::Frame;
 pub use heap::{BadSizes, Counts, Error, Global, Heap, Kept, Pace, Sizes};
+pub use items::Items;
 pub use layout::{Any, Bits, Layout, Pointer, Weak, Word};
 pub use local::{Local, Name, Nil, Source, Value, Var};
 pub use stack::Stack;
 pub use steps::{Moved, Steps};
+pub use tail::{Pointers, Tail, Tailed, Words};
 pub use threads::{Seat, Shared};

@@ -1,6 +1,6 @@
 use crate::frame::{done, Frame};
 use crate::layout::{Any, Layout, Pointer};
-use crate::sys::{NAME, NIL_REGISTER};
+use crate::sys::{NAME, NIL_REGISTER, NO_FIELD};
 use crate::Error;
 use std::fmt;
 use std::marker::PhantomData;
@@ -304,6 +304,16 @@ impl<'f, 'h, T> Var<'f, 'h, T> {
             self.holds = done(f.raw().get(f.mutator(), self.register, self.register, field.index)).code == NAME;
         }
         self.holds
+    }
+    /// Sets it to what the pointer of a number holds, or answers false where there is none.
+    #[inline]
+    pub(crate) fn take_pointer(&mut self, f: &Frame<'_, 'h>, object: u32, field: u32) -> bool {
+        let answer = f.raw().get(f.mutator(), self.register, object, field);
+        if answer.code == NO_FIELD {
+            return false;
+        }
+        self.holds = done(answer).code == NAME;
+        true
     }
     /// Whether it holds nil.
     ///

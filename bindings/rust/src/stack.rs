@@ -142,7 +142,7 @@ impl<'h> Stack<'_, 'h> {
     ///
     /// ```
     /// # use g1heap::*;
-    /// # let mut heap = Heap::new(&Sizes { registers: 1, ..Sizes::default() })?;
+    /// # let mut heap = Heap::new(&Sizes::default().registers(1))?;
     /// # heap.run(|f| f.stack(|stack| {
     /// stack.push(Nil)?;
     /// assert_eq!(stack.push(Nil), Err(Error::NoRegisters)); // of one

@@ -1,3 +1,5 @@
+use crate::frame::Frame;
+use crate::heap::Counts;
 use crate::sys::{g1_answer, Raw, NIL};
 use std::fmt;
 
@@ -22,7 +24,7 @@ use std::fmt;
 ///     while steps.pause(10_000).regions > 0 {}
 ///     assert!(steps.live_words() == 0 && steps.free_regions() > 250);
 /// }
-/// let mut heap = Heap::new(&Sizes { policy: false, ..Sizes::default() })?;
+/// let mut heap = Heap::new(&Sizes::default().policy(false))?;
 /// heap.run(|f| {
 ///     while f.steps().free_regions() > 2 {
 ///         f.scope(|g| g.alloc::<Cell>().map(drop))?;
@@ -73,7 +75,11 @@ impl<'a> Steps<'a> {
     /// Brings marking to its end, and clears weak slots; answers how many objects were marked in this cycle. `None` where marking
     /// isn't running.
     pub fn remark(&self) -> Option<u64> {
-        taken(self.raw.remark())
+        let marked = taken(self.raw.remark());
+        if marked.is_some() {
+            self.raw.count_remark();
+        }
+        marked
     }
     /// Frees the regions with nothing live, and answers how many; `None` while marking runs.
     pub fn cleanup(&self) -> Option<u64> {
@@ -115,5 +121,90 @@ impl<'a> Steps<'a> {
     /// How many cards wait for refinement.
     pub fn queued(&self) -> u64 {
         self.raw.queued().first
+    }
+}
+
+impl Frame<'_, '_> {
+    /// A whole collection: weak slots are cleared whose objects no root reaches, and each region is free again that can be.
+    ///
+    /// ```
+    /// # use g1heap::*;
+    /// # let mut heap = Heap::new(&Sizes::default())?;
+    /// # heap.run(|f| {
+    /// f.scope(|g| g.alloc_any(0, 0, 100).map(drop))?;
+    /// f.collect();
+    /// assert_eq!(f.steps().live_words(), 0);
+    /// # Ok::<_, Error>(())
+    /// # })?;
+    /// # Ok::<_, Box<dyn std::error::Error>>(())
+    /// ```
+    pub fn collect(&self) {
+        self.ready();
+        self.raw().collect_all();
+    }
+    /// The steps of the collector that are due by the policy, in the midst of work that makes no objects.
+    ///
+    /// ```
+    /// # use g1heap::*;
+    /// # let mut heap = Heap::new(&Sizes::default())?;
+    /// # heap.run(|f| {
+    /// f.collect_due();
+    /// assert_eq!(f.counts(), Counts::default()); // nothing is due in a new heap
+    /// # });
+    /// # Ok::<_, BadSizes>(())
+    /// ```
+    pub fn collect_due(&self) {
+        self.ready();
+        self.raw().collect();
+    }
+    /// The steps of the collector, one by one, for a policy of the program's own, and what it steers by.
+    ///
+    /// ```
+    /// # use g1heap::*;
+    /// # let mut heap = Heap::new(&Sizes::default().policy(false))?;
+    /// # heap.run(|f| {
+    /// let steps = f.steps();
+    /// assert!(steps.begin() && steps.is_marking());
+    /// # });
+    /// # Ok::<_, BadSizes>(())
+    /// ```
+    pub fn steps(&self) -> Steps<'_> {
+        self.ready();
+        Steps::new(self.raw())
+    }
+    /// How many markings have ended, by the policy or by [`Steps::remark`]. Weak slots are cleared then and never else: where this number
+    /// is what it was, none was.
+    ///
+    /// ```
+    /// # use g1heap::*;
+    /// # layout! { struct Entry { weaks { key: Any } } }
+    /// # let mut heap = Heap::new(&Sizes::default())?;
+    /// # heap.run(|f| {
+    /// let (entry, seen) = (f.alloc::<Entry>()?, f.markings());
+    /// f.scope(|g| g.alloc_any(0, 0, 1).map(|key| g.put_weak(entry, Entry::key, key)))?;
+    /// assert_eq!(f.markings(), seen); // so the key is there still
+    /// f.collect();
+    /// assert!(f.markings() > seen && f.get_weak(entry, Entry::key)?.is_none());
+    /// # Ok::<_, Error>(())
+    /// # })?;
+    /// # Ok::<_, Box<dyn std::error::Error>>(())
+    /// ```
+    #[inline]
+    pub fn markings(&self) -> u64 {
+        self.raw().markings()
+    }
+    /// What the policy did so far.
+    ///
+    /// ```
+    /// # use g1heap::*;
+    /// # let mut heap = Heap::new(&Sizes::default())?;
+    /// # heap.run(|f| {
+    /// f.collect();
+    /// assert_eq!(f.counts().cycles, 1);
+    /// # });
+    /// # Ok::<_, BadSizes>(())
+    /// ```
+    pub fn counts(&self) -> Counts {
+        Counts::of(self.core())
     }
 }

@@ -1,7 +1,7 @@
 //! A heap as a type, by the calls of `g1heap.h`, which `calls.rs` declares. Nearly all `unsafe` of the crate is here: each number that a
 //! call may be given is answered, so what is left to its caller are the pointers, and those are in `Raw`.
 pub use crate::calls::*;
-use std::cell::UnsafeCell;
+use std::cell::{Cell, UnsafeCell};
 
 pub const NIL_REGISTER: u32 = u32::MAX;
 
@@ -11,8 +11,10 @@ pub const NIL_REGISTER: u32 = u32::MAX;
 pub struct Raw {
     heap: UnsafeCell<g1_heap>,
     policy: UnsafeCell<g1_policy>,
+    /// How many markings ended by a step of the program's own.
+    remarks: Cell<u64>,
     #[cfg(feature = "recorded")]
-    writer: std::cell::Cell<Option<std::ptr::NonNull<Writer>>>,
+    writer: Cell<Option<std::ptr::NonNull<Writer>>>,
 }
 
 // SAFETY: g1heap.h, THREADS: a heap may pass from one thread to another. The policy is plain numbers, and a writer is Send.
@@ -57,8 +59,9 @@ impl Raw {
         Raw {
             heap: UnsafeCell::new(g1_heap { live: false, at: std::ptr::null_mut() }),
             policy: UnsafeCell::default(),
+            remarks: Cell::new(0),
             #[cfg(feature = "recorded")]
-            writer: std::cell::Cell::new(None),
+            writer: Cell::new(None),
         }
     }
     /// Makes the heap, and its policy: `DONE`, or why there is none.
@@ -87,6 +90,23 @@ impl Raw {
     pub fn make(&self, mutator: u32, to: u32, pointers: u32, weaks: u32, values: u32) -> g1_answer {
         // SAFETY: as for the steps above; no reference into the policy lives on.
         unsafe { g1_make(self.heap.get(), self.policy.get(), mutator, to, pointers, weaks, values) }
+    }
+    /// The same with its fields: what registers hold, or nil, and data words.
+    #[inline(always)]
+    pub fn make_filled(&self, mutator: u32, to: u32, from: &[u32], words: &[u64]) -> g1_answer {
+        let (heap, policy) = (self.heap.get(), self.policy.get());
+        // SAFETY: as for `make`; there are so many of both, and nobody writes them meanwhile.
+        unsafe { g1_make_filled(heap, policy, mutator, to, from.as_ptr(), from.len(), words.as_ptr(), words.len()) }
+    }
+    /// A marking ended by a step of the program's own.
+    pub fn count_remark(&self) {
+        self.remarks.set(self.remarks.get() + 1);
+    }
+    /// How many markings ended.
+    #[inline]
+    pub fn markings(&self) -> u64 {
+        // SAFETY: no call goes on, and the number is copied.
+        self.remarks.get() + unsafe { (*self.policy.get()).cycles }
     }
     /// Whether the policy will look at the heap before it makes an object of so many words; always before it made one.
     #[inline(always)]

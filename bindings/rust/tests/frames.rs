@@ -5,7 +5,7 @@ layout! { struct Cell { pointers { next: Cell } words { n: u64 } } }
 layout! { struct Observer { weaks { it: Cell } } }
 
 fn heap() -> Heap {
-    Heap::new(&Sizes { regions: 16, words: 64, buffer: 7, registers: 16, globals: 4, ..Sizes::default() }).unwrap()
+    Heap::new(&Sizes::default().regions(16).words(64).buffer(7).registers(16).globals(4)).unwrap()
 }
 
 #[test]
@@ -159,7 +159,7 @@ fn two_heaps() {
             assert_eq!(g.read(b, Cell::n), 2);
         });
     });
-    assert!(Heap::new(&Sizes { words: 100, ..Sizes::default() }).unwrap_err() == BadSizes::Words);
+    assert!(Heap::new(&Sizes::default().words(100)).unwrap_err() == BadSizes::Words);
 }
 
 #[test]
@@ -182,7 +182,7 @@ fn a_new_place_is_nil() {
 
 #[test]
 fn a_program_collects_by_itself() {
-    let sizes = Sizes { regions: 16, words: 64, buffer: 7, registers: 16, policy: false, ..Sizes::default() };
+    let sizes = Sizes::default().regions(16).words(64).buffer(7).registers(16).policy(false);
     let mut heap = Heap::new(&sizes).unwrap();
     heap.run(|f| {
         for _ in 0..3 {
@@ -302,11 +302,23 @@ fn the_policy_has_a_pace() {
     let pace = heap.pace();
     assert!(pace.reserve == 3 && pace.pause_words > 0 && pace.mark_objects > 0 && pace.cycle_words > 0);
     assert!(pace.young_words > 0 && pace.cards_left > 0);
-    let other = Pace { reserve: 4, pause_words: 100, mark_objects: 5, cycle_words: 1000, young_words: 300, cards_left: 2 };
+    let other = pace.reserve(4).pause_words(100).mark_objects(5).cycle_words(1000).young_words(300).cards_left(2);
+    assert_eq!((other.reserve, other.pause_words, other.mark_objects), (4, 100, 5));
+    assert_eq!((other.cycle_words, other.young_words, other.cards_left), (1000, 300, 2));
     heap.set_pace(other);
     assert_eq!(heap.pace(), other);
     heap.run(|f| (0..10_000).for_each(|_| f.scope(|g| assert!(g.alloc::<Cell>().is_ok()))));
     assert!(heap.counts().cycles > 10 && heap.pace() == other);
+}
+
+#[test]
+fn sizes_are_set_one_by_one() {
+    let sizes = Sizes::default().regions(1).words(2).buffer(3).card(4).globals(5).registers(6).policy(false);
+    assert_eq!(
+        (sizes.regions, sizes.words, sizes.buffer, sizes.card, sizes.globals, sizes.registers, sizes.policy),
+        (1, 2, 3, 4, 5, 6, false)
+    );
+    assert_eq!(Sizes::default().policy(true), Sizes::default());
 }
 
 #[test]
@@ -321,12 +333,12 @@ fn sizes_by_mebibytes() {
     assert!(Heap::new(&Sizes::mebibytes(u32::MAX)).is_err());
     let two = Sizes::default();
     let all = [
-        (Sizes { regions: 1, ..two }, BadSizes::Regions),
-        (Sizes { words: 1000, ..two }, BadSizes::Words),
-        (Sizes { buffer: 3, ..two }, BadSizes::Buffer),
-        (Sizes { card: 7, ..two }, BadSizes::Card),
-        (Sizes { globals: 65_537, ..two }, BadSizes::Globals),
-        (Sizes { registers: 0, ..two }, BadSizes::Registers),
+        (two.regions(1), BadSizes::Regions),
+        (two.words(1000), BadSizes::Words),
+        (two.buffer(3), BadSizes::Buffer),
+        (two.card(7), BadSizes::Card),
+        (two.globals(65_537), BadSizes::Globals),
+        (two.registers(0), BadSizes::Registers),
     ];
     for (sizes, error) in all {
         assert_eq!(Heap::new(&sizes).unwrap_err(), error);
@@ -342,7 +354,7 @@ fn the_largest_object() {
         assert_eq!(f.read_at(object, 16_777_213), Ok(0));
     });
     for (regions, words) in [(4096, 1_048_576), (4, 8_388_608)] {
-        assert_eq!(Heap::new(&Sizes { regions, words, ..Sizes::default() }).unwrap_err(), BadSizes::Words);
+        assert_eq!(Heap::new(&Sizes::default().regions(regions).words(words)).unwrap_err(), BadSizes::Words);
     }
 }
 

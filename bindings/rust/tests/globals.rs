@@ -4,7 +4,7 @@ use g1heap::*;
 layout! { struct Cell { pointers { next: Cell } words { n: u64 } } }
 
 fn heap() -> Heap {
-    Heap::new(&Sizes { regions: 16, words: 64, buffer: 7, registers: 16, globals: 4, ..Sizes::default() }).unwrap()
+    Heap::new(&Sizes::default().regions(16).words(64).buffer(7).registers(16).globals(4)).unwrap()
 }
 
 #[test]

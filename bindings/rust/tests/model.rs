@@ -275,7 +275,7 @@ fn random_steps() {
     let (mut full, mut cleared) = (0, 0);
     let seeds = std::env::var("SEEDS").map_or(60, |it| it.parse().unwrap());
     for seed in 1..=seeds {
-        let sizes = Sizes { regions: 16, words: 64, buffer: 7, globals: 20, registers: 40, ..Sizes::default() };
+        let sizes = Sizes::default().regions(16).words(64).buffer(7).globals(20).registers(40);
         let mut heap = Heap::new(&sizes).unwrap();
         let globals = (0..8).map(|_| (heap.new_global().unwrap(), None)).collect();
         let random = Random(u64::wrapping_mul(seed, 0x9e3779b97f4a7c15));

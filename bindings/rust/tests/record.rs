@@ -9,7 +9,7 @@ use std::sync::{Arc, Mutex};
 layout! { struct Cell { pointers { next: Cell } weaks { seen: Cell } words { n: u64 } } }
 
 fn sizes() -> Sizes {
-    Sizes { regions: 16, words: 64, buffer: 7, registers: 32, ..Sizes::default() }
+    Sizes::default().regions(16).words(64).buffer(7).registers(32)
 }
 type Lines = Arc<Mutex<Vec<u8>>>;
 fn to(lines: &Lines) -> impl FnMut(&[u8]) -> std::io::Result<()> + Send + 'static {
@@ -64,7 +64,7 @@ fn a_run_is_judged() {
 #[test]
 fn threads_are_judged() {
     let lines = Lines::default();
-    let shared = Shared::new(&Sizes { regions: 64, ..sizes() }, 3).unwrap();
+    let shared = Shared::new(&sizes().regions(64), 3).unwrap();
     assert!(shared.record(to(&lines)));
     std::thread::scope(|threads| {
         for _ in 0..3 {
@@ -125,7 +125,7 @@ fn what_a_writer_throws_may_throw_when_it_is_dropped() {
 
 #[test]
 fn a_writer_reaches_no_heap_in_use() {
-    let shared = Shared::new(&Sizes { globals: 1, ..sizes() }, 2).unwrap();
+    let shared = Shared::new(&sizes().globals(1), 2).unwrap();
     let (told, left): (Lines, Arc<Mutex<Option<Kept<Cell>>>>) = Default::default();
     let (mut seat, mut other, within) = (shared.seat().unwrap(), shared.seat().unwrap(), shared.clone());
     let (tells, leaves) = (told.clone(), left.clone());

@@ -4,7 +4,7 @@ layout! { struct Int { words { n: u64 } } }
 
 #[test]
 fn a_stack_as_a_vec() {
-    let sizes = Sizes { regions: 16, words: 64, buffer: 7, registers: 24, ..Sizes::default() };
+    let sizes = Sizes::default().regions(16).words(64).buffer(7).registers(24);
     let mut heap = Heap::new(&sizes).unwrap();
     let mut seed = 88172645463325252u64;
     let mut next = move |most: usize| {

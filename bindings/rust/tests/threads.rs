@@ -41,7 +41,7 @@ fn a_heap_under_a_mutex() {
 
 #[test]
 fn roots_stay_while_others_run() {
-    let sizes = Sizes { regions: 32, words: 64, buffer: 7, registers: 32, ..Sizes::default() };
+    let sizes = Sizes::default().regions(32).words(64).buffer(7).registers(32);
     let shared = Shared::new(&sizes, 4).unwrap();
     let barrier = Barrier::new(4);
     std::thread::scope(|s| {
@@ -145,7 +145,7 @@ fn unlocked_lets_all_in_that_wait() {
 
 #[test]
 fn a_global_that_was_kept_is_taken_back() {
-    let shared = Shared::new(&Sizes { globals: 2, registers: 4, ..Sizes::default() }, 2).unwrap();
+    let shared = Shared::new(&Sizes::default().globals(2).registers(4), 2).unwrap();
     let (mut one, mut two) = (shared.seat().unwrap(), shared.seat().unwrap());
     let keep = |seat: &mut Seat| seat.run(|f| f.keep(f.alloc::<Cell>().unwrap()).unwrap());
     drop((keep(&mut one), keep(&mut two)));
@@ -160,7 +160,7 @@ fn a_global_that_was_kept_is_taken_back() {
 
 #[test]
 fn a_global_that_was_kept_is_taken_back_in_a_run() {
-    let shared = Shared::new(&Sizes { globals: 1, registers: 2, ..Sizes::default() }, 2).unwrap();
+    let shared = Shared::new(&Sizes::default().globals(1).registers(2), 2).unwrap();
     let (mut one, mut two) = (shared.seat().unwrap(), shared.seat().unwrap());
     one.run(|f| {
         drop(f.keep(f.alloc::<Cell>().unwrap()).unwrap());
@@ -169,7 +169,7 @@ fn a_global_that_was_kept_is_taken_back_in_a_run() {
         f.unlocked(|| two.run(|g| assert!(g.load(global).unwrap().is_none())));
     });
     // Where no register is left at all, nothing is made nil.
-    let shared = Shared::new(&Sizes { globals: 1, registers: 1, ..Sizes::default() }, 1).unwrap();
+    let shared = Shared::new(&Sizes::default().globals(1).registers(1), 1).unwrap();
     shared.seat().unwrap().run(|f| {
         drop(f.keep(f.alloc::<Cell>().unwrap()).unwrap());
         assert_eq!(shared.new_global::<Cell>().unwrap_err(), Error::NoRegisters);
@@ -180,7 +180,7 @@ fn a_global_that_was_kept_is_taken_back_in_a_run() {
 
 #[test]
 fn a_global_is_made_in_a_run() {
-    let shared = Shared::new(&Sizes { globals: 2, ..Sizes::default() }, 1).unwrap();
+    let shared = Shared::new(&Sizes::default().globals(2), 1).unwrap();
     shared.seat().unwrap().run(|f| {
         let (one, other) = (shared.new_global::<Cell>().unwrap(), f.new_global::<Cell>().unwrap());
         f.save(one, f.alloc().unwrap()).unwrap();
@@ -219,7 +219,7 @@ fn seats_come_back() {
 
 #[test]
 fn what_threads_keep_is_left_by_others() {
-    let shared = Shared::new(&Sizes { globals: 8, ..Sizes::default() }, 4).unwrap();
+    let shared = Shared::new(&Sizes::default().globals(8), 4).unwrap();
     std::thread::scope(|s| {
         for _ in 0..4 {
             let mut seat = shared.seat().unwrap();
