@@ -98,8 +98,8 @@ impl<'a, 'h, T: Layout> Fields<'a, 'h, T> {
 }
 
 impl<'f, 'h> Frame<'f, 'h> {
-    /// A new object whose fields `fill` sets, which takes one call of the heap where [`alloc`](Frame::alloc) and what sets its fields take
-    /// one each. Answers the same errors as `alloc`.
+    /// A new object whose fields `fill` sets, by one call of the heap: nobody sees it with fields that aren't set. It takes about as many
+    /// instructions as [`alloc`](Frame::alloc) and a call for each field. Answers the same errors as `alloc`.
     ///
     /// ```
     /// # use g1heap::*;
