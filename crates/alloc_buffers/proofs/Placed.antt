@@ -398,9 +398,8 @@ retired_above t b n limit is tops = record {
 }
 
 get_or-get : {A : Type 0} (xs : List A) (i : ℕ) (d x : A) → slice_get xs i ≡ Some x → slice_index_or xs i d ≡ x
-get_or-get [] i d x e = cc
-get_or-get (y ∷ xs) zero d x e = cc
 get_or-get (y ∷ xs) (suc i) d x e = get_or-get xs i d x e
+get_or-get _ _ d x e = cc
 
 placed_open : (t : Table) (b : Buffers) (m size : ℕ) (x : Buffer) → 2 * size ≤ t.words_per_region
     → slice_index_or b.open_buffers m None ≡ Some x → size ≤ x.rest → allocation_of t b m size ≡ Some (in_buffer t b m size x)

@@ -157,18 +157,16 @@ and_not_bits x y z h k e =
     let no_y : x ≡ 1 → y ≡ 0 → eqb z 1 ≡ (eqb x 1 && not (eqb y 1)) = λ p q. rw (p, q, ap (λ v. eqb v 1) e) (rw (p, q) refl) in
     ⊎_elim no_x (λ p. ⊎_elim (λ q. no_y p q) (λ q. one_y p q) (one_or_zero y k)) (one_or_zero x h)
 
-only_in_word : (ws vs : List ℕ) (from i low w v : ℕ) → w ≡ slice_index ws i → v ≡ slice_index vs i → v < 2 ^ 64 → low ≡ from - 64 * i
-    → low < 64 → (a : ℕ) → from ≤ a → a / 64 ≡ i → only ws vs a ≡ eqb (bit_at (left_part w v low) (a % 64)) 1
-only_in_word ws vs from i low w v read other fits start near a h e =
+-- a bit of a word that has what two words make of it
+only_bit : (ws vs : List ℕ) (i w v z a : ℕ) → w ≡ slice_index ws i → v ≡ slice_index vs i → a / 64 ≡ i
+    → bit_at z (a % 64) ≡ min (bit_at w (a % 64)) (1 - bit_at v (a % 64)) → only ws vs a ≡ eqb (bit_at z (a % 64)) 1
+only_bit ws vs i w v z a read other e part =
     let j : ℕ = a % 64 in
     let ws_bit : bit_of ws a ≡ eqb (bit_at w j) 1 =
     ap (λ k. eqb (bit_at (slice_index ws k) j) 1) e ∙ ap (λ x. eqb (bit_at x j) 1) (sym read) in
     let vs_bit : bit_of vs a ≡ eqb (bit_at v j) 1 =
     ap (λ k. eqb (bit_at (slice_index vs k) j) 1) e ∙ ap (λ x. eqb (bit_at x j) 1) (sym other) in
-    let part : bit_at (left_part w v low) j ≡ min (bit_at w j) (1 - bit_at v j) =
-    bit_at-high_part (bit_and w (2 ^ 64 - 1 - v)) low j (omega arith) (omega arith) ∙ bit_at_and w (2 ^ 64 - 1 - v) j
-    ∙ ap (λ x. min (bit_at w j) x) (bit_at_not w64 v j fits (omega arith)) in
-    rw (ws_bit, vs_bit) (sym (and_not_bits (bit_at w j) (bit_at v j) (bit_at (left_part w v low) j) (bit_at-lt w j) (bit_at-lt v j) part))
+    rw (ws_bit, vs_bit) (sym (and_not_bits (bit_at w j) (bit_at v j) (bit_at z j) (bit_at-lt w j) (bit_at-lt v j) part))
 
 pub left_word : (ws vs : List ℕ) (from i low w v : ℕ) → w ≡ slice_index ws i → v ≡ slice_index vs i → v < 2 ^ 64
     → low ≡ from - 64 * i → low < 64 → IsWord (only ws vs) from i (left_part w v low)
@@ -177,7 +175,9 @@ left_word ws vs from i low w v word other_word v_fits start near = record {
   start = start;
   near = near;
   fits = part_fits (bit_and w (2 ^ 64 - 1 - v)) low;
-  same = λ a h e. only_in_word ws vs from i low w v word other_word v_fits start near a h e;
+  same = λ a h e. only_bit ws vs i w v (left_part w v low) a word other_word e
+      (bit_at-high_part (bit_and w (2 ^ 64 - 1 - v)) low (a % 64) (omega arith) (omega arith) ∙ bit_at_and w (2 ^ 64 - 1 - v) (a % 64)
+      ∙ ap (λ x. min (bit_at w (a % 64)) x) (bit_at_not w64 v (a % 64) v_fits (omega arith)));
   below = λ j h. bit_at-high_part_below (bit_and w (2 ^ 64 - 1 - v)) low j h near;
 }
 
@@ -210,16 +210,8 @@ group_left ws vs i w v read other fits less = record {
   start = omega arith;
   near = omega arith;
   fits = less;
-  same = λ a h e.
-      let j : ℕ = a % 64 in
-      let ws_bit : bit_of ws a ≡ eqb (bit_at w j) 1 =
-      ap (λ k. eqb (bit_at (slice_index ws k) j) 1) e ∙ ap (λ x. eqb (bit_at x j) 1) (sym read) in
-      let vs_bit : bit_of vs a ≡ eqb (bit_at v j) 1 =
-      ap (λ k. eqb (bit_at (slice_index vs k) j) 1) e ∙ ap (λ x. eqb (bit_at x j) 1) (sym other) in
-      let part : bit_at (bit_and w (2 ^ 64 - 1 - v)) j ≡ min (bit_at w j) (1 - bit_at v j) =
-      bit_at_and w (2 ^ 64 - 1 - v) j ∙ ap (λ x. min (bit_at w j) x) (bit_at_not w64 v j fits (omega arith)) in
-      rw (ws_bit, vs_bit)
-      (sym (and_not_bits (bit_at w j) (bit_at v j) (bit_at (bit_and w (2 ^ 64 - 1 - v)) j) (bit_at-lt w j) (bit_at-lt v j) part));
+  same = λ a h e. only_bit ws vs i w v (bit_and w (2 ^ 64 - 1 - v)) a read other e
+      (bit_at_and w (2 ^ 64 - 1 - v) (a % 64) ∙ ap (λ x. min (bit_at w (a % 64)) x) (bit_at_not w64 v (a % 64) fits (omega arith)));
   below = λ j h. absurd (omega arith);
 }
 

@@ -83,8 +83,6 @@ taken_within (suc p ∷ places) left = omega (arith, taken_within places (left -
 taken_more : (places : List ℕ) (left page v : ℕ) → page < length places → slice_index places page ≡ 0 → 0 < v
     → taken_words (set places page v) left ≡ taken_words places left + page_size left page
 unfolding taken_words
-taken_more [] left page v h free some = absurd (omega arith)
-taken_more (p ∷ places) left zero zero h free some = absurd (omega arith)
 taken_more (zero ∷ places) left zero (suc v) h free some = omega arith
 taken_more (suc p ∷ places) left zero (suc v) h free some = absurd (omega (arith, free))
 taken_more (zero ∷ places) left (suc page) v h free some =
@@ -93,6 +91,7 @@ taken_more (zero ∷ places) left (suc page) v h free some =
 taken_more (suc p ∷ places) left (suc page) v h free some =
     let rest = taken_more places (left - 512) page v (omega arith) free some in
     omega (arith, rest)
+taken_more _ left _ _ h free some = absurd (omega arith)
 
 pub page_has_room : (places pool : List ℕ) (len page : ℕ) → ArePages places pool len → 512 * page < len → slice_index places page ≡ 0
     → length pool + page_size len page ≤ len

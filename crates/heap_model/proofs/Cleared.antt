@@ -113,11 +113,10 @@ module _ (s g g' : Graph) (h : Heap) (m : Marking) (i : KeepsSnapshot s h m) (do
   weaks_after : (ws vs vs' : List (Option ℕ)) → AllZip (IsShown h) ws vs → AllZip (IsClearedSlot s) vs vs'
       → AllZip (IsShown after) (map (cleared_word m) ws) vs'
   weaks_after [] [] [] z q = tt
-  weaks_after [] [] (v' ∷ vs') z q = absurd q
   weaks_after [] (v ∷ vs) vs' z q = absurd z
   weaks_after (w ∷ ws) [] vs' z q = absurd z
-  weaks_after (w ∷ ws) (v ∷ vs) [] z q = absurd q
   weaks_after (w ∷ ws) (v ∷ vs) (v' ∷ vs') z q = (weak_after w v v' z.0 q.0, weaks_after ws vs vs' z.1 q.1)
+  weaks_after _ _ _ z q = absurd q
 
   object_after : (a : ℕ) (x : Stored) → kept_after h m a ≡ Some x → IsObjectShown g' after (cleared m x)
   object_after a x e =
@@ -200,12 +199,11 @@ module _ (s : Graph) (k : ℕ) (count : IsReachableCount s k) where
 AllZip-once : {A B : Type 0} (R : A → B → Type 0) → ((x : A) (y z : B) → R x y → R x z → y ≡ z) → (xs : List A) (us ws : List B)
     → AllZip R xs us → AllZip R xs ws → us ≡ ws
 AllZip-once R once [] [] [] p q = refl
-AllZip-once R once [] [] (b ∷ ws) p q = absurd q
 AllZip-once R once [] (a ∷ us) ws p q = absurd p
 AllZip-once R once (v ∷ vs) [] ws p q = absurd p
-AllZip-once R once (v ∷ vs) (a ∷ us) [] p q = absurd q
 AllZip-once R once (v ∷ vs) (a ∷ us) (b ∷ ws) p q =
     let e = once v a b p.0 q.0 in let es = AllZip-once R once vs us ws p.1 q.1 in cc
+AllZip-once R once _ _ _ p q = absurd q
 
 module _ (s : Graph) where
   slot_once : (v a b : Option ℕ) → IsClearedSlot s v a → IsClearedSlot s v b → a ≡ b
@@ -219,7 +217,8 @@ module _ (s : Graph) where
   object_once : (o a b : Object) → ClearsObject s o a → ClearsObject s o b → a ≡ b
   object_once o a b p q =
       ap (λ u. record { pointers = u; weaks = a.weaks; values = a.values }) (p.pointers ∙ sym q.pointers)
-      ∙ ap (λ u. record { pointers = b.pointers; weaks = u; values = a.values }) (AllZip-once (IsClearedSlot s) slot_once o.weaks a.weaks b.weaks p.weaks q.weaks)
+      ∙ ap (λ u. record { pointers = b.pointers; weaks = u; values = a.values })
+      (AllZip-once (IsClearedSlot s) slot_once o.weaks a.weaks b.weaks p.weaks q.weaks)
       ∙ ap (λ u. record { pointers = b.pointers; weaks = b.weaks; values = u }) (p.values ∙ sym q.values)
 
   pub clears_once : (g a b : Graph) → Clears s g a → Clears s g b → a ≡ b

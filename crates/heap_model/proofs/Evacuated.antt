@@ -39,7 +39,8 @@ start set h = record {
     | inr e ↦
         let q = placed_outside set (λ a. None) a e in
         let same : a ≡ b = cc in
-        record { part = x; at = ap h.kept (sym same) ∙ at; name = refl; values = refl; shape = refl; words = same_words (place_after set (λ a. None)) (fields x) }
+        let words = same_words (place_after set (λ a. None)) (fields x) in
+        record { part = x; at = ap h.kept (sym same) ∙ at; name = refl; values = refl; shape = refl; words = words }
   ];
   came = λ b y at out. record { from = b; object = y; at = at; placed = placed_outside set (λ a. None) b out };
   untouched = λ a _ _. refl;
@@ -59,12 +60,11 @@ module _ (set : ℕ → Bool) (h : Heap) (forward : ℕ → Option ℕ) (now : H
     clean_words : (xs ys : List (Option ℕ)) → IsClean set ys → AllZip (IsWord (place_after set forward)) xs ys
         → AllZip (IsMoved (place_after set forward)) xs ys
     clean_words [] [] c z = tt
-    clean_words [] (y ∷ ys) c z = absurd z
-    clean_words (x ∷ xs) [] c z = absurd z
     clean_words (x ∷ xs) (y ∷ ys) c z = (
       clean_moved set forward x y (λ a e. c zero a (ap Some e)) z.0,
       clean_words xs ys (λ i a e. c (suc i) a e) z.1,
     )
+    clean_words _ _ c z = absurd z
 
     pub evacuated_relocates : Relocates (place_after set forward) h (released set now)
     evacuated_relocates = record {
@@ -135,11 +135,10 @@ module _ (set : ℕ → Bool) (h : Heap) (forward : ℕ → Option ℕ) (now : H
       set_one : (xs ys : List (Option ℕ)) (i : ℕ) → AllZip (IsWord (place_after set forward)) xs ys → slice_get xs i ≡ Some w
           → AllZip (IsWord (place_after set forward)) xs (slice_set ys i w')
       set_one [] [] i z e = tt
-      set_one [] (y ∷ ys) i z e = absurd z
-      set_one (x ∷ xs) [] i z e = absurd z
       set_one (x ∷ xs) (y ∷ ys) zero z e = let same : w ≡ x = cc in
           (inr (subst (λ u. IsMoved (place_after set forward) u w') same moved), z.1)
       set_one (x ∷ xs) (y ∷ ys) (suc i) z e = (z.0, set_one xs ys i z.1 e)
+      set_one _ _ i z e = absurd z
 
   -- a word that still names the set is as it was
   pub word_was : (w : Option ℕ) (c : ℕ) → IsWord (place_after set forward) w (Some c) → set c ≡ true → w ≡ Some c
@@ -222,11 +221,10 @@ module _ (set : ℕ → Bool) (h : Heap) (forward : ℕ → Option ℕ) (now : H
       set_one : (xs ys : List (Option ℕ)) (j : ℕ) → AllZip (IsWord (place_after set forward)) xs ys → slice_get ys j ≡ Some (Some c)
           → AllZip (IsWord (place_after set forward)) xs (slice_set ys j (Some d))
       set_one [] [] j z e = tt
-      set_one [] (y ∷ ys) j z e = absurd z
-      set_one (x ∷ xs) [] j z e = absurd z
       set_one (x ∷ xs) (y ∷ ys) zero z e = let same : y ≡ Some c = cc in
           (inr (word_updated x c d (subst (λ u. IsWord (place_after set forward) x u) same z.0) inside f), z.1)
       set_one (x ∷ xs) (y ∷ ys) (suc j) z e = (z.0, set_one xs ys j z.1 e)
+      set_one _ _ j z e = absurd z
 
   module _ (forward' : ℕ → Option ℕ) (now' : Heap) (a b : ℕ) (x : Stored) (step : Copies set forward forward' now now' a b x)
       (r : IsReached set h a) where

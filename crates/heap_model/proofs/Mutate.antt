@@ -97,7 +97,8 @@ module _ (live : ℕ → Type 0) (limit : ℕ) (h : Heap) (m : Marking) (i : Mar
       old = λ b. refl;
       marked = λ b k. k;
       logged = λ b e. inr e;
-      edges = λ b c _ _ un p _. inl (un, record { object = p.object; at = added_kept h h' a x place v b p.object p.at; field = p.field; is = p.is });
+      edges = λ b c _ _ un p _. let at = added_kept h h' a x place v b p.object p.at in
+          inl (un, record { object = p.object; at = at; field = p.field; is = p.is });
       stays = λ b y at o. record { object = y; at = added_kept h h' a x place v b y at; named = refl };
       came = λ b y at o. elim (added_before h h' a x place v b y at) [
         | inl q ↦ absurd (let here = ap m.old q.0 in cc)

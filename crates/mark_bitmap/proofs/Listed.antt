@@ -26,13 +26,12 @@ only_marked (false ∷ marks) i j a (suc k) e h = only_marked marks (i + 1) j a 
 
 each_marked : (marks : List Bool) (i k a : ℕ) → i + k ≡ a → is_marked marks k ≡ true
     → (j : ℕ) × (slice_get (marked_from i marks) j ≡ Some a)
-each_marked [] i k a e h = cc
 each_marked (true ∷ marks) i zero a e h = (zero, ap Some (omega (arith, e)))
 each_marked (true ∷ marks) i (suc k) a e h =
     let r = each_marked marks (i + 1) k a (omega (arith, e)) h in
     (suc r.0, r.1)
-each_marked (false ∷ marks) i zero a e h = cc
 each_marked (false ∷ marks) i (suc k) a e h = each_marked marks (i + 1) k a (omega (arith, e)) h
+each_marked _ i _ a e h = cc
 
 distinct : (marks : List Bool) (i j l a : ℕ) → slice_get (marked_from i marks) j ≡ Some a
     → slice_get (marked_from i marks) l ≡ Some a → j ≡ l

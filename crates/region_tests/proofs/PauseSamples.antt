@@ -14,10 +14,10 @@ use Rattle.cards.specs.Cards.{Cards, is_dirty}
 use Rattle.remembered_sets.specs.Sets.{Sets, added, card_count, may_lead, empty_set, empty_sets}
 use Rattle.region_choice.specs.Choice.{live_sum}
 use Rattle.region_choice.specs.declared.LiveRow.{LiveRow}
-use Rattle.refinement.specs.Remembering.{Remembers, field_card, field_word}
+use Rattle.refinement.specs.Remembering.{Remembers, field_card}
 use Rattle.refinement.proofs.Holders.{kept_object}
 use Rattle.evacuation.specs.Evacuates.{Layers, CanEvacuate, IsLiveRow, kept_of}
-use Rattle.region_tests.specs.Evacuated.{IsFresh, by_weak_slot, held, holder, itself, selfish, two_cards}
+use Rattle.region_tests.specs.Evacuated.{IsFresh, by_weak_slot, held, holder, itself, selfish, two_cards, IsSuited}
 
 the_row : (row : LiveRow) (P : LiveRow → Type 0) → P row → All P (row ∷ [])
 the_row row P p = go
@@ -33,25 +33,6 @@ single row _ _ r o e f = absurd cc
 the_root : (j a : ℕ) → slice_get (Some 0 ∷ []) j ≡ Some (Some a) → 0 ≡ a
 the_root zero a e = cc
 the_root (suc j) a e = absurd cc
-
--- a table of four regions of sixteen words with its sets, of which the row's region is evacuated
-pub record IsSuited (t : Table) (s : Sets) (row : LiveRow) : Type 0 where
-  pub words : t.words_per_region ≡ 16
-  pub count : length t.regions ≡ 4
-  pub cards : s.cards_per_region ≡ 2
-  pub each : length s.sets ≡ 4
-  pub unmoved : HasNoForwarded t
-  pub first : (x : Stored) × (object_at t 0 ≡ Some x)
-  pub low : (a : ℕ) (x : Stored) → object_at t a ≡ Some x → is_below 16 (bottoms 4 16) a ≡ false
-  pub inside : (b i a : ℕ) (y : Stored) → object_at t b ≡ Some y → slice_get (fields y) i ≡ Some (Some a)
-      → (x : Stored) × (object_at t a ≡ Some x)
-  pub halves : (a : ℕ) (x : Stored) → object_at t a ≡ Some x → 2 * tile_size (Object x) ≤ 16
-  pub remembered : (a i b : ℕ) (y : Stored) → object_at t a ≡ Some y → slice_get (fields y) i ≡ Some (Some b)
-      → (b / 16 ≡ field_word a i / 16) ⊎ (may_lead s (b / 16) (field_card 8 a i) ≡ true)
-  pub known : row.region < 4
-  pub ordinary : kind_of t row.region ≡ kinds.Ordinary
-  pub bound : (marks : List Bool) → row.live_bound ≡ live_bound_of t (bottoms 4 16) marks row.region
-  pub room : 2 * live_sum (row ∷ []) ≤ free_count t * t.words_per_region
 
 module _ (t : Table) (s : Sets) (row : LiveRow) (u : IsSuited t s row) (h : Layers) (f : IsFresh t s h) where
   words : h.table.words_per_region ≡ 16
@@ -123,7 +104,10 @@ itself_at : (q o : ℕ) (y : Stored)
     → tile_object (region_tile (get_or (Ordinary (Object selfish ∷ []) ∷ Free ∷ Free ∷ Free ∷ []) q Free) o) ≡ Some y
     → (q ≡ 0) × (o ≡ 0) × (selfish ≡ y)
 itself_at zero o y e = let (n, s) = tile_alone selfish o y e in (refl, n, s)
-itself_at (suc _) o y e = absurd cc
+itself_at (suc zero) o y e = absurd cc
+itself_at (suc (suc zero)) o y e = absurd cc
+itself_at (suc (suc (suc zero))) o y e = absurd cc
+itself_at (suc (suc (suc (suc q)))) o y e = absurd cc
 
 itself_only : (a : ℕ) (y : Stored) → object_at itself a ≡ Some y → (a ≡ 0) × (selfish ≡ y)
 unfolding object_at tile_in region_at
@@ -179,7 +163,9 @@ weak_at : (q o : ℕ) (y : Stored) → tile_object (region_tile (get_or (Ordinar
     → ((q ≡ 0) × (o ≡ 0) × (holder (Some 16) ≡ y)) ⊎ ((q ≡ 1) × (o ≡ 0) × (held ≡ y))
 weak_at zero o y e = let (n, s) = tile_alone (holder (Some 16)) o y e in inl (refl, n, s)
 weak_at (suc zero) o y e = let (n, s) = tile_alone held o y e in inr (refl, n, s)
-weak_at (suc (suc _)) o y e = absurd cc
+weak_at (suc (suc zero)) o y e = absurd cc
+weak_at (suc (suc (suc zero))) o y e = absurd cc
+weak_at (suc (suc (suc (suc q)))) o y e = absurd cc
 
 weak_only : (a : ℕ) (y : Stored) → object_at by_weak_slot a ≡ Some y → ((a ≡ 0) × (holder (Some 16) ≡ y)) ⊎ ((a ≡ 16) × (held ≡ y))
 unfolding object_at tile_in region_at

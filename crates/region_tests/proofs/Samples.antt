@@ -4,7 +4,7 @@ use Rattle.regions.proofs.Common.{length, set, refl, sym, ap, subst, arith, slic
 use Rattle.regions.proofs.Common.{fields, with_field, Tile, Object, Filler, Region, Free, First, Table, nth_region, first_run, is_free}
 use Rattle.regions.proofs.Common.{with_run, region_tile, region_at, tile_in, tile_object, object_at, free_table, taken, first_free}
 use Rattle.regions.proofs.Common.{set_field, push_tile, replace_tile, new_object, remainder, used_of, top_of, kind_of, fields_at, IsShaped}
-use Rattle.regions.proofs.Common.{tile_shape, Shape}
+use Rattle.regions.proofs.Common.{tile_shape, Forwarded}
 use Rattle.std.proofs.lemmas.Nat.{div_below}
 use Rattle.heap_model.proofs.Fields.{field_set}
 use Rattle.regions.proofs.Tiles.Changes.{field_put, object_same}
@@ -19,6 +19,7 @@ use Rattle.refinement.proofs.Holders.{field_at, kept_object}
 use Rattle.refinement.proofs.Remembered.{set_here, set_there}
 use Rattle.regions.proofs.Tiles.Made.{nil_fields, object_made}
 use Rattle.regions.specs.declared.row.Kind.TheVariants as kinds
+use Rattle.regions.specs.declared.row.Shape.{Shape}
 use Rattle.regions.specs.declared.row.Shape.TheVariants as shapes
 
 pub free_sample : (t : Table) → t ≡ free_table 4 16 → IsSample t
@@ -142,8 +143,10 @@ sample_scans t tops previous sets s marks count cards = record {
 -- a tile with an object's shape is one
 object_tile_is : (o : Option Tile) (p weak d : ℕ) (shape : Shape) → IfSome o (λ u. shape ≡ tile_shape u) → IsSome o
     → shape ≡ shapes.Object p weak d → IsSome (tile_object o)
+object_tile_is None p weak d shape h some e = cc
 object_tile_is (Some (Object s)) p weak d shape h some e = refl
-object_tile_is _ p weak d shape h some e = cc
+object_tile_is (Some (Filler m)) p weak d shape h some e = cc
+object_tile_is (Some (Forwarded to m)) p weak d shape h some e = cc
 
 pub is_object : (t : Table) (a p weak d : ℕ) (shape : Shape) → IfSome (tile_in t a) (λ u. shape ≡ tile_shape u) → IsSome (tile_in t a)
     → shape ≡ shapes.Object p weak d → IsSome (object_at t a)

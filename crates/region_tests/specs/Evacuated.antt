@@ -1,12 +1,17 @@
 -- The heaps that the tests evacuate.
-use Rattle.std.specs.Prelude.{◌≡◌, false, Some, Option, ℕ, List, [], ◌∷◌, replicate}
-use Rattle.heap_model.specs.Heap.{Stored}
-use Rattle.regions.specs.Tiles.{Object}
-use Rattle.regions.specs.Table.{Region, Table, Free, Ordinary}
-use Rattle.mark_bitmap.specs.Tops.{bottoms}
+use Rattle.std.specs.Prelude.{◌≡◌, false, Some, Option, ℕ, List, [], ◌∷◌, replicate, ◌*◌, ◌/◌, ◌<◌, ◌≤◌, ◌⊎◌, length, slice_get, true, Bool}
+use Rattle.heap_model.specs.Heap.{Stored, fields}
+use Rattle.regions.specs.Tiles.{Object, tile_size}
+use Rattle.regions.specs.Table.{Region, Table, Free, Ordinary, HasNoForwarded, free_count, kind_of, object_at}
+use Rattle.mark_bitmap.specs.Tops.{bottoms, is_below}
 use Rattle.cards.specs.Cards.{clean_cards}
-use Rattle.remembered_sets.specs.Sets.{Sets, added, empty_sets}
+use Rattle.remembered_sets.specs.Sets.{Sets, added, empty_sets, may_lead}
 use Rattle.evacuation.specs.Evacuates.{Layers}
+use Rattle.mark_bitmap.specs.Live.{live_bound_of}
+use Rattle.region_choice.specs.Choice.{live_sum}
+use Rattle.region_choice.specs.declared.LiveRow.{LiveRow}
+use Rattle.refinement.specs.Remembering.{field_card, field_word}
+use Rattle.regions.specs.declared.row.Kind.TheVariants as kinds
 
 -- regions of sixteen words
 abbrev pub sample_of : List Region → Table
@@ -45,3 +50,22 @@ pub record IsFresh (table : Table) (sets : Sets) (h : Layers) : Type 0 where
   pub cards : h.cards ≡ clean_cards 8 1
   pub sets_are : h.sets ≡ sets
   pub roots : h.roots ≡ Some 0 ∷ []
+
+-- a table of four regions of sixteen words with its sets, of which the row's region is evacuated
+pub record IsSuited (t : Table) (s : Sets) (row : LiveRow) : Type 0 where
+  pub words : t.words_per_region ≡ 16
+  pub count : length t.regions ≡ 4
+  pub cards : s.cards_per_region ≡ 2
+  pub each : length s.sets ≡ 4
+  pub unmoved : HasNoForwarded t
+  pub first : (x : Stored) × (object_at t 0 ≡ Some x)
+  pub low : (a : ℕ) (x : Stored) → object_at t a ≡ Some x → is_below 16 (bottoms 4 16) a ≡ false
+  pub inside : (b i a : ℕ) (y : Stored) → object_at t b ≡ Some y → slice_get (fields y) i ≡ Some (Some a)
+      → (x : Stored) × (object_at t a ≡ Some x)
+  pub halves : (a : ℕ) (x : Stored) → object_at t a ≡ Some x → 2 * tile_size (Object x) ≤ 16
+  pub remembered : (a i b : ℕ) (y : Stored) → object_at t a ≡ Some y → slice_get (fields y) i ≡ Some (Some b)
+      → (b / 16 ≡ field_word a i / 16) ⊎ (may_lead s (b / 16) (field_card 8 a i) ≡ true)
+  pub known : row.region < 4
+  pub ordinary : kind_of t row.region ≡ kinds.Ordinary
+  pub bound : (marks : List Bool) → row.live_bound ≡ live_bound_of t (bottoms 4 16) marks row.region
+  pub room : 2 * live_sum (row ∷ []) ≤ free_count t * t.words_per_region

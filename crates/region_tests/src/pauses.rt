@@ -2,7 +2,7 @@
 //! cards of eight.
 
 ghost use Rattle.std.specs.Prelude.{◌≡◌, ◌*◌, ◌<◌, ◌∷◌, [], Some, IfOk, length};
-ghost use Rattle.region_tests.specs.Evacuated.{by_weak_slot, itself, two_cards};
+ghost use Rattle.region_tests.specs.Evacuated.{IsSuited, by_weak_slot, itself, two_cards};
 
 use crate::refining::one_object;
 use bit_sets::bounded::BoundedBits;
@@ -92,22 +92,23 @@ fn one_root(alloc: Global, word: u32) -> Result<Roots, Fail>
     Ok(roots)
 }
 
-/// A pause that evacuates the region of the object that names itself.
-fn pause_itself(alloc: Global) -> Result<Paused, Fail>
+/// A pause that evacuates a row's region of a table that its sets and a root at 0 suit.
+fn pause(
+    alloc: Global,
+    mut table: RegionTable,
+    mut sets: RememberedSets,
+    row: LiveRow,
+) -> Result<Paused, Fail>
+    requires { IsSuited table sets row }
     ensures count { IfOk result (λ paused. length paused.table.regions ≡ 4) }
     ensures words { IfOk result (λ paused. paused.table.words_per_region ≡ 16) }
 {
-    let mut table = names_itself(alloc)?;
     let mut tams = Tams::new(alloc, 4, 16)?;
     let mut bitmaps = Bitmaps::new(alloc, 64)?;
     let mut cards = CardTable::new(alloc, 8, 1)?;
-    let mut sets = RememberedSets::new(alloc, 4, 2, 0)?;
     let mut room = PauseRoom::new(alloc, 4, 8)?;
     let mut roots = one_root(alloc, 0)?;
-    let rows = [LiveRow {
-        region: RegionNo::new(0),
-        live_bound: 4,
-    }];
+    let rows = [row];
     let moved = evacuate(
         &mut table,
         &mut tams,
@@ -130,6 +131,20 @@ fn pause_itself(alloc: Global) -> Result<Paused, Fail>
         root,
         queued,
     })
+}
+
+/// A pause that evacuates the region of the object that names itself.
+fn pause_itself(alloc: Global) -> Result<Paused, Fail>
+    ensures count { IfOk result (λ paused. length paused.table.regions ≡ 4) }
+    ensures words { IfOk result (λ paused. paused.table.words_per_region ≡ 16) }
+{
+    let table = names_itself(alloc)?;
+    let sets = RememberedSets::new(alloc, 4, 2, 0)?;
+    let row = LiveRow {
+        region: RegionNo::new(0),
+        live_bound: 4,
+    };
+    pause(alloc, table, sets, row)
 }
 
 /// Region 1 covers card 0, and card 4 of region 2, which is free.
@@ -148,39 +163,13 @@ fn pause_held(alloc: Global) -> Result<Paused, Fail>
     ensures count { IfOk result (λ paused. length paused.table.regions ≡ 4) }
     ensures words { IfOk result (λ paused. paused.table.words_per_region ≡ 16) }
 {
-    let mut table = held_weakly(alloc)?;
-    let mut tams = Tams::new(alloc, 4, 16)?;
-    let mut bitmaps = Bitmaps::new(alloc, 64)?;
-    let mut cards = CardTable::new(alloc, 8, 1)?;
-    let mut sets = held_sets(alloc)?;
-    let mut room = PauseRoom::new(alloc, 4, 8)?;
-    let mut roots = one_root(alloc, 0)?;
-    let rows = [LiveRow {
+    let table = held_weakly(alloc)?;
+    let sets = held_sets(alloc)?;
+    let row = LiveRow {
         region: RegionNo::new(1),
         live_bound: 2,
-    }];
-    let moved = evacuate(
-        &mut table,
-        &mut tams,
-        &mut bitmaps,
-        &mut cards,
-        &mut sets,
-        &mut roots,
-        &mut room,
-        &rows,
-        8,
-    );
-    let root = match roots.next_named(0) {
-        Some(place) => roots.get(place),
-        None => None,
     };
-    let queued = cards.queued();
-    Ok(Paused {
-        table,
-        moved,
-        root,
-        queued,
-    })
+    pause(alloc, table, sets, row)
 }
 
 /// The object is copied once, with its weak slot, to the lowest free region, and the root and the copy's fields name the copy.

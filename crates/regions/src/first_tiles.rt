@@ -23,7 +23,7 @@ ghost use Rattle.std.specs.Int.{div_ceil, is_power_of_two};
 ghost use Rattle.bit_sets.specs.Bits.{is_between};
 ghost use Rattle.heap_words.specs.Memory.{memory};
 ghost use Rattle.regions.specs.Tiles.{Filler};
-ghost use Rattle.regions.specs.FirstTiles.{last_card, entry_of, start_in};
+ghost use Rattle.regions.specs.FirstTiles.{AreEntriesPut, last_card, entry_of, front_entry, rest_entry, start_in, tile_entry};
 ghost use Rattle.heap_words.specs.Configs.{max_words};
 
 use std::alloc::{AllocError, Global};
@@ -257,10 +257,7 @@ impl FirstTiles {
     pub(crate) fn put_object(&mut self, at: u32, size: u32)
         requires within { at + size ≤ length self.old.starts * self.old.card_words }
         requires small { at + size ≤ max_words }
-        ensures card_words { self.new.card_words ≡ self.old.card_words }
-        ensures len { length self.new.starts ≡ length self.old.starts }
-        ensures entries { (c : ℕ) → slice_index self.new.starts c
-            ≡ (if is_between at (at + size) (c * self.old.card_words) then at else slice_index self.old.starts c) }
+        ensures { AreEntriesPut self.old self.new (λ w before. if is_between at (at + size) w then at else before) }
     {
         let shift = self.shift;
         zero_below(&mut self.starts, card_from(shift, at + size), self.cards);
@@ -274,12 +271,7 @@ impl FirstTiles {
         requires room { size ≤ filler }
         requires within { at + filler ≤ length self.old.starts * self.old.card_words }
         requires small { at + filler ≤ max_words }
-        ensures card_words { self.new.card_words ≡ self.old.card_words }
-        ensures len { length self.new.starts ≡ length self.old.starts }
-        ensures entries { (c : ℕ) → slice_index self.new.starts c
-            ≡ (if is_between (at + size) (at + filler) (c * self.old.card_words)
-            && (c * self.old.card_words == last_card self.old.card_words (at + filler)) then at + size
-            else (if is_between at (at + size) (c * self.old.card_words) then at else slice_index self.old.starts c)) }
+        ensures { AreEntriesPut self.old self.new (front_entry self.old.card_words at (at + size) (at + filler)) }
     {
         if self.is_cut_here(at, size, filler) {
             self.cut_here(at, size, filler);
@@ -310,12 +302,7 @@ impl FirstTiles {
         requires room { size ≤ filler }
         requires within { at + filler ≤ length self.old.starts * self.old.card_words }
         requires small { at + filler ≤ max_words }
-        ensures card_words { self.new.card_words ≡ self.old.card_words }
-        ensures len { length self.new.starts ≡ length self.old.starts }
-        ensures entries { (c : ℕ) → slice_index self.new.starts c
-            ≡ (if is_between (at + size) (at + filler) (c * self.old.card_words)
-            && (c * self.old.card_words == last_card self.old.card_words (at + filler)) then at + size
-            else (if is_between at (at + size) (c * self.old.card_words) then at else slice_index self.old.starts c)) }
+        ensures { AreEntriesPut self.old self.new (front_entry self.old.card_words at (at + size) (at + filler)) }
     {
         self.cut_here(at, size, filler);
     }
@@ -326,12 +313,7 @@ impl FirstTiles {
         requires room { size ≤ filler }
         requires within { at + filler ≤ length self.old.starts * self.old.card_words }
         requires small { at + filler ≤ max_words }
-        ensures card_words { self.new.card_words ≡ self.old.card_words }
-        ensures len { length self.new.starts ≡ length self.old.starts }
-        ensures entries { (c : ℕ) → slice_index self.new.starts c
-            ≡ (if is_between (at + size) (at + filler) (c * self.old.card_words)
-            && (c * self.old.card_words == last_card self.old.card_words (at + filler)) then at + size
-            else (if is_between at (at + size) (c * self.old.card_words) then at else slice_index self.old.starts c)) }
+        ensures { AreEntriesPut self.old self.new (front_entry self.old.card_words at (at + size) (at + filler)) }
     {
         let shift = self.shift;
         zero_below(&mut self.starts, card_from(shift, at + filler), self.cards);
@@ -344,11 +326,7 @@ impl FirstTiles {
         requires positive { 0 < size }
         requires within { at + size ≤ length self.old.starts * self.old.card_words }
         requires small { at + size ≤ max_words }
-        ensures card_words { self.new.card_words ≡ self.old.card_words }
-        ensures len { length self.new.starts ≡ length self.old.starts }
-        ensures entries { (c : ℕ) → slice_index self.new.starts c
-            ≡ (if is_between at (at + size) (c * self.old.card_words)
-            then entry_of self.old.card_words at (Filler size) (c * self.old.card_words) else slice_index self.old.starts c) }
+        ensures { AreEntriesPut self.old self.new (tile_entry self.old.card_words at size (Filler size)) }
     {
         let shift = self.shift;
         zero_below(&mut self.starts, card_from(shift, at + size), self.cards);
@@ -361,11 +339,7 @@ impl FirstTiles {
         requires order { at ≤ end }
         requires within { end ≤ length self.old.starts * self.old.card_words }
         requires small { end ≤ max_words }
-        ensures card_words { self.new.card_words ≡ self.old.card_words }
-        ensures len { length self.new.starts ≡ length self.old.starts }
-        ensures entries { (c : ℕ) → slice_index self.new.starts c
-            ≡ (if is_between at end (c * self.old.card_words) && (c * self.old.card_words == last_card self.old.card_words end) then at
-            else slice_index self.old.starts c) }
+        ensures { AreEntriesPut self.old self.new (rest_entry self.old.card_words at end) }
     {
         let shift = self.shift;
         zero_below(&mut self.starts, card_from(shift, end), self.cards);

@@ -1,15 +1,14 @@
 -- First tiles over each change of the table.
-use Rattle.regions.proofs.Common.{◌≡◌, ◌≢◌, ◌+◌, ◌-◌, ◌*◌, ◌/◌, ◌%◌, ◌<◌, ◌≤◌, ◌∷◌, ◌∙◌, ℕ, zero, suc, Bool, true, false, Some, None}
-use Rattle.regions.proofs.Common.{Option, List, [], length, length-set, get_or, replicate, inl, inr, refl, sym, ap, subst, arith, leb, ltb}
-use Rattle.regions.proofs.Common.{if◌then◌else◌, ◌&&◌, ◌==◌, cases_lt, le-leb, lt-leb, lt-ltb, le-ltb, length-replicate, div-mul-add}
-use Rattle.regions.proofs.Common.{is_between, Stored, Tile, Object, Filler, Forwarded, tile_size, tile_at, total_size, Table, Region, Free}
-use Rattle.regions.proofs.Common.{Ordinary, First, Rest, nth_region, region_tile, tile_in, object_at, new_object, pointers_at, weaks_at}
-use Rattle.regions.proofs.Common.{fields_at, values_at, set_pointer, set_weak, set_field, set_value, remainder, is_free, first_free, taken}
-use Rattle.regions.proofs.Common.{replace_tile, push_tile, IsOrdinary, region_at, with_regions, run_regions, first_run, released}
-use Rattle.regions.proofs.Common.{run_length, kind_of, used_of, top_of, free_table, EachForwarded, IsReleasable, object_words, Memory}
-use Rattle.regions.proofs.Common.{table_of, IsRegionTable, AreTilesWritten, AreUsedBelow, free_row_count, sizes_in, Entries, AreEntries}
-use Rattle.regions.proofs.Common.{entry_of, last_card, IsShaped, Row, Starts, AreStarts, HasWeaks, start_added, forgotten}
-use Rattle.regions.specs.declared.row.Kind.TheVariants as kinds
+use Rattle.regions.proofs.Common.{length-replicate, AreTilesWritten, free_row_count, if◌then◌else◌, EachForwarded, IsRegionTable, replicate}
+use Rattle.regions.proofs.Common.{AreEntriesPut, replace_tile, with_regions, IsReleasable, object_words, AreUsedBelow, div-mul-add, tile_at}
+use Rattle.regions.proofs.Common.{region_tile, pointers_at, set_pointer, run_regions, start_added, length-set, is_between, total_size, zero}
+use Rattle.regions.proofs.Common.{nth_region, new_object, first_free, IsOrdinary, run_length, free_table, AreEntries, tile_entry, Forwarded}
+use Rattle.regions.proofs.Common.{rest_entry, tile_size, object_at, fields_at, values_at, set_field, set_value, remainder, push_tile, false}
+use Rattle.regions.proofs.Common.{region_at, first_run, last_card, AreStarts, forgotten, cases_lt, Ordinary, weaks_at, set_weak, released}
+use Rattle.regions.proofs.Common.{table_of, sizes_in, entry_of, IsShaped, HasWeaks, tile_in, is_free, kind_of, used_of, Entries, Option, []}
+use Rattle.regions.proofs.Common.{length, get_or, le-leb, lt-leb, lt-ltb, le-ltb, Stored, Object, Filler, Region, top_of, Memory, Starts, ℕ}
+use Rattle.regions.proofs.Common.{subst, arith, Table, First, taken, Bool, true, Some, None, List, refl, ◌&&◌, ◌==◌, Tile, Free, Rest, ◌≡◌}
+use Rattle.regions.proofs.Common.{◌≢◌, ◌+◌, ◌-◌, ◌*◌, ◌/◌, ◌%◌, ◌<◌, ◌≤◌, ◌∷◌, ◌∙◌, suc, inl, inr, sym, leb, ltb, Row, ap}
 use Rattle.regions.proofs.Tiles.Targets.{IsWrittenTable}
 use Rattle.regions.proofs.Tiles.Making.{length-regions_of}
 use Rattle.regions.proofs.Tiles.ShapedMade.{shaped_of, first_object, kind_at}
@@ -20,13 +19,14 @@ use Rattle.regions.proofs.Tiles.WeakStarts.{starts_same, starts_written, starts_
 use Rattle.regions.proofs.Words.Access.{has_pointer, has_weak}
 use Rattle.regions.proofs.Words.FieldAccess.{has_field}
 use Rattle.regions.proofs.Words.Values.{has_value}
-use Rattle.regions.proofs.Tiles.Placing.{remainder_total, remainder_positive, remainder_unmoved}
-use Rattle.regions.proofs.Tiles.Placing.{Replaces, filler_replaced, filler_push, region_taken}
+use Rattle.regions.proofs.Tiles.Placing.{remainder_total, remainder_positive, remainder_unmoved, Replaces, filler_replaced, filler_push}
+use Rattle.regions.proofs.Tiles.Placing.{region_taken}
 use Rattle.regions.proofs.LongRuns.RunLaws.{frees, Releases, ordinary_released, run_released, run_made}
 use Rattle.regions.proofs.Tiles.TileLaws.{Forwards, object_forwarded}
 use Rattle.regions.proofs.Words.ObjectWords.{words_of}
 use Rattle.regions.proofs.Tiles.Within.{within_fewer, within_added, within_cut}
 use Rattle.regions.proofs.Cards.FirstTiles.{entries_added, entries_same, entries_fewer, entries_cut, if_between, if_below, if_above}
+use Rattle.regions.specs.declared.row.Kind.TheVariants as kinds
 
 pub sound_changed : (size shift lowest low free free' : ℕ) (entries new : Entries) (starts starts' : Starts) (memory memory' : Memory)
     (rows rows' : List Row) (t t' : Table) → IsRegionTable size shift lowest free entries starts memory rows
@@ -75,36 +75,15 @@ pub new_size : (name p weak d : ℕ) → tile_size (Object (new_object name p we
 new_size name p weak d =
     omega (arith, length-replicate {A = Option ℕ} p None, length-replicate {A = Option ℕ} weak None, length-replicate {A = ℕ} d 0)
 
--- what was written for a tile, by another name of its place and size
-pub filler_written : (new old : List ℕ) (cw at x n m : ℕ) → at ≡ x → n ≡ m
-    → ((c : ℕ) → get_or new c 0 ≡ (if is_between at (at + n) (c * cw) then entry_of cw at (Filler n) (c * cw) else get_or old c 0))
-    → (c : ℕ) → get_or new c 0 ≡ (if is_between x (x + n) (c * cw) then entry_of cw x (Filler m) (c * cw) else get_or old c 0)
-filler_written new old cw at x n m e f h c =
-    h c ∙ ap (λ (b : ℕ). if is_between b (b + n) (c * cw) then entry_of cw b (Filler n) (c * cw) else get_or old c 0) e
-    ∙ ap (λ (k : ℕ). if is_between x (x + n) (c * cw) then entry_of cw x (Filler k) (c * cw) else get_or old c 0) f
-
-pub object_written : (new old : List ℕ) (cw at x n : ℕ) → at ≡ x
-    → ((c : ℕ) → get_or new c 0 ≡ (if is_between at (at + n) (c * cw) then at else get_or old c 0))
-    → (c : ℕ) → get_or new c 0 ≡ (if is_between x (x + n) (c * cw) then x else get_or old c 0)
-object_written new old cw at x n e h c = h c ∙ ap (λ (b : ℕ). if is_between b (b + n) (c * cw) then b else get_or old c 0) e
-
--- what was written for an object and the rest of its filler, by another name of its place
-pub object_cut : (new old : List ℕ) (cw at x n m : ℕ) → at ≡ x
-    → ((c : ℕ) → get_or new c 0 ≡ (if is_between (at + n) (at + m) (c * cw) && (c * cw == last_card cw (at + m)) then at + n
-    else (if is_between at (at + n) (c * cw) then at else get_or old c 0)))
-    → (c : ℕ) → get_or new c 0 ≡ (if is_between (at + n) (at + m) (c * cw) && (c * cw == last_card cw (at + m)) then at + n
-    else (if is_between x (x + n) (c * cw) then x else get_or old c 0))
-object_cut new old cw at x n m e h c = h c
-    ∙ ap (λ (b : ℕ). if is_between (at + n) (at + m) (c * cw) && (c * cw == last_card cw (at + m)) then at + n
-    else (if is_between b (b + n) (c * cw) then b else get_or old c 0)) e
-
--- what was written in two strokes
-pub written_twice : (mid new : List ℕ) (cw len at end : ℕ) (first : ℕ → ℕ) → len ≡ cw → ((c : ℕ) → get_or mid c 0 ≡ first c)
-    → ((c : ℕ) → get_or new c 0 ≡ (if is_between at end (c * len) && (c * len == last_card len end) then at else get_or mid c 0))
-    → (c : ℕ) → get_or new c 0 ≡ (if is_between at end (c * cw) && (c * cw == last_card cw end) then at else first c)
-written_twice mid new cw len at end first e one two c =
-    two c ∙ ap (λ (k : ℕ). if is_between at end (c * k) && (c * k == last_card k end) then at else get_or mid c 0) e
-    ∙ ap (λ (d : ℕ). if is_between at end (c * cw) && (c * cw == last_card cw end) then at else d) (one c)
+-- entries that are put twice
+pub put_twice : (old mid new : Entries) (first : ℕ → ℕ → ℕ) (second : ℕ → ℕ → ℕ → ℕ) → AreEntriesPut old mid first
+    → AreEntriesPut mid new (second mid.card_words) → AreEntriesPut old new (λ w before. second old.card_words w (first w before))
+put_twice old mid new first second p q = record {
+  card_words = q.card_words ∙ p.card_words;
+  len = q.len ∙ p.len;
+  entries = λ c. q.entries c ∙ ap (λ (k : ℕ). second k (c * k) (get_or mid.starts c 0)) p.card_words
+      ∙ ap (second old.card_words (c * old.card_words)) (p.entries c);
+}
 
 -- ---- an object is written
 object_entries : (t t' : Table) (entries : Entries) (x : ℕ) (s s' : Stored) → WritesObject t t' x s s'
@@ -219,19 +198,18 @@ module _ (size shift lowest free : ℕ) (entries : Entries) (starts : Starts) (m
   -- a tile more
   pub added_sound : (new : Entries) (starts' : Starts) (memory' : Memory) (rows' : List Row) (low free' : ℕ) (t' : Table) (a n : ℕ)
       (tile : Tile) → length t'.regions ≡ length t.regions → tile_in t' a ≡ Some tile → ((y : ℕ) → y ≢ a → tile_in t' y ≡ tile_in t y)
-      → n ≡ tile_size tile → new.card_words ≡ entries.card_words → length new.starts ≡ length entries.starts
-      → ((c : ℕ) → get_or new.starts c 0 ≡ (if is_between a (a + n) (c * entries.card_words)
-      then entry_of entries.card_words a tile (c * entries.card_words) else get_or entries.starts c 0))
-      → (HasWeaks t a → ⊥) → Notes starts starts' a tile → AreUsedBelow low rows' → free' ≡ free_row_count rows'
+      → n ≡ tile_size tile → AreEntriesPut entries new (tile_entry entries.card_words a n tile) → (HasWeaks t a → ⊥)
+      → Notes starts starts' a tile → AreUsedBelow low rows' → free' ≡ free_row_count rows'
       → memory.written ≤ memory'.written → a + n ≤ memory'.written → IsWrittenTable size memory'.all rows' t'
       → IsRegionTable size shift low free' new starts' memory' rows'
-  added_sound new starts' memory' rows' low free' t' a n tile count is others long len each written none noted used counted more fits w =
+  added_sound new starts' memory' rows' low free' t' a n tile count is others long put none noted used counted more fits w =
       let cw : ℕ = entries.card_words in
-      sound_changed size shift lowest low free free' entries new starts starts' memory memory' rows rows' t t' s e w count len each used
-      counted noted.region_words noted.len (λ g. starts_added t t' starts starts' g a tile is none others noted)
-      (entries_added t t' entries new a tile (shaped_of size memory'.all rows' t' w.is_table w.table_is) len is others
-      (λ c low high. written c ∙ if_between a (a + n) (c * cw) (entry_of cw a tile (c * cw)) (get_or entries.starts c 0) low (omega arith))
-      (λ c apart. written c ∙ elim apart [
+      sound_changed size shift lowest low free free' entries new starts starts' memory memory' rows rows' t t' s e w count put.card_words
+      put.len used counted noted.region_words noted.len (λ g. starts_added t t' starts starts' g a tile is none others noted)
+      (entries_added t t' entries new a tile (shaped_of size memory'.all rows' t' w.is_table w.table_is) put.card_words is others
+      (λ c low high. put.entries c
+      ∙ if_between a (a + n) (c * cw) (entry_of cw a tile (c * cw)) (get_or entries.starts c 0) low (omega arith))
+      (λ c apart. put.entries c ∙ elim apart [
         | inl b ↦ if_below a (a + n) (c * cw) (entry_of cw a tile (c * cw)) (get_or entries.starts c 0) b
         | inr b ↦ if_above a (a + n) (c * cw) (entry_of cw a tile (c * cw)) (get_or entries.starts c 0) (omega arith)
       ])) (within_added t t' memory.written memory'.written a tile more (omega arith) is others)
@@ -239,30 +217,26 @@ module _ (size shift lowest free : ℕ) (entries : Entries) (starts : Starts) (m
   -- a tile cut off a filler's front
   pub cut_sound : (new : Entries) (starts' : Starts) (memory' : Memory) (t' : Table) (x n r : ℕ) (tile : Tile)
       → Replaces t t' x n (tile ∷ remainder r) → tile_in t x ≡ Some (Filler n) → 0 < tile_size tile → tile_size tile + r ≡ n
-      → new.card_words ≡ entries.card_words → length new.starts ≡ length entries.starts
-      → ((c : ℕ) → get_or new.starts c 0
-      ≡ (if is_between (x + tile_size tile) (x + n) (c * entries.card_words)
-      && (c * entries.card_words == last_card entries.card_words (x + n)) then x + tile_size tile
-      else (if is_between x (x + tile_size tile) (c * entries.card_words) then entry_of entries.card_words x tile (c * entries.card_words)
-      else get_or entries.starts c 0))) → Notes starts starts' x tile
+      → AreEntriesPut entries new (λ w before. rest_entry entries.card_words (x + tile_size tile) (x + n) w
+      (tile_entry entries.card_words x (tile_size tile) tile w before)) → Notes starts starts' x tile
       → memory.written ≤ memory'.written → IsWrittenTable size memory'.all rows t'
       → IsRegionTable size shift lowest free new starts' memory' rows
-  cut_sound new starts' memory' t' x n r tile cut was some sum len each two noted more w =
+  cut_sound new starts' memory' t' x n r tile cut was some sum put noted more w =
       let cw : ℕ = entries.card_words in
       let end : ℕ = x + tile_size tile in
       let first : ℕ → ℕ =
       λ c. if is_between x end (c * cw) then entry_of cw x tile (c * cw) else get_or entries.starts c 0 in
-      sound_changed size shift lowest lowest free free entries new starts starts' memory memory' rows rows t t' s e w cut.count len
-      each s.used_below s.free_is noted.region_words noted.len
+      sound_changed size shift lowest lowest free free entries new starts starts' memory memory' rows rows t t' s e w cut.count
+      put.card_words put.len s.used_below s.free_is noted.region_words noted.len
       (λ g. starts_cut t t' starts starts' g x n r tile (omega arith) (none_in t x (Filler n) was refl) cut noted)
-      (entries_cut t t' entries new x n r tile (shaped_of size memory'.all rows t' w.is_table w.table_is) len was sum
+      (entries_cut t t' entries new x n r tile (shaped_of size memory'.all rows t' w.is_table w.table_is) put.card_words was sum
       (cut_first cut some sum) (cut_rest cut some sum) cut.others
-      (λ c low high. two c ∙ both_below end (x + n) (c * cw) (c * cw == last_card cw (x + n)) end (first c) high
+      (λ c low high. put.entries c ∙ both_below end (x + n) (c * cw) (c * cw == last_card cw (x + n)) end (first c) high
       ∙ if_between x end (c * cw) (entry_of cw x tile (c * cw)) (get_or entries.starts c 0) low high)
-      (λ c low high. two c ∙ both_inside end (x + n) (c * cw) (c * cw == last_card cw (x + n)) end (first c) low high
+      (λ c low high. put.entries c ∙ both_inside end (x + n) (c * cw) (c * cw == last_card cw (x + n)) end (first c) low high
       ∙ ap (λ (m : ℕ). if c * cw == last_card cw (x + n) then end else m)
       (if_above x end (c * cw) (entry_of cw x tile (c * cw)) (get_or entries.starts c 0) low))
-      (λ c apart. two c ∙ elim apart [
+      (λ c apart. put.entries c ∙ elim apart [
         | inl b ↦ both_below end (x + n) (c * cw) (c * cw == last_card cw (x + n)) end (first c) (omega arith)
             ∙ if_below x end (c * cw) (entry_of cw x tile (c * cw)) (get_or entries.starts c 0) b
         | inr b ↦ both_above end (x + n) (c * cw) (c * cw == last_card cw (x + n)) end (first c) b
@@ -343,31 +317,28 @@ module _ (size shift lowest free : ℕ) (entries : Entries) (starts : Starts) (m
   pub push_sound : (new : Entries) (starts' : Starts) (memory' : Memory) (rows' : List Row) (low free' k at n weaks : ℕ) (tile : Tile)
       → k < length t.regions → kind_of t k ≡ kinds.Ordinary → 0 < tile_size tile
       → used_of t k + tile_size tile ≤ t.words_per_region → EachForwarded (λ _. ⊥) (tile ∷ [])
-      → at ≡ top_of t k → n ≡ tile_size tile → new.card_words ≡ entries.card_words → length new.starts ≡ length entries.starts
-      → ((c : ℕ) → get_or new.starts c 0 ≡ (if is_between at (at + n) (c * entries.card_words)
-      then entry_of entries.card_words at tile (c * entries.card_words) else get_or entries.starts c 0))
+      → at ≡ top_of t k → n ≡ tile_size tile → AreEntriesPut entries new (tile_entry entries.card_words at n tile)
       → tile_weaks tile ≡ weaks → starts' ≡ start_added starts at weaks → AreUsedBelow low rows' → free' ≡ free_row_count rows'
       → memory.written ≤ memory'.written → at + n ≤ memory'.written → IsWrittenTable size memory'.all rows' (push_tile t k tile)
       → IsRegionTable size shift low free' new starts' memory' rows'
   push_sound new starts' memory' rows' low free' k at n weaks tile known ordinary some room unmoved there long
-      len each written slots flags_are used counted more fits w =
+      put slots flags_are used counted more fits w =
       let push = filler_push t k tile shaped.positive shaped.fitting known ordinary some room unmoved in
       let here : tile_in (push_tile t k tile) at ≡ Some tile = ap (tile_in (push_tile t k tile)) there ∙ push.is in
       let n' =
       notes starts starts' at weaks tile (known_then memory' rows' (push_tile t k tile) at tile w push.count here some) slots flags_are in
       added_sound new starts' memory' rows' low free' (push_tile t k tile) at n tile push.count here
-      (λ y apart. push.others y (λ z. apart (z ∙ sym there))) long len each written
+      (λ y apart. push.others y (λ z. apart (z ∙ sym there))) long put
       (none_there t at (ap (tile_in t) there ∙ push.was)) n' used counted more fits w
 
   pub run_sound : (new : Entries) (starts' : Starts) (memory' : Memory) (rows' : List Row) (low free' k m at n weaks : ℕ) (o : Stored)
       → 0 < m → first_run is_free m t.regions ≡ Some k → at ≡ k * t.words_per_region → n ≡ tile_size (Object o)
-      → new.card_words ≡ entries.card_words → length new.starts ≡ length entries.starts
-      → ((c : ℕ) → get_or new.starts c 0 ≡ (if is_between at (at + n) (c * entries.card_words) then at else get_or entries.starts c 0))
+      → AreEntriesPut entries new (λ w before. if is_between at (at + n) w then at else before)
       → length o.weaks ≡ weaks → starts' ≡ start_added starts at weaks → AreUsedBelow low rows' → free' ≡ free_row_count rows'
       → memory.written ≤ memory'.written → at + n ≤ memory'.written
       → IsWrittenTable size memory'.all rows' (with_regions t k m (run_regions t.words_per_region o m))
       → IsRegionTable size shift low free' new starts' memory' rows'
-  run_sound new starts' memory' rows' low free' k m at n weaks o some first there long len each written slots flags_are used counted
+  run_sound new starts' memory' rows' low free' k m at n weaks o some first there long put slots flags_are used counted
       more fits w =
       let t' : Table = with_regions t k m (run_regions t.words_per_region o m) in
       let made = run_made t k m o shaped.positive some first in
@@ -380,27 +351,24 @@ module _ (size shift lowest free : ℕ) (entries : Entries) (starts : Starts) (m
       ap (λ (a : ℕ). a / t.words_per_region) (sym zero) ∙ div-mul-add k t.words_per_region 0 shaped.positive in
       let void : tile_in t at ≡ None = free_void t at (ap (kind_of t) region ∙ made.was_free k (omega arith) (omega arith)) in
       added_sound new starts' memory' rows' low free' t' at n (Object o) made.count now
-      (λ y apart. made.others y (λ z. apart (z ∙ sym there))) long len each written (none_there t at void)
+      (λ y apart. made.others y (λ z. apart (z ∙ sym there))) long put (none_there t at void)
       (notes starts starts' at weaks (Object o) known slots flags_are) used counted more fits w
 
   pub front_sound : (new : Entries) (starts' : Starts) (memory' : Memory) (x n r at b end weaks : ℕ) (tile : Tile)
       → tile_in t x ≡ Some (Filler n) → 0 < tile_size tile → tile_size tile + r ≡ n → EachForwarded (λ _. ⊥) (tile ∷ [])
       → b ≡ tile_size tile → at ≡ x + tile_size tile → end ≡ x + n
-      → new.card_words ≡ entries.card_words → length new.starts ≡ length entries.starts
-      → ((c : ℕ) → get_or new.starts c 0
-      ≡ (if is_between at end (c * entries.card_words) && (c * entries.card_words == last_card entries.card_words end) then at
-      else (if is_between x (x + b) (c * entries.card_words) then entry_of entries.card_words x tile (c * entries.card_words)
-      else get_or entries.starts c 0))) → tile_weaks tile ≡ weaks → starts' ≡ start_added starts x weaks
+      → AreEntriesPut entries new (λ w before. rest_entry entries.card_words at end w (tile_entry entries.card_words x b tile w before))
+      → tile_weaks tile ≡ weaks → starts' ≡ start_added starts x weaks
       → memory.written ≤ memory'.written → IsWrittenTable size memory'.all rows (replace_tile t x (tile ∷ remainder r))
       → IsRegionTable size shift lowest free new starts' memory' rows
-  front_sound new starts' memory' x n r at b end weaks tile was some sum unmoved b_is at_is end_is len
-      each written slots flags_are more w =
+  front_sound new starts' memory' x n r at b end weaks tile was some sum unmoved b_is at_is end_is put
+      slots flags_are more w =
       let total : total_size (tile ∷ remainder r) ≡ n = ap (λ (m : ℕ). tile_size tile + m) (remainder_total r) ∙ sum in
       let cut = filler_replaced t x n (tile ∷ remainder r) shaped.positive shaped.fitting was (omega arith) (some, remainder_positive r)
       total (joined_unmoved tile r unmoved) in
       let n' = notes starts starts' x weaks tile (known_now x (Filler n) was (omega arith)) slots flags_are in
-      cut_sound new starts' memory' (replace_tile t x (tile ∷ remainder r)) x n r tile cut was some sum len each
-      (rw (b_is, at_is, end_is) at written) n' more w
+      cut_sound new starts' memory' (replace_tile t x (tile ∷ remainder r)) x n r tile cut was some sum
+      (rw (b_is, at_is, end_is) at put) n' more w
     where
       joined_unmoved : (u : Tile) (r : ℕ) → EachForwarded (λ _. ⊥) (u ∷ []) → EachForwarded (λ _. ⊥) (u ∷ remainder r)
       joined_unmoved (Forwarded to m) r h = absurd h.0

@@ -109,7 +109,8 @@ ordinary_released t k h o = go (nth_region t k) refl o
   where
     go : (r : Region) → nth_region t k ≡ r → region_kind r ≡ kinds.Ordinary → Releases t (released t k) k 1
     go (Ordinary ts) e f =
-        subst (λ (u : Table). Releases t u k 1) (one_freed t k h ∙ sym (released_as_ordinary t k ts e)) (regions_released t k 1 (omega arith))
+        subst (λ (u : Table). Releases t u k 1) (one_freed t k h ∙ sym (released_as_ordinary t k ts e))
+        (regions_released t k 1 (omega arith))
     go _ e f = cc
 
 -- the first region of a run is released, and its other regions with it

@@ -49,6 +49,5 @@ start_at sizes size (row ∷ rows) (suc k) n (suc left) ws d e h r o =
 -- a run ends within the table
 pub left_le : (sizes : ℕ → ℕ) (size : ℕ) (rows : List Row) (left : ℕ) (ws : List ℕ)
     → AreRows sizes size left ws rows → left ≤ length rows * size
-left_le sizes size [] left ws r = omega arith
-left_le sizes size (row ∷ rows) zero ws r = omega arith
 left_le sizes size (row ∷ rows) (suc left) ws r = let i = left_le sizes size rows (suc left - size) (drop size ws) r.1 in omega arith
+left_le sizes size _ _ ws r = omega arith

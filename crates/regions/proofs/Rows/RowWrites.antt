@@ -38,9 +38,8 @@ stored_by-front _ ws m i h l = absurd i
 first_stored-front : (ws : List ℕ) (n : ℕ) → IsObjectHeader (header_of (get_or ws 0 0)) → object_size (header_of (get_or ws 0 0)) ≤ n
     → 0 < n
     → n ≤ length ws → first_stored (take n ws) ≡ first_stored ws
-first_stored-front ws zero i h z l = absurd (omega arith)
-first_stored-front [] (suc n) i h z l = absurd (omega arith)
 first_stored-front (w ∷ ws) (suc n) i h z l = stored_by-front (header_of w) ws n i h (omega arith)
+first_stored-front _ _ i h z l = absurd (omega arith)
 
 take_less : (m n : ℕ) (xs ys : List ℕ) → m ≤ n → take n xs ≡ take n ys → take m xs ≡ take m ys
 take_less m n xs ys h e = sym (take-take m n xs h) ∙ ap (take m) e ∙ take-take m n ys h

@@ -1,16 +1,16 @@
 -- Fillers: one more at a region's top, and one split in two.
 use Rattle.regions.proofs.Common.{header_word, put, sizes_in, first_stored, table_of, IsTable, free_row, put_remainder, Table, tile_in}
-use Rattle.regions.proofs.Common.{kind_of, used_of, top_of, push_tile, replace_tile, remainder, Tile, Object, Filler, tiles, Row, ◌≡◌, ◌+◌}
-use Rattle.regions.proofs.Common.{◌*◌, ◌/◌, ◌^◌, ◌<◌, ◌≤◌, ◌∷◌, ◌++◌, ◌∙◌, ℕ, zero, suc, Some, List, [], length, take, drop, get_or, set}
-use Rattle.regions.proofs.Common.{refl, sym, ap, subst, arith, inl, inr, add-zero, length-append, length-take, length-drop, append_assoc}
+use Rattle.regions.proofs.Common.{kind_of, used_of, top_of, push_tile, replace_tile, remainder, Object, Filler, Row, ◌≡◌, ◌+◌}
+use Rattle.regions.proofs.Common.{◌*◌, ◌/◌, ◌^◌, ◌<◌, ◌≤◌, ◌∷◌, ◌∙◌, ℕ, zero, suc, Some, List, [], length, take, drop, get_or, set}
+use Rattle.regions.proofs.Common.{refl, sym, ap, subst, arith, inl, inr, add-zero, length-take, length-drop}
 use Rattle.heap_words.specs.declared.header.Header.TheVariants as headers
 use Rattle.heap_words.proofs.Codec.{header_of-word}
 use Rattle.heap_words.proofs.Blocks.{put_none, put_more}
 use Rattle.regions.proofs.Tiles.Making.{known, targets_of}
-use Rattle.regions.proofs.Words.Parse.{tiles-append, IsTiled-append}
 use Rattle.regions.proofs.Words.Places.{place_of}
 use Rattle.regions.proofs.Words.Puts.{put_extend}
 use Rattle.regions.proofs.Tiles.Replaced.{IsBlock, IsFilled, one_filler, filler_quiet, spared_filler, tile_fits, tile_short, tile_replaced}
+use Rattle.regions.proofs.Tiles.Replaced.{with_rest}
 use Rattle.regions.proofs.Words.Copies.{filler_pushed}
 use Rattle.regions.proofs.Tiles.Targets.{IsWrittenTable}
 use Rattle.regions.specs.declared.row.Kind.TheVariants as kinds
@@ -36,34 +36,9 @@ filler_set sizes words x n l small =
 pub filler_split : (sizes : ℕ → ℕ) (words : List ℕ) (x n rest : ℕ) → x + suc n + rest ≤ length words → suc n < 2 ^ 24 → rest < 2 ^ 24
     → IsFilled sizes words (put_remainder (set words x (header_word (headers.Filler (suc n)))) (x + suc n) rest) x
     (suc n + rest) (Filler (suc n) ∷ remainder rest)
-filler_split sizes words x n zero l small small' =
-    let f = filler_set sizes words x n (omega arith) small in
-    record {
-      block = f.block;
-      is_block = record { length_is = f.is_block.length_is ∙ omega arith; tiled = f.is_block.tiled; tiles_are = f.is_block.tiles_are };
-      words_are = f.words_are;
-    }
-filler_split sizes words x n (suc r) l small small' =
-    let f = filler_set sizes words x n (omega arith) small in
-    let header : ℕ = header_word (headers.Filler (suc r)) in
-    let more = put_more words x (suc n) header f.block f.is_block.length_is (omega arith) in
-    let len' : length (f.block ++ header ∷ []) ≡ suc n + 1 = length-append f.block (header ∷ []) ∙ omega (arith, f.is_block.length_is) in
-    let stale : List ℕ = take r (drop (x + length (f.block ++ header ∷ [])) words) in
-    let len'' : length stale ≡ r = simp (length-take, length-drop) (omega arith) in
-    let extend = put_extend words x r (f.block ++ header ∷ []) (omega arith) in
-    let two = one_filler sizes header r stale (header_of-word (headers.Filler (suc r)) (omega arith, small')) len'' in
-    let whole : (f.block ++ header ∷ []) ++ stale ≡ f.block ++ (header ∷ stale) = append_assoc f.block (header ∷ []) stale in
-    record {
-      block = f.block ++ (header ∷ stale);
-      is_block = record {
-        length_is = length-append f.block (header ∷ stale) ∙ omega (arith, f.is_block.length_is);
-        tiled = IsTiled-append sizes 0 f.block (header ∷ stale) f.is_block.tiled two.tiled;
-        tiles_are = tiles-append sizes 0 f.block (header ∷ stale) f.is_block.tiled
-            ∙ ap (λ (ts : List Tile). ts ++ tiles sizes 0 (header ∷ stale)) f.is_block.tiles_are
-            ∙ ap (λ (ts : List Tile). Filler (suc n) ∷ ts) two.tiles_are;
-      };
-      words_are = ap (λ (ws : List ℕ). set ws (x + suc n) header) f.words_are ∙ more ∙ extend ∙ ap (put words x) whole;
-    }
+filler_split sizes words x n rest l small small' =
+    with_rest sizes words (set words x (header_word (headers.Filler (suc n)))) x (suc n) rest (Filler (suc n) ∷ [])
+    (filler_set sizes words x n (omega arith) small) l small'
 
 pub filler_cut : (size : ℕ) (words : List ℕ) (rows : List Row) (t : Table) (x s n at rest more : ℕ) (made new : List ℕ)
     → IsTable size words rows → table_of size words rows ≡ t → tile_in t x ≡ Some (Filler n) → n ≡ s + rest → 0 < s

@@ -13,14 +13,12 @@ use Rattle.regions.proofs.Tiles.Shown.{tile_shown, some_tile}
 use Rattle.regions.specs.declared.row.Shape.TheVariants as shapes
 
 moved_at : (P : ℕ → Type 0) (ts : List Tile) (o to n : ℕ) → tile_at o ts ≡ Some (Forwarded to n) → EachForwarded P ts → P to
-moved_at P [] o to n h a = cc
-moved_at P (Object s ∷ ts) zero to n h a = cc
-moved_at P (Filler m ∷ ts) zero to n h a = cc
 moved_at P (Forwarded at m ∷ ts) zero to n h a = let e : at ≡ to = cc in subst P e a.0
 moved_at P (Object s ∷ ts) (suc o) to n h a =
     moved_at P ts (suc o - tile_size (Object s)) to n (past (tile_size (Object s)) (suc o) _ (Forwarded to n) h).1 a
 moved_at P (Filler m ∷ ts) (suc o) to n h a = moved_at P ts (suc o - m) to n (past m (suc o) _ (Forwarded to n) h).1 a
 moved_at P (Forwarded at m ∷ ts) (suc o) to n h a = moved_at P ts (suc o - m) to n (past m (suc o) _ (Forwarded to n) h).1 a.1
+moved_at P _ _ to n h a = cc
 
 moved_region : (P : ℕ → Type 0) (r : Region) (o to n : ℕ) → region_tile r o ≡ Some (Forwarded to n) → EachForwardedIn P (r ∷ []) → P to
 moved_region P Free o to n h a = cc

@@ -15,13 +15,11 @@ tile_at-replace_same (u ∷ ts) (suc o) t t' f =
 
 pub tile_at-replace_other : (ts : List Tile) (o y : ℕ) (t t' : Tile) → tile_at o ts ≡ Some t → tile_size t' ≡ tile_size t → y ≢ o
     → tile_at y (replace o (t' ∷ []) ts) ≡ tile_at y ts
-tile_at-replace_other [] o y t t' f e h = refl
 tile_at-replace_other (u ∷ ts) zero zero t t' f e h = absurd (h refl)
 tile_at-replace_other (u ∷ ts) zero (suc y) t t' f e h =
     let same : u ≡ t = cc in
     let size : tile_size t' ≡ tile_size u = e ∙ ap tile_size (sym same) in
     rw size refl
-tile_at-replace_other (u ∷ ts) (suc o) zero t t' f e h = refl
 tile_at-replace_other (u ∷ ts) (suc o) (suc y) t t' f e h =
     let p = past (tile_size u) (suc o) _ t f in
     elim (leb_tells (tile_size u) (suc y)) [
@@ -29,6 +27,7 @@ tile_at-replace_other (u ∷ ts) (suc o) (suc y) t t' f e h =
           rw q.0 (tile_at-replace_other ts (suc o - tile_size u) (suc y - tile_size u) t t' p.1 e (λ k. h (omega (arith, k, q.1, p.0))))
       | inr q ↦ rw q.0 refl
     ]
+tile_at-replace_other _ _ _ t t' f e h = refl
 
 -- what is an object is its tile
 pub object_tile : (t : Option Tile) (s : Stored) → tile_object t ≡ Some s → t ≡ Some (Object s)

@@ -16,15 +16,14 @@ use Rattle.regions.proofs.Tiles.TileLaws.{kind_of-replace}
 
 -- the tiles of a list once one of them gives way to others of the same size
 pub tile_at-before : (ts new : List Tile) (o y : ℕ) (u : Tile) → tile_at o ts ≡ Some u → y < o → tile_at y (replace o new ts) ≡ tile_at y ts
-tile_at-before [] new o y u f h = refl
 tile_at-before (t ∷ ts) new zero y u f h = absurd (omega arith)
-tile_at-before (t ∷ ts) new (suc o) zero u f h = refl
 tile_at-before (t ∷ ts) new (suc o) (suc y) u f h =
     let p = past (tile_size t) (suc o) _ u f in
     elim (leb_tells (tile_size t) (suc y)) [
       | inl q ↦ rw q.0 (tile_at-before ts new (suc o - tile_size t) (suc y - tile_size t) u p.1 (omega (arith, q.1, p.0)))
       | inr q ↦ rw q.0 refl
     ]
+tile_at-before _ new _ _ u f h = refl
 
 pub tile_at-front : (new ts : List Tile) (j : ℕ) → j < total_size new → tile_at j (new ++ ts) ≡ tile_at j new
 tile_at-front [] ts j h = absurd (omega arith)

@@ -6,7 +6,7 @@ use Rattle.regions.proofs.Common.{AllPositive, sizes_in, first_stored, region_of
 use Rattle.regions.proofs.Common.{put_remainder, Tile, Object, Filler, tile_size, total_size, tiles, IsTiled, put, Kind, Row, ◌≡◌, ◌≢◌, ◌+◌}
 use Rattle.regions.proofs.Common.{◌-◌, ◌*◌, ◌/◌, ◌%◌, ◌^◌, ◌<◌, ◌≤◌, ◌∷◌, ◌++◌, ◌∙◌, ℕ, zero, suc, Some, None, List, [], length, take, drop}
 use Rattle.regions.proofs.Common.{get_or, refl, sym, ap, subst, arith, inl, inr, replicate, length-append, length-take, length-drop}
-use Rattle.regions.proofs.Common.{append_assoc, length-replicate, set-get_or, row_fits}
+use Rattle.regions.proofs.Common.{append_assoc, length-replicate, set-get_or, row_fits, set}
 use Rattle.heap_words.specs.declared.header.Header.TheVariants as headers
 use Rattle.regions.proofs.Words.Fields.{IsOne, one_object, IsTiled_none, tiles_none}
 use Rattle.regions.proofs.Tiles.Making.{targets_of, tiles_total, plain_from}
@@ -23,6 +23,7 @@ use Rattle.regions.proofs.Words.Puts.{put_is, put_drop, put_take, put_extend}
 use Rattle.heap_words.proofs.Blocks.{put_more}
 use Rattle.regions.proofs.Tiles.Pushes.{stored_of-new, change_of, IsPush}
 use Rattle.regions.specs.declared.row.Kind.TheVariants as kinds
+use Rattle.std.proofs.lemmas.List.{append-nil}
 
 pub record IsBlock (sizes : ℕ → ℕ) (block : List ℕ) (m : ℕ) (new : List Tile) : Type 0 where
   pub length_is : length block ≡ m
@@ -108,47 +109,55 @@ pub record IsFilled (sizes : ℕ → ℕ) (words words' : List ℕ) (x m : ℕ) 
   pub is_block : IsBlock sizes block m new
   pub words_are : words' ≡ put words x block
 
+-- what is left of a filler behind a block, unless that has no words
+pub with_rest : (sizes : ℕ → ℕ) (words words' : List ℕ) (x m rest : ℕ) (new : List Tile) → IsFilled sizes words words' x m new
+    → x + m + rest ≤ length words → rest < 2 ^ 24
+    → IsFilled sizes words (put_remainder words' (x + m) rest) x (m + rest) (new ++ remainder rest)
+with_rest sizes words words' x m zero new f l small = record {
+  block = f.block;
+  is_block = record {
+    length_is = f.is_block.length_is ∙ omega arith;
+    tiled = f.is_block.tiled;
+    tiles_are = f.is_block.tiles_are ∙ sym (append-nil new);
+  };
+  words_are = f.words_are;
+}
+with_rest sizes words words' x m (suc r) new f l small =
+    let header : ℕ = header_word (headers.Filler (suc r)) in
+    let more = put_more words x m header f.block f.is_block.length_is (omega arith) in
+    let len' : length (f.block ++ header ∷ []) ≡ m + 1 = length-append f.block (header ∷ []) ∙ omega (arith, f.is_block.length_is) in
+    let stale : List ℕ = take r (drop (x + length (f.block ++ header ∷ [])) words) in
+    let len'' : length stale ≡ r = simp (length-take, length-drop) (omega arith) in
+    let extend = put_extend words x r (f.block ++ header ∷ []) (omega arith) in
+    let two = one_filler sizes header r stale (header_of-word (headers.Filler (suc r)) (omega arith, small)) len'' in
+    let whole : (f.block ++ header ∷ []) ++ stale ≡ f.block ++ (header ∷ stale) = append_assoc f.block (header ∷ []) stale in
+    record {
+      block = f.block ++ (header ∷ stale);
+      is_block = record {
+        length_is = length-append f.block (header ∷ stale) ∙ omega (arith, f.is_block.length_is);
+        tiled = IsTiled-append sizes 0 f.block (header ∷ stale) f.is_block.tiled two.tiled;
+        tiles_are = tiles-append sizes 0 f.block (header ∷ stale) f.is_block.tiled
+            ∙ ap (λ (ts : List Tile). ts ++ tiles sizes 0 (header ∷ stale)) f.is_block.tiles_are
+            ∙ ap (λ (ts : List Tile). new ++ ts) two.tiles_are;
+      };
+      words_are = ap (λ (ws : List ℕ). set ws (x + m) header) f.words_are ∙ more ∙ extend ∙ ap (put words x) whole;
+    }
+
 pub filled : (sizes : ℕ → ℕ) (words : List ℕ) (x w name p weak d rest : ℕ) → header_of w ≡ Some (headers.Object p weak d)
     → x + (2 + p + weak + d) + rest ≤ length words → rest < 2 ^ 24
     → IsFilled sizes words (put_remainder (put words x (w ∷ name ∷ replicate (p + weak + d) 0)) (x + (2 + p + weak + d)) rest) x
     (2 + p + weak + d + rest) (Object (new_object name p weak d) ∷ remainder rest)
-filled sizes words x w name p weak d zero e l small =
-    let len : length (w ∷ name ∷ replicate (p + weak + d) 0) ≡ 2 + p + weak + d + 0 =
+filled sizes words x w name p weak d rest e l small =
+    let len : length (w ∷ name ∷ replicate (p + weak + d) 0) ≡ 2 + p + weak + d =
     omega (arith, length-replicate {A = ℕ} (p + weak + d) 0) in
     let one = one_object sizes w p weak d (name ∷ replicate (p + weak + d) 0) e (omega arith) in
-    record {
+    let are = one.tiles_are ∙ ap (λ s. Object s ∷ []) (stored_of-new name p weak d) in
+    with_rest sizes words (put words x (w ∷ name ∷ replicate (p + weak + d) 0)) x (2 + p + weak + d) rest
+    (Object (new_object name p weak d) ∷ []) (record {
       block = w ∷ name ∷ replicate (p + weak + d) 0;
-      is_block = record {
-        length_is = len;
-        tiled = one.tiled;
-        tiles_are = one.tiles_are ∙ ap (λ s. Object s ∷ []) (stored_of-new name p weak d);
-      };
+      is_block = record { length_is = len; tiled = one.tiled; tiles_are = are };
       words_are = refl;
-    }
-filled sizes words x w name p weak d (suc r) e l small =
-    let object : List ℕ = w ∷ name ∷ replicate (p + weak + d) 0 in
-    let header : ℕ = header_word (headers.Filler (suc r)) in
-    let len : length object ≡ 2 + p + weak + d = omega (arith, length-replicate {A = ℕ} (p + weak + d) 0) in
-    let one = one_object sizes w p weak d (name ∷ replicate (p + weak + d) 0) e (omega arith) in
-    let more = put_more words x (2 + p + weak + d) header object len (omega arith) in
-    let len' : length (object ++ header ∷ []) ≡ 2 + p + weak + d + 1 = rw length-append (omega arith) in
-    let stale : List ℕ = take r (drop (x + length (object ++ header ∷ [])) words) in
-    let len'' : length stale ≡ r = simp (length-take, length-drop) (omega arith) in
-    let extend = put_extend words x r (object ++ header ∷ []) (omega arith) in
-    let two = one_filler sizes header r stale (header_of-word (headers.Filler (suc r)) (omega arith, small)) len'' in
-    let whole : (object ++ header ∷ []) ++ stale ≡ object ++ (header ∷ stale) = append_assoc object (header ∷ []) stale in
-    record {
-      block = object ++ (header ∷ stale);
-      is_block = record {
-        length_is = length-append object (header ∷ stale) ∙ omega arith;
-        tiled = IsTiled-append sizes 0 object (header ∷ stale) one.tiled two.tiled;
-        tiles_are = tiles-append sizes 0 object (header ∷ stale) one.tiled
-            ∙ ap (λ (ts : List Tile). ts ++ tiles sizes 0 (header ∷ stale))
-            (one.tiles_are ∙ ap (λ s. Object s ∷ []) (stored_of-new name p weak d))
-            ∙ ap (λ (ts : List Tile). Object (new_object name p weak d) ∷ ts) two.tiles_are;
-      };
-      words_are = more ∙ extend ∙ ap (put words x) whole;
-    }
+    }) l small
 
 pub filler_quiet : (P : ℕ → Type 0) (rest : ℕ) → EachForwarded P (remainder rest)
 filler_quiet P zero = tt

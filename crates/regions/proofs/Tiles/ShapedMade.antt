@@ -55,12 +55,11 @@ fitting_of size words rows t k g e = go (nth_region t k) refl
 -- the rows behind a run's first are its later ones
 rest_rows : (sizes : ℕ → ℕ) (size : ℕ) (rows : List Row) (left m : ℕ) (ws : List ℕ) → AreRows sizes size left ws rows → m * size < left
     → ((get_or rows m free_row).kind ≡ kinds.Rest) × (m < length rows)
-rest_rows sizes size [] left m ws r h = absurd (omega arith)
-rest_rows sizes size (row ∷ rows) zero m ws r h = absurd (omega arith)
 rest_rows sizes size (row ∷ rows) (suc left) zero ws r h = (rest_is _ _ _ _ r.0, omega arith)
 rest_rows sizes size (row ∷ rows) (suc left) (suc m) ws r h =
     let i = rest_rows sizes size rows (suc left - size) m (drop size ws) r.1 (omega arith) in
     (i.0, omega (arith, i.1))
+rest_rows sizes size _ _ m ws r h = absurd (omega arith)
 
 -- a later row of a run is so many behind its first one
 record IsLaterRow (size : ℕ) (ws : List ℕ) (rows : List Row) (k used : ℕ) : Type 0 where

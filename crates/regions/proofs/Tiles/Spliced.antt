@@ -13,12 +13,11 @@ EachForwardedIn-append P (First s ∷ rs) qs a b = EachForwardedIn-append P rs q
 EachForwardedIn-append P (Rest n ∷ rs) qs a b = EachForwardedIn-append P rs qs a b
 
 pub EachForwardedIn-take : (P : ℕ → Type 0) (k : ℕ) (rs : List Region) → EachForwardedIn P rs → EachForwardedIn P (take k rs)
-EachForwardedIn-take P zero rs a = tt
-EachForwardedIn-take P (suc k) [] a = tt
 EachForwardedIn-take P (suc k) (Free ∷ rs) a = EachForwardedIn-take P k rs a
 EachForwardedIn-take P (suc k) (Ordinary ts ∷ rs) a = (a.0, EachForwardedIn-take P k rs a.1)
 EachForwardedIn-take P (suc k) (First s ∷ rs) a = EachForwardedIn-take P k rs a
 EachForwardedIn-take P (suc k) (Rest n ∷ rs) a = EachForwardedIn-take P k rs a
+EachForwardedIn-take P _ _ a = tt
 
 pub EachForwardedIn-drop : (P : ℕ → Type 0) (k : ℕ) (rs : List Region) → EachForwardedIn P rs → EachForwardedIn P (drop k rs)
 EachForwardedIn-drop P zero rs a = a
@@ -35,21 +34,18 @@ IsOutside k m q = (q < k) ⊎ (k + m ≤ q)
 past_block : (block rs : List Region) (m q : ℕ) → length block ≡ m → m ≤ q → m ≤ length rs
     → get_or (block ++ drop m rs) q Free ≡ get_or rs q Free
 past_block [] rs m q e h l = let z : m ≡ 0 = omega arith in rw z refl
-past_block (b ∷ block) rs zero q e h l = absurd (omega arith)
-past_block (b ∷ block) rs (suc m) zero e h l = absurd (omega arith)
-past_block (b ∷ block) [] (suc m) (suc q) e h l = absurd (omega arith)
 past_block (b ∷ block) (r ∷ rs) (suc m) (suc q) e h l = past_block block rs m q (omega arith) (omega arith) (omega arith)
+past_block (b ∷ block) _ _ _ e h l = absurd (omega arith)
 
 pub get_or-spliced : (rs block : List Region) (k m q n : ℕ) → length block ≡ m → n ≡ k + m → n ≤ length rs → IsOutside k m q
     → get_or (take k rs ++ (block ++ drop n rs)) q Free ≡ get_or rs q Free
 get_or-spliced rs block zero m q n e a h o =
     let z : n ≡ m = omega arith in
     rw z (past_block block rs m q e (elim o [ inl x ↦ absurd (omega arith) | inr x ↦ omega arith ]) (omega arith))
-get_or-spliced [] block (suc k) m q n e a h o = absurd (omega arith)
-get_or-spliced (r ∷ rs) block (suc k) m q zero e a h o = absurd (omega arith)
 get_or-spliced (r ∷ rs) block (suc k) m zero (suc n) e a h o = refl
 get_or-spliced (r ∷ rs) block (suc k) m (suc q) (suc n) e a h o =
     get_or-spliced rs block k m q n e (omega arith) (omega arith) (elim o [ inl x ↦ inl (omega arith) | inr x ↦ inr (omega arith) ])
+get_or-spliced _ block (suc k) m q _ e a h o = absurd (omega arith)
 
 object_at-spliced : (t : Table) (k m : ℕ) (block : List Region) (x : ℕ) (s : Stored) → length block ≡ m → k + m ≤ length t.regions
     → IsOutside k m (x / t.words_per_region) → object_at t x ≡ Some s → object_at (with_regions t k m block) x ≡ Some s

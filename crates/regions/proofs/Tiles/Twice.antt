@@ -9,9 +9,8 @@ use Rattle.regions.proofs.Tiles.Placing.{filler_replaced}
 use Rattle.regions.proofs.Tiles.Steps.{used_total}
 
 replace_twice : (ts r : List Tile) (o : ℕ) (x y : Tile) → replace o (y ∷ []) (replace o (x ∷ r) ts) ≡ replace o (y ∷ r) ts
-replace_twice [] r o x y = refl
-replace_twice (t ∷ ts) r zero x y = refl
 replace_twice (t ∷ ts) r (suc o) x y = ap (λ (us : List Tile). t ∷ us) (replace_twice ts r (suc o - tile_size t) x y)
+replace_twice _ r _ x y = refl
 
 region_twice : (g : Region) (r : List Tile) (o : ℕ) (x y : Tile)
     → region_replaced (region_replaced g o (x ∷ r)) o (y ∷ []) ≡ region_replaced g o (y ∷ r)

@@ -33,10 +33,8 @@ one_object sizes w p weak d body e l =
     }
 
 pub take_set : (n : ℕ) (ws : List ℕ) (i v : ℕ) → take n (set ws i v) ≡ set (take n ws) i v
-take_set zero ws i v = refl
-take_set (suc n) [] i v = refl
-take_set (suc n) (w ∷ ws) zero v = refl
 take_set (suc n) (w ∷ ws) (suc i) v = ap (λ xs. w ∷ xs) (take_set n ws i v)
+take_set _ _ _ v = refl
 
 -- a write within a block, as the block in its place
 pub set_put : (ws : List ℕ) (o m j v : ℕ) → j < m → o + m ≤ length ws → set ws (o + j) v ≡ put ws o (set (take m (drop o ws)) j v)

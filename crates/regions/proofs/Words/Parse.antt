@@ -8,21 +8,17 @@ use Rattle.std.proofs.lemmas.List.{take-append-le}
 use Rattle.heap_words.specs.declared.header.Header.TheVariants as headers
 
 pub skip_le : (sizes : ℕ → ℕ) (k : ℕ) (ws : List ℕ) → IsTiled sizes k ws → k ≤ length ws
-skip_le sizes k [] h = omega arith
-skip_le sizes zero (w ∷ ws) h = omega arith
 skip_le sizes (suc k) (w ∷ ws) h = let e = skip_le sizes k ws h in omega arith
+skip_le sizes _ _ h = omega arith
 
 pub tiles-skip : (sizes : ℕ → ℕ) (k : ℕ) (ws : List ℕ) → tiles sizes k ws ≡ tiles sizes 0 (drop k ws)
-tiles-skip sizes zero [] = refl
-tiles-skip sizes (suc k) [] = refl
-tiles-skip sizes zero (w ∷ ws) = refl
 tiles-skip sizes (suc k) (w ∷ ws) = tiles-skip sizes k ws
+tiles-skip sizes _ _ = refl
 
 pub IsTiled-skip : (sizes : ℕ → ℕ) (k : ℕ) (ws : List ℕ) → IsTiled sizes k ws → IsTiled sizes 0 (drop k ws)
-IsTiled-skip sizes zero [] h = h
 IsTiled-skip sizes (suc k) [] h = refl
-IsTiled-skip sizes zero (w ∷ ws) h = h
 IsTiled-skip sizes (suc k) (w ∷ ws) h = IsTiled-skip sizes k ws h
+IsTiled-skip sizes zero _ h = h
 
 pub IsTiled-append : (sizes : ℕ → ℕ) (k : ℕ) (xs ys : List ℕ) → IsTiled sizes k xs → IsTiled sizes 0 ys → IsTiled sizes k (xs ++ ys)
 IsTiled-append sizes k [] ys h g = rw h g
@@ -90,8 +86,6 @@ tile_at-tiles sizes zero zero zero (w ∷ ws) t h e f =
     let is : tile_size (tile_by sizes ws (header_of w)) ≡ size_by sizes (header_of w) = tile_size-by sizes (header_of w) ws fits in
     let size : tile_size t ≡ tile_size (tile_by sizes ws (header_of w)) = ap tile_size (sym r) in
     (r, omega arith, h)
-tile_at-tiles sizes zero zero (suc n) (w ∷ ws) t h e f = absurd (omega arith)
-tile_at-tiles sizes zero (suc o) zero (w ∷ ws) t h e f = absurd (omega arith)
 tile_at-tiles sizes zero (suc o) (suc n) (w ∷ ws) t h e f =
     let k = size_by sizes (header_of w) - 1 in
     let fits : k ≤ length ws = skip_le sizes k ws h.2 in
@@ -99,10 +93,10 @@ tile_at-tiles sizes zero (suc o) (suc n) (w ∷ ws) t h e f =
     let p = past (tile_size (tile_by sizes ws (header_of w))) (suc o) _ t f in
     let r = tile_at-tiles sizes k (suc o - tile_size (tile_by sizes ws (header_of w))) n ws t h.2 (omega (arith, p.0)) p.1 in
     (r.0, omega (arith, r.1), r.2)
-tile_at-tiles sizes (suc k) o zero (w ∷ ws) t h e f = absurd (omega arith)
 tile_at-tiles sizes (suc k) o (suc n) (w ∷ ws) t h e f =
     let r = tile_at-tiles sizes k o n ws t h (omega arith) f in
     (r.0, omega (arith, r.1), r.2)
+tile_at-tiles sizes _ _ _ (w ∷ ws) t h e f = absurd (omega arith)
 
 -- what stands before the place is as before
 put_front : (ws : List ℕ) (n : ℕ) (block : List ℕ) → n ≤ length ws → (ys : List ℕ) × (put ws n block ≡ take n ws ++ ys)
@@ -135,16 +129,14 @@ IsTiled-put sizes zero zero zero (w ∷ ws) block t h e f l g =
     let is : tile_size (tile_by sizes ws (header_of w)) ≡ size_by sizes (header_of w) = tile_size-by sizes (header_of w) ws fits in
     let size : tile_size t ≡ tile_size (tile_by sizes ws (header_of w)) = ap tile_size (sym r) in
     rw (drop_first (length block) k w ws (omega arith)) (IsTiled-append sizes 0 block _ g (IsTiled-skip sizes k ws h.2))
-IsTiled-put sizes zero zero (suc n) (w ∷ ws) block t h e f l g = absurd (omega arith)
-IsTiled-put sizes zero (suc o) zero (w ∷ ws) block t h e f l g = absurd (omega arith)
 IsTiled-put sizes zero (suc o) (suc n) (w ∷ ws) block t h e f l g =
     let k = size_by sizes (header_of w) - 1 in
     let fits : k ≤ length ws = skip_le sizes k ws h.2 in
     let is : tile_size (tile_by sizes ws (header_of w)) ≡ size_by sizes (header_of w) = tile_size-by sizes (header_of w) ws fits in
     let p = past (tile_size (tile_by sizes ws (header_of w))) (suc o) _ t f in
     (h.0, h.1, IsTiled-put sizes k _ n ws block t h.2 (omega (arith, p.0)) p.1 l g)
-IsTiled-put sizes (suc k) o zero (w ∷ ws) block t h e f l g = absurd (omega arith)
 IsTiled-put sizes (suc k) o (suc n) (w ∷ ws) block t h e f l g = IsTiled-put sizes k o n ws block t h (omega arith) f l g
+IsTiled-put sizes _ _ _ (w ∷ ws) block t h e f l g = absurd (omega arith)
 
 pub tiles-put : (sizes : ℕ → ℕ) (k o n : ℕ) (ws block : List ℕ) (t : Tile) → IsTiled sizes k ws → n ≡ k + o
     → tile_at o (tiles sizes k ws) ≡ Some t → length block ≡ tile_size t → IsTiled sizes 0 block
@@ -157,8 +149,6 @@ tiles-put sizes zero zero zero (w ∷ ws) block t h e f l g =
     let is : tile_size (tile_by sizes ws (header_of w)) ≡ size_by sizes (header_of w) = tile_size-by sizes (header_of w) ws fits in
     let size : tile_size t ≡ tile_size (tile_by sizes ws (header_of w)) = ap tile_size (sym r) in
     rw (drop_first (length block) k w ws (omega arith), tiles-append sizes 0 block (drop k ws) g, tiles-skip sizes k ws) refl
-tiles-put sizes zero zero (suc n) (w ∷ ws) block t h e f l g = absurd (omega arith)
-tiles-put sizes zero (suc o) zero (w ∷ ws) block t h e f l g = absurd (omega arith)
 tiles-put sizes zero (suc o) (suc n) (w ∷ ws) block t h e f l g =
     let k = size_by sizes (header_of w) - 1 in
     let fits : k ≤ length ws = skip_le sizes k ws h.2 in
@@ -169,5 +159,5 @@ tiles-put sizes zero (suc o) (suc n) (w ∷ ws) block t h e f l g =
     tile_by-put sizes (header_of w) ws n block (omega (arith, p.0)) (omega (arith, at.1)) in
     let rest = tiles-put sizes k _ n ws block t h.2 (omega (arith, p.0)) p.1 l g in
     cc
-tiles-put sizes (suc k) o zero (w ∷ ws) block t h e f l g = absurd (omega arith)
 tiles-put sizes (suc k) o (suc n) (w ∷ ws) block t h e f l g = tiles-put sizes k o n ws block t h (omega arith) f l g
+tiles-put sizes _ _ _ (w ∷ ws) block t h e f l g = absurd (omega arith)

@@ -55,9 +55,8 @@ put_take ws zero used block h l =
     let f : drop (length block) (take (length block + (used - length block)) ws) ≡ take (used - length block) (drop (length block) ws) =
     drop-take (length block) (used - length block) ws in
     rw (← rest) at (e ∙ ap (λ xs. block ++ xs) (sym f))
-put_take [] (suc o) used block h l = absurd (omega arith)
-put_take (w ∷ ws) (suc o) zero block h l = absurd (omega arith)
 put_take (w ∷ ws) (suc o) (suc used) block h l = ap (λ xs. w ∷ xs) (put_take ws o used block (omega arith) (omega arith))
+put_take _ (suc o) _ block h l = absurd (omega arith)
 
 pub put_extend : (ws : List ℕ) (n m : ℕ) (block : List ℕ) → n + length block + m ≤ length ws
     → put ws n block ≡ put ws n (block ++ take m (drop (n + length block) ws))

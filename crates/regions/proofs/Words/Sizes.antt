@@ -102,12 +102,9 @@ EachForwardedIn-set P (First s ∷ rs) (suc k) r h a = EachForwardedIn-set P rs 
 EachForwardedIn-set P (Rest n ∷ rs) (suc k) r h a = EachForwardedIn-set P rs k r h a
 
 pub EachForwardedIn-at : (P : ℕ → Type 0) (rs : List Region) (k : ℕ) → EachForwardedIn P rs → EachForwardedIn P (get_or rs k Free ∷ [])
-EachForwardedIn-at P [] k a = tt
-EachForwardedIn-at P (Free ∷ rs) zero a = tt
 EachForwardedIn-at P (Ordinary ts ∷ rs) zero a = (a.0, tt)
-EachForwardedIn-at P (First s ∷ rs) zero a = tt
-EachForwardedIn-at P (Rest n ∷ rs) zero a = tt
 EachForwardedIn-at P (q ∷ rs) (suc k) a = EachForwardedIn-at P rs k (tail_of P q rs a)
+EachForwardedIn-at P _ _ a = tt
 
 pub EachForwarded-append : (P : ℕ → Type 0) (ts us : List Tile) → EachForwarded P ts → EachForwarded P us → EachForwarded P (ts ++ us)
 EachForwarded-append P [] us a b = b

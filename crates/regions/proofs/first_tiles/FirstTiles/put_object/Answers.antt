@@ -1,5 +1,5 @@
-use Rattle.regions.proofs.Common.{◌+◌, ◌*◌, ◌^◌, ℕ, arith, if◌then◌else◌, is_between}
-use Rattle.regions.proofs.Cards.Written.{cards_reached, end_written, entries_put, length_all}
+use Rattle.regions.proofs.Common.{◌+◌, ◌^◌, arith, if◌then◌else◌, is_between}
+use Rattle.regions.proofs.Cards.Written.{cards_reached, end_written, length_all, entries_all}
 use Rattle.regions.proofs.first_tiles.FirstTiles.put_object.Goals as goal
 
 pub zero_below-requires-clause-within : goal.zero_below-requires-clause-within
@@ -11,11 +11,10 @@ pub write_entries-requires-clause-within : goal.write_entries-requires-clause-wi
 write_entries-requires-clause-within c = end_written (c.args.at + c.args.size) c.self.inside.shift _ c.card_from.result c.card_from.ensures
     (omega (arith, c.zero_below.ensures.written, c.deref_mut.ensures.len))
 
-pub returns-clause-entries : goal.returns-clause-entries
-returns-clause-entries c k =
+pub returns : goal.returns
+returns c =
     rw (← c.self.view_is, c.self.invariant.0.is)
-    (entries_put
-    (λ (d : ℕ). if is_between c.args.at (c.args.at + c.args.size) (k * 2 ^ c.self.inside.shift) then c.args.at else d)
-    _ c.zero_below.new.entries.items _ c.write_entries.new.entries _ c.zero_below.new.entries.len c.self.inside.cards k
-    (omega (arith, c.write_entries.ensures.len, c.deref_mut.ensures.len)) c.deref_mut.ensures.value c.zero_below.ensures.all
-    (c.write_entries.ensures.entries k))
+    (entries_all (2 ^ c.self.inside.shift) (λ w before. if is_between c.args.at (c.args.at + c.args.size) w then c.args.at else before)
+    _ c.zero_below.new.entries.items _ c.write_entries.new.entries _ c.zero_below.new.entries.len c.self.inside.cards
+    (omega (arith, c.write_entries.ensures.len, c.deref_mut.ensures.len)) c.deref_mut.ensures.value c.self.invariant.1
+    c.zero_below.ensures.within c.zero_below.ensures.all c.write_entries.ensures.entries)

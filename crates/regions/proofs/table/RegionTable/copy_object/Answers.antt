@@ -82,10 +82,9 @@ invariant_of-self c =
     let flags = c.add.ensures
     ∙ ap (λ (k : ℕ). start_added c.self.inside.weak_starts k c.weak_count-weaks.result) (c.word-3.ensures ∙ sym c.word-2.ensures)
     ∙ ap (λ (n : ℕ). start_added c.self.inside.weak_starts c.word-2.result n) slots in
-    push_sound _ _ _ _ _ _ _ _ _ c.self.invariant c.self.view_is _ _ _ _ _ _ c.args.region _ _ (length o.0.weaks) (Object o.0)
-    c.requires.known c.requires.ordinary (omega (arith, o.1.large, long)) (rw long at c.requires.room) tt
-    (c.word-2.ensures ∙ c.top-to.ensures) (c.object_size-size.ensures ∙ long) c.put_object.ensures.card_words c.put_object.ensures.len
-    c.put_object.ensures.entries refl flags
+    push_sound _ _ _ _ _ _ _ _ _ c.self.invariant c.self.view_is _ _ _ _ _ _ c.args.region c.word-2.result c.object_size-size.result
+    (length o.0.weaks) (Object o.0) c.requires.known c.requires.ordinary (omega (arith, o.1.large, long)) (rw long at c.requires.room) tt
+    (c.word-2.ensures ∙ c.top-to.ensures) (c.object_size-size.ensures ∙ long) c.put_object.ensures refl flags
     (used_set _ _ _ _ (omega (arith, n.in_rows, c.number-number.ensures)) refl c.self.invariant.used_below)
     (count_kept c.self.inside.rows.items c.number-number.result _ _ (omega (arith, n.in_rows, c.number-number.ensures))
     (rw c.number-number.ensures (row_used _ _ _ _ _ n c.requires.ordinary)) refl c.self.invariant.free_is)

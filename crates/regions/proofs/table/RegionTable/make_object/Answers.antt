@@ -2,7 +2,7 @@ use Rattle.regions.proofs.Common.{arith, ◌≡◌, ◌+◌, ◌-◌, ℕ, Optio
 use Rattle.regions.proofs.Common.{new_object}
 use Rattle.regions.proofs.Tiles.Replaced.{filler_fits, filler_filled}
 use Rattle.regions.proofs.Tiles.Within.{tile_within}
-use Rattle.regions.proofs.Cards.Entries.{front_sound, new_size, object_cut}
+use Rattle.regions.proofs.Cards.Entries.{front_sound, new_size}
 use Rattle.regions.proofs.table.RegionTable.make_object.Goals as goal
 
 pub write_object-requires : goal.write_object-requires
@@ -47,11 +47,11 @@ invariant_of-self c =
     let flags = c.add.ensures ∙ ap (λ (k : ℕ). start_added c.self.inside.weak_starts k c.from-weaks.result) c.word-3.ensures
     ∙ ap (λ (n : ℕ). start_added c.self.inside.weak_starts c.args.at n) c.from-weaks.ensures in
     front_sound _ _ _ _ _ _ _ _ _ c.self.invariant c.self.view_is c.cut_front.new.self _ _ c.args.at c.args.filler
-    _ _ _ _ c.args.counts.weaks (Object (new_object c.args.name c.args.counts.pointers c.args.counts.weaks c.args.counts.values))
+    _ (c.args.at + c.size-size.result) c.size-size.result (c.args.at + c.get-2.result) c.args.counts.weaks
+    (Object (new_object c.args.name c.args.counts.pointers c.args.counts.weaks c.args.counts.values))
     c.requires.there (omega (arith, long)) (omega (arith, c.requires.room, long, c.size-size.ensures)) tt long
     (omega (arith, c.word-2.ensures, long)) (omega (arith, c.word-2.ensures, c.get-2.ensures.value))
-    c.cut_front.ensures.card_words c.cut_front.ensures.len
-    (object_cut _ _ _ _ _ _ _ c.word-2.ensures c.cut_front.ensures.entries)
+    (rw c.word-2.ensures at c.cut_front.ensures)
     (length-replicate {A = Option ℕ} c.args.counts.weaks None) flags
     (omega (arith, c.write_object.ensures.written, c.write_remainder.ensures.written)) w
 

@@ -3,7 +3,7 @@ use Rattle.regions.proofs.Tiles.Making.{known, known_top, top_at, row_read}
 use Rattle.regions.proofs.Tiles.Fillers.{filler_added}
 use Rattle.regions.proofs.Rows.UsedBelow.{used_set}
 use Rattle.regions.proofs.Rows.Counting.{count_kept, row_used}
-use Rattle.regions.proofs.Cards.Entries.{push_sound, filler_written}
+use Rattle.regions.proofs.Cards.Entries.{push_sound}
 use Rattle.regions.proofs.table.RegionTable.push_filler.Goals as goal
 
 pub overflow_add-end : goal.overflow_add-end
@@ -58,15 +58,21 @@ invariant_of-self c =
     (ap (λ (row : Row). row.used) read) c.get-more.ensures.value c.number-number.ensures
     (rw c.zero_below.ensures.all at c.write_filler.ensures.all) in
     let some : 0 < c.args.size = omega (arith, c.get-more.ensures.value, c.get-more.ensures.positive) in
-    push_sound _ _ _ _ _ _ _ _ _ c.self.invariant c.self.view_is _ _ _ _ _ _ c.args.region _ _ 0 (Filler c.args.size) c.requires.known
-    c.requires.ordinary some c.requires.room tt (c.word-2.ensures ∙ c.top-at.ensures) c.get-more.ensures.value
-    c.put_filler.ensures.card_words
-    c.put_filler.ensures.len (filler_written _ _ _ _ _ _ _ refl c.get-more.ensures.value c.put_filler.ensures.entries) refl refl
+    push_sound _ _ _ _ _ _ _ _ _ c.self.invariant c.self.view_is _ _ _ _ _ _ c.args.region c.word-2.result c.args.size 0
+    (Filler c.args.size) c.requires.known c.requires.ordinary some c.requires.room tt (c.word-2.ensures ∙ c.top-at.ensures) refl
+    (rw c.get-more.ensures.value at c.put_filler.ensures) refl refl
     (used_set _ _ _ _ (omega (arith, n.in_rows, c.number-number.ensures)) refl c.self.invariant.used_below)
     (count_kept c.self.inside.rows.items c.number-number.result _ _ (omega (arith, n.in_rows, c.number-number.ensures))
     (rw c.number-number.ensures (row_used _ _ _ _ _ n c.requires.ordinary)) refl c.self.invariant.free_is)
     (omega (arith, c.zero_below.ensures.written, c.write_filler.ensures.written))
-    (omega (arith, c.word-2.ensures, c.word.ensures, c.zero_below.ensures.written, c.write_filler.ensures.written)) w
+    (omega (
+      arith,
+      c.word-2.ensures,
+      c.word.ensures,
+      c.get-more.ensures.value,
+      c.zero_below.ensures.written,
+      c.write_filler.ensures.written,
+    )) w
 
 pub returns-clause-pushed : goal.returns-clause-pushed
 returns-clause-pushed c =

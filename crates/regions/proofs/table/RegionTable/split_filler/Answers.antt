@@ -1,8 +1,8 @@
-use Rattle.regions.proofs.Common.{arith, refl, ◌≡◌, ◌+◌, ◌-◌, ◌∙◌, ◌<◌, Filler}
+use Rattle.regions.proofs.Common.{arith, refl, ◌≡◌, ◌+◌, ◌-◌, ◌<◌, Filler, tile_entry, rest_entry}
 use Rattle.regions.proofs.Tiles.Replaced.{filler_fits}
 use Rattle.regions.proofs.Tiles.Within.{tile_within}
 use Rattle.regions.proofs.Tiles.Fillers.{filler_cut}
-use Rattle.regions.proofs.Cards.Entries.{front_sound, filler_written, written_twice}
+use Rattle.regions.proofs.Cards.Entries.{front_sound, put_twice}
 use Rattle.regions.proofs.table.RegionTable.split_filler.Goals as goal
 
 pub write_filler-requires : goal.write_filler-requires
@@ -52,11 +52,12 @@ invariant_of-self c =
     let place : c.word-2.result ≡ c.args.at = c.word-2.ensures in
     let end : c.word-3.result + c.get-2.result ≡ c.args.at + c.args.filler = omega (arith, c.word-3.ensures, c.get-2.ensures.value) in
     front_sound _ _ _ _ _ _ _ _ _ c.self.invariant c.self.view_is c.move_filler.new.self _ _ c.args.at
-    c.args.filler (c.args.filler - c.args.size) _ _ _ 0 (Filler c.args.size) c.requires.there some
-    (omega (arith, c.requires.room)) tt c.get-kept.ensures.value at end
-    (c.move_filler.ensures.card_words ∙ c.put_filler.ensures.card_words) (c.move_filler.ensures.len ∙ c.put_filler.ensures.len)
-    (written_twice _ _ _ _ _ _ _ c.put_filler.ensures.card_words
-    (filler_written _ _ _ _ _ _ _ place c.get-kept.ensures.value c.put_filler.ensures.entries) c.move_filler.ensures.entries) refl refl
+    c.args.filler (c.args.filler - c.args.size) (c.word.result + c.get-kept.result) c.args.size (c.word-3.result + c.get-2.result) 0
+    (Filler c.args.size) c.requires.there some (omega (arith, c.requires.room)) tt refl at end
+    (put_twice c.self.inside.first_tiles _ _
+    (tile_entry c.self.inside.first_tiles.card_words c.args.at c.args.size (Filler c.args.size))
+    (λ cw. rest_entry cw (c.word.result + c.get-kept.result) (c.word-3.result + c.get-2.result))
+    (rw (place, c.get-kept.ensures.value) at c.put_filler.ensures) c.move_filler.ensures) refl refl
     (omega (arith, c.write_filler.ensures.written, c.write_remainder.ensures.written)) w
 
 pub returns-clause-split : goal.returns-clause-split

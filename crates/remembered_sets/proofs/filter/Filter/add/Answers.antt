@@ -9,8 +9,7 @@ use Rattle.remembered_sets.proofs.filter.Filter.add.Goals as goal
 
 pub returns-then-self-eq0-clause-added : goal.returns-then-self-eq0-clause-added
 returns-then-self-eq0-clause-added c =
-    let is = part_at c.self.inside c.args.self.now c.args.cards_per_region c.args.part c.self.view_is c.self.invariant c.requires.part
-    c.requires.stands in
+    let is = part_at c.self.inside _ _ _ c.self.view_is c.self.invariant c.requires.part c.requires.stands in
     sym (ap (λ (f : CardFilter). set c.args.self.now c.args.part f) (filter_none is c.args.card c.if-self-eq0.true)
     ∙ set-get_or c.args.self.now c.args.part no_filter)
 
@@ -21,8 +20,7 @@ returns-then-self-eq0-clause-four c =
 
 pub take_places-requires-clause-some_rows : goal.take_places-requires-clause-some_rows
 take_places-requires-clause-some_rows c =
-    let is = part_at c.self.inside c.args.self.now c.args.cards_per_region c.args.part c.self.view_is c.self.invariant c.requires.part
-    c.requires.stands in
+    let is = part_at c.self.inside _ _ _ c.self.view_is c.self.invariant c.requires.part c.requires.stands in
     let some = pos_of_ne-zero c.if-self-eq0.false in omega (arith, some, is.rows_are)
 
 pub returns-clause-four : goal.returns-clause-four

@@ -8,14 +8,12 @@ use Rattle.remembered_sets.proofs.filter.Filter.mark.Goals as goal
 
 pub mark_rows-requires-clause-some_rows : goal.mark_rows-requires-clause-some_rows
 mark_rows-requires-clause-some_rows c =
-    let is = part_at c.self.inside c.args.self.now c.args.cards_per_region c.args.part c.self.view_is c.self.invariant c.requires.part
-    c.requires.stands in
+    let is = part_at c.self.inside _ _ _ c.self.view_is c.self.invariant c.requires.part c.requires.stands in
     let some = pos_of_ne-zero c.if-self-eq0.false in omega (arith, some, is.rows_are)
 
 pub returns-then-self-eq0-clause-flags : goal.returns-then-self-eq0-clause-flags
 returns-then-self-eq0-clause-flags c =
-    let is = part_at c.self.inside c.args.self.now c.args.cards_per_region c.args.part c.self.view_is c.self.invariant c.requires.part
-    c.requires.stands in
+    let is = part_at c.self.inside _ _ _ c.self.view_is c.self.invariant c.requires.part c.requires.stands in
     λ k. c.set_members.ensures.flags k
     ∙ ap (λ (b : Bool). has c.args.flags.now k
     || (is_between (c.args.source * c.args.cards_per_region) (c.args.source * c.args.cards_per_region + c.args.cards_per_region) k && b))

@@ -8,8 +8,7 @@ use Rattle.remembered_sets.proofs.filter.Filter.mark_rows.Goals as goal
 
 pub returns-then-not-self-part-clause-flags : goal.returns-then-not-self-part-clause-flags
 returns-then-not-self-part-clause-flags c =
-    let is = part_at c.self.inside c.args.self.now c.args.cards_per_region c.args.part c.self.view_is c.self.invariant c.requires.part
-    c.requires.stands in
+    let is = part_at c.self.inside _ _ _ c.self.view_is c.self.invariant c.requires.part c.requires.stands in
     λ k. none_more (has c.args.flags.now k)
     (is_between (c.args.source * c.args.cards_per_region) (c.args.source * c.args.cards_per_region + c.args.cards_per_region) k)
     (has c.args.entered.now k) (lets_through (filter_at c.args.self.now c.args.part) c.args.cards_per_region k)
@@ -17,32 +16,27 @@ returns-then-not-self-part-clause-flags c =
 
 pub row_of_first-requires-clause-some : goal.row_of_first-requires-clause-some
 row_of_first-requires-clause-some c =
-    let is = part_at c.self.inside c.args.self.now c.args.cards_per_region c.args.part c.self.view_is c.self.invariant c.requires.part
-    c.requires.stands in
+    let is = part_at c.self.inside _ _ _ c.self.view_is c.self.invariant c.requires.part c.requires.stands in
     has_rows is c.requires.some_rows
 
 pub row_of_first-requires-clause-few : goal.row_of_first-requires-clause-few
 row_of_first-requires-clause-few c =
-    let is = part_at c.self.inside c.args.self.now c.args.cards_per_region c.args.part c.self.view_is c.self.invariant c.requires.part
-    c.requires.stands in
+    let is = part_at c.self.inside _ _ _ c.self.view_is c.self.invariant c.requires.part c.requires.stands in
     few_rows is (2 ^ 32) c.requires.some_cards c.law-2.ensures
 
 pub row_of_second-requires-clause-some : goal.row_of_second-requires-clause-some
 row_of_second-requires-clause-some c =
-    let is = part_at c.self.inside c.args.self.now c.args.cards_per_region c.args.part c.self.view_is c.self.invariant c.requires.part
-    c.requires.stands in
+    let is = part_at c.self.inside _ _ _ c.self.view_is c.self.invariant c.requires.part c.requires.stands in
     has_rows is c.requires.some_rows
 
 pub row_of_second-requires-clause-few : goal.row_of_second-requires-clause-few
 row_of_second-requires-clause-few c =
-    let is = part_at c.self.inside c.args.self.now c.args.cards_per_region c.args.part c.self.view_is c.self.invariant c.requires.part
-    c.requires.stands in
+    let is = part_at c.self.inside _ _ _ c.self.view_is c.self.invariant c.requires.part c.requires.stands in
     few_rows is (2 ^ 32) c.requires.some_cards c.law-2.ensures
 
 pub overflow_add-first : goal.overflow_add-first
 overflow_add-first c =
-    let is = part_at c.self.inside c.args.self.now c.args.cards_per_region c.args.part c.self.view_is c.self.invariant c.requires.part
-    c.requires.stands in
+    let is = part_at c.self.inside _ _ _ c.self.view_is c.self.invariant c.requires.part c.requires.stands in
     let q : ℕ = c.args.cards_per_region / 64 in
     let whole : c.args.cards_per_region ≡ 64 * q = omega (arith, c.requires.stands.whole c.requires.some_rows) in
     let inside =
@@ -52,8 +46,7 @@ overflow_add-first c =
 
 pub overflow_mul-second : goal.overflow_mul-second
 overflow_mul-second c =
-    let is = part_at c.self.inside c.args.self.now c.args.cards_per_region c.args.part c.self.view_is c.self.invariant c.requires.part
-    c.requires.stands in
+    let is = part_at c.self.inside _ _ _ c.self.view_is c.self.invariant c.requires.part c.requires.stands in
     let q : ℕ = c.args.cards_per_region / 64 in
     let whole : c.args.cards_per_region ≡ 64 * q = omega (arith, c.requires.stands.whole c.requires.some_rows) in
     let inside =
@@ -62,8 +55,7 @@ overflow_mul-second c =
 
 pub overflow_add-second : goal.overflow_add-second
 overflow_add-second c =
-    let is = part_at c.self.inside c.args.self.now c.args.cards_per_region c.args.part c.self.view_is c.self.invariant c.requires.part
-    c.requires.stands in
+    let is = part_at c.self.inside _ _ _ c.self.view_is c.self.invariant c.requires.part c.requires.stands in
     let q : ℕ = c.args.cards_per_region / 64 in
     let whole : c.args.cards_per_region ≡ 64 * q = omega (arith, c.requires.stands.whole c.requires.some_rows) in
     let inside =
@@ -72,8 +64,7 @@ overflow_add-second c =
 
 pub overflow_add-first-in-loop-group : goal.overflow_add-first-in-loop-group
 overflow_add-first-in-loop-group c =
-    let is = part_at c.self.inside c.args.self.now c.args.cards_per_region c.args.part c.self.view_is c.self.invariant c.requires.part
-    c.requires.stands in
+    let is = part_at c.self.inside _ _ _ c.self.view_is c.self.invariant c.requires.part c.requires.stands in
     let q : ℕ = c.args.cards_per_region / 64 in
     let whole : c.args.cards_per_region ≡ 64 * q = omega (arith, c.requires.stands.whole c.requires.some_rows) in
     let inside =
@@ -83,8 +74,7 @@ overflow_add-first-in-loop-group c =
 
 pub overflow_add-second-in-loop-group : goal.overflow_add-second-in-loop-group
 overflow_add-second-in-loop-group c =
-    let is = part_at c.self.inside c.args.self.now c.args.cards_per_region c.args.part c.self.view_is c.self.invariant c.requires.part
-    c.requires.stands in
+    let is = part_at c.self.inside _ _ _ c.self.view_is c.self.invariant c.requires.part c.requires.stands in
     let q : ℕ = c.args.cards_per_region / 64 in
     let whole : c.args.cards_per_region ≡ 64 * q = omega (arith, c.requires.stands.whole c.requires.some_rows) in
     let inside =
@@ -103,24 +93,21 @@ set_passing-requires-clause-within c =
 
 pub set_passing-requires-clause-first : goal.set_passing-requires-clause-first
 set_passing-requires-clause-first c =
-    let is = part_at c.self.inside c.args.self.now c.args.cards_per_region c.args.part c.self.view_is c.self.invariant c.requires.part
-    c.requires.stands in
+    let is = part_at c.self.inside _ _ _ c.self.view_is c.self.invariant c.requires.part c.requires.stands in
     let q : ℕ = c.args.cards_per_region / 64 in
     let whole : c.args.cards_per_region ≡ 64 * q = omega (arith, c.requires.stands.whole c.requires.some_rows) in
     group_fits is c.row_of_first.result q c.loop-group.group whole c.loop-group-test.true (omega (arith, c.row_of_first.ensures.below))
 
 pub set_passing-requires-clause-second : goal.set_passing-requires-clause-second
 set_passing-requires-clause-second c =
-    let is = part_at c.self.inside c.args.self.now c.args.cards_per_region c.args.part c.self.view_is c.self.invariant c.requires.part
-    c.requires.stands in
+    let is = part_at c.self.inside _ _ _ c.self.view_is c.self.invariant c.requires.part c.requires.stands in
     let q : ℕ = c.args.cards_per_region / 64 in
     let whole : c.args.cards_per_region ≡ 64 * q = omega (arith, c.requires.stands.whole c.requires.some_rows) in
     group_fits is c.row_of_second.result q c.loop-group.group whole c.loop-group-test.true c.row_of_second.ensures.below
 
 pub loop-group-preserved : goal.loop-group-preserved
 loop-group-preserved c =
-    let is = part_at c.self.inside c.args.self.now c.args.cards_per_region c.args.part c.self.view_is c.self.invariant c.requires.part
-    c.requires.stands in
+    let is = part_at c.self.inside _ _ _ c.self.view_is c.self.invariant c.requires.part c.requires.stands in
     let q : ℕ = c.args.cards_per_region / 64 in
     let whole : c.args.cards_per_region ≡ 64 * q = omega (arith, c.requires.stands.whole c.requires.some_rows) in
     let g : ℕ = c.loop-group.group in
