@@ -1,7 +1,6 @@
 -- on the schedule that a generator draws
-use Rattle.std.proofs.Common.{◌≡◌, ◌+◌, ◌-◌, ◌<◌, ◌≤◌, ◌∷◌, ◌++◌, ◌∙◌}
-use Rattle.std.proofs.Common.{ℕ, zero, suc, Bool, List, [], length, take, drop, refl, ap, sym, arith, get_or}
-use Rattle.std.specs.Prelude.{slice_set, slice_index}
+use Rattle.std.proofs.Common.{◌≡◌, ◌+◌, ◌-◌, ◌<◌, ◌≤◌, ◌∷◌, ◌++◌, ◌∙◌, ℕ, zero, suc, Bool, List, [], length, take, drop, refl, ap, sym}
+use Rattle.std.proofs.Common.{arith, get_or, slice_set, slice_index}
 use Rattle.heap_steps.specs.declared.step.Step.{Step}
 use Rattle.rand_pcg.specs.Lcg.{Lcg}
 use Rattle.mutators.specs.Draws.{open_from, total, one_less, after_round, pick, drawn, lefts}

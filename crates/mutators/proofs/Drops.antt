@@ -1,8 +1,6 @@
 -- what is left to look at
-use Rattle.std.proofs.Common.{◌≡◌, ◌+◌, ◌-◌, ◌<◌, ◌≤◌, ◌∷◌, ◌++◌, ◌∙◌}
-use Rattle.std.proofs.Common.{ℕ, zero, suc, List, [], length, take, drop, refl, ap, sym, arith}
-use Rattle.std.proofs.Common.{get_or, get_or-set_same, add-one, drop-cons, subst}
-use Rattle.std.specs.Prelude.{slice_index}
+use Rattle.std.proofs.Common.{◌≡◌, ◌+◌, ◌-◌, ◌<◌, ◌≤◌, ◌∷◌, ◌++◌, ◌∙◌, ℕ, zero, suc, List, [], length, take, drop, refl, ap, sym, arith}
+use Rattle.std.proofs.Common.{get_or, get_or-set_same, add-one, drop-cons, subst, slice_index}
 use Rattle.mutators.specs.Journals.{JournalState, Keeps, mutators_of, script_at}
 use Rattle.mutators.specs.Draws.{open_from, lefts_of, one_less}
 use Rattle.mutators.proofs.Draws.{lefts_at, length-lefts, open_same, open_gone}

@@ -1,6 +1,5 @@
 -- A run's own faults aren't those of counts.
-use Rattle.std.proofs.Common.{◌≡◌, ◌≢◌, subst}
-use Rattle.std.specs.Prelude.{◌↔◌, Err, IfErr, Ok, Result}
+use Rattle.std.proofs.Common.{◌≡◌, ◌≢◌, subst, ◌↔◌, Err, IfErr, Ok, Result}
 use Rattle.heap_words.specs.Configs.{Suits}
 use Rattle.heap_words.specs.declared.config.Config.{Config}
 use Rattle.heap_steps.specs.declared.fault.RunFault.{RunFault}

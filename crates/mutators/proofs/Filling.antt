@@ -1,8 +1,6 @@
 -- One line more is added to the script of its actor.
-use Rattle.std.proofs.Common.{◌≡◌, ◌≢◌, ◌+◌, ◌<◌, ◌≤◌, ◌∷◌, ◌++◌, ◌∙◌}
-use Rattle.std.proofs.Common.{ℕ, true, List, [], length, take, map, sym, ap, subst, arith, get_or}
-use Rattle.std.proofs.Common.{get_or-set_same, get_or-set_other, length-set, ⊎_elim}
-use Rattle.std.specs.Prelude.{slice_set}
+use Rattle.std.proofs.Common.{◌≡◌, ◌≢◌, ◌+◌, ◌<◌, ◌≤◌, ◌∷◌, ◌++◌, ◌∙◌, ℕ, true, List, [], length, take, map, sym, ap, subst, arith, get_or}
+use Rattle.std.proofs.Common.{get_or-set_same, get_or-set_other, length-set, ⊎_elim, slice_set}
 use Rattle.std.proofs.lemmas.Bool.{cases_eq}
 use Rattle.std.proofs.lemmas.List.{length-map, get_or-map, map-set}
 use Rattle.heap_steps.specs.declared.step.Step.{Step}

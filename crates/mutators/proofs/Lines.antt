@@ -1,9 +1,7 @@
 -- An actor's lines and the steps of its events, with one more.
 use Rattle.std.proofs.Common.{◌≡◌, ℕ, ◌+◌, ◌<◌, Bool, true, false, cond, List, [], ◌∷◌, ◌++◌, refl, ap, ◌∙◌, length, take, get_or}
 use Rattle.std.proofs.lemmas.List.{take_more}
-use Rattle.heap_steps.specs.declared.step.Actor.{Actor}
-use Rattle.heap_steps.specs.declared.step.Step.{Step}
-use Rattle.heap_steps.specs.declared.step.Event.{Event}
+use Rattle.step_core.specs.Steps.{Actor, Event, Step}
 use Rattle.step_core.specs.Passages.{actor_of}
 use Rattle.mutators.specs.Scripts.{same_actor, steps_of, lines_of}
 

@@ -1,7 +1,6 @@
 -- A new journal keeps what every journal keeps.
-use Rattle.std.proofs.Common.{◌≡◌, ◌+◌, ◌≤◌, ◌∷◌, ◌∙◌}
-use Rattle.std.proofs.Common.{ℕ, Bool, true, false, cond, List, [], length, map, get_or, refl, sym, ap, subst, arith, zero, suc}
-use Rattle.std.specs.Prelude.{All, slice_index}
+use Rattle.std.proofs.Common.{◌≡◌, ◌+◌, ◌≤◌, ◌∷◌, ◌∙◌, ℕ, Bool, true, false, cond, List, [], length, map, get_or, refl, sym, ap, subst}
+use Rattle.std.proofs.Common.{arith, zero, suc, All, slice_index}
 use Rattle.std.proofs.lemmas.Bool.{eqb-true}
 use Rattle.std.proofs.lemmas.List.{length-map}
 use Rattle.heap_words.specs.declared.config.Config.{Config}
@@ -9,10 +8,8 @@ use Rattle.heap_words.specs.Configs.{Suits}
 use Rattle.heap_words.proofs.Limits.{few_mutators}
 use Rattle.heap_steps.specs.Actors.{IsStep}
 use Rattle.graph_runs.specs.State.{first_state}
-use Rattle.heap_steps.specs.declared.step.Actor.{Actor}
+use Rattle.step_core.specs.Steps.{Actor, Event, Step}
 use Rattle.heap_steps.specs.declared.step.Actor.TheVariants.{Mutator, Collector, Marker, Refiner}
-use Rattle.heap_steps.specs.declared.step.Step.{Step}
-use Rattle.heap_steps.specs.declared.step.Event.{Event}
 use Rattle.step_core.specs.Stands.{CoreState, Stands, IsCore}
 use Rattle.step_core.specs.Fresh.{fresh_core}
 use Rattle.step_core.specs.Passages.{actor_of, RunsTo}

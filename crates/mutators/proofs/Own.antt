@@ -2,10 +2,8 @@
 use Rattle.std.proofs.Common.{List, sym, subst}
 use Rattle.heap_words.specs.declared.config.Config.{Config}
 use Rattle.heap_steps.specs.Actors.{AreEvents, IsStepOf}
-use Rattle.heap_steps.specs.declared.step.Actor.{Actor}
+use Rattle.step_core.specs.Steps.{Actor, Event, Step}
 use Rattle.heap_steps.specs.declared.step.Actor.TheVariants.{Mutator, Collector, Marker, Refiner}
-use Rattle.heap_steps.specs.declared.step.Step.{Step}
-use Rattle.heap_steps.specs.declared.step.Event.{Event}
 use Rattle.mutators.specs.Scripts.{IsOwn, AreOwn}
 
 own_is : (c : Config) (a : Actor) (s : Step) → IsOwn c a s → IsStepOf c a s

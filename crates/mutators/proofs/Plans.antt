@@ -3,8 +3,7 @@ use Rattle.std.proofs.Common.{◌≡◌, ℕ, ◌<◌, ◌≤◌, List, [], ◌�
 use Rattle.std.specs.Prelude.{slice_index}
 use Rattle.heap_words.specs.declared.config.Config.{Config}
 use Rattle.heap_steps.specs.Actors.{StepList, EventList}
-use Rattle.heap_steps.specs.declared.step.Step.{Step}
-use Rattle.heap_steps.specs.declared.step.Event.{Event}
+use Rattle.step_core.specs.Steps.{Event, Step}
 use Rattle.step_core.specs.Passages.{RunsTo}
 use Rattle.step_core.proofs.Cores.Following.{passage_is_run}
 use Rattle.mutators.specs.Scripts.{scripted, steps_of, lines_of, AreOwn}
@@ -35,8 +34,7 @@ pub whole_run : (plan : StepList) (markers refiners : ℕ) (d : JournalState) (r
 whole_run plan markers refiners d r is keeps end config events =
     let m : mutators_of d ≡ plan.config.mutators = ap (λ (c : Config). c.mutators) is.config in
     let whole : (k : ℕ) → k ≤ plan.config.mutators
-    → steps_of (scripted plan.config.mutators k) d.events ≡ lines_of (scripted plan.config.mutators k) plan.steps =
-    λ k within.
+    → steps_of (scripted plan.config.mutators k) d.events ≡ lines_of (scripted plan.config.mutators k) plan.steps = λ k within.
     let within' : k ≤ mutators_of d = omega (arith, m) in
     ap (λ (n : ℕ). steps_of (scripted n k) d.events) (sym m) ∙ (keeps.begins k within').0
     ∙ past_all (script_at d k) (slice_index d.places k) (end k within')

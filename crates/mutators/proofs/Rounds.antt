@@ -1,17 +1,14 @@
 -- The rounds of a schedule.
-use Rattle.std.proofs.Common.{◌≡◌, ◌+◌, ◌<◌, ◌≤◌, ◌∷◌, ◌++◌, ◌∙◌, ◌==◌, ◌%◌}
-use Rattle.std.proofs.Common.{ℕ, zero, suc, Bool, true, false, cond, List, [], Some, None, length, map, refl, ap, sym, subst}
-use Rattle.std.proofs.Common.{arith, get_or, take, drop, add-one, append_assoc}
+use Rattle.std.proofs.Common.{◌≡◌, ◌+◌, ◌<◌, ◌≤◌, ◌∷◌, ◌++◌, ◌∙◌, ◌==◌, ◌%◌, ℕ, zero, suc, Bool, true, false, cond, List, [], Some, None}
+use Rattle.std.proofs.Common.{length, map, refl, ap, sym, subst, arith, get_or, take, drop, add-one, append_assoc, slice_set, slice_index}
+use Rattle.std.proofs.Common.{slice_get, filter, All}
 use Rattle.std.proofs.lemmas.Bool.{lt-ltb}
-use Rattle.std.specs.Prelude.{slice_set, slice_index, slice_get, filter, All}
 use Rattle.std.proofs.lemmas.List.{map-append}
 use Rattle.std.proofs.lemmas.List.Elements.{filter-append, All-append}
 use Rattle.std.proofs.lemmas.List.FromFn.{length-map-range_with_len, get_or-map-range_with_len}
 use Rattle.std.proofs.lemmas.Option.{slice_get-get_or}
-use Rattle.heap_steps.specs.declared.step.Actor.{Actor}
+use Rattle.step_core.specs.Steps.{Actor, Event, Step}
 use Rattle.heap_steps.specs.declared.step.Actor.TheVariants.{Mutator, Collector}
-use Rattle.heap_steps.specs.declared.step.Step.{Step}
-use Rattle.heap_steps.specs.declared.step.Event.{Event}
 use Rattle.rand_pcg.specs.Lcg.{Lcg}
 use Rattle.mutators.specs.declared.journal.Turn.{Turn}
 use Rattle.mutators.specs.declared.journal.Turn.TheVariants.{Done, Idle, End}
@@ -175,8 +172,7 @@ pub picked : (d : JournalState) (word len p : ℕ) (items : List ℕ) → Keeps 
     → (p ≡ pick word (lefts_of d)) × (p ≤ mutators_of d) × (0 < get_or (lefts_of d) p 0)
 picked d word len p items keeps is some count here =
     let within : word % len < length items = omega (arith, count, some) in
-    let place : p ≡ pick word (lefts_of d) =
-    sym (place_is items (word % len) p within here)
+    let place : p ≡ pick word (lefts_of d) = sym (place_is items (word % len) p within here)
     ∙ ap (λ (x : List ℕ × ℕ). get_or x.0 (word % x.1) 0) (λ i. (is i, (count ∙ ap (λ (l : List ℕ). length l) is) i)) in
     let some_left = picks_open d word keeps (subst (λ (l : List ℕ). 0 < length l) is some) in
     (place, omega (arith, some_left.0, place), subst (λ (k : ℕ). 0 < get_or (lefts_of d) k 0) (sym place) some_left.1)
@@ -212,8 +208,7 @@ round_keeps next b d e g h before round same was =
     let to : ℕ → Actor = λ j. scripted m j in
     let m' : mutators_of e ≡ m = ap (λ c. c.mutators) same.0 in
     let tail : List ℕ = drawn next b (total (one_less (lefts_of d) k)) (after_round next b g) (one_less (lefts_of d) k) in
-    let now : rest_of next b h e ≡ map to tail =
-    ap (λ (x : ℕ × List ℕ × Lcg). map (λ j. scripted x.0 j) (drawn next b (total x.1) x.2 x.1))
+    let now : rest_of next b h e ≡ map to tail = ap (λ (x : ℕ × List ℕ × Lcg). map (λ j. scripted x.0 j) (drawn next b (total x.1) x.2 x.1))
     (λ i. (m' i, round.picks.left i, round.words i)) in
     let then : rest_of next b g d ≡ to k ∷ map to tail =
     ap (λ l. map to l) (drawn_more next b g (lefts_of d) (total (lefts_of d)) refl round.picks.some) in

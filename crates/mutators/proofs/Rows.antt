@@ -1,8 +1,7 @@
 -- A turn keeps what the journal keeps.
-use Rattle.std.proofs.Common.{◌≡◌, ◌≢◌, ◌+◌, ◌<◌, ◌≤◌, ◌==◌, ◌∷◌, ◌++◌, ◌∙◌}
-use Rattle.std.proofs.Common.{ℕ, Bool, true, false, cond, List, [], Some, None, length, take, refl, ap, sym, subst, arith, get_or}
-use Rattle.std.proofs.Common.{get_or-set_same, get_or-set_other, ⊎_elim, zero, suc, length-set, eqb, map}
-use Rattle.std.specs.Prelude.{◌↔◌, IsTrue, All, slice_index, slice_index_or, slice_get, slice_set}
+use Rattle.std.proofs.Common.{◌≡◌, ◌≢◌, ◌+◌, ◌<◌, ◌≤◌, ◌==◌, ◌∷◌, ◌++◌, ◌∙◌, ℕ, Bool, true, false, cond, List, [], Some, None, length}
+use Rattle.std.proofs.Common.{take, refl, ap, sym, subst, arith, get_or, get_or-set_same, get_or-set_other, ⊎_elim, zero, suc, length-set}
+use Rattle.std.proofs.Common.{eqb, map, ◌↔◌, IsTrue, All, slice_index, slice_index_or, slice_get, slice_set}
 use Rattle.std.proofs.lemmas.List.{take_more, get_or-map, length-map}
 use Rattle.std.proofs.lemmas.Option.{get_or_from_slice_get, slice_get-get_or}
 use Rattle.std.proofs.lemmas.Grind.{get_or_default_zero}
@@ -11,12 +10,9 @@ use Rattle.std.proofs.lemmas.Bool.Decides.{nat_tests, eqb_tells}
 use Rattle.std.proofs.lemmas.Bool.{cases_eq}
 use Rattle.heap_words.specs.declared.config.Config.{Config}
 use Rattle.heap_steps.specs.Actors.{IsStep}
-use Rattle.heap_steps.specs.declared.step.Actor.{Actor}
+use Rattle.step_core.specs.Steps.{Actor, Event, Reply, Step}
 use Rattle.heap_steps.specs.declared.step.Actor.TheVariants.{Mutator, Collector, Marker, Refiner}
-use Rattle.heap_steps.specs.declared.step.Step.{Step}
 use Rattle.heap_steps.specs.declared.step.Step.TheVariants as steps
-use Rattle.heap_steps.specs.declared.step.Reply.{Reply}
-use Rattle.heap_steps.specs.declared.step.Event.{Event}
 use Rattle.step_core.specs.Stands.{CoreState}
 use Rattle.step_core.specs.Cycle.{Does}
 use Rattle.step_core.specs.Passages.{actor_of, RunsTo}
@@ -260,8 +256,7 @@ other_turn d w c a s r events same was cast background next step does config pus
     stays : (d : JournalState) (a : Actor) → is_scripted a ≡ false → d.places ≡ moved d a
     stays d (Mutator i) b = absurd (cc)
     stays d Collector b = absurd (cc)
-    stays d (Marker i) b = refl
-    stays d (Refiner i) b = refl
+    stays d _ b = refl
 
 pub place_is : (places : List ℕ) (k p : ℕ) → k < length places → p ≡ get_or places k p → get_or places k 0 ≡ p
 place_is places k p spot place = sym (get_or_default_zero places k p spot) ∙ sym place

@@ -2,9 +2,7 @@
 use Rattle.std.specs.Prelude.{◌≡◌, ◌+◌, ◌-◌, ◌%◌, ◌∷◌, if◌then◌else◌, ◌++◌, ◌<◌}
 use Rattle.std.specs.Prelude.{ℕ, zero, suc, Bool, List, [], length, map, filter, slice_set, slice_index, nat_lt}
 use Rattle.std.specs.List.{range_with_len}
-use Rattle.heap_steps.specs.declared.step.Actor.{Actor}
-use Rattle.heap_steps.specs.declared.step.Step.{Step}
-use Rattle.heap_steps.specs.declared.step.Event.{Event}
+use Rattle.step_core.specs.Steps.{Actor, Event, Step}
 use Rattle.heap_steps.specs.Actors.{StepList}
 use Rattle.rand_pcg.specs.Lcg.{Lcg, started, increment_of}
 use Rattle.rand_pcg.specs.Pcg.{multiplier_64, pcg32}

@@ -2,10 +2,7 @@
 use Rattle.std.specs.Prelude.{◌≡◌, ℕ, ◌+◌, ◌≤◌, List, [], length, take, slice_index, slice_index_or, All}
 use Rattle.heap_words.specs.declared.config.Config.{Config}
 use Rattle.heap_steps.specs.Actors.{IsStep}
-use Rattle.heap_steps.specs.declared.step.Actor.{Actor}
-use Rattle.heap_steps.specs.declared.step.Step.{Step}
-use Rattle.heap_steps.specs.declared.step.Reply.{Reply}
-use Rattle.heap_steps.specs.declared.step.Event.{Event}
+use Rattle.step_core.specs.Steps.{Actor, Event, Reply, Step}
 use Rattle.step_core.specs.Stands.{CoreState}
 use Rattle.step_core.specs.Passages.{RunsTo, actor_of}
 use Rattle.mutators.specs.Scripts.{scripted, steps_of, AreOwn}

@@ -1,9 +1,8 @@
 -- The rounds of a schedule, with the turns of background actors.
 use Rattle.std.specs.Prelude.{◌≡◌, ◌+◌, ◌-◌, ◌%◌, ◌≤◌, ◌⊎◌, if◌then◌else◌}
 use Rattle.std.specs.Prelude.{ℕ, zero, suc, Bool, true, false, List, [], None, slice_index, nat_lt}
-use Rattle.heap_steps.specs.declared.step.Actor.{Actor}
+use Rattle.step_core.specs.Steps.{Actor, Event}
 use Rattle.heap_steps.specs.declared.step.Actor.TheVariants.{Marker, Refiner}
-use Rattle.heap_steps.specs.declared.step.Event.{Event}
 use Rattle.heap_steps.specs.Actors.{StepList}
 use Rattle.step_core.specs.Passages.{RunsTo}
 use Rattle.rand_pcg.specs.Lcg.{Lcg, started, increment_of}

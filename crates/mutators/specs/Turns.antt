@@ -1,10 +1,8 @@
 -- What a turn does.
 use Rattle.std.specs.Prelude.{◌≡◌, ◌+◌, ◌<◌, ◌==◌, ◌∷◌, ◌++◌, if◌then◌else◌}
 use Rattle.std.specs.Prelude.{ℕ, true, false, [], List, Option, Some, None, length, slice_index, slice_get, slice_set}
-use Rattle.heap_steps.specs.declared.step.Actor.{Actor}
+use Rattle.step_core.specs.Steps.{Actor, Reply, Step}
 use Rattle.heap_steps.specs.declared.step.Actor.TheVariants.{Mutator, Collector, Marker, Refiner}
-use Rattle.heap_steps.specs.declared.step.Step.{Step}
-use Rattle.heap_steps.specs.declared.step.Reply.{Reply}
 use Rattle.step_core.specs.Cycle.{Does}
 use Rattle.mutators.specs.declared.journal.Turn.{Turn}
 use Rattle.mutators.specs.declared.journal.Turn.TheVariants.{Done, Idle, End}

@@ -1,5 +1,5 @@
 -- What each step of a mutator ensures.
-use Rattle.std.proofs.Common.{◌≡◌, ℕ, ◌⊎◌, Option, false, refl, sym, ◌∙◌, ap, subst, inl, inr, ◌↔◌, ◌≢◌}
+use Rattle.std.proofs.Common.{◌≡◌, ℕ, ◌⊎◌, Option, Some, None, false, refl, sym, ◌∙◌, ap, subst, inl, inr, ◌↔◌, ◌≢◌}
 use Rattle.heap_words.specs.Sizes.{size_of}
 use Rattle.heap_model.specs.Graph.{Graph}
 use Rattle.graph_runs.specs.State.{State}
@@ -17,14 +17,18 @@ use Rattle.step_core.specs.Making.{MakesObject}
 use Rattle.step_core.specs.Mutators.{ActsOn, weaks_made}
 use Rattle.step_core.specs.Reclaimed.{IsReclaimed}
 use Rattle.step_core.specs.Parts.{DoesAction}
-use Rattle.step_core.specs.Words.{Takes}
-use Rattle.step_core.proofs.Cores.Following.{acted, acts_as, created_as}
+use Rattle.step_core.specs.Words.{Takes, making}
+use Rattle.step_core.proofs.Cores.Following.{acted, created}
 use Rattle.step_core.proofs.Cores.Snapshots.{touches, keeps_after}
 
-never_full : (g : Graph) (m : ℕ) (a b : Action) (r : Reply) (c c' : CoreState) → a ≡ b → (IsFull g m b c → ⊥) → Acts g m b r c'
-    → (r ≡ replies.Refused refusals.Full) ↔ IsFull g m a c
-never_full g m a b r c c' e never h =
-    ((λ full. absurd (act-not_full g m b (sym h.reply_is ∙ full))), (λ f. absurd (never (subst (λ (x : Action). IsFull g m x c) e f))))
+-- an action that makes an object says how many weak slots that has, or it makes a plain one, which is one with none
+pub by_new : (P : Action → Type 0) (a : Action) (to : Register) (counts : Counts) (weaks : ℕ)
+    → (a ≡ actions.New to counts) ⊎ ((w : ℕ) × (a ≡ actions.NewWeak to counts w)) → weaks ≡ weaks_made a
+    → (P (actions.NewWeak to counts 0) → P (actions.New to counts)) → P (actions.NewWeak to counts weaks) → P a
+by_new P a to counts weaks (inl e) many plain p =
+    rw e (plain (subst (λ (n : ℕ). P (actions.NewWeak to counts n)) (many ∙ ap weaks_made e) p))
+by_new P a to counts weaks (inr (w, e)) many plain p =
+    rw e (subst (λ (n : ℕ). P (actions.NewWeak to counts n)) (many ∙ ap weaks_made e) p)
 
 reclaims_none : (c c' : CoreState) → LeavesRegions c c' → (k : ℕ) → IsReclaimed c.table c'.table k → ⊥
 reclaims_none c c' leaves k h = leaves.in_use k h.used h.free
@@ -36,12 +40,16 @@ still c = record { config = refl; in_use = λ k h. h }
 pub acted_by : (o : Op) (a : Action) (r : Reply) (c c' : CoreState) → o.action ≡ a → ((g : Graph) → IsFull g o.mutator a c → ⊥)
     → ((g : Graph) → ShowsGraph g c → Acts g o.mutator a r c') → ((s : State) → Stands s c → KeepsFor (snapshot_after s.snapshot a r) c')
     → ActsOn o.mutator a r c c' → LeavesRegions c c' → Takes c (steps.Mutator o) r c'
-acted_by o a r c c' e never acts keeps after leaves = record {
-  follows = λ s st. acted s o o.mutator a r c c' refl e st (acts s.graph st.shows) (keeps s st);
-  does = subst (λ (x : Action). ActsOn o.mutator x r c c') (sym e) after;
-  reclaims = reclaims_none c c' leaves;
-  full = λ s st. never_full s.graph o.mutator o.action a r c c' e (never s.graph) (acts s.graph st.shows);
-}
+acted_by o a r c c' e never acts keeps after leaves =
+    subst (λ (b : Action). Takes c (steps.Mutator (record { mutator = o.mutator; action = b })) r c') (sym e) (record {
+      follows = λ s st. acted s o.mutator a r c c' st (acts s.graph st.shows) (keeps s st);
+      does = after;
+      reclaims = reclaims_none c c' leaves;
+      full = λ s st. (
+        λ full. absurd (act-not_full s.graph o.mutator a (sym (acts s.graph st.shows).reply_is ∙ full)),
+        λ f. absurd (never s.graph f),
+      );
+    })
 
 -- and by one that touches no name either
 pub acted_plain : (o : Op) (a : Action) (r : Reply) (c c' : CoreState) → o.action ≡ a → touches a ≡ false
@@ -57,25 +65,41 @@ full_new g m to counts weaks r c c' (inl h) none =
     ((λ e. absurd (act-not_full g m (actions.NewWeak to counts weaks) (sym h.reply_is ∙ e))), (λ f. absurd (none f.1 _ (h.reply_is ∙ f.0))))
 full_new g m to counts weaks r c c' (inr h) none = ((λ e. h.full), (λ f. h.reply_is))
 
--- a new object is made if and only if there is a place for it
-full_as : (g : Graph) (m : ℕ) (a : Action) (to : Register) (counts : Counts) (weaks : ℕ) (r : Reply) (c c' : CoreState)
-    → (a ≡ actions.New to counts) ⊎ ((w : ℕ) × (a ≡ actions.NewWeak to counts w)) → weaks ≡ weaks_made a
-    → (r ≡ replies.Refused refusals.Full) ↔ IsFull g m (actions.NewWeak to counts weaks) c
-    → (r ≡ replies.Refused refusals.Full) ↔ IsFull g m a c
-full_as g m a to counts weaks r c c' (inl e) many full =
-    rw e (subst (λ (n : ℕ). (r ≡ replies.Refused refusals.Full) ↔ IsFull g m (actions.NewWeak to counts n) c) (many ∙ ap weaks_made e) full)
-full_as g m a to counts weaks r c c' (inr (w, e)) many full =
-    rw e (subst (λ (n : ℕ). (r ≡ replies.Refused refusals.Full) ↔ IsFull g m (actions.NewWeak to counts n) c) (many ∙ ap weaks_made e) full)
+-- a plain object is one with no weak slots
+taken_plain : (m : ℕ) (to : Register) (counts : Counts) (r : Reply) (c c' : CoreState)
+    → Takes c (steps.Mutator (record { mutator = m; action = actions.NewWeak to counts 0 })) r c' → Takes c (making m to counts) r c'
+taken_plain m to counts r c c' t = record {
+  follows = λ s st. (let f = t.follows s st in record {
+    after = f.after;
+    happens = elim f.happens [
+      | inl h ↦ inl (h.0, h.1 ∙ untouched s.snapshot)
+      | inr h ↦ inr h
+    ];
+    stands = f.stands;
+  });
+  does = acts_plain r t.does;
+  reclaims = t.reclaims;
+  full = t.full;
+}
+  where
+    untouched : (sn : Option Graph) → snapshot_after sn (actions.NewWeak to counts 0) r ≡ snapshot_after sn (actions.New to counts) r
+    untouched None = refl
+    untouched (Some x) = refl
+
+    acts_plain : (q : Reply) → ActsOn m (actions.NewWeak to counts 0) q c c' → ActsOn m (actions.New to counts) q c c'
+    acts_plain (replies.Refused why) h = h
+    acts_plain _ h = record { core = h.core; marker = h.marker }
 
 -- by an action that makes an object with as many weak slots as it says, 0 where it says none
 pub acted_new : (o : Op) (to : Register) (counts : Counts) (weaks : ℕ) (r : Reply) (c c' : CoreState)
     → (o.action ≡ actions.New to counts) ⊎ ((w : ℕ) × (o.action ≡ actions.NewWeak to counts w)) → weaks ≡ weaks_made o.action
     → MakesObject o.mutator to counts weaks r c c' → Takes c (steps.Mutator o) r c'
-acted_new o to counts weaks r c c' is many h = record {
-  follows = λ s st. created_as s o o.mutator to counts weaks r c c' refl is many st (h.acts s.graph st.shows)
-      (keeps_after s.snapshot o.mutator (actions.NewWeak to counts weaks) r c c' refl h.after h.keeps st.keeps);
-  does = acts_as o.mutator o.action to counts weaks r c c' is many h.after;
-  reclaims = reclaims_none c c' h.leaves;
-  full = λ s st. full_as s.graph o.mutator o.action to counts weaks r c c' is many
-      (full_new s.graph o.mutator to counts weaks r c c' (h.acts s.graph st.shows) h.full);
-}
+acted_new o to counts weaks r c c' is many h =
+    by_new (λ a. Takes c (steps.Mutator (record { mutator = o.mutator; action = a })) r c') o.action to counts weaks is many
+    (taken_plain o.mutator to counts r c c') (record {
+      follows = λ s st. created s o.mutator (actions.NewWeak to counts weaks) r c c' tt st (h.acts s.graph st.shows) (λ f. f.0)
+          (keeps_after s.snapshot o.mutator (actions.NewWeak to counts weaks) r c c' refl h.after h.keeps st.keeps);
+      does = h.after;
+      reclaims = reclaims_none c c' h.leaves;
+      full = λ s st. full_new s.graph o.mutator to counts weaks r c c' (h.acts s.graph st.shows) h.full;
+    })

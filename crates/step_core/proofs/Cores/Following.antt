@@ -4,12 +4,11 @@ use Rattle.std.proofs.Common.{ap, subst, arith, inl, inr, ◌↔◌}
 use Rattle.std.proofs.lemmas.List.{take_more, length-map, get_or-map}
 use Rattle.heap_model.specs.Graph.{Graph, next_name}
 use Rattle.heap_model.specs.Weak.{KeepsUnreached}
-use Rattle.step_core.specs.Steps.{Action, Counts, Event, Op, Register, Reply, Step}
+use Rattle.step_core.specs.Steps.{Action, Event, Reply, Step}
 use Rattle.graph_runs.specs.State.{State, ForSnapshot, IsEarlier}
 use Rattle.graph_runs.specs.Since.{IsSince}
-use Rattle.graph_runs.specs.Machine.{Outcome, act}
+use Rattle.graph_runs.specs.Machine.{act}
 use Rattle.graph_runs.specs.Run.{Happens, IsNew, IsRun, snapshot_after}
-use Rattle.heap_steps.specs.declared.step.Action.TheVariants as actions
 use Rattle.heap_steps.specs.declared.step.Step.TheVariants as steps
 use Rattle.heap_steps.specs.declared.step.Reply.TheVariants as replies
 use Rattle.heap_steps.specs.declared.step.Refusal.TheVariants as refusals
@@ -18,8 +17,7 @@ use Rattle.graph_runs.proofs.SinceLaws.{happens_since, since_unreached}
 use Rattle.step_core.specs.Stands.{CoreState, ShowsGraph, KeepsFor, Stands, IsCore, IsWhole}
 use Rattle.cards.specs.Cards.{ListsDirtyOnce}
 use Rattle.step_core.specs.Cycle.{Does}
-use Rattle.step_core.specs.Mutators.{ActsOn, weaks_made}
-use Rattle.step_core.specs.Answers.{Acts, Follows, IsFullStep, RepliesFull}
+use Rattle.step_core.specs.Answers.{Acts, Follows, IsFull, IsFullStep, RepliesFull}
 use Rattle.step_core.specs.Passages.{IsPassage, Passes, Runs}
 
 -- a step that happens, and what the core shows and keeps after it
@@ -37,83 +35,23 @@ follows_by s after step reply c c' st happens shows keeps = record {
 }
 
 -- a mutator's step as the graph's own, and what is kept of the snapshot
-pub acted : (s : State) (o : Op) (m : ℕ) (a : Action) (reply : Reply) (c c' : CoreState) → o.mutator ≡ m → o.action ≡ a → Stands s c
-    → Acts s.graph m a reply c' → KeepsFor (snapshot_after s.snapshot a reply) c'
-    → Follows s (steps.Mutator o) reply c'
-acted s o m a reply c c' em ea st h keeps =
-    let g = s.graph in
-    let same : act g m a ≡ act g o.mutator o.action = ap (λ (n : ℕ). act g n a) (sym em) ∙ ap (act g o.mutator) (sym ea) in
-    let reply_same : (reply, (act g m a).1) ≡ act g m a = ap (λ (r : Reply). (r, (act g m a).1)) h.reply_is in
-    let after : State = record { graph = (act g m a).1; snapshot = snapshot_after s.snapshot o.action reply } in
-    follows_by s after (steps.Mutator o) reply c c' st (inl (reply_same ∙ same, refl)) h.shows
-    (subst (λ (b : Action). KeepsFor (snapshot_after s.snapshot b reply) c') (sym ea) keeps)
+pub acted : (s : State) (m : ℕ) (a : Action) (reply : Reply) (c c' : CoreState) → Stands s c → Acts s.graph m a reply c'
+    → KeepsFor (snapshot_after s.snapshot a reply) c' → Follows s (steps.Mutator (record { mutator = m; action = a })) reply c'
+acted s m a reply c c' st h keeps =
+    let after : State = record { graph = (act s.graph m a).1; snapshot = snapshot_after s.snapshot a reply } in
+    let is : (reply, after.graph) ≡ act s.graph m a = ap (λ (r : Reply). (r, after.graph)) h.reply_is in
+    follows_by s after (steps.Mutator (record { mutator = m; action = a })) reply c c' st (inl (is, refl)) h.shows keeps
 
--- the graph creates an object, and nothing changed since there was no place
-pub refused_full : (s : State) (o : Op) (m : ℕ) (a : Action) (reply : Reply) (c c' : CoreState) → o.mutator ≡ m → o.action ≡ a → IsNew a
-    → Stands s c → (act s.graph m a).0 ≡ replies.Named (Some (next_name s.graph))
-    → reply ≡ replies.Refused refusals.Full → c' ≡ c → Follows s (steps.Mutator o) reply c'
-refused_full s o m a reply c c' em ea new st names full same =
-    let g = s.graph in
-    let is : act g m a ≡ act g o.mutator o.action = ap (λ (n : ℕ). act g n a) (sym em) ∙ ap (act g o.mutator) (sym ea) in
-    follows_by s s (steps.Mutator o) reply c c' st
-    (inr ((subst IsNew (sym ea) new, sym (ap (λ (x : Outcome). x.0) is) ∙ names), full, refl))
-    (subst (λ (d : CoreState). ShowsGraph g d) (sym same) st.shows) (subst (λ (d : CoreState). KeepsFor s.snapshot d) (sym same) st.keeps)
-
--- a new object, or no place for it
-created : (s : State) (o : Op) (m : ℕ) (to : Register) (counts : Counts) (weaks : ℕ) (reply : Reply) (c c' : CoreState) → o.mutator ≡ m
-    → o.action ≡ actions.NewWeak to counts weaks → Stands s c
-    → Acts s.graph m (actions.NewWeak to counts weaks) reply c' ⊎ RepliesFull s.graph m (actions.NewWeak to counts weaks) c reply c'
-    → KeepsFor (snapshot_after s.snapshot (actions.NewWeak to counts weaks) reply) c'
-    → Follows s (steps.Mutator o) reply c'
-created s o m to counts weaks reply c c' em ea st (inl h) keeps = acted s o m (actions.NewWeak to counts weaks) reply c c' em ea st h keeps
-created s o m to counts weaks reply c c' em ea st (inr h) keeps =
-    refused_full s o m (actions.NewWeak to counts weaks) reply c c' em ea tt st h.full.0 h.reply_is h.same
-
--- the same of an object with no weak slots
-created_plain : (s : State) (o : Op) (m : ℕ) (to : Register) (counts : Counts) (reply : Reply) (c c' : CoreState) → o.mutator ≡ m
-    → o.action ≡ actions.New to counts → Stands s c
-    → Acts s.graph m (actions.NewWeak to counts 0) reply c' ⊎ RepliesFull s.graph m (actions.NewWeak to counts 0) c reply c'
-    → KeepsFor (snapshot_after s.snapshot (actions.New to counts) reply) c'
-    → Follows s (steps.Mutator o) reply c'
-created_plain s o m to counts reply c c' em ea st (inl h) keeps = acted s o m (actions.New to counts) reply c c' em ea st h keeps
-created_plain s o m to counts reply c c' em ea st (inr h) keeps =
-    refused_full s o m (actions.New to counts) reply c c' em ea tt st h.full.0 h.reply_is h.same
-
--- what it does to the core
-acts_plain : (m : ℕ) (to : Register) (counts : Counts) (r : Reply) (c c' : CoreState) → ActsOn m (actions.NewWeak to counts 0) r c c'
-    → ActsOn m (actions.New to counts) r c c'
-acts_plain m to counts (replies.Refused why) c c' h = h
-acts_plain m to counts _ c c' h = record { core = h.core; marker = h.marker }
-
--- the action makes an object with as many weak slots as it says, 0 where it says none: what it does to the core
-pub acts_as : (m : ℕ) (a : Action) (to : Register) (counts : Counts) (weaks : ℕ) (r : Reply) (c c' : CoreState)
-    → (a ≡ actions.New to counts) ⊎ ((w : ℕ) × (a ≡ actions.NewWeak to counts w)) → weaks ≡ weaks_made a
-    → ActsOn m (actions.NewWeak to counts weaks) r c c' → ActsOn m a r c c'
-acts_as m a to counts weaks r c c' (inl e) many h =
-    rw e (acts_plain m to counts r c c' (subst (λ (n : ℕ). ActsOn m (actions.NewWeak to counts n) r c c') (many ∙ ap weaks_made e) h))
-acts_as m a to counts weaks r c c' (inr (w, e)) many h =
-    rw e (subst (λ (n : ℕ). ActsOn m (actions.NewWeak to counts n) r c c') (many ∙ ap weaks_made e) h)
-
--- and the new object, or no place for it
-pub created_as : (s : State) (o : Op) (m : ℕ) (to : Register) (counts : Counts) (weaks : ℕ)
-    (reply : Reply) (c c' : CoreState) → o.mutator ≡ m
-    → (o.action ≡ actions.New to counts) ⊎ ((w : ℕ) × (o.action ≡ actions.NewWeak to counts w)) → weaks ≡ weaks_made o.action → Stands s c
-    → Acts s.graph m (actions.NewWeak to counts weaks) reply c' ⊎ RepliesFull s.graph m (actions.NewWeak to counts weaks) c reply c'
-    → KeepsFor (snapshot_after s.snapshot (actions.NewWeak to counts weaks) reply) c'
-    → Follows s (steps.Mutator o) reply c'
-created_as s o m to counts weaks reply c c' em (inl e) many st h keeps =
-    created_plain s o m to counts reply c c' em e st
-    (subst (λ (n : ℕ).
-    Acts s.graph m (actions.NewWeak to counts n) reply c' ⊎ RepliesFull s.graph m (actions.NewWeak to counts n) c reply c')
-    (many ∙ ap weaks_made e) h) (subst (λ (sn : Option Graph). KeepsFor sn c') (untouched s.snapshot) keeps)
-  where
-    untouched : (sn : Option Graph)
-        → snapshot_after sn (actions.NewWeak to counts weaks) reply ≡ snapshot_after sn (actions.New to counts) reply
-    untouched None = refl
-    untouched (Some x) = refl
-created_as s o m to counts weaks reply c c' em (inr (w, e)) many st h keeps =
-    let same : weaks ≡ w = many ∙ ap weaks_made e in
-    created s o m to counts weaks reply c c' em (e ∙ ap (λ (n : ℕ). actions.NewWeak to counts n) (sym same)) st h keeps
+-- a new object, or no place for it: then nothing changed
+pub created : (s : State) (m : ℕ) (a : Action) (reply : Reply) (c c' : CoreState) → IsNew a → Stands s c
+    → Acts s.graph m a reply c' ⊎ RepliesFull s.graph m a c reply c' → (IsFull s.graph m a c → (act s.graph m a).0
+    ≡ replies.Named (Some (next_name s.graph))) → KeepsFor (snapshot_after s.snapshot a reply) c'
+    → Follows s (steps.Mutator (record { mutator = m; action = a })) reply c'
+created s m a reply c c' new st (inl h) named keeps = acted s m a reply c c' st h keeps
+created s m a reply c c' new st (inr h) named keeps =
+    follows_by s s (steps.Mutator (record { mutator = m; action = a })) reply c c' st (inr ((new, named h.full), h.reply_is, refl))
+    (subst (λ (d : CoreState). ShowsGraph s.graph d) (sym h.same) st.shows)
+    (subst (λ (d : CoreState). KeepsFor s.snapshot d) (sym h.same) st.keeps)
 
 -- what the snapshot doesn't reach has the pointers that it had
 pub unreached_of : (s : State) (x : Graph) (c : CoreState) → Stands s c → s.snapshot ≡ Some x → KeepsUnreached x s.graph

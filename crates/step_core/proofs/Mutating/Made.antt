@@ -1,5 +1,5 @@
 -- What a register names once an object is made, and that a store leaves the object's counts.
-use Rattle.std.proofs.Common.{◌≡◌, ◌<◌, ◌⊎◌, ◌∙◌, ℕ, Option, Some, None, List, length, inl, inr, refl, sym, ap, subst, arith}
+use Rattle.std.proofs.Common.{◌≡◌, ◌<◌, ◌⊎◌, ◌∙◌, ℕ, Option, Some, None, List, length, refl, sym, ap, subst, arith}
 use Rattle.std.specs.Prelude.{slice_index_or, slice_set}
 use Rattle.std.proofs.lemmas.List.{length-replicate, length-set, get_or-set_same}
 use Rattle.heap_words.specs.Configs.{registers_of}
@@ -19,6 +19,7 @@ use Rattle.heap_steps.specs.declared.step.Reply.TheVariants as replies
 use Rattle.step_core.specs.Stands.{CoreState, IsCore}
 use Rattle.step_core.specs.Making.{HasMade, NamesObject}
 use Rattle.step_core.specs.Mutators.{weaks_made}
+use Rattle.step_core.proofs.Cores.Acted.{by_new}
 use Rattle.step_core.proofs.Cores.Keeping.{register_inside}
 use Rattle.step_core.proofs.Mutating.Creating.{with_new}
 
@@ -66,12 +67,7 @@ made_plain m to counts _ c h = tt
 pub made_as : (m : ℕ) (a : Action) (to : Register) (counts : Counts) (weaks : ℕ) (r : Reply) (c : CoreState)
     → (a ≡ actions.New to counts) ⊎ ((w : ℕ) × (a ≡ actions.NewWeak to counts w)) → weaks ≡ weaks_made a
     → HasMade m (actions.NewWeak to counts weaks) r c → HasMade m a r c
-made_as m a to counts weaks r c (inl e) many h =
-    let none : weaks ≡ 0 = many ∙ ap weaks_made e in
-    rw e (made_plain m to counts r c (subst (λ (w : ℕ). HasMade m (actions.NewWeak to counts w) r c) none h))
-made_as m a to counts weaks r c (inr (w, e)) many h =
-    let same : weaks ≡ w = many ∙ ap weaks_made e in
-    rw e (subst (λ (n : ℕ). HasMade m (actions.NewWeak to counts n) r c) same h)
+made_as m a to counts weaks r c is many = by_new (λ b. HasMade m b r c) a to counts weaks is many (made_plain m to counts r c)
 
 -- ---- an object has as many pointers, weak slots and data words as before
 pub record SameCounts (t t' : Table) (a : ℕ) : Type 0 where

@@ -24,38 +24,8 @@ is_left-requires c =
     c.config-mutators.ensures.keeps c.requires.unfinished c.requires.some (search rules) c.index-place.ensures in
     omega (arith, at.1, ap (λ x. x.mutators) c.in_ok-turn_at.ensures.plan.0)
 
-pub returns-clause-picks : goal.returns-clause-picks
-returns-clause-picks c =
-    let at = picked c.args.journal.now c.args.word c.len.result c.index-place.result.now c.args.unfinished.now.items
-    c.config-mutators.ensures.keeps c.requires.unfinished c.requires.some (search rules) c.index-place.ensures in
-    let turn = picked_turn c.args.journal.now c.turn_at.new.self c.in_ok-turn_at.field-0 c.scripted_at.result c.args.word
-    c.index-place.result.now c.config-mutators.result.mutators c.config-mutators.ensures.keeps
-    (ap (λ x. x.mutators) c.config-mutators.ensures.value) at c.scripted_at.ensures.is c.in_ok-turn_at.ensures.turn
-    c.in_ok-turn_at.ensures.plan in
-    turn.0
-
-pub returns-clause-takes : goal.returns-clause-takes
-returns-clause-takes c =
-    let at = picked c.args.journal.now c.args.word c.len.result c.index-place.result.now c.args.unfinished.now.items
-    c.config-mutators.ensures.keeps c.requires.unfinished c.requires.some (search rules) c.index-place.ensures in
-    let turn = picked_turn c.args.journal.now c.turn_at.new.self c.in_ok-turn_at.field-0 c.scripted_at.result c.args.word
-    c.index-place.result.now c.config-mutators.result.mutators c.config-mutators.ensures.keeps
-    (ap (λ x. x.mutators) c.config-mutators.ensures.value) at c.scripted_at.ensures.is c.in_ok-turn_at.ensures.turn
-    c.in_ok-turn_at.ensures.plan in
-    turn.1
-
-pub returns-clause-asked : goal.returns-clause-asked
-returns-clause-asked c =
-    let at = picked c.args.journal.now c.args.word c.len.result c.index-place.result.now c.args.unfinished.now.items
-    c.config-mutators.ensures.keeps c.requires.unfinished c.requires.some (search rules) c.index-place.ensures in
-    let turn = picked_turn c.args.journal.now c.turn_at.new.self c.in_ok-turn_at.field-0 c.scripted_at.result c.args.word
-    c.index-place.result.now c.config-mutators.result.mutators c.config-mutators.ensures.keeps
-    (ap (λ x. x.mutators) c.config-mutators.ensures.value) at c.scripted_at.ensures.is c.in_ok-turn_at.ensures.turn
-    c.in_ok-turn_at.ensures.plan in
-    turn.2
-
-pub returns-clause-unfinished : goal.returns-clause-unfinished
-returns-clause-unfinished c =
+pub returns : goal.returns
+returns c =
     let at = picked c.args.journal.now c.args.word c.len.result c.index-place.result.now c.args.unfinished.now.items
     c.config-mutators.ensures.keeps c.requires.unfinished c.requires.some (search rules) c.index-place.ensures in
     let turn = picked_turn c.args.journal.now c.turn_at.new.self c.in_ok-turn_at.field-0 c.scripted_at.result c.args.word
@@ -71,7 +41,13 @@ returns-clause-unfinished c =
     let len = lefts_len d d refl c.config-mutators.ensures.keeps in
     let row : p < length e.scripts = omega (arith, at.1, len, ap (λ (l : List (List Step)). length l) c.in_ok-turn_at.ensures.plan.1) in
     let here = left_here e p row in
-    kept (lefts_of d) (lefts_of e) c.args.unfinished.now.items n p c.is_left.result c.keep_if.new.places.items c.requires.unfinished below
-    (place_is c.args.unfinished.now.items n p below c.index-place.ensures)
-    (subst (λ (k : ℕ). lefts_of e ≡ one_less (lefts_of d) k) (sym at.0) turn.0.left) at.2 (omega (arith, at.1, len))
-    (λ h. here.0 (c.is_left.ensures.left h)) (λ h. here.1 (c.is_left.ensures.over h)) c.keep_if.ensures
+    record {
+      plan = c.in_ok-turn_at.ensures.plan;
+      picks = turn.0;
+      takes = turn.1;
+      unfinished = kept (lefts_of d) (lefts_of e) c.args.unfinished.now.items n p c.is_left.result c.keep_if.new.places.items
+          c.requires.unfinished below (place_is c.args.unfinished.now.items n p below c.index-place.ensures)
+          (subst (λ (k : ℕ). lefts_of e ≡ one_less (lefts_of d) k) (sym at.0) turn.0.left) at.2 (omega (arith, at.1, len))
+          (λ h. here.0 (c.is_left.ensures.left h)) (λ h. here.1 (c.is_left.ensures.over h)) c.keep_if.ensures;
+      asked = turn.2;
+    }

@@ -1,7 +1,6 @@
 use Rattle.std.proofs.Common.{◌≡◌, ◌∙◌, ◌++◌, ap, refl, List, arith}
 use Rattle.rand_pcg.specs.Pcg.{pcg32}
-use Rattle.heap_steps.specs.declared.step.Actor.{Actor}
-use Rattle.heap_steps.specs.declared.step.Event.{Event}
+use Rattle.step_core.specs.Steps.{Actor, Event}
 use Rattle.mutators.specs.Journals.{mutators_of}
 use Rattle.mutators.specs.Draws.{rest_of, has_background, scripted_actors}
 use Rattle.mutators.proofs.Rounds.{none_asked, lefts_first, picked_first}

@@ -1,5 +1,4 @@
-use Rattle.std.proofs.Common.{ℕ, subst}
-use Rattle.std.specs.Prelude.{IfOk}
+use Rattle.std.proofs.Common.{ℕ, subst, IfOk}
 use Rattle.mutators.specs.Interleavings.{IsRunOf}
 use Rattle.mutators.proofs.Faults.{never_bad, its_fault}
 use Rattle.mutators.proofs.threads.run_threads_seen.Goals as goal

@@ -1,5 +1,4 @@
-use Rattle.std.proofs.Common.{◌≤◌, ℕ, length, subst}
-use Rattle.std.specs.Prelude.{◌↔◌, IsTrue, slice_index}
+use Rattle.std.proofs.Common.{◌≤◌, ℕ, length, subst, ◌↔◌, IsTrue, slice_index}
 use Rattle.mutators.specs.Journals.{JournalState, mutators_of, script_at}
 use Rattle.mutators.proofs.Rows.{each_ended}
 use Rattle.mutators.proofs.journal.Journal.is_ended.Goals as goal
