@@ -115,17 +115,16 @@ fn put_verbs<V: Verb>(buffer: &mut [u8], at: usize, verbs: &[V], format: Format)
     ensures put { take result buffer.new ≡ take at buffer.old ++ verbs_text V.row_of format verbs.now }
     ensures end { result ≡ at + length (verbs_text V.row_of format verbs.now) }
 {
-    let mut end = at;
-    let mut more = known_count(verbs, format);
-    for verb in verbs {
-        let row = verb.row();
-        if has_row(format, row) {
-            more -= 1;
-            end = put_text(buffer, end, row.word);
-            end = put_text(buffer, end, between(more));
-        }
+    let [verb, rest @ ..] = verbs else {
+        return at;
+    };
+    let row = verb.row();
+    if !has_row(format, row) {
+        return put_verbs(buffer, at, rest, format);
     }
-    end
+    let at = put_text(buffer, at, row.word);
+    let at = put_text(buffer, at, between(known_count(rest, format)));
+    put_verbs(buffer, at, rest, format)
 }
 
 /// The words that say what may be at a place, before the limit that a heap's sizes set, if they do.
