@@ -3,7 +3,7 @@ use Rattle.remembered_sets.specs.Sets.{Sets, CardSet, CardFilter, AreSets, IsFil
 use Rattle.remembered_sets.specs.Sharing.{filter_of}
 use Rattle.remembered_sets.proofs.Filters.{rows_with}
 use Rattle.remembered_sets.proofs.Kept.{none_still}
-use Rattle.remembered_sets.proofs.Reading.{IsRead, added_is, all_are, filter_stands, is_set, kept_sets, known_set, known_table, put_tables}
+use Rattle.remembered_sets.proofs.Reading.{added_is, all_are, filter_stands, is_set, kept_sets, known_set, known_table, put_tables, reading}
 use Rattle.remembered_sets.proofs.Laws.{covers-added, leads-added, AreSets-added, source_known}
 use Rattle.remembered_sets.proofs.sets.RememberedSets.add_from.Goals as goal
 
@@ -28,13 +28,7 @@ index_mut-set-requires c =
 
 pub add-requires : goal.add-requires
 add-requires c =
-    let is : IsRead c.self.inside c.args.self.now c.args.region c.number-number.result c.index_mut-set.result.now = record {
-      view = c.self.view_is;
-      sound = c.self.invariant;
-      known = c.requires.region;
-      number_is = c.number-number.ensures;
-      read = c.index_mut-set.ensures.value;
-    } in
+    let is = reading {k = c.self.inside} c.self.view_is c.self.invariant c.requires.region c.number-number.ensures c.index_mut-set.ensures.value in
     let own =
     source_known c.args.card c.args.self.now.cards_per_region (length c.args.self.now.sets) (all_are is).some_cards c.requires.card in
     let marks = (is_set is).marks in
@@ -42,13 +36,7 @@ add-requires c =
 
 pub returns-clause-after : goal.returns-clause-after
 returns-clause-after c =
-    let is : IsRead c.self.inside c.args.self.now c.args.region c.number-number.result c.index_mut-set.result.now = record {
-      view = c.self.view_is;
-      sound = c.self.invariant;
-      known = c.requires.region;
-      number_is = c.number-number.ensures;
-      read = c.index_mut-set.ensures.value;
-    } in
+    let is = reading {k = c.self.inside} c.self.view_is c.self.invariant c.requires.region c.number-number.ensures c.index_mut-set.ensures.value in
     ap (λ (x : CardSet). kept_sets c.add_to_filter.new.filters.items (set c.self.inside.sets.items c.number-number.result x)
     c.self.inside.cards_per_region c.set.new.self) c.add.ensures
     ∙ added_is is c.add_to_filter.new.filters.items c.args.card c.number-3.result c.set.new.self c.add_to_filter.ensures.own
@@ -57,13 +45,7 @@ returns-clause-after c =
 
 pub invariant_of-self : goal.invariant_of-self
 invariant_of-self c =
-    let is : IsRead c.self.inside c.args.self.now c.args.region c.number-number.result c.index_mut-set.result.now = record {
-      view = c.self.view_is;
-      sound = c.self.invariant;
-      known = c.requires.region;
-      number_is = c.number-number.ensures;
-      read = c.index_mut-set.ensures.value;
-    } in
+    let is = reading {k = c.self.inside} c.self.view_is c.self.invariant c.requires.region c.number-number.ensures c.index_mut-set.ensures.value in
     record {
       all = subst AreSets (sym (returns-clause-after c))
           (AreSets-added c.args.self.now c.args.region c.args.card (all_are is) c.requires.region c.requires.card);
