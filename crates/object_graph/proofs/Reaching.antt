@@ -10,12 +10,13 @@ use Rattle.std.proofs.lemmas.Option.{get_or_from_slice_get, slice_get_past}
 use Rattle.heap_model.specs.Graph.{Graph, Object, object_named, next_name, IsReachable, FromRoot, FromObject}
 use Rattle.heap_model.specs.Weak.{AreReached, Clears, cleared_graph}
 use Rattle.heap_model.proofs.Cleared.{cleared_by}
-use Rattle.std.proofs.lemmas.List.{reverse-append, reverse-reverse}
+use Rattle.std.proofs.lemmas.List.{length-replicate, reverse-append, reverse-reverse}
 use Rattle.heap_model.proofs.Lists.{get_kept-set, get-set_same, get-set_other, get-push_last, get-push_cases, get-append_cases}
 use Rattle.heap_model.proofs.Lists.{get-append_left, get-append_right, length-set, length-push}
 use Rattle.heap_model.proofs.Changed.{named_at, at_least}
 use Rattle.graph_runs.specs.State.{State, AtRoot, AtField, IsNameOf, HoldsNames, IsEarlier, ForSnapshot, IsSoundState}
 use Rattle.graph_runs.specs.Run.{ClearsBy}
+use Rattle.graph_runs.proofs.Sound.{get_in}
 use Rattle.object_graph.specs.Reached.{Search, started, flag_of, flagged_at, found, all_found, looked_in, looked_at, looked, searched}
 
 -- how many flags are set
@@ -44,11 +45,6 @@ get_none : (n p : ℕ) → slice_get (replicate n false) p ≡ Some true → ⊥
 get_none zero p e = cc
 get_none (suc n) zero e = cc
 get_none (suc n) (suc p) e = get_none n p e
-
-get_in : {A : Type 0} (xs : List A) (i : ℕ) (x : A) → slice_get xs i ≡ Some x → i < length xs
-get_in [] i x e = cc
-get_in (y ∷ xs) zero x e = omega arith
-get_in (y ∷ xs) (suc i) x e = let k = get_in xs i x e in omega arith
 
 there_is : {A : Type 0} (xs : List A) (i : ℕ) → i < length xs → (x : A) × (slice_get xs i ≡ Some x)
 there_is [] i k = absurd (omega arith)
@@ -84,17 +80,13 @@ Keeps s t = (p : ℕ) → slice_get s.flags p ≡ Some true → slice_get t.flag
 pub begins : (g : Graph) → Grows g (record { first_name = g.first_name; flags = replicate (length g.objects) false; queue = [] }) 0
 begins g = record {
   first = refl;
-  size = length_of (length g.objects);
+  size = length-replicate (length g.objects) false;
   count = sym (count_none (length g.objects));
   at = omega arith;
   only = λ p e. absurd (get_none (length g.objects) p e);
   waits = λ p e. absurd (get_none (length g.objects) p e);
   queued = λ k p e. cc;
 }
-  where
-    length_of : (n : ℕ) → length (replicate n false) ≡ n
-    length_of zero = refl
-    length_of (suc n) = ap suc (length_of n)
 
 abbrev set_at : Search → ℕ → Search
 set_at s p = record s { flags = slice_set s.flags p true; queue = s.queue ++ p ∷ [] }
