@@ -162,10 +162,6 @@ find_on g s i n true e name grows r =
       ),
     )
 
-pub find_name : (g : Graph) (s : Search) (i n : ℕ) → IsNameOf g n → Grows g s i → IsReachable g n
-    → Finds g s (found s (Some n)) i × IsOn g.first_name (found s (Some n)).flags n
-find_name g s i n name grows r = find_on g s i n (leb s.first_name n) refl name grows r
-
 -- the names of a list are all found
 pub record FindsAll (g : Graph) (s t : Search) (i : ℕ) (vs : List (Option ℕ)) : Type 0 where
   pub finds : Finds g s t i
@@ -183,7 +179,7 @@ find_all g s i (None ∷ vs) grows each =
     later zero n e rest = cc
     later (suc j) n e rest = rest.all j n e
 find_all g s i (Some a ∷ vs) grows each =
-    let now = find_name g s i a (each 0 a refl).0 grows (each 0 a refl).1 in
+    let now = find_on g s i a (leb s.first_name a) refl (each 0 a refl).0 grows (each 0 a refl).1 in
     let rest = find_all g (found s (Some a)) i vs now.0.grows (λ j n e. each (suc j) n e) in
     record {
       finds = record { grows = rest.finds.grows; keeps = λ p e. rest.finds.keeps p (now.0.keeps p e) };
@@ -260,9 +256,6 @@ pub record Looked (g : Graph) (s : Search) (i : ℕ) : Type 0 where
   pub to : ℕ
   pub grows : Grows g s to
   pub why : (to ≡ i) ⊎ ((to ≡ length s.queue) × (to ≤ i))
-
-pub looked_begins : (g : Graph) (s : Search) → Grows g s 0 → Looked g s 0
-looked_begins g s grows = record { to = 0; grows = grows; why = inl refl }
 
 pub looked_on : (g : Graph) → HoldsNames g → (s : Search) (i p : ℕ) (x : Object) → Looked g s i → slice_get s.queue i ≡ Some p
     → slice_get g.objects p ≡ Some x → Looked g (all_found s x.pointers) (suc i)
@@ -376,9 +369,6 @@ searched_keeps s objects (suc k) q on = looked_keeps (searched s objects k) obje
     (searched_keeps s objects k q on)
 
 -- after the queue's end no look changes anything
-none_looked : (s : Search) (objects : List Object) (i : ℕ) → length s.queue ≤ i → looked s objects i ≡ s
-none_looked s objects i past = ap (λ (place : Option ℕ). looked_at s objects place) (slice_get_past s.queue i past)
-
 pub searched_past : (s : Search) (objects : List Object) (i k : ℕ) → i ≤ k → length (searched s objects i).queue ≤ i
     → searched s objects k ≡ searched s objects i
 searched_past s objects i zero within past = let e : 0 ≡ i = omega arith in ap (λ (n : ℕ). searched s objects n) e
@@ -386,7 +376,9 @@ searched_past s objects i (suc k) within past = elim (cases_lt k i) [
   | inl low ↦ (let e : suc k ≡ i = omega arith in ap (λ (n : ℕ). searched s objects n) e)
   | inr high ↦ (
       let e = searched_past s objects i k high past in
-      ap (λ (t : Search). looked t objects k) e ∙ none_looked (searched s objects i) objects k (omega arith))
+      ap (λ (t : Search). looked t objects k) e
+      ∙ ap (λ (place : Option ℕ). looked_at (searched s objects i) objects place)
+      (slice_get_past (searched s objects i).queue k (omega arith)))
 ]
 
 -- a list and the same backwards have the same elements
@@ -408,7 +400,8 @@ search_reached : (g : Graph) (ts : List (Option ℕ)) (flags : List Bool) → Ho
     → flags ≡ (searched (all_found (all_found (started g) ts) g.roots) g.objects (length g.objects)).flags
     → AreReached (record g { roots = reverse ts ++ g.roots }) (flag_of g.first_name flags)
 search_reached g ts flags holds is = subst (λ (l : List Bool). AreReached s (flag_of g.first_name l)) (sym is)
-    (flags_reached s last (searched_looked s holds second (looked_begins s second rest.finds.grows) (length g.objects)) roots_on)
+    (flags_reached s last
+    (searched_looked s holds second (record { to = 0; grows = rest.finds.grows; why = inl refl }) (length g.objects)) roots_on)
   where
     s : Graph
     s = record g { roots = reverse ts ++ g.roots }

@@ -37,10 +37,6 @@ use Rattle.graph_runs.proofs.Sound.{get_in, first_sound, run_sound, run_places}
 use Rattle.graph_runs.proofs.SinceLaws.{run_since}
 use Rattle.object_graph.proofs.SparingLaws.{follows, allowed, stands_sound}
 
--- what is given for a step does not hang on the snapshot
-pub given_same : (g h : Graph) (k : Step) (given : Given) → g ≡ h → IsGiven g k given → IsGiven h k given
-given_same g h k given e is = subst (λ (x : Graph). IsGiven x k given) e is
-
 -- the judge's state took the event, or tells why not: so of the machine that it stands for
 pub judges_next : (old new : Judging) (es : List Event) (e : Event) (told : Option Given) → new.config ≡ old.config → HasJudged old es
     → SparingJudges old.state e.step e.reply new.state told → JudgesNext old new es e told
@@ -58,7 +54,7 @@ judges_next old new es e (Some given) same taken h =
       before = st;
       run = taken.1;
       stops = λ after happens. (let next = allowed old.state st after e.step e.reply taken.2 happens in h.0 next.0 next.1);
-      gives = given_same old.state.graph st.graph e.step given taken.2.graph h.1;
+      gives = subst (λ (x : Graph). IsGiven x e.step given) taken.2.graph h.1;
     }
 
 -- the state of a judge that took some events is sound

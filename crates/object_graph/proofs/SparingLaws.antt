@@ -109,9 +109,6 @@ pub record Follows (judge old : State) (k : Step) (r : Reply) (next : State) : T
   pub happens : Happens old k r new
   pub stands : StandsFor next new
 
-stays_so : (judge old next : State) → StandsFor judge old → next ≡ judge → StandsFor next old
-stays_so judge old next stands e = subst (λ (t : State). StandsFor t old) (sym e) stands
-
 collects_follow : (judge old next : State) (c : CollectorStep) (r : Reply) → StandsFor judge old → IsCollectorReply c r
     → SparingCollects judge c r next → Follows judge old (steps.Collector c) r next
 collects_follow judge old next c r stands reply h = elim (kind c r) [
@@ -141,7 +138,7 @@ collects_follow judge old next c r stands reply h = elim (kind c r) [
     | inr n ↦ record {
       new = old;
       happens = (reply, (n.0 old old).1 refl);
-      stands = stays_so judge old next stands ((n.1 judge next).0 h);
+      stands = subst (λ (t : State). StandsFor t old) (sym ((n.1 judge next).0 h)) stands;
     }
   ]
 ]
@@ -163,7 +160,7 @@ follows judge old next (steps.Mutator o) r sound since stands (inr h) =
     record {
       new = old;
       happens = inr (subst (λ (g : Graph). Creates g o) stands.graph h.0, h.1, refl);
-      stands = stays_so judge old next stands h.2;
+      stands = subst (λ (t : State). StandsFor t old) (sym h.2) stands;
     }
 follows judge old next (steps.Collector c) r sound since stands h = collects_follow judge old next c r stands h.0 h.1
 
