@@ -20,7 +20,7 @@ use Rattle.script_text.specs.Watched.{Reader, Writer, TookBytes}
 use Rattle.script_text.proofs.BothWays.Extended.{whole_behind, reads_behind}
 use Rattle.jobs.specs.Verdicts.{verdict_line, IsJudged, IsTextOfRun, TellsVerdict}
 use Rattle.jobs.specs.Explanations.{IsExplained, judged_by}
-use Rattle.jobs.specs.Followed.{BreaksAlready, IsFinding, told_text, EndsFollowed, PerformsFollow, FollowedYes, FollowedNo}
+use Rattle.jobs.specs.Followed.{BreaksAlready, IsFinding, told_text, EndsFollowed, FollowedYes, FollowedNo}
 use Rattle.job_ends.specs.declared.faults.JobFault.{JobFault}
 use Rattle.jobs.proofs.Told.{YesLaw, NoLaw}
 
@@ -91,7 +91,7 @@ told_yes_text false n = refl
 told_yes_text true n = refl
 
 -- the status says which
-yes_by : YesLaw → (outcome : Result Finding JobFault) (explained : Bool) (given left : Reader) (old new err told : Writer)
+pub yes_by : YesLaw → (outcome : Result Finding JobFault) (explained : Bool) (given left : Reader) (old new err told : Writer)
     → EndsFollowed explained given left old new outcome → TellsVerdict err told (judged_by outcome) 0
     → FollowedYes given left old new err told
 yes_by law (Ok (Allowed n)) explained given left old new err told f t =
@@ -99,11 +99,7 @@ yes_by law (Ok (Allowed n)) explained given left old new err told f t =
     (f.0.0, n, (f.0.1, run.0), run.1, subst (λ (l : List ℕ). TookBytes old new l) (told_yes_text explained n) f.1, t.1)
 yes_by law _ explained given left old new err told f t = absurd (let bad = t.0 in omega arith)
 
-pub status_yes : YesLaw → (explained : Bool) (given left : Reader) (old new err told : Writer)
-    → PerformsFollow explained given left old new err told 0 → FollowedYes given left old new err told
-status_yes law explained given left old new err told p = yes_by law p.outcome explained given left old new err told p.follows p.tells
-
-no_by : NoLaw → (outcome : Result Finding JobFault) (explained : Bool) (given left : Reader) (old new err told : Writer)
+pub no_by : NoLaw → (outcome : Result Finding JobFault) (explained : Bool) (given left : Reader) (old new err told : Writer)
     → EndsFollowed explained given left old new outcome → TellsVerdict err told (judged_by outcome) 3
     → FollowedNo explained given left old new err told
 no_by law (Ok (Refused n e g)) explained given left old new err told f t =
@@ -118,7 +114,3 @@ no_by law (Ok (Refused n e g)) explained given left old new err told f t =
     } in
     (f.0.0, breaks.0, Refused n e g, n, f.0.1, breaks.1, (law breaks.0 n).0 judged, refl, f.1, t.1)
 no_by law _ explained given left old new err told f t = absurd (let bad = t.0 in omega arith)
-
-pub status_no : NoLaw → (explained : Bool) (given left : Reader) (old new err told : Writer)
-    → PerformsFollow explained given left old new err told 3 → FollowedNo explained given left old new err told
-status_no law explained given left old new err told p = no_by law p.outcome explained given left old new err told p.follows p.tells
