@@ -7,17 +7,15 @@ use Rattle.remembered_sets.proofs.sets.RememberedSets.clear.Goals as goal
 
 pub clear_filter-requires : goal.clear_filter-requires
 clear_filter-requires c =
-    let known = known_table c.self.inside c.args.self.now c.self.view_is c.self.invariant c.args.region c.requires in
-    omega (arith, known, c.number-number.ensures)
+    omega (arith, known_table c.self.inside _ c.self.view_is c.self.invariant c.args.region c.requires, c.number-number.ensures)
 
 pub index_mut-set-requires : goal.index_mut-set-requires
 index_mut-set-requires c =
-    let known = known_set c.self.inside c.args.self.now c.self.view_is c.args.region c.requires in
-    omega (arith, known, c.number-number.ensures)
+    omega (arith, known_set c.self.inside _ c.self.view_is c.args.region c.requires, c.number-number.ensures)
 
 pub returns : goal.returns
 returns c =
-    let is = reading {k = c.self.inside} c.self.view_is c.self.invariant c.requires c.number-number.ensures c.index_mut-set.ensures.value in
+    let is = reading c.self.view_is c.self.invariant c.requires c.number-number.ensures c.index_mut-set.ensures.value in
     let leaves : c.clear_range.new.self ≡ without_region c.self.inside.cards_per_region c.args.region c.self.inside.entered =
     cleared_by c.self.inside.cards_per_region c.args.region c.self.inside.entered c.clear_range.new.self c.self.invariant.all.some_cards
     c.clear_range.ensures.len (rw c.number-number.ensures at c.clear_range.ensures.flags) in
@@ -28,7 +26,7 @@ returns c =
 
 pub invariant_of-self : goal.invariant_of-self
 invariant_of-self c =
-    let is = reading {k = c.self.inside} c.self.view_is c.self.invariant c.requires c.number-number.ensures c.index_mut-set.ensures.value in
+    let is = reading c.self.view_is c.self.invariant c.requires c.number-number.ensures c.index_mut-set.ensures.value in
     record {
       all = subst AreSets (sym (returns c)) (AreSets-cleared c.args.self.now c.args.region (all_are is) c.requires);
       tables = put_tables is c.clear_filter.new.filters.items c.clear.new.self c.clear_filter.ensures.len;
