@@ -7,6 +7,7 @@ use Rattle.std.proofs.lemmas.List.{take-append-le, length-append}
 use Rattle.heap_steps.specs.Actors.{EventList}
 use Rattle.graph_runs.specs.State.{State, first_state}
 use Rattle.graph_runs.specs.Run.{IsRun, BreaksAt}
+use Rattle.object_graph.specs.Reasons.{verdict_of}
 use Rattle.object_graph.proofs.ReasonLaws.{found_judged}
 use Rattle.object_graph.specs.declared.given.Given.{Given}
 use Rattle.object_graph.specs.declared.judge.Finding.{Finding}
@@ -28,13 +29,15 @@ use Rattle.jobs.proofs.Told.{YesLaw, NoLaw}
 yes_explained : (lines : List ℕ) (n : ℕ) → IsJudged lines (Yes n) → IsExplained lines (Allowed n)
 yes_explained lines n j = record { history = j.history; read = j.read; suits = j.suits; finds = j.judged }
 
-explained_yes : (lines : List ℕ) (n : ℕ) → IsExplained lines (Allowed n) → IsJudged lines (Yes n)
-explained_yes lines n e = record { history = e.history; read = e.read; suits = e.suits; judged = e.finds }
+pub explained_judged : (lines : List ℕ) (found : Finding) → IsExplained lines found → IsJudged lines (verdict_of found)
+explained_judged lines found e =
+    let judged = found_judged (first_state e.history.config) e.history.events found e.finds in
+    record { history = e.history; read = e.read; suits = e.suits; judged = judged }
 
 pub followed_yes : YesLaw → (text : List ℕ) (left : Reader) (n : ℕ)
     → IsFinding text left (Ok (Allowed n)) ↔ (IsAtEnd left.left × IsTextOfRun (whole_lines text) n)
 followed_yes law text left n = (
-  λ found. (found.0, (law (whole_lines text) n).0 (explained_yes (whole_lines text) n found.1)),
+  λ found. (found.0, (law (whole_lines text) n).0 (explained_judged (whole_lines text) (Allowed n) found.1)),
   λ run. (run.0, yes_explained (whole_lines text) n ((law (whole_lines text) n).1 run.1)),
 )
 
@@ -104,13 +107,6 @@ pub no_by : NoLaw → (outcome : Result Finding JobFault) (explained : Bool) (gi
     → FollowedNo explained given left old new err told
 no_by law (Ok (Refused n e g)) explained given left old new err told f t =
     let breaks = f.0.2 in
-    let found = breaks.2.0 in
-    let judged : IsJudged breaks.0 (No n) =
-    record {
-      history = found.history;
-      read = found.read;
-      suits = found.suits;
-      judged = found_judged (first_state found.history.config) found.history.events (Refused n e g) found.finds;
-    } in
+    let judged = explained_judged breaks.0 (Refused n e g) breaks.2.0 in
     (f.0.0, breaks.0, Refused n e g, n, f.0.1, breaks.1, (law breaks.0 n).0 judged, refl, f.1, t.1)
 no_by law _ explained given left old new err told f t = absurd (let bad = t.0 in omega arith)
