@@ -4,6 +4,7 @@ use Rattle.std.proofs.Common.{◌≡◌, ◌+◌, ◌-◌, ◌<◌, ◌≤◌, �
 use Rattle.std.proofs.Common.{ℕ, zero, suc, List, [], Option, Some, None, refl, sym, ap, subst, inl, inr, arith}
 use Rattle.std.specs.Prelude.{slice_get, slice_set}
 use Rattle.std.proofs.lemmas.Bool.{cases_lt, cases_eq}
+use Rattle.std.proofs.lemmas.Option.{slice_get_within}
 use Rattle.heap_model.specs.Graph.{Graph, Object, object_named, next_name, IsReachable, FromRoot, FromObject, IsSound, with_root}
 use Rattle.heap_model.specs.Graph.{with_object, with_changed}
 use Rattle.heap_model.specs.Weak.{touched, KeepsUnreached, IsClearedSlot, ClearsObject, Clears}
@@ -27,7 +28,7 @@ use Rattle.heap_steps.specs.declared.step.Step.TheVariants as steps
 use Rattle.heap_steps.specs.declared.step.Event.{Event}
 use Rattle.heap_steps.specs.declared.step.Reply.{Reply}
 use Rattle.graph_runs.proofs.MachineLaws.{made_law, object_law, field_law}
-use Rattle.graph_runs.proofs.Sound.{root_read, nils, get_in, after_law, happens_sound}
+use Rattle.graph_runs.proofs.Sound.{root_read, nils, after_law, happens_sound}
 use Rattle.graph_runs.proofs.Collected.{kind}
 
 -- an object's place and its name
@@ -77,7 +78,7 @@ since_begins g = record {
   roots = λ j n e. inl (FromRoot j n e);
   pointers = λ p i n x at known e. elim known [
     | inl r ↦ inl (FromObject (g.first_name + p) n i x r (named_place g p x at) e)
-    | inr l ↦ absurd (let inside = get_in g.objects p x at in omega arith)
+    | inr l ↦ absurd (let inside = slice_get_within g.objects p x at in omega arith)
   ];
   unreached = λ p x at old. inr (x, at, refl);
 }

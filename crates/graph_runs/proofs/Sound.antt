@@ -133,11 +133,6 @@ touched_earlier s g (Some a) k value = elim (touched_cases s a) [
     holds below n (AtRoot j e) = first_root below j n e
     holds below n (AtField p i x at e) = k.holds n (AtField p i x at e)
 
-pub get_in : {A : Type 0} (xs : List A) (i : ℕ) (x : A) → slice_get xs i ≡ Some x → i < length xs
-get_in [] i x e = cc
-get_in (y ∷ xs) zero x e = omega arith
-get_in (y ∷ xs) (suc i) x e = let k = get_in xs i x e in omega arith
-
 -- the graph after the step holds names, has the first name and no fewer objects, and a name that was replied is one of it
 record Goes (g : Graph) (out : Outcome) : Type 0 where
   holds : HoldsNames out.1

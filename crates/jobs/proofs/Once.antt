@@ -1,8 +1,8 @@
 -- No text gets two verdicts.
-use Rattle.std.proofs.Common.{◌≡◌, ◌-◌, ◌<◌, ◌≤◌, ◌∷◌, ◌∙◌}
-use Rattle.std.proofs.Common.{ℕ, zero, suc, inl, inr, List, [], length, take, slice_get, Some, refl, sym, ap, subst, arith}
+use Rattle.std.proofs.Common.{◌≡◌, ◌-◌, ◌<◌, ◌∷◌, ◌∙◌}
+use Rattle.std.proofs.Common.{ℕ, zero, suc, inl, inr, List, [], length, take, slice_get, Some, sym, ap, subst, arith}
 use Rattle.std.proofs.lemmas.Bool.{cases_order}
-use Rattle.std.proofs.lemmas.List.{length-take-le}
+use Rattle.std.proofs.lemmas.List.{length-take-le, take-take}
 use Rattle.heap_steps.specs.Actors.{EventList}
 use Rattle.graph_runs.specs.State.{State, first_state}
 use Rattle.graph_runs.specs.Run.{IsRun, BreaksAt}
@@ -15,12 +15,6 @@ use Rattle.jobs.specs.Verdicts.{IsJudged}
 -- no events are both a run and broken
 abbrev pub NeverBoth : Type 0
 NeverBoth = (first last : State) (es : List Event) (n : ℕ) → IsRun first es last → BreaksAt first es n → ⊥
-
-take_fewer : (es : List Event) (k j : ℕ) → k ≤ j → take k (take j es) ≡ take k es
-take_fewer es zero j le = refl
-take_fewer es (suc k) zero le = absurd (omega arith)
-take_fewer [] (suc k) (suc j) le = refl
-take_fewer (e ∷ es) (suc k) (suc j) le = ap (λ (l : List Event). e ∷ l) (take_fewer es k j (omega arith))
 
 -- what is in a beginning of events is in them
 back : (es : List Event) (k j : ℕ) (e : Event) → slice_get (take j es) k ≡ Some e → slice_get es k ≡ Some e
@@ -35,7 +29,7 @@ not_later never first es m n lt a b =
     let from = a.positive in
     let within = b.within in
     let len : length (take (n - 1) es) ≡ n - 1 = length-take-le (n - 1) es (omega arith) in
-    let fewer : take (m - 1) (take (n - 1) es) ≡ take (m - 1) es = take_fewer es (m - 1) (n - 1) (omega arith) in
+    let fewer : take (m - 1) (take (n - 1) es) ≡ take (m - 1) es = take-take (m - 1) (n - 1) es (omega arith) in
     never first b.before (take (n - 1) es) m b.run (record {
       positive = a.positive;
       within = omega arith;

@@ -6,7 +6,7 @@ use Rattle.std.proofs.Common.{ap, subst, inl, inr, arith}
 use Rattle.std.specs.Prelude.{slice_get, slice_set, slice_index_or, replicate, reverse, IfOk}
 use Rattle.std.proofs.Math.Dec.{leb}
 use Rattle.std.proofs.lemmas.Bool.{cases_lt, cases_eq, leb-true, leb-false, le-leb}
-use Rattle.std.proofs.lemmas.Option.{get_or_from_slice_get, slice_get_past}
+use Rattle.std.proofs.lemmas.Option.{get_or_from_slice_get, slice_get_past, slice_get_within}
 use Rattle.heap_model.specs.Graph.{Graph, Object, object_named, next_name, IsReachable, FromRoot, FromObject}
 use Rattle.heap_model.specs.Weak.{AreReached, Clears, cleared_graph}
 use Rattle.heap_model.proofs.Cleared.{cleared_by}
@@ -16,7 +16,6 @@ use Rattle.heap_model.proofs.Lists.{get-append_left, get-append_right, length-se
 use Rattle.heap_model.proofs.Changed.{named_at, at_least}
 use Rattle.graph_runs.specs.State.{State, AtRoot, AtField, IsNameOf, HoldsNames, IsEarlier, ForSnapshot, IsSoundState}
 use Rattle.graph_runs.specs.Run.{ClearsBy}
-use Rattle.graph_runs.proofs.Sound.{get_in}
 use Rattle.object_graph.specs.Reached.{Search, started, flag_of, flagged_at, found, all_found, looked_in, looked_at, looked, searched}
 
 -- how many flags are set
@@ -217,8 +216,8 @@ look_grows g holds s i p x grows next at =
       size = after.size;
       count = after.count;
       only = after.only;
-      at = (let bound = get_in s.queue i p next in let q = prefix_kept s x.pointers i p next in
-          get_in (all_found s x.pointers).queue i p q);
+      at = (let bound = slice_get_within s.queue i p next in let q = prefix_kept s x.pointers i p next in
+          slice_get_within (all_found s x.pointers).queue i p q);
       waits = λ q f. elim (after.waits q f) [
         | inl d ↦ inl d
         | inr w ↦ elim (cases_eq w.0 i) [
@@ -261,7 +260,7 @@ pub looked_on : (g : Graph) → HoldsNames g → (s : Search) (i p : ℕ) (x : O
     → slice_get g.objects p ≡ Some x → Looked g (all_found s x.pointers) (suc i)
 looked_on g holds s i p x l next at = elim l.why [
   | inl same ↦ record { to = suc i; grows = look_grows g holds s i p x (subst (Grows g s) same l.grows) next at; why = inl refl }
-  | inr past ↦ absurd (let k = get_in s.queue i p next in let a = past.0 in let b = past.1 in omega arith)
+  | inr past ↦ absurd (let k = slice_get_within s.queue i p next in let a = past.0 in let b = past.1 in omega arith)
 ]
 
 pub looked_past : (g : Graph) (s : Search) (i : ℕ) → Looked g s i → slice_get s.queue i ≡ None → Looked g s (suc i)
@@ -286,7 +285,7 @@ looked_all g s l p e =
     let all : length s.queue ≤ l.to = elim l.why [ inl a ↦ omega arith | inr a ↦ (let b = a.0 in omega arith) ] in
     elim (l.grows.waits p e) [
       | inl done ↦ done
-      | inr w ↦ absurd (let k = get_in s.queue w.0 p w.2 in let low = w.1 in omega arith)
+      | inr w ↦ absurd (let k = slice_get_within s.queue w.0 p w.2 in let low = w.1 in omega arith)
     ]
 
 on_flag : (first : ℕ) (flags : List Bool) (n : ℕ) → IsOn first flags n → flag_of first flags n ≡ true
@@ -352,7 +351,7 @@ looked_by g holds s i l (Some p) e = inside (slice_get g.objects p) refl
   where
     inside : (x : Option Object) → slice_get g.objects p ≡ x → Looked g (looked_in s x) (suc i)
     inside None none = absurd (
-        let k = get_in s.flags p true (l.grows.queued i p e) in
+        let k = slice_get_within s.flags p true (l.grows.queued i p e) in
         let size = l.grows.size in
         let t = there_is g.objects p (omega arith) in
         let e1 = t.1 in cc)

@@ -4,7 +4,7 @@ use Rattle.std.proofs.Common.{ℕ, Option, Some, None, List, [], take, length, g
 use Rattle.std.proofs.Common.{inr, arith}
 use Rattle.std.specs.Prelude.{IfOk}
 use Rattle.std.proofs.lemmas.List.{take_all, take_more}
-use Rattle.std.proofs.lemmas.Option.{slice_get-get_or}
+use Rattle.std.proofs.lemmas.Option.{slice_get-get_or, slice_get_within}
 use Rattle.heap_words.specs.declared.config.Config.{Config}
 use Rattle.heap_model.specs.Graph.{Graph, RootCounts, next_name}
 use Rattle.heap_model.specs.Weak.{cleared_graph}
@@ -33,7 +33,7 @@ use Rattle.object_graph.specs.declared.judge.Finding.TheVariants as findings
 use Rattle.graph_runs.proofs.Collected.{kind}
 use Rattle.object_graph.proofs.Reaching.{view_reached, cleared_by_flags}
 use Rattle.graph_runs.proofs.RunLaws.{IsRun-more}
-use Rattle.graph_runs.proofs.Sound.{get_in, first_sound, run_sound, run_places}
+use Rattle.graph_runs.proofs.Sound.{first_sound, run_sound, run_places}
 use Rattle.graph_runs.proofs.SinceLaws.{run_since}
 use Rattle.object_graph.proofs.SparingLaws.{follows, allowed, stands_sound}
 
@@ -65,7 +65,7 @@ judged_sound j es taken = stands_sound j.state taken.0 (run_sound es (first_stat
 pub found_judged : (first : State) (es : List Event) (found : Finding) → Finds first es found → Judged first es (verdict_of found)
 found_judged first es (findings.Allowed n) h = h
 found_judged first es (findings.Refused n e given) h =
-    let inside = get_in es (n - 1) e h.1 in
+    let inside = slice_get_within es (n - 1) e h.1 in
     let positive = h.0 in
     record {
       positive = positive;

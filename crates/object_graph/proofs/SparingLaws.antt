@@ -18,7 +18,7 @@ use Rattle.heap_steps.specs.declared.step.Step.{Step}
 use Rattle.heap_steps.specs.declared.step.Step.TheVariants as steps
 use Rattle.heap_steps.specs.declared.step.Reply.{Reply}
 use Rattle.graph_runs.proofs.Collected.{kind}
-use Rattle.graph_runs.proofs.Sound.{get_in}
+use Rattle.std.proofs.lemmas.Option.{slice_get_within}
 use Rattle.graph_runs.proofs.SinceLaws.{op_slots}
 
 -- without weak slots, each holds what you like
@@ -31,7 +31,7 @@ none_slots (y ∷ xs) none zero i x v at e = by_count (nat_lt 0 (length y.weaks)
     by_count true is none = cc
     by_count false is none =
         let here : y ≡ x = cc in
-        let inside : i < length x.weaks = get_in x.weaks i v e in
+        let inside : i < length x.weaks = slice_get_within x.weaks i v e in
         let some : 0 < length y.weaks = subst (λ (z : Object). 0 < length z.weaks) (sym here) (omega arith) in
         let yes : nat_lt 0 (length y.weaks) ≡ true = lt-ltb 0 (length y.weaks) some in cc
 none_slots (y ∷ xs) none (suc k) i x v at e = none_slots xs (rest (nat_lt 0 (length y.weaks)) none) k i x v at e
