@@ -2,9 +2,9 @@
 -- touched name, or is newer.
 use Rattle.std.proofs.Common.{◌≡◌, ◌+◌, ◌-◌, ◌<◌, ◌≤◌, ◌∷◌, ◌∙◌}
 use Rattle.std.proofs.Common.{ℕ, zero, suc, List, [], Option, Some, None, refl, sym, ap, subst, inl, inr, arith}
-use Rattle.std.specs.Prelude.{slice_get, slice_set, slice_index_or, nat_lt, ◌==◌, ◌^◌}
+use Rattle.std.specs.Prelude.{slice_get, slice_set}
 use Rattle.std.proofs.lemmas.Bool.{cases_lt, cases_eq}
-use Rattle.heap_words.specs.Sizes.{size_of}
+use Rattle.std.proofs.lemmas.Option.{slice_get_within}
 use Rattle.heap_model.specs.Graph.{Graph, Object, object_named, next_name, IsReachable, FromRoot, FromObject, IsSound, with_root}
 use Rattle.heap_model.specs.Graph.{with_object, with_changed}
 use Rattle.heap_model.specs.Weak.{touched, KeepsUnreached, IsClearedSlot, ClearsObject, Clears}
@@ -16,7 +16,7 @@ use Rattle.graph_runs.specs.State.{State, register_place, with_nil_roots, root_a
 use Rattle.graph_runs.specs.State.{IsSoundState}
 use Rattle.graph_runs.specs.Since.{IsKnown, IsSince, IsSinceState}
 use Rattle.graph_runs.specs.Sparing.{HoldsKnown}
-use Rattle.graph_runs.specs.Machine.{Outcome, refused, on_contents, on_name, on_field, stored, made, act, outcome_of}
+use Rattle.graph_runs.specs.Machine.{Outcome, on_object, on_field, stored, made, act, outcome_of}
 use Rattle.graph_runs.specs.Run.{snapshot_after, Happens, IsRun}
 use Rattle.heap_steps.specs.declared.step.Action.{Action}
 use Rattle.heap_steps.specs.declared.step.Action.TheVariants as actions
@@ -27,9 +27,8 @@ use Rattle.heap_steps.specs.declared.step.Step.{Step}
 use Rattle.heap_steps.specs.declared.step.Step.TheVariants as steps
 use Rattle.heap_steps.specs.declared.step.Event.{Event}
 use Rattle.heap_steps.specs.declared.step.Reply.{Reply}
-use Rattle.heap_steps.specs.declared.step.Refusal.TheVariants as refusals
-use Rattle.graph_runs.proofs.MachineLaws.{cond_law}
-use Rattle.graph_runs.proofs.Sound.{field_law, nils, get_in, after_law, happens_sound}
+use Rattle.graph_runs.proofs.MachineLaws.{made_law, object_law, field_law}
+use Rattle.graph_runs.proofs.Sound.{root_read, nils, after_law, happens_sound}
 use Rattle.graph_runs.proofs.Collected.{kind}
 
 -- an object's place and its name
@@ -79,7 +78,7 @@ since_begins g = record {
   roots = λ j n e. inl (FromRoot j n e);
   pointers = λ p i n x at known e. elim known [
     | inl r ↦ inl (FromObject (g.first_name + p) n i x r (named_place g p x at) e)
-    | inr l ↦ absurd (let inside = get_in g.objects p x at in omega arith)
+    | inr l ↦ absurd (let inside = slice_get_within g.objects p x at in omega arith)
   ];
   unreached = λ p x at old. inr (x, at, refl);
 }
@@ -158,21 +157,6 @@ slots_changed s g m y slots each p i n z at e = elim (get-set_cases g.objects (m
   | inr q ↦ slots p i n z q e
 ]
 
-root_read : (rs : List (Option ℕ)) (j n : ℕ) → slice_index_or rs j None ≡ Some n → slice_get rs j ≡ Some (Some n)
-root_read [] j n e = cc
-root_read (r ∷ rs) zero n e = ap Some e
-root_read (r ∷ rs) (suc j) n e = root_read rs j n e
-
--- what is done with the object that a root names
-root_law : (P : Outcome → Type 0) (g : Graph) (o : Option ℕ) (f : ℕ → Object → Outcome) → P (refused g refusals.Nil)
-    → ((n : ℕ) (x : Object) → o ≡ Some n → slice_get g.objects (n - g.first_name) ≡ Some x → P (f n x)) → P (on_name g o f)
-root_law P g None f nil each = nil
-root_law P g (Some n) f nil each = contents (slice_get g.objects (n - g.first_name)) (λ x e. each n x refl e)
-  where
-    contents : (o : Option Object) → ((x : Object) → o ≡ Some x → P (f n x)) → P (on_contents g o (f n))
-    contents None each = nil
-    contents (Some x) each = each x refl
-
 module _ (s g : Graph) (k : IsSince s g) (holds : HoldsNames g) (earlier : IsEarlier s g) where
   root_known : (j : ℕ) → KnownValue s (root_at g j)
   root_known j n e = k.roots j n (root_read g.roots j n e)
@@ -194,11 +178,12 @@ module _ (s g : Graph) (k : IsSince s g) (holds : HoldsNames g) (earlier : IsEar
   changed_since : (j n : ℕ) (y : Object) → root_at g j ≡ Some n → KnownFields s y.pointers → IsSince s (with_changed g n y)
   changed_since j n y is each = since_changed s g n y k (root_known j n is) (low j n is) each
 
-  made_since : (m : ℕ) (to : Register) (counts : Counts) (weaks : ℕ) → IsSince s (made g m to counts weaks).1
-  made_since m to counts weaks =
-      cond_law (λ out. IsSince s out.1) (nat_lt g.room (size_of counts.pointers weaks counts.values)) (refused g refusals.TooBig) _ k
-      (cond_law (λ out. IsSince s out.1) (next_name g == 2 ^ 64 - 1) (refused g refusals.NamesSpent) _ k
-      (since_object s g _ (register_place g.places m to.number) k earlier.next_name (λ i n e. nils counts.pointers i n e)))
+  abbrev Since : Outcome → Type 0
+  Since out = IsSince s out.1
+
+  made_since : (m : ℕ) (to : Register) (counts : Counts) (weaks : ℕ) → Since (made g m to counts weaks)
+  made_since m to counts weaks = made_law Since g m to counts weaks k k
+      (since_object s g _ (register_place g.places m to.number) k earlier.next_name (λ i n e. nils counts.pointers i n e))
 
   -- the outcome of an action: it is since the snapshot that the action leaves
   abbrev SinceAfter : Action → Outcome → Type 0
@@ -206,26 +191,17 @@ module _ (s g : Graph) (k : IsSince s g) (holds : HoldsNames g) (earlier : IsEar
 
   act_since : (m : ℕ) (a : Action) → SinceAfter a (act g m a)
   act_since m (actions.New to counts) = made_since m to counts 0
-  act_since m (actions.Get to object i) = root_law (SinceAfter (actions.Get to object i)) g
-      (root_at g (register_place g.places m object.number)) _ k
-      (λ n x is at. field_law (SinceAfter (actions.Get to object i)) g (slice_get x.pointers i) _ k
-      (λ v e. since_root s g (register_place g.places m to.number) v k
-      (λ u q. pointers_known (register_place g.places m object.number) n x is at i u (e ∙ ap Some q))))
-  act_since m (actions.Put object i value) =
-      root_law (SinceAfter (actions.Put object i value)) g (root_at g (register_place g.places m object.number)) _ k
-      (λ n x is at. field_law (SinceAfter (actions.Put object i value)) g (slice_get x.pointers i) _ k
-      (λ v e. changed_since (register_place g.places m object.number) n
-      (record x { pointers = slice_set x.pointers i (stored g m value) }) is
+  act_since m (actions.Get to object i) = field_law Since g m object (λ x. slice_get x.pointers i) _ k k
+      (λ n x v is at e. since_root s g (register_place g.places m to.number) v k
+      (λ u q. pointers_known (register_place g.places m object.number) n x is at i u (e ∙ ap Some q)))
+  act_since m (actions.Put object i value) = field_law Since g m object (λ x. slice_get x.pointers i) _ k k
+      (λ n x v is at e. changed_since (register_place g.places m object.number) n _ is
       (set_known s x.pointers i (stored g m value) (pointers_known (register_place g.places m object.number) n x is at)
-      (stored_known m value))))
-  act_since m (actions.Read object i) = root_law (SinceAfter (actions.Read object i)) g
-      (root_at g (register_place g.places m object.number)) _ k
-      (λ n x is at. field_law (SinceAfter (actions.Read object i)) g (slice_get x.values i) _ k (λ v e. k))
-  act_since m (actions.Write object i value) =
-      root_law (SinceAfter (actions.Write object i value)) g (root_at g (register_place g.places m object.number)) _ k
-      (λ n x is at. field_law (SinceAfter (actions.Write object i value)) g (slice_get x.values i) _ k
-      (λ v e. changed_since (register_place g.places m object.number) n (record x { values = slice_set x.values i value }) is
-      (pointers_known (register_place g.places m object.number) n x is at)))
+      (stored_known m value)))
+  act_since m (actions.Read object i) = field_law Since g m object (λ x. slice_get x.values i) _ k k (λ n x v is at e. k)
+  act_since m (actions.Write object i value) = field_law Since g m object (λ x. slice_get x.values i) _ k k
+      (λ n x v is at e. changed_since (register_place g.places m object.number) n _ is
+      (pointers_known (register_place g.places m object.number) n x is at))
   act_since m (actions.Move to from) = since_root s g (register_place g.places m to.number)
       (root_at g (register_place g.places m from.number)) k (root_known (register_place g.places m from.number))
   act_since m (actions.Drop register) = since_root s g (register_place g.places m register.number) None k (λ n e. cc)
@@ -233,59 +209,47 @@ module _ (s g : Graph) (k : IsSince s g) (holds : HoldsNames g) (earlier : IsEar
       (root_known from.number)
   act_since m (actions.Save to from) = since_root s g to.number (root_at g (register_place g.places m from.number)) k
       (root_known (register_place g.places m from.number))
-  act_since m (actions.Shape object) = root_law (SinceAfter (actions.Shape object)) g
-      (root_at g (register_place g.places m object.number)) _ k (λ n x is at. k)
+  act_since m (actions.Shape object) = object_law Since g m object _ k (λ n x is at. k)
   act_since m (actions.NewWeak to counts weaks) = made_since m to counts weaks
   act_since m (actions.GetWeak to object i) =
-      root_law (SinceAfter (actions.GetWeak to object i)) g (root_at g (register_place g.places m object.number)) _ k
-      (λ n x is at. field_law (SinceAfter (actions.GetWeak to object i)) g (slice_get x.weaks i) _ k
-      (λ v e. since_root (touched s v) g (register_place g.places m to.number) v (since_touched s g v k earlier.first_name)
-      (touched_known s v)))
-  act_since m (actions.PutWeak object i value) =
-      root_law (SinceAfter (actions.PutWeak object i value)) g (root_at g (register_place g.places m object.number)) _ k
-      (λ n x is at. field_law (SinceAfter (actions.PutWeak object i value)) g (slice_get x.weaks i) _ k
-      (λ v e. changed_since (register_place g.places m object.number) n (record x { weaks = slice_set x.weaks i (stored g m value) }) is
-      (pointers_known (register_place g.places m object.number) n x is at)))
+      field_law (SinceAfter (actions.GetWeak to object i)) g m object (λ x. slice_get x.weaks i) _ k k
+      (λ n x v is at e. since_root (touched s v) g (register_place g.places m to.number) v (since_touched s g v k earlier.first_name)
+      (touched_known s v))
+  act_since m (actions.PutWeak object i value) = field_law Since g m object (λ x. slice_get x.weaks i) _ k k
+      (λ n x v is at e. changed_since (register_place g.places m object.number) n _ is
+      (pointers_known (register_place g.places m object.number) n x is at))
   act_since m (actions.Scope from) = since_nils s g (register_place g.places m from.number) (g.places.registers - from.number) k
-  act_since m (actions.Weaks object) = root_law (SinceAfter (actions.Weaks object)) g
-      (root_at g (register_place g.places m object.number)) _ k (λ n x is at. k)
+  act_since m (actions.Weaks object) = object_law Since g m object _ k (λ n x is at. k)
 
   -- weak slots that hold known names alone still do
   module _ (slots : HoldsKnown s g) where
-    made_slots : (m : ℕ) (to : Register) (counts : Counts) (weaks : ℕ) → HoldsKnown s (made g m to counts weaks).1
-    made_slots m to counts weaks =
-        cond_law (λ out. HoldsKnown s out.1) (nat_lt g.room (size_of counts.pointers weaks counts.values))
-        (refused g refusals.TooBig) _ slots
-        (cond_law (λ out. HoldsKnown s out.1) (next_name g == 2 ^ 64 - 1) (refused g refusals.NamesSpent) _ slots
-        (slots_object s g _ (register_place g.places m to.number) slots (λ i n e. nils weaks i n e)))
+    abbrev Slots : Outcome → Type 0
+    Slots out = HoldsKnown s out.1
 
-    object_slots : (m : ℕ) (object : Register) (f : ℕ → Object → Outcome)
-        → ((n : ℕ) (x : Object) → KnownFields s x.weaks → HoldsKnown s (f n x).1)
-        → HoldsKnown s (on_name g (root_at g (register_place g.places m object.number)) f).1
-    object_slots m object f each = root_law (λ out. HoldsKnown s out.1) g (root_at g (register_place g.places m object.number)) f slots
-        (λ n x is at. each n x (λ i u e. slots (n - g.first_name) i u x at e))
+    made_slots : (m : ℕ) (to : Register) (counts : Counts) (weaks : ℕ) → Slots (made g m to counts weaks)
+    made_slots m to counts weaks = made_law Slots g m to counts weaks slots slots
+        (slots_object s g _ (register_place g.places m to.number) slots (λ i n e. nils weaks i n e))
 
-    field_slots : {X : Type 0} (o : Option X) (f : X → Outcome) → ((x : X) → HoldsKnown s (f x).1) → HoldsKnown s (on_field g o f).1
-    field_slots o f each = field_law (λ out. HoldsKnown s out.1) g o f slots (λ x e. each x)
+    field_slots : {X : Type 0} (m : ℕ) (r : Register) (read : Object → Option X) (f : ℕ → Object → X → Outcome)
+        → ((n : ℕ) (x : Object) (v : X) → KnownFields s x.weaks → Slots (f n x v))
+        → Slots (on_object g m r (λ n x. on_field g (read x) (f n x)))
+    field_slots m r read f each = field_law Slots g m r read f slots slots
+        (λ n x v is at e. each n x v (λ i u q. slots (n - g.first_name) i u x at q))
 
-    act_slots : (m : ℕ) (a : Action) → HoldsKnown s (act g m a).1
+    act_slots : (m : ℕ) (a : Action) → Slots (act g m a)
     act_slots m (actions.New to counts) = made_slots m to counts 0
-    act_slots m (actions.Get to object i) = object_slots m object _ (λ n x weaks. field_slots (slice_get x.pointers i) _ (λ v. slots))
+    act_slots m (actions.Get to object i) = field_slots m object (λ x. slice_get x.pointers i) _ (λ n x v weaks. slots)
     act_slots m (actions.Put object i value) =
-        object_slots m object _ (λ n x weaks. field_slots (slice_get x.pointers i) _
-        (λ v. slots_changed s g n (record x { pointers = slice_set x.pointers i (stored g m value) }) slots weaks))
-    act_slots m (actions.Read object i) = object_slots m object _ (λ n x weaks. field_slots (slice_get x.values i) _ (λ v. slots))
+        field_slots m object (λ x. slice_get x.pointers i) _ (λ n x v weaks. slots_changed s g n _ slots weaks)
+    act_slots m (actions.Read object i) = field_slots m object (λ x. slice_get x.values i) _ (λ n x v weaks. slots)
     act_slots m (actions.Write object i value) =
-        object_slots m object _ (λ n x weaks. field_slots (slice_get x.values i) _
-        (λ v. slots_changed s g n (record x { values = slice_set x.values i value }) slots weaks))
-    act_slots m (actions.Shape object) = object_slots m object _ (λ n x weaks. slots)
+        field_slots m object (λ x. slice_get x.values i) _ (λ n x v weaks. slots_changed s g n _ slots weaks)
+    act_slots m (actions.Shape object) = object_law Slots g m object _ slots (λ n x is at. slots)
     act_slots m (actions.NewWeak to counts weaks) = made_slots m to counts weaks
-    act_slots m (actions.GetWeak to object i) = object_slots m object _ (λ n x weaks. field_slots (slice_get x.weaks i) _ (λ v. slots))
-    act_slots m (actions.PutWeak object i value) =
-        object_slots m object _ (λ n x weaks. field_slots (slice_get x.weaks i) _
-        (λ v. slots_changed s g n (record x { weaks = slice_set x.weaks i (stored g m value) }) slots
-        (set_known s x.weaks i (stored g m value) weaks (stored_known m value))))
-    act_slots m (actions.Weaks object) = object_slots m object _ (λ n x weaks. slots)
+    act_slots m (actions.GetWeak to object i) = field_slots m object (λ x. slice_get x.weaks i) _ (λ n x v weaks. slots)
+    act_slots m (actions.PutWeak object i value) = field_slots m object (λ x. slice_get x.weaks i) _ (λ n x v weaks.
+        slots_changed s g n _ slots (set_known s x.weaks i (stored g m value) weaks (stored_known m value)))
+    act_slots m (actions.Weaks object) = object_law Slots g m object _ slots (λ n x is at. slots)
     act_slots m _ = slots
 
 slots_on : (s g : Graph) (v : Option ℕ) → HoldsKnown s g → HoldsKnown (touched s v) g
@@ -361,27 +325,21 @@ since_unreached s g earlier k = record {
         named_at s n (omega arith) ∙ ap (λ (m : ℕ). slice_get s.objects (n - m)) first ∙ at
 
 -- a step keeps it
-same_since : (old new : State) → IsSinceState old → new ≡ old → IsSinceState new
-same_since old new k e = subst IsSinceState (sym e) k
-
-none_since : (new : State) → new.snapshot ≡ None → IsSinceState new
-none_since new e = subst (λ (o : Option Graph). ForSnapshot o (λ s. IsSince s new.graph)) (sym e) tt
-
 pub happens_since : (old new : State) (k : Step) (r : Reply) → IsSoundState old → IsSinceState old → Happens old k r new → IsSinceState new
 happens_since old new (steps.Mutator o) r sound since (inl h) =
     subst (λ (sn : Option Graph). ForSnapshot sn (λ s. IsSince s new.graph)) (sym h.1)
     (op_since old.snapshot old.graph new.graph o r sound.graph sound.snapshot since h.0)
-happens_since old new (steps.Mutator o) r sound since (inr h) = same_since old new since h.2
+happens_since old new (steps.Mutator o) r sound since (inr h) = subst IsSinceState (sym h.2) since
 happens_since old new (steps.Collector c) r sound since h = elim (kind c r) [
   | inl t ↦ subst IsSinceState (sym ((t.0 old new).0 h.1)) (since_begins old.graph)
   | inr u ↦ elim u [
-    | inl g ↦ none_since new ((g.0 old new).0 h.1).0
-    | inr n ↦ same_since old new since ((n.0 old new).0 h.1)
+    | inl g ↦ subst (λ (o : Option Graph). ForSnapshot o (λ s. IsSince s new.graph)) (sym ((g.0 old new).0 h.1).0) tt
+    | inr n ↦ subst IsSinceState (sym ((n.0 old new).0 h.1)) since
   ]
 ]
 
 pub run_since : (es : List Event) (first last : State) → IsSoundState first → IsSinceState first → IsRun first es last → IsSinceState last
-run_since [] first last sound since run = same_since first last since run
+run_since [] first last sound since run = subst IsSinceState (sym run) since
 run_since (e ∷ es) first last sound since run =
     run_since es run.0 last (happens_sound first run.0 e.step e.reply sound run.1)
     (happens_since first run.0 e.step e.reply sound since run.1) run.2

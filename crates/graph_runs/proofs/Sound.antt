@@ -1,8 +1,7 @@
 -- Every name that is in a state's graphs is an object's: at the beginning, and after each event.
 use Rattle.std.proofs.Common.{◌≡◌, ◌+◌, ◌-◌, ◌<◌, ◌≤◌, ◌∷◌, ◌++◌, ◌∙◌}
 use Rattle.std.proofs.Common.{ℕ, zero, suc, List, [], length, Option, Some, None, refl, sym, ap, subst, inl, inr, arith}
-use Rattle.std.specs.Prelude.{slice_get, slice_set, slice_index_or, replicate, nat_lt, ◌==◌, ◌^◌}
-use Rattle.heap_words.specs.Sizes.{size_of}
+use Rattle.std.specs.Prelude.{slice_get, slice_set, slice_index_or, replicate}
 use Rattle.heap_words.specs.declared.config.Config.{Config}
 use Rattle.heap_model.specs.Graph.{Graph, Object, next_name, object_fields, with_root, with_object, with_changed}
 use Rattle.heap_model.specs.Weak.{touched, IsClearedSlot, ClearsObject, Clears}
@@ -11,7 +10,7 @@ use Rattle.heap_model.proofs.Lists.{get-push_cases, length-set, length-push}
 use Rattle.heap_model.proofs.Unreached.{touched_cases}
 use Rattle.graph_runs.specs.State.{State, root_places, root_counts_of, register_place, with_nil_roots, root_at, Occurs, AtRoot, AtField}
 use Rattle.graph_runs.specs.State.{IsNameOf, HoldsNames, IsEarlier, ForSnapshot, IsSoundState, first_graph, first_state}
-use Rattle.graph_runs.specs.Machine.{Outcome, refused, on_contents, on_name, on_field, stored, made, act, outcome_of}
+use Rattle.graph_runs.specs.Machine.{Outcome, refused, on_object, on_field, stored, made, act, outcome_of}
 use Rattle.graph_runs.specs.Run.{snapshot_after, ClearsBy, ChangesState, Happens, IsRun}
 use Rattle.heap_steps.specs.declared.step.Action.{Action}
 use Rattle.heap_steps.specs.declared.step.Action.TheVariants as actions
@@ -24,8 +23,9 @@ use Rattle.heap_steps.specs.declared.step.Step.TheVariants as steps
 use Rattle.heap_steps.specs.declared.step.Event.{Event}
 use Rattle.heap_steps.specs.declared.step.Reply.{Reply}
 use Rattle.heap_steps.specs.declared.step.Reply.TheVariants as replies
+use Rattle.heap_steps.specs.declared.step.Refusal.{Refusal}
 use Rattle.heap_steps.specs.declared.step.Refusal.TheVariants as refusals
-use Rattle.graph_runs.proofs.MachineLaws.{cond_law, outcome_of-places}
+use Rattle.graph_runs.proofs.MachineLaws.{made_law, object_law, field_law, outcome_of-places}
 use Rattle.graph_runs.proofs.Collected.{kind}
 
 -- a graph with more objects has the names
@@ -36,13 +36,13 @@ more_names g h f k n name = let a = name.0 in let b = name.1 in ((omega arith), 
 abbrev IsValue : Graph → Option ℕ → Type 0
 IsValue g v = (n : ℕ) → v ≡ Some n → IsNameOf g n
 
+pub root_read : (rs : List (Option ℕ)) (j n : ℕ) → slice_index_or rs j None ≡ Some n → slice_get rs j ≡ Some (Some n)
+root_read [] j n e = cc
+root_read (r ∷ rs) zero n e = ap Some e
+root_read (r ∷ rs) (suc j) n e = root_read rs j n e
+
 root_value : (g : Graph) → HoldsNames g → (j : ℕ) → IsValue g (root_at g j)
-root_value g k j n e = k n (AtRoot j (read_root g.roots j e))
-  where
-    read_root : (rs : List (Option ℕ)) (j : ℕ) → slice_index_or rs j None ≡ Some n → slice_get rs j ≡ Some (Some n)
-    read_root [] j e = cc
-    read_root (r ∷ rs) zero e = ap Some e
-    read_root (r ∷ rs) (suc j) e = read_root rs j e
+root_value g k j n e = k n (AtRoot j (root_read g.roots j n e))
 
 stored_value : (g : Graph) → HoldsNames g → (m : ℕ) (v : Option Register) → IsValue g (stored g m v)
 stored_value g k m None n e = cc
@@ -99,11 +99,10 @@ slot_was s None (Some l) k c e = absurd c
 slot_was s (Some n) None k c e = cc
 slot_was s (Some n) (Some l) k c e = let same = c.0 in cc
 
-cleared_next : (s g g' : Graph) → Clears s g g' → next_name g' ≡ next_name g
-cleared_next s g g' c = let e1 = AllZip_length (ClearsObject s) g.objects g'.objects c.objects in let e2 = c.first_name in omega arith
-
 cleared_holds : (s g g' : Graph) → Clears s g g' → HoldsNames g → HoldsNames g'
-cleared_holds s g g' c k n o = more_names g g' c.first_name (let e = cleared_next s g g' c in omega arith) n (by_place o)
+cleared_holds s g g' c k n o =
+    let e1 = AllZip_length (ClearsObject s) g.objects g'.objects c.objects in let e2 = c.first_name in
+    more_names g g' c.first_name (omega arith) n (by_place o)
   where
     by_place : Occurs g' n → IsNameOf g n
     by_place (AtRoot i e) = k n (AtRoot i (ap (λ r. slice_get r i) (sym c.roots) ∙ e))
@@ -133,27 +132,6 @@ touched_earlier s g (Some a) k value = elim (touched_cases s a) [
     holds : a < next_name s → HoldsNames (record s { roots = Some a ∷ s.roots })
     holds below n (AtRoot j e) = first_root below j n e
     holds below n (AtField p i x at e) = k.holds n (AtField p i x at e)
-
-pub get_in : {A : Type 0} (xs : List A) (i : ℕ) (x : A) → slice_get xs i ≡ Some x → i < length xs
-get_in [] i x e = cc
-get_in (y ∷ xs) zero x e = omega arith
-get_in (y ∷ xs) (suc i) x e = let k = get_in xs i x e in omega arith
-
--- what a step of a mutator leaves, by its cases
-contents_law : (P : Outcome → Type 0) (g : Graph) (o : Option Object) (f : Object → Outcome) → P (refused g refusals.Nil)
-    → ((x : Object) → o ≡ Some x → P (f x)) → P (on_contents g o f)
-contents_law P g None f nil each = nil
-contents_law P g (Some x) f nil each = each x refl
-
-name_law : (P : Outcome → Type 0) (g : Graph) (o : Option ℕ) (f : ℕ → Object → Outcome) → P (refused g refusals.Nil)
-    → ((n : ℕ) (x : Object) → slice_get g.objects (n - g.first_name) ≡ Some x → P (f n x)) → P (on_name g o f)
-name_law P g None f nil each = nil
-name_law P g (Some n) f nil each = contents_law P g (slice_get g.objects (n - g.first_name)) (f n) nil (each n)
-
-pub field_law : {X : Type 0} (P : Outcome → Type 0) (g : Graph) (o : Option X) (f : X → Outcome) → P (refused g refusals.NoField)
-    → ((x : X) → o ≡ Some x → P (f x)) → P (on_field g o f)
-field_law P g None f none each = none
-field_law P g (Some x) f none each = each x refl
 
 -- the graph after the step holds names, has the first name and no fewer objects, and a name that was replied is one of it
 record Goes (g : Graph) (out : Outcome) : Type 0 where
@@ -228,40 +206,29 @@ module _ (g : Graph) (k : HoldsNames g) where
   weak_value : (p : ℕ) (x : Object) (i : ℕ) (v : Option ℕ) → slice_get g.objects p ≡ Some x → slice_get x.weaks i ≡ Some v → IsValue g v
   weak_value p x i v at e n q = let t = get-append_right x.pointers x.weaks i (Some n) (e ∙ ap Some q) in values_at p x at t.0 n t.1
 
-  scoped : (first count : ℕ) → Goes g (replies.Done, with_nil_roots g first count)
-  scoped first count = record { holds = nil_roots_hold g first count k; first_name = refl; next_name = omega arith; replied = λ v q. cc }
-
-  nil_stays : Goes g (refused g refusals.Nil)
-  nil_stays = stays (replies.Refused refusals.Nil) (λ v e. cc)
-
-  none_stays : Goes g (refused g refusals.NoField)
-  none_stays = stays (replies.Refused refusals.NoField) (λ v e. cc)
+  not : (why : Refusal) → Goes g (refused g why)
+  not why = stays (replies.Refused why) (λ v e. cc)
 
   made_goes : (m : ℕ) (to : Register) (counts : Counts) (weaks : ℕ) → Goes g (made g m to counts weaks)
-  made_goes m to counts weaks =
-      cond_law (Goes g) (nat_lt g.room (size_of counts.pointers weaks counts.values)) (refused g refusals.TooBig) _
-      (stays (replies.Refused refusals.TooBig) (λ v e. cc))
-      (cond_law (Goes g) (next_name g == 2 ^ 64 - 1) (refused g refusals.NamesSpent) _
-      (stays (replies.Refused refusals.NamesSpent) (λ v e. cc))
-      (added (record { pointers = replicate counts.pointers None; weaks = replicate weaks None; values = replicate counts.values 0 })
-      (register_place g.places m to.number) (λ i n e. fresh_fields counts.pointers weaks i n e)))
+  made_goes m to counts weaks = made_law (Goes g) g m to counts weaks (not refusals.TooBig) (not refusals.NamesSpent)
+      (added _ (register_place g.places m to.number) (λ i n e. fresh_fields counts.pointers weaks i n e))
+
+  field_goes : {X : Type 0} (m : ℕ) (r : Register) (read : Object → Option X) (f : ℕ → Object → X → Outcome)
+      → ((n : ℕ) (x : Object) (v : X) → slice_get g.objects (n - g.first_name) ≡ Some x → read x ≡ Some v → Goes g (f n x v))
+      → Goes g (on_object g m r (λ n x. on_field g (read x) (f n x)))
+  field_goes m r read f each =
+      field_law (Goes g) g m r read f (not refusals.Nil) (not refusals.NoField) (λ n x v is at e. each n x v at e)
 
   act_goes : (m : ℕ) (a : Action) → Goes g (act g m a)
   act_goes m (actions.New to counts) = made_goes m to counts 0
-  act_goes m (actions.Get to object i) = name_law (Goes g) g (root_at g (register_place g.places m object.number)) _ nil_stays
-      (λ n x at. field_law (Goes g) g (slice_get x.pointers i) _ none_stays
-      (λ v e. rooted (replies.Named v) (register_place g.places m to.number) v (pointer_value (n - g.first_name) x i v at e) (λ u q. cc)))
-  act_goes m (actions.Put object i value) =
-      name_law (Goes g) g (root_at g (register_place g.places m object.number)) _ nil_stays
-      (λ n x at. field_law (Goes g) g (slice_get x.pointers i) _ none_stays
-      (λ v e. changed n (record x { pointers = slice_set x.pointers i (stored g m value) })
-      (fields_set g x.pointers x.weaks i (stored g m value) (values_at (n - g.first_name) x at) (stored_value g k m value))))
-  act_goes m (actions.Read object i) = name_law (Goes g) g (root_at g (register_place g.places m object.number)) _ nil_stays
-      (λ n x at. field_law (Goes g) g (slice_get x.values i) _ none_stays (λ v e. stays (replies.Word v) (λ u q. cc)))
+  act_goes m (actions.Get to object i) = field_goes m object (λ x. slice_get x.pointers i) _ (λ n x v at e.
+      rooted (replies.Named v) (register_place g.places m to.number) v (pointer_value (n - g.first_name) x i v at e) (λ u q. cc))
+  act_goes m (actions.Put object i value) = field_goes m object (λ x. slice_get x.pointers i) _ (λ n x v at e.
+      changed n _ (fields_set g x.pointers x.weaks i (stored g m value) (values_at (n - g.first_name) x at) (stored_value g k m value)))
+  act_goes m (actions.Read object i) =
+      field_goes m object (λ x. slice_get x.values i) _ (λ n x v at e. stays (replies.Word v) (λ u q. cc))
   act_goes m (actions.Write object i value) =
-      name_law (Goes g) g (root_at g (register_place g.places m object.number)) _ nil_stays
-      (λ n x at. field_law (Goes g) g (slice_get x.values i) _ none_stays
-      (λ v e. changed n (record x { values = slice_set x.values i value }) (values_at (n - g.first_name) x at)))
+      field_goes m object (λ x. slice_get x.values i) _ (λ n x v at e. changed n _ (values_at (n - g.first_name) x at))
   act_goes m (actions.Move to from) = rooted replies.Done (register_place g.places m to.number)
       (root_at g (register_place g.places m from.number)) (root_value g k (register_place g.places m from.number)) (λ u q. cc)
   act_goes m (actions.Drop register) = rooted replies.Done (register_place g.places m register.number) None (λ n e. cc) (λ u q. cc)
@@ -269,21 +236,21 @@ module _ (g : Graph) (k : HoldsNames g) where
       (root_at g from.number) (root_value g k from.number) (λ u q. cc)
   act_goes m (actions.Save to from) = rooted replies.Done to.number (root_at g (register_place g.places m from.number))
       (root_value g k (register_place g.places m from.number)) (λ u q. cc)
-  act_goes m (actions.Shape object) = name_law (Goes g) g (root_at g (register_place g.places m object.number)) _ nil_stays
-      (λ n x at. stays (replies.Shape (length x.pointers) (length x.values)) (λ u q. cc))
+  act_goes m (actions.Shape object) = object_law (Goes g) g m object _ (not refusals.Nil)
+      (λ n x is at. stays (replies.Shape (length x.pointers) (length x.values)) (λ u q. cc))
   act_goes m (actions.NewWeak to counts weaks) = made_goes m to counts weaks
-  act_goes m (actions.GetWeak to object i) =
-      name_law (Goes g) g (root_at g (register_place g.places m object.number)) _ nil_stays
-      (λ n x at. field_law (Goes g) g (slice_get x.weaks i) _ none_stays
-      (λ v e. rooted (replies.Named v) (register_place g.places m to.number) v (weak_value (n - g.first_name) x i v at e) (λ u q. cc)))
-  act_goes m (actions.PutWeak object i value) =
-      name_law (Goes g) g (root_at g (register_place g.places m object.number)) _ nil_stays
-      (λ n x at. field_law (Goes g) g (slice_get x.weaks i) _ none_stays
-      (λ v e. changed n (record x { weaks = slice_set x.weaks i (stored g m value) })
-      (weaks_set g x.pointers x.weaks i (stored g m value) (values_at (n - g.first_name) x at) (stored_value g k m value))))
-  act_goes m (actions.Scope from) = scoped (register_place g.places m from.number) (g.places.registers - from.number)
-  act_goes m (actions.Weaks object) = name_law (Goes g) g (root_at g (register_place g.places m object.number)) _ nil_stays
-      (λ n x at. stays (replies.Word (length x.weaks)) (λ u q. cc))
+  act_goes m (actions.GetWeak to object i) = field_goes m object (λ x. slice_get x.weaks i) _ (λ n x v at e.
+      rooted (replies.Named v) (register_place g.places m to.number) v (weak_value (n - g.first_name) x i v at e) (λ u q. cc))
+  act_goes m (actions.PutWeak object i value) = field_goes m object (λ x. slice_get x.weaks i) _ (λ n x v at e.
+      changed n _ (weaks_set g x.pointers x.weaks i (stored g m value) (values_at (n - g.first_name) x at) (stored_value g k m value)))
+  act_goes m (actions.Scope from) = record {
+    holds = nil_roots_hold g (register_place g.places m from.number) (g.places.registers - from.number) k;
+    first_name = refl;
+    next_name = omega arith;
+    replied = λ v q. cc;
+  }
+  act_goes m (actions.Weaks object) =
+      object_law (Goes g) g m object _ (not refusals.Nil) (λ n x is at. stays (replies.Word (length x.weaks)) (λ u q. cc))
 
 -- the snapshot stays earlier as the graph goes on
 earlier_on : (s : Option Graph) (g h : Graph) → h.first_name ≡ g.first_name → next_name g ≤ next_name h
@@ -314,9 +281,6 @@ acts_sound old new o r k e s =
           (earlier_on old.snapshot old.graph new.graph goes.first_name goes.next_name k.snapshot) goes.replied);
     }
 
-same_sound : (old new : State) → IsSoundState old → new ≡ old → IsSoundState new
-same_sound old new k e = subst IsSoundState (sym e) k
-
 clears_sound : (s : Option Graph) (g h : Graph) → ClearsBy s g h → HoldsNames g → HoldsNames h
 clears_sound None g h c k = subst HoldsNames (sym c) k
 clears_sound (Some s) g h c k = cleared_holds s g h c k
@@ -330,17 +294,17 @@ collects_sound old new k r sound c = elim (kind k r) [
       graph = clears_sound old.snapshot old.graph new.graph ((g.0 old new).0 c).1 sound.graph;
       snapshot = subst (λ (t : Option Graph). ForSnapshot t (λ u. IsEarlier u new.graph)) (sym ((g.0 old new).0 c).0) tt;
     }
-    | inr n ↦ same_sound old new sound ((n.0 old new).0 c)
+    | inr n ↦ subst IsSoundState (sym ((n.0 old new).0 c)) sound
   ]
 ]
 
 pub happens_sound : (old new : State) (s : Step) (r : Reply) → IsSoundState old → Happens old s r new → IsSoundState new
 happens_sound old new (steps.Mutator o) r k (inl h) = acts_sound old new o r k h.0 h.1
-happens_sound old new (steps.Mutator o) r k (inr h) = same_sound old new k h.2
+happens_sound old new (steps.Mutator o) r k (inr h) = subst IsSoundState (sym h.2) k
 happens_sound old new (steps.Collector c) r k h = collects_sound old new c r k h.1
 
 pub run_sound : (es : List Event) (first last : State) → IsSoundState first → IsRun first es last → IsSoundState last
-run_sound [] first last k run = same_sound first last k run
+run_sound [] first last k run = subst IsSoundState (sym run) k
 run_sound (e ∷ es) first last k run = run_sound es run.0 last (happens_sound first run.0 e.step e.reply k run.1) run.2
 
 pub first_sound : (c : Config) → IsSoundState (first_state c)
@@ -351,9 +315,6 @@ first_sound c = record { graph = λ n o. absurd (nowhere n o); snapshot = tt }
     nowhere n (AtField p i x at e) = cc
 
 -- a run keeps the places of roots
-same_places : (a b : State) → a ≡ b → a.graph.places ≡ b.graph.places
-same_places a b e = ap (λ (t : State). t.graph.places) e
-
 cleared_places : (s : Option Graph) (g h : Graph) → ClearsBy s g h → h.places ≡ g.places
 cleared_places None g h c = ap (λ (t : Graph). t.places) c
 cleared_places (Some s) g h c = c.places
@@ -363,15 +324,15 @@ collects_places old new k r c = elim (kind k r) [
   | inl t ↦ ap (λ (t : State). t.graph.places) ((t.0 old new).0 c)
   | inr u ↦ elim u [
     | inl g ↦ cleared_places old.snapshot old.graph new.graph ((g.0 old new).0 c).1
-    | inr n ↦ same_places new old ((n.0 old new).0 c)
+    | inr n ↦ ap (λ (t : State). t.graph.places) ((n.0 old new).0 c)
   ]
 ]
 
 pub happens_places : (old new : State) (s : Step) (r : Reply) → Happens old s r new → new.graph.places ≡ old.graph.places
 happens_places old new (steps.Mutator o) r (inl h) = ap (λ (x : Outcome). x.1.places) h.0 ∙ outcome_of-places old.graph o
-happens_places old new (steps.Mutator o) r (inr h) = same_places new old h.2
+happens_places old new (steps.Mutator o) r (inr h) = ap (λ (t : State). t.graph.places) h.2
 happens_places old new (steps.Collector c) r h = collects_places old new c r h.1
 
 pub run_places : (es : List Event) (first last : State) → IsRun first es last → last.graph.places ≡ first.graph.places
-run_places [] first last run = same_places last first run
+run_places [] first last run = ap (λ (t : State). t.graph.places) run
 run_places (e ∷ es) first last run = run_places es run.0 last run.2 ∙ happens_places first run.0 e.step e.reply run.1

@@ -7,6 +7,7 @@ use Rattle.std.proofs.lemmas.List.{take-append-le, length-append}
 use Rattle.heap_steps.specs.Actors.{EventList}
 use Rattle.graph_runs.specs.State.{State, first_state}
 use Rattle.graph_runs.specs.Run.{IsRun, BreaksAt}
+use Rattle.object_graph.specs.Reasons.{verdict_of}
 use Rattle.object_graph.proofs.ReasonLaws.{found_judged}
 use Rattle.object_graph.specs.declared.given.Given.{Given}
 use Rattle.object_graph.specs.declared.judge.Finding.{Finding}
@@ -20,7 +21,7 @@ use Rattle.script_text.specs.Watched.{Reader, Writer, TookBytes}
 use Rattle.script_text.proofs.BothWays.Extended.{whole_behind, reads_behind}
 use Rattle.jobs.specs.Verdicts.{verdict_line, IsJudged, IsTextOfRun, TellsVerdict}
 use Rattle.jobs.specs.Explanations.{IsExplained, judged_by}
-use Rattle.jobs.specs.Followed.{BreaksAlready, IsFinding, told_text, EndsFollowed, PerformsFollow, FollowedYes, FollowedNo}
+use Rattle.jobs.specs.Followed.{BreaksAlready, IsFinding, told_text, EndsFollowed, FollowedYes, FollowedNo}
 use Rattle.job_ends.specs.declared.faults.JobFault.{JobFault}
 use Rattle.jobs.proofs.Told.{YesLaw, NoLaw}
 
@@ -28,13 +29,15 @@ use Rattle.jobs.proofs.Told.{YesLaw, NoLaw}
 yes_explained : (lines : List ℕ) (n : ℕ) → IsJudged lines (Yes n) → IsExplained lines (Allowed n)
 yes_explained lines n j = record { history = j.history; read = j.read; suits = j.suits; finds = j.judged }
 
-explained_yes : (lines : List ℕ) (n : ℕ) → IsExplained lines (Allowed n) → IsJudged lines (Yes n)
-explained_yes lines n e = record { history = e.history; read = e.read; suits = e.suits; judged = e.finds }
+pub explained_judged : (lines : List ℕ) (found : Finding) → IsExplained lines found → IsJudged lines (verdict_of found)
+explained_judged lines found e =
+    let judged = found_judged (first_state e.history.config) e.history.events found e.finds in
+    record { history = e.history; read = e.read; suits = e.suits; judged = judged }
 
 pub followed_yes : YesLaw → (text : List ℕ) (left : Reader) (n : ℕ)
     → IsFinding text left (Ok (Allowed n)) ↔ (IsAtEnd left.left × IsTextOfRun (whole_lines text) n)
 followed_yes law text left n = (
-  λ found. (found.0, (law (whole_lines text) n).0 (explained_yes (whole_lines text) n found.1)),
+  λ found. (found.0, (law (whole_lines text) n).0 (explained_judged (whole_lines text) (Allowed n) found.1)),
   λ run. (run.0, yes_explained (whole_lines text) n ((law (whole_lines text) n).1 run.1)),
 )
 
@@ -91,7 +94,7 @@ told_yes_text false n = refl
 told_yes_text true n = refl
 
 -- the status says which
-yes_by : YesLaw → (outcome : Result Finding JobFault) (explained : Bool) (given left : Reader) (old new err told : Writer)
+pub yes_by : YesLaw → (outcome : Result Finding JobFault) (explained : Bool) (given left : Reader) (old new err told : Writer)
     → EndsFollowed explained given left old new outcome → TellsVerdict err told (judged_by outcome) 0
     → FollowedYes given left old new err told
 yes_by law (Ok (Allowed n)) explained given left old new err told f t =
@@ -99,26 +102,11 @@ yes_by law (Ok (Allowed n)) explained given left old new err told f t =
     (f.0.0, n, (f.0.1, run.0), run.1, subst (λ (l : List ℕ). TookBytes old new l) (told_yes_text explained n) f.1, t.1)
 yes_by law _ explained given left old new err told f t = absurd (let bad = t.0 in omega arith)
 
-pub status_yes : YesLaw → (explained : Bool) (given left : Reader) (old new err told : Writer)
-    → PerformsFollow explained given left old new err told 0 → FollowedYes given left old new err told
-status_yes law explained given left old new err told p = yes_by law p.outcome explained given left old new err told p.follows p.tells
-
-no_by : NoLaw → (outcome : Result Finding JobFault) (explained : Bool) (given left : Reader) (old new err told : Writer)
+pub no_by : NoLaw → (outcome : Result Finding JobFault) (explained : Bool) (given left : Reader) (old new err told : Writer)
     → EndsFollowed explained given left old new outcome → TellsVerdict err told (judged_by outcome) 3
     → FollowedNo explained given left old new err told
 no_by law (Ok (Refused n e g)) explained given left old new err told f t =
     let breaks = f.0.2 in
-    let found = breaks.2.0 in
-    let judged : IsJudged breaks.0 (No n) =
-    record {
-      history = found.history;
-      read = found.read;
-      suits = found.suits;
-      judged = found_judged (first_state found.history.config) found.history.events (Refused n e g) found.finds;
-    } in
+    let judged = explained_judged breaks.0 (Refused n e g) breaks.2.0 in
     (f.0.0, breaks.0, Refused n e g, n, f.0.1, breaks.1, (law breaks.0 n).0 judged, refl, f.1, t.1)
 no_by law _ explained given left old new err told f t = absurd (let bad = t.0 in omega arith)
-
-pub status_no : NoLaw → (explained : Bool) (given left : Reader) (old new err told : Writer)
-    → PerformsFollow explained given left old new err told 3 → FollowedNo explained given left old new err told
-status_no law explained given left old new err told p = no_by law p.outcome explained given left old new err told p.follows p.tells

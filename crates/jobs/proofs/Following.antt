@@ -24,6 +24,7 @@ use Rattle.script_text.specs.declared.fault.ReadFault.{ReadFault}
 use Rattle.script_text.specs.declared.fault.ReadFault.TheVariants as reads
 use Rattle.script_text.proofs.BothWays.Extended.{head_taken, head_wrong, event_taken, event_wrong, whole_of_record, whole_of_none}
 use Rattle.jobs.specs.Explanations.{IsExplained}
+use Rattle.jobs.proofs.OneByOne.{stands_behind}
 use Rattle.jobs.specs.Followed.{IsWrongAlready, FindsBy}
 use Rattle.job_ends.specs.declared.faults.JobFault.TheVariants as faults
 use Rattle.job_ends.specs.declared.faults.JudgeFault.TheVariants as judges
@@ -110,11 +111,6 @@ found_yes c j start first now next waits left n suits f ended given head gives r
       ),
     )
 
--- the last of some events
-last_there : (es : List Event) (e : Event) → slice_get (es ++ e ∷ []) (length es) ≡ Some e
-last_there [] e = refl
-last_there (x ∷ es) e = last_there es e
-
 -- the event may not follow those before it
 pub found_no : (c : Config) (j k : Judging) (start : Reader) (first : List ℕ) (now next : Reader) (waits left : List ℕ) (n : ℕ) (e : Event)
     (told : Given) → Suits c → IsFollowing c j start first now waits n → IsNext (event_line_of n c) waits left now next (Ok (Some e)) →
@@ -135,7 +131,7 @@ found_no c j k start first now next waits left n e told suits f taken refused gi
       finds = (
         omega arith,
         ap (slice_get (f.es ++ e ∷ [])) last
-            ∙ last_there f.es e,
+            ∙ stands_behind f.es [] e,
         subst (λ (xs : List Event). Refuses (first_state c) xs e told) (sym before) why,
       );
     } in

@@ -1,8 +1,8 @@
 -- No text gets two verdicts.
-use Rattle.std.proofs.Common.{◌≡◌, ◌-◌, ◌<◌, ◌≤◌, ◌∷◌, ◌∙◌}
-use Rattle.std.proofs.Common.{ℕ, zero, suc, inl, inr, List, [], length, take, slice_get, Some, Result, Ok, refl, sym, ap, subst, arith}
+use Rattle.std.proofs.Common.{◌≡◌, ◌-◌, ◌<◌, ◌∷◌, ◌∙◌}
+use Rattle.std.proofs.Common.{ℕ, zero, suc, inl, inr, List, [], length, take, slice_get, Some, sym, ap, subst, arith}
 use Rattle.std.proofs.lemmas.Bool.{cases_order}
-use Rattle.std.proofs.lemmas.List.{length-take-le}
+use Rattle.std.proofs.lemmas.List.{length-take-le, take-take}
 use Rattle.heap_steps.specs.Actors.{EventList}
 use Rattle.graph_runs.specs.State.{State, first_state}
 use Rattle.graph_runs.specs.Run.{IsRun, BreaksAt}
@@ -10,18 +10,11 @@ use Rattle.object_graph.specs.Judged.{Judged}
 use Rattle.heap_steps.specs.declared.step.Event.{Event}
 use Rattle.object_graph.specs.declared.judge.Verdict.{Verdict}
 use Rattle.object_graph.specs.declared.judge.Verdict.TheVariants.{Yes, No}
-use Rattle.script_text.specs.declared.fault.LineFault.{LineFault}
 use Rattle.jobs.specs.Verdicts.{IsJudged}
 
 -- no events are both a run and broken
 abbrev pub NeverBoth : Type 0
 NeverBoth = (first last : State) (es : List Event) (n : ℕ) → IsRun first es last → BreaksAt first es n → ⊥
-
-take_fewer : (es : List Event) (k j : ℕ) → k ≤ j → take k (take j es) ≡ take k es
-take_fewer es zero j le = refl
-take_fewer es (suc k) zero le = absurd (omega arith)
-take_fewer [] (suc k) (suc j) le = refl
-take_fewer (e ∷ es) (suc k) (suc j) le = ap (λ (l : List Event). e ∷ l) (take_fewer es k j (omega arith))
 
 -- what is in a beginning of events is in them
 back : (es : List Event) (k j : ℕ) (e : Event) → slice_get (take j es) k ≡ Some e → slice_get es k ≡ Some e
@@ -36,7 +29,7 @@ not_later never first es m n lt a b =
     let from = a.positive in
     let within = b.within in
     let len : length (take (n - 1) es) ≡ n - 1 = length-take-le (n - 1) es (omega arith) in
-    let fewer : take (m - 1) (take (n - 1) es) ≡ take (m - 1) es = take_fewer es (m - 1) (n - 1) (omega arith) in
+    let fewer : take (m - 1) (take (n - 1) es) ≡ take (m - 1) es = take-take (m - 1) (n - 1) es (omega arith) in
     never first b.before (take (n - 1) es) m b.run (record {
       positive = a.positive;
       within = omega arith;
@@ -45,28 +38,18 @@ not_later never first es m n lt a b =
       stops = λ e is after happens. a.stops e (back es (m - 1) (n - 1) e is) after happens;
     })
 
-one_number : NeverBoth → (first : State) (es : List Event) (m n : ℕ) → BreaksAt first es m → BreaksAt first es n → m ≡ n
-one_number never first es m n a b = elim (cases_order m n) [
-  | inl same ↦ same
-  | inr less ↦ elim less [ inl lt ↦ absurd (not_later never first es m n lt a b) | inr lt ↦ absurd (not_later never first es n m lt b a) ]
-]
-
 one_verdict : NeverBoth → (first : State) (es : List Event) (a b : Verdict) → Judged first es a → Judged first es b → a ≡ b
 one_verdict never first es (Yes m) (Yes n) a b = ap Yes (a.0 ∙ sym b.0)
 one_verdict never first es (Yes m) (No n) a b = absurd (never first a.1 es n a.2 b)
 one_verdict never first es (No m) (Yes n) a b = absurd (never first b.1 es m b.2 a)
-one_verdict never first es (No m) (No n) a b = ap No (one_number never first es m n a b)
-
-found : EventList → Result EventList LineFault
-found r = Ok r
-
-same_record : (p q : EventList) → found p ≡ found q → p ≡ q
-unfolding found
-same_record p q e = cc
+one_verdict never first es (No m) (No n) a b = elim (cases_order m n) [
+  | inl same ↦ ap No same
+  | inr less ↦ elim less [ inl lt ↦ absurd (not_later never first es m n lt a b) | inr lt ↦ absurd (not_later never first es n m lt b a) ]
+]
 
 pub once : NeverBoth → (input : List ℕ) (a b : Verdict) → IsJudged input a → IsJudged input b → a ≡ b
-unfolding found
 once never input a b p q =
-    let same : p.history ≡ q.history = same_record p.history q.history (sym p.read ∙ q.read) in
+    let both = sym p.read ∙ q.read in
+    let same : p.history ≡ q.history = cc in
     one_verdict never (first_state p.history.config) p.history.events a b p.judged
     (subst (λ (r : EventList). Judged (first_state r.config) r.events b) (sym same) q.judged)

@@ -34,7 +34,7 @@ goes_on c all j k left after e n w first same told = record {
 }
 
 -- the event after some
-stands_behind : (es after : List Event) (e : Event) → slice_get (es ++ e ∷ after) (length es) ≡ Some e
+pub stands_behind : (es after : List Event) (e : Event) → slice_get (es ++ e ∷ after) (length es) ≡ Some e
 stands_behind [] after e = refl
 stands_behind (d ∷ es) after e = stands_behind es after e
 

@@ -4,7 +4,7 @@ use Rattle.object_graph.specs.declared.judge.Verdict.{Verdict}
 use Rattle.object_graph.specs.declared.judge.Verdict.TheVariants.{Yes, No}
 use Rattle.script_text.specs.Watched.{Reader, Writer}
 use Rattle.job_ends.specs.declared.faults.JobFault.{JobFault}
-use Rattle.jobs.specs.Verdicts.{IsJudged, Judges, TellsVerdict, PerformsCheck, IsTextOfRun, IsTextBrokenAt, ToldYes, ToldNo}
+use Rattle.jobs.specs.Verdicts.{IsJudged, Judges, TellsVerdict, IsTextOfRun, IsTextBrokenAt, ToldYes, ToldNo}
 
 -- which texts get yes, and which get no
 abbrev pub YesLaw : Type 0
@@ -13,20 +13,12 @@ YesLaw = (input : List ℕ) (n : ℕ) → IsJudged input (Yes n) ↔ IsTextOfRun
 abbrev pub NoLaw : Type 0
 NoLaw = (input : List ℕ) (n : ℕ) → IsJudged input (No n) ↔ IsTextBrokenAt input n
 
-yes_by : YesLaw → (outcome : Result Verdict JobFault) (given left : Reader) (old new err told : Writer) → Judges given left old new outcome
+pub yes_by : YesLaw → (outcome : Result Verdict JobFault) (given left : Reader) (old new err told : Writer) → Judges given left old new outcome
     → TellsVerdict err told outcome 0 → ToldYes given left old new err told
 yes_by law (Ok (Yes n)) given left old new err told j t = (j.0, n, j.1, (law j.0 n).0 j.2.0, j.2.1, t.1)
 yes_by law _ given left old new err told j t = absurd (let bad = t.0 in omega arith)
 
-pub told_yes : YesLaw → (given left : Reader) (old new err told : Writer) → PerformsCheck given left old new err told 0
-    → ToldYes given left old new err told
-told_yes law given left old new err told p = yes_by law p.outcome given left old new err told p.judges p.tells
-
-no_by : NoLaw → (outcome : Result Verdict JobFault) (given left : Reader) (old new err told : Writer) → Judges given left old new outcome
+pub no_by : NoLaw → (outcome : Result Verdict JobFault) (given left : Reader) (old new err told : Writer) → Judges given left old new outcome
     → TellsVerdict err told outcome 3 → ToldNo given left old new err told
 no_by law (Ok (No n)) given left old new err told j t = (j.0, n, j.1, (law j.0 n).0 j.2.0, j.2.1, t.1)
 no_by law _ given left old new err told j t = absurd (let bad = t.0 in omega arith)
-
-pub told_no : NoLaw → (given left : Reader) (old new err told : Writer) → PerformsCheck given left old new err told 3
-    → ToldNo given left old new err told
-told_no law given left old new err told p = no_by law p.outcome given left old new err told p.judges p.tells

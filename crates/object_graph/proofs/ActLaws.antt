@@ -17,9 +17,10 @@ within-none objects at none = grind (arith, nat_tests)
 within-some : (objects : List Object) (at place : ℕ) → within objects at ≡ Some place → (at ≡ place) × (place < length objects)
 within-some objects at place some = grind (arith, nat_tests)
 
-on_no_name : (g : Graph) (root : Option ℕ) (f : ℕ → Object → Outcome) → index_of g root ≡ None → refused g refusals.Nil ≡ on_name g root f
-on_no_name g None f none = refl
-on_no_name g (Some name) f none =
+-- Where a root names no object.
+pub no_object : (g : Graph) (root : Option ℕ) (f : ℕ → Object → Outcome) → index_of g root ≡ None → refused g refusals.Nil ≡ on_name g root f
+no_object g None f none = refl
+no_object g (Some name) f none =
     ap (λ (o : Option Object). on_contents g o (f name))
     (sym (slice_get_past g.objects (name - g.first_name) (within-none g.objects (name - g.first_name) none)))
 
@@ -56,11 +57,6 @@ on_changed g (Some name) place i fields change at lt =
     ap (λ (k : ℕ). (replies.Done, record g { objects = slice_set g.objects k (change x) })) (sym in_place.0)
     ∙ on_field_there g (fields x) i (replies.Done, with_changed g name (change x)) lt
     ∙ on_place g (Some name) place (λ y. on_field g (slice_get (fields y) i) (λ old. (replies.Done, with_changed g name (change y)))) at
-
--- Where a mutator's register names no object.
-pub no_object : (g : Graph) (m : ℕ) (r : Register) (f : ℕ → Object → Outcome)
-    → index_of g (root_at g (register_place g.places m r.number)) ≡ None → refused g refusals.Nil ≡ on_object g m r f
-no_object g m r f none = on_no_name g (root_at g (register_place g.places m r.number)) f none
 
 -- Where it names the object in a place.
 pub the_object : (v g : Graph) (m : ℕ) (r : Register) (place : ℕ) (f : Object → Outcome) → v ≡ g

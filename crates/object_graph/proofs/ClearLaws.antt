@@ -1,6 +1,6 @@
 -- Clearing slot after slot, and object after object, clears them all.
 use Rattle.std.proofs.Common.{◌≡◌, ◌+◌, ◌<◌, ◌∷◌, ◌++◌, ◌∙◌}
-use Rattle.std.proofs.Common.{ℕ, zero, suc, List, [], Option, Some, slice_get, length, get_or, set, map, take, drop, refl, sym, ap}
+use Rattle.std.proofs.Common.{ℕ, zero, suc, List, [], Option, Some, slice_get, length, set, map, take, drop, refl, sym, ap}
 use Rattle.std.proofs.lemmas.List.{get_or-set_same}
 use Rattle.std.proofs.lemmas.List.Edits.{map_over_more}
 use Rattle.std.proofs.lemmas.Option.{get_or_from_slice_get, slice_get-get_or}
@@ -32,17 +32,12 @@ pub part_more : (f : Option ℕ → Option ℕ) (old cur new : List Object) (pla
     → new ≡ set cur place (record (object_in cur place) { weaks = set (object_in cur place).weaks slot value })
     → new ≡ cleared_in f old place (slot + 1)
 part_more f old cur new place slot was value inside field is there given made =
-    let now : object_in cur place ≡ cleared_part f slot (object_in old place) = part_at f old cur place slot inside is in
-    let weaks : (object_in cur place).weaks ≡ map f (take slot (object_in old place).weaks) ++ drop slot (object_in old place).weaks =
-    ap (λ (x : Object). x.weaks) now in
-    let read : was ≡ get_or (object_in cur place).weaks slot was =
-    sym (get_or_from_slice_get (object_in cur place).weaks slot was was there) in
-    let more : set (object_in cur place).weaks slot (f was) ≡ map f (take (slot + 1) (object_in old place).weaks) ++ drop (slot + 1)
-    (object_in old place).weaks = map_over_more f (object_in old place).weaks (object_in cur place).weaks slot was field weaks read in
-    let changed : record (object_in cur place) { weaks = set (object_in cur place).weaks slot value } ≡ cleared_part f (slot + 1)
-    (object_in old place) =
-    same_but (object_in cur place) (object_in old place) (ap (λ (x : Object). x.pointers) now) (ap (λ (x : Object). x.values) now)
-    (ap (λ (v : Option ℕ). set (object_in cur place).weaks slot v) given ∙ more) in
+    let now = part_at f old cur place slot inside is in
+    let weaks = ap (λ (x : Object). x.weaks) now in
+    let read = sym (get_or_from_slice_get (object_in cur place).weaks slot was was there) in
+    let more = map_over_more f (object_in old place).weaks (object_in cur place).weaks slot was field weaks read in
+    let changed = same_but (object_in cur place) (object_in old place) (ap (λ (x : Object). x.pointers) now)
+    (ap (λ (x : Object). x.values) now) (ap (λ (v : Option ℕ). set (object_in cur place).weaks slot v) given ∙ more) in
     made ∙ ap (λ (x : Object). set cur place x) changed
     ∙ ap (λ (xs : List Object). set xs place (cleared_part f (slot + 1) (object_in old place))) is
     ∙ set-set old place (cleared_part f slot (object_in old place)) (cleared_part f (slot + 1) (object_in old place))
@@ -56,8 +51,7 @@ pub object_more : (f : Object → Object) (old cur new : List Object) (place : �
     → cur ≡ map f (take place old) ++ drop place old → new ≡ set cur place (f (object_in cur place))
     → new ≡ map f (take (place + 1) old) ++ drop (place + 1) old
 object_more f old cur new place inside there is made =
-    let read : object_in cur place ≡ get_or cur place (object_in cur place) =
-    sym (get_or_from_slice_get cur place (object_in cur place) (object_in cur place) (slice_get-get_or cur place _ there)) in
+    let read = sym (get_or_from_slice_get cur place (object_in cur place) (object_in cur place) (slice_get-get_or cur place _ there)) in
     made ∙ map_over_more f old cur place (object_in cur place) inside is read
 
 pub objects_length : (f : Object → Object) (old cur : List Object) (place : ℕ) → cur ≡ map f (take place old) ++ drop place old

@@ -113,9 +113,8 @@ objects_behind : (es : List Entry) (from end p x : ℕ) (words : List ℕ) → A
 objects_behind [] from end p x words turn lt = refl
 objects_behind (e ∷ es) from end p x words turn lt =
     let start = turn.0 in
-    let head : object_at (set words p x) e ≡ object_at words e = object_behind words e p x (omega arith) in
-    let tail : objects_in (set words p x) es ≡ objects_in words es =
-    objects_behind es (from + e.pointers + weaks_of e + e.values) end p x words turn.1 (omega arith) in
+    let head = object_behind words e p x (omega arith) in
+    let tail = objects_behind es (from + e.pointers + weaks_of e + e.values) end p x words turn.1 (omega arith) in
     cc
 
 -- a word of one object changes no other
@@ -130,11 +129,9 @@ objects_set (e ∷ es) from end zero p x d words turn lt low high =
     (objects_behind es (from + e.pointers + weaks_of e + e.values) end p x words turn.1 (omega arith))
 objects_set (e ∷ es) from end (suc i) p x d words turn lt low high =
     let start = turn.0 in
-    let least : from + e.pointers + weaks_of e + e.values ≤ start_of (get_or es i d) =
-    turn_from es (from + e.pointers + weaks_of e + e.values) end i d turn.1 (omega arith) in
-    let head : object_at (set words p x) e ≡ object_at words e = object_before words e p x (omega arith) in
-    let tail : objects_in (set words p x) es ≡ set (objects_in words es) i (object_at (set words p x) (get_or es i d)) =
-    objects_set es (from + e.pointers + weaks_of e + e.values) end i p x d words turn.1 (omega arith) low high in
+    let least = turn_from es (from + e.pointers + weaks_of e + e.values) end i d turn.1 (omega arith) in
+    let head = object_before words e p x (omega arith) in
+    let tail = objects_set es (from + e.pointers + weaks_of e + e.values) end i p x d words turn.1 (omega arith) low high in
     cc
 
 objects_more : (es : List Entry) (from end : ℕ) (words more : List ℕ) → AreInTurn es from end → end ≤ length words
@@ -143,9 +140,8 @@ objects_more [] from end words more turn le = refl
 objects_more (e ∷ es) from end words more turn le =
     let start = turn.0 in
     let rest = turn_ends es (from + e.pointers + weaks_of e + e.values) end turn.1 in
-    let head : object_at (words ++ more) e ≡ object_at words e = object_more words more e (omega arith) in
-    let tail : objects_in (words ++ more) es ≡ objects_in words es =
-    objects_more es (from + e.pointers + weaks_of e + e.values) end words more turn.1 le in
+    let head = object_more words more e (omega arith) in
+    let tail = objects_more es (from + e.pointers + weaks_of e + e.values) end words more turn.1 le in
     cc
 
 -- what an entry tells of the object in its place
@@ -213,11 +209,9 @@ pub word_set : (words : List ℕ) (es : List Entry) (objects : List Object) (i p
     → objects_in (set words p x) es ≡ set objects i (object_at (set words p x) e)
 word_set words es objects i p x e view turn inside is low high =
     let lt : i < length es = omega (arith, ap length view, length-map es (object_at words)) in
-    let least : start_of (get_or es i e) ≤ p = subst (λ (y : Entry). start_of y ≤ p) is low in
-    let most : p < start_of (get_or es i e) + (get_or es i e).pointers + weaks_of (get_or es i e) + (get_or es i e).values =
-    subst (λ (y : Entry). p < start_of y + y.pointers + weaks_of y + y.values) is high in
-    let changed : objects_in (set words p x) es ≡ set (objects_in words es) i (object_at (set words p x) (get_or es i e)) =
-    objects_set es 0 (length words) i p x e words turn lt least most in
+    let least = subst (λ (y : Entry). start_of y ≤ p) is low in
+    let most = subst (λ (y : Entry). p < start_of y + y.pointers + weaks_of y + y.values) is high in
+    let changed = objects_set es 0 (length words) i p x e words turn lt least most in
     changed ∙ ap (λ (y : Entry). set (objects_in words es) i (object_at (set words p x) y)) (sym is)
     ∙ ap (λ (xs : List Object). set xs i (object_at (set words p x) e)) view
 
@@ -231,16 +225,10 @@ pub pointer_set : (words : List ℕ) (es : List Entry) (objects : List Object) (
     → objects_in (set words (start_of e + k) x) es ≡ set objects i
     (record (object_in objects i) { pointers = set (object_in objects i).pointers k (pointer_of x) })
 pointer_set words es objects i k x e view turn inside is entry field =
-    let changed : objects_in (set words (start_of e + k) x) es ≡ set objects i (object_at (set words (start_of e + k) x) e) =
-    word_set words es objects i (start_of e + k) x e view turn inside is (omega arith) (omega arith) in
-    let one : map pointer_of (take e.pointers (drop (start_of e) (set words (start_of e + k) x))) ≡ set
-    (map pointer_of (take e.pointers (drop (start_of e) words))) k (pointer_of x) = slots_set words (start_of e) e.pointers k x in
-    let two : map pointer_of (take (weaks_of e) (drop (start_of e + e.pointers) (set words (start_of e + k) x))) ≡ map pointer_of
-    (take (weaks_of e) (drop (start_of e + e.pointers) words)) =
-    ap (map pointer_of) (part_set_before words (start_of e + e.pointers) (weaks_of e) (start_of e + k) x (omega arith)) in
-    let three : take e.values (drop (start_of e + e.pointers + weaks_of e) (set words (start_of e + k) x)) ≡ take e.values
-    (drop (start_of e + e.pointers + weaks_of e) words) =
-    part_set_before words (start_of e + e.pointers + weaks_of e) e.values (start_of e + k) x (omega arith) in
+    let changed = word_set words es objects i (start_of e + k) x e view turn inside is (omega arith) (omega arith) in
+    let one = slots_set words (start_of e) e.pointers k x in
+    let two = ap (map pointer_of) (part_set_before words (start_of e + e.pointers) (weaks_of e) (start_of e + k) x (omega arith)) in
+    let three = part_set_before words (start_of e + e.pointers + weaks_of e) e.values (start_of e + k) x (omega arith) in
     let old = entry.object in
     cc
 
@@ -249,18 +237,10 @@ pub weak_set : (words : List ℕ) (es : List Entry) (objects : List Object) (i k
     → objects_in (set words (start_of e + e.pointers + k) x) es ≡ set objects i
     (record (object_in objects i) { weaks = set (object_in objects i).weaks k (pointer_of x) })
 weak_set words es objects i k x e view turn inside is entry field =
-    let changed : objects_in (set words (start_of e + e.pointers + k) x) es ≡ set objects i
-    (object_at (set words (start_of e + e.pointers + k) x) e) =
-    word_set words es objects i (start_of e + e.pointers + k) x e view turn inside is (omega arith) (omega arith) in
-    let one : map pointer_of (take e.pointers (drop (start_of e) (set words (start_of e + e.pointers + k) x))) ≡ map pointer_of
-    (take e.pointers (drop (start_of e) words)) =
-    ap (map pointer_of) (part_set_behind words (start_of e) e.pointers (start_of e + e.pointers + k) x (omega arith)) in
-    let two : map pointer_of (take (weaks_of e) (drop (start_of e + e.pointers) (set words (start_of e + e.pointers + k) x))) ≡ set
-    (map pointer_of (take (weaks_of e) (drop (start_of e + e.pointers) words))) k (pointer_of x) =
-    slots_set words (start_of e + e.pointers) (weaks_of e) k x in
-    let three : take e.values (drop (start_of e + e.pointers + weaks_of e) (set words (start_of e + e.pointers + k) x)) ≡ take e.values
-    (drop (start_of e + e.pointers + weaks_of e) words) =
-    part_set_before words (start_of e + e.pointers + weaks_of e) e.values (start_of e + e.pointers + k) x (omega arith) in
+    let changed = word_set words es objects i (start_of e + e.pointers + k) x e view turn inside is (omega arith) (omega arith) in
+    let one = ap (map pointer_of) (part_set_behind words (start_of e) e.pointers (start_of e + e.pointers + k) x (omega arith)) in
+    let two = slots_set words (start_of e + e.pointers) (weaks_of e) k x in
+    let three = part_set_before words (start_of e + e.pointers + weaks_of e) e.values (start_of e + e.pointers + k) x (omega arith) in
     let old = entry.object in
     cc
 
@@ -269,20 +249,13 @@ pub value_set : (words : List ℕ) (es : List Entry) (objects : List Object) (i 
     → objects_in (set words (start_of e + e.pointers + weaks_of e + k) x) es ≡ set objects i
     (record (object_in objects i) { values = set (object_in objects i).values k x })
 value_set words es objects i k x e view turn inside is entry field =
-    let p = start_of e + e.pointers + weaks_of e + k in
-    let changed : objects_in (set words (start_of e + e.pointers + weaks_of e + k) x) es ≡ set objects i
-    (object_at (set words (start_of e + e.pointers + weaks_of e + k) x) e) =
-    word_set words es objects i (start_of e + e.pointers + weaks_of e + k) x e view turn inside is (omega arith) (omega arith) in
-    let one : map pointer_of (take e.pointers (drop (start_of e) (set words (start_of e + e.pointers + weaks_of e + k) x)))
-    ≡ map pointer_of (take e.pointers (drop (start_of e) words)) =
-    ap (map pointer_of) (part_set_behind words (start_of e) e.pointers (start_of e + e.pointers + weaks_of e + k) x (omega arith)) in
-    let two : map pointer_of (take (weaks_of e) (drop (start_of e + e.pointers) (set words (start_of e + e.pointers + weaks_of e + k) x)))
-    ≡ map pointer_of (take (weaks_of e) (drop (start_of e + e.pointers) words)) =
-    ap (map pointer_of) (part_set_behind words (start_of e + e.pointers) (weaks_of e) (start_of e + e.pointers + weaks_of e + k) x
+    let changed = word_set words es objects i (start_of e + e.pointers + weaks_of e + k) x e view turn inside is (omega arith)
+    (omega arith) in
+    let one = ap (map pointer_of) (part_set_behind words (start_of e) e.pointers (start_of e + e.pointers + weaks_of e + k) x
     (omega arith)) in
-    let three : take e.values (drop (start_of e + e.pointers + weaks_of e) (set words (start_of e + e.pointers + weaks_of e + k) x)) ≡ set
-    (take e.values (drop (start_of e + e.pointers + weaks_of e) words)) k x =
-    part_set words (start_of e + e.pointers + weaks_of e) e.values k x in
+    let two = ap (map pointer_of) (part_set_behind words (start_of e + e.pointers) (weaks_of e) (start_of e + e.pointers + weaks_of e + k)
+    x (omega arith)) in
+    let three = part_set words (start_of e + e.pointers + weaks_of e) e.values k x in
     let old = entry.object in
     cc
 
@@ -291,15 +264,11 @@ pub object_push : (words : List ℕ) (es : List Entry) (n : ℕ) (e : Entry) →
     → objects_in (words ++ replicate n 0) (es ++ e ∷ []) ≡ objects_in words es
     ++ record { pointers = replicate e.pointers None; weaks = replicate (weaks_of e) None; values = replicate e.values 0 } ∷ []
 object_push words es n e turn start is =
-    let older : objects_in (words ++ replicate n 0) es ≡ objects_in words es =
-    objects_more es 0 (length words) words (replicate n 0) turn (omega arith) in
-    let one : map pointer_of (take e.pointers (drop (start_of e) (words ++ replicate n 0))) ≡ replicate e.pointers None =
-    ap (map pointer_of) (part_zeros words (start_of e) 0 n e.pointers (omega arith) (omega arith)) ∙ map-zeros e.pointers in
-    let two : map pointer_of (take (weaks_of e) (drop (start_of e + e.pointers) (words ++ replicate n 0))) ≡ replicate (weaks_of e) None =
-    ap (map pointer_of) (part_zeros words (start_of e + e.pointers) e.pointers n (weaks_of e) (omega arith) (omega arith))
+    let older = objects_more es 0 (length words) words (replicate n 0) turn (omega arith) in
+    let one = ap (map pointer_of) (part_zeros words (start_of e) 0 n e.pointers (omega arith) (omega arith)) ∙ map-zeros e.pointers in
+    let two = ap (map pointer_of) (part_zeros words (start_of e + e.pointers) e.pointers n (weaks_of e) (omega arith) (omega arith))
     ∙ map-zeros (weaks_of e) in
-    let three : take e.values (drop (start_of e + e.pointers + weaks_of e) (words ++ replicate n 0)) ≡ replicate e.values 0 =
-    part_zeros words (start_of e + e.pointers + weaks_of e) (e.pointers + weaks_of e) n e.values (omega arith) (omega arith) in
+    let three = part_zeros words (start_of e + e.pointers + weaks_of e) (e.pointers + weaks_of e) n e.values (omega arith) (omega arith) in
     let push = map_push (object_at (words ++ replicate n 0)) es e in
     cc
 
@@ -317,6 +286,9 @@ pub record IsLast (e : Entry) (was p w d : ℕ) : Type 0 where
   pub pointers : e.pointers ≡ p
   pub weaks : weaks_of e ≡ w
   pub values : e.values ≡ d
+
+pub is_last : {was p w d : ℕ} (e : Entry) → start_of e ≡ was → e.pointers ≡ p → weaks_of e ≡ w → e.values ≡ d → IsLast e was p w d
+is_last e start pointers weaks values = record { start = start; pointers = pointers; weaks = weaks; values = values }
 
 pub pushed : (words new : List ℕ) (es after : List Entry) (objects : List Object) (was end p w d : ℕ) (e : Entry)
     → objects_in words es ≡ objects → AreInTurn es 0 (length words) → was ≡ length words → IsLast e was p w d → end ≡ was + p + w + d

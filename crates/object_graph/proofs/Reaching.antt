@@ -6,11 +6,11 @@ use Rattle.std.proofs.Common.{ap, subst, inl, inr, arith}
 use Rattle.std.specs.Prelude.{slice_get, slice_set, slice_index_or, replicate, reverse, IfOk}
 use Rattle.std.proofs.Math.Dec.{leb}
 use Rattle.std.proofs.lemmas.Bool.{cases_lt, cases_eq, leb-true, leb-false, le-leb}
-use Rattle.std.proofs.lemmas.Option.{get_or_from_slice_get, slice_get_past}
+use Rattle.std.proofs.lemmas.Option.{get_or_from_slice_get, slice_get_past, slice_get_within}
 use Rattle.heap_model.specs.Graph.{Graph, Object, object_named, next_name, IsReachable, FromRoot, FromObject}
 use Rattle.heap_model.specs.Weak.{AreReached, Clears, cleared_graph}
 use Rattle.heap_model.proofs.Cleared.{cleared_by}
-use Rattle.std.proofs.lemmas.List.{reverse-append, reverse-reverse}
+use Rattle.std.proofs.lemmas.List.{length-replicate, reverse-append, reverse-reverse}
 use Rattle.heap_model.proofs.Lists.{get_kept-set, get-set_same, get-set_other, get-push_last, get-push_cases, get-append_cases}
 use Rattle.heap_model.proofs.Lists.{get-append_left, get-append_right, length-set, length-push}
 use Rattle.heap_model.proofs.Changed.{named_at, at_least}
@@ -44,11 +44,6 @@ get_none : (n p : ℕ) → slice_get (replicate n false) p ≡ Some true → ⊥
 get_none zero p e = cc
 get_none (suc n) zero e = cc
 get_none (suc n) (suc p) e = get_none n p e
-
-get_in : {A : Type 0} (xs : List A) (i : ℕ) (x : A) → slice_get xs i ≡ Some x → i < length xs
-get_in [] i x e = cc
-get_in (y ∷ xs) zero x e = omega arith
-get_in (y ∷ xs) (suc i) x e = let k = get_in xs i x e in omega arith
 
 there_is : {A : Type 0} (xs : List A) (i : ℕ) → i < length xs → (x : A) × (slice_get xs i ≡ Some x)
 there_is [] i k = absurd (omega arith)
@@ -84,17 +79,13 @@ Keeps s t = (p : ℕ) → slice_get s.flags p ≡ Some true → slice_get t.flag
 pub begins : (g : Graph) → Grows g (record { first_name = g.first_name; flags = replicate (length g.objects) false; queue = [] }) 0
 begins g = record {
   first = refl;
-  size = length_of (length g.objects);
+  size = length-replicate (length g.objects) false;
   count = sym (count_none (length g.objects));
   at = omega arith;
   only = λ p e. absurd (get_none (length g.objects) p e);
   waits = λ p e. absurd (get_none (length g.objects) p e);
   queued = λ k p e. cc;
 }
-  where
-    length_of : (n : ℕ) → length (replicate n false) ≡ n
-    length_of zero = refl
-    length_of (suc n) = ap suc (length_of n)
 
 abbrev set_at : Search → ℕ → Search
 set_at s p = record s { flags = slice_set s.flags p true; queue = s.queue ++ p ∷ [] }
@@ -170,10 +161,6 @@ find_on g s i n true e name grows r =
       ),
     )
 
-pub find_name : (g : Graph) (s : Search) (i n : ℕ) → IsNameOf g n → Grows g s i → IsReachable g n
-    → Finds g s (found s (Some n)) i × IsOn g.first_name (found s (Some n)).flags n
-find_name g s i n name grows r = find_on g s i n (leb s.first_name n) refl name grows r
-
 -- the names of a list are all found
 pub record FindsAll (g : Graph) (s t : Search) (i : ℕ) (vs : List (Option ℕ)) : Type 0 where
   pub finds : Finds g s t i
@@ -191,7 +178,7 @@ find_all g s i (None ∷ vs) grows each =
     later zero n e rest = cc
     later (suc j) n e rest = rest.all j n e
 find_all g s i (Some a ∷ vs) grows each =
-    let now = find_name g s i a (each 0 a refl).0 grows (each 0 a refl).1 in
+    let now = find_on g s i a (leb s.first_name a) refl (each 0 a refl).0 grows (each 0 a refl).1 in
     let rest = find_all g (found s (Some a)) i vs now.0.grows (λ j n e. each (suc j) n e) in
     record {
       finds = record { grows = rest.finds.grows; keeps = λ p e. rest.finds.keeps p (now.0.keeps p e) };
@@ -229,8 +216,8 @@ look_grows g holds s i p x grows next at =
       size = after.size;
       count = after.count;
       only = after.only;
-      at = (let bound = get_in s.queue i p next in let q = prefix_kept s x.pointers i p next in
-          get_in (all_found s x.pointers).queue i p q);
+      at = (let bound = slice_get_within s.queue i p next in let q = prefix_kept s x.pointers i p next in
+          slice_get_within (all_found s x.pointers).queue i p q);
       waits = λ q f. elim (after.waits q f) [
         | inl d ↦ inl d
         | inr w ↦ elim (cases_eq w.0 i) [
@@ -269,14 +256,11 @@ pub record Looked (g : Graph) (s : Search) (i : ℕ) : Type 0 where
   pub grows : Grows g s to
   pub why : (to ≡ i) ⊎ ((to ≡ length s.queue) × (to ≤ i))
 
-pub looked_begins : (g : Graph) (s : Search) → Grows g s 0 → Looked g s 0
-looked_begins g s grows = record { to = 0; grows = grows; why = inl refl }
-
 pub looked_on : (g : Graph) → HoldsNames g → (s : Search) (i p : ℕ) (x : Object) → Looked g s i → slice_get s.queue i ≡ Some p
     → slice_get g.objects p ≡ Some x → Looked g (all_found s x.pointers) (suc i)
 looked_on g holds s i p x l next at = elim l.why [
   | inl same ↦ record { to = suc i; grows = look_grows g holds s i p x (subst (Grows g s) same l.grows) next at; why = inl refl }
-  | inr past ↦ absurd (let k = get_in s.queue i p next in let a = past.0 in let b = past.1 in omega arith)
+  | inr past ↦ absurd (let k = slice_get_within s.queue i p next in let a = past.0 in let b = past.1 in omega arith)
 ]
 
 pub looked_past : (g : Graph) (s : Search) (i : ℕ) → Looked g s i → slice_get s.queue i ≡ None → Looked g s (suc i)
@@ -301,7 +285,7 @@ looked_all g s l p e =
     let all : length s.queue ≤ l.to = elim l.why [ inl a ↦ omega arith | inr a ↦ (let b = a.0 in omega arith) ] in
     elim (l.grows.waits p e) [
       | inl done ↦ done
-      | inr w ↦ absurd (let k = get_in s.queue w.0 p w.2 in let low = w.1 in omega arith)
+      | inr w ↦ absurd (let k = slice_get_within s.queue w.0 p w.2 in let low = w.1 in omega arith)
     ]
 
 on_flag : (first : ℕ) (flags : List Bool) (n : ℕ) → IsOn first flags n → flag_of first flags n ≡ true
@@ -367,7 +351,7 @@ looked_by g holds s i l (Some p) e = inside (slice_get g.objects p) refl
   where
     inside : (x : Option Object) → slice_get g.objects p ≡ x → Looked g (looked_in s x) (suc i)
     inside None none = absurd (
-        let k = get_in s.flags p true (l.grows.queued i p e) in
+        let k = slice_get_within s.flags p true (l.grows.queued i p e) in
         let size = l.grows.size in
         let t = there_is g.objects p (omega arith) in
         let e1 = t.1 in cc)
@@ -384,9 +368,6 @@ searched_keeps s objects (suc k) q on = looked_keeps (searched s objects k) obje
     (searched_keeps s objects k q on)
 
 -- after the queue's end no look changes anything
-none_looked : (s : Search) (objects : List Object) (i : ℕ) → length s.queue ≤ i → looked s objects i ≡ s
-none_looked s objects i past = ap (λ (place : Option ℕ). looked_at s objects place) (slice_get_past s.queue i past)
-
 pub searched_past : (s : Search) (objects : List Object) (i k : ℕ) → i ≤ k → length (searched s objects i).queue ≤ i
     → searched s objects k ≡ searched s objects i
 searched_past s objects i zero within past = let e : 0 ≡ i = omega arith in ap (λ (n : ℕ). searched s objects n) e
@@ -394,7 +375,9 @@ searched_past s objects i (suc k) within past = elim (cases_lt k i) [
   | inl low ↦ (let e : suc k ≡ i = omega arith in ap (λ (n : ℕ). searched s objects n) e)
   | inr high ↦ (
       let e = searched_past s objects i k high past in
-      ap (λ (t : Search). looked t objects k) e ∙ none_looked (searched s objects i) objects k (omega arith))
+      ap (λ (t : Search). looked t objects k) e
+      ∙ ap (λ (place : Option ℕ). looked_at (searched s objects i) objects place)
+      (slice_get_past (searched s objects i).queue k (omega arith)))
 ]
 
 -- a list and the same backwards have the same elements
@@ -416,7 +399,8 @@ search_reached : (g : Graph) (ts : List (Option ℕ)) (flags : List Bool) → Ho
     → flags ≡ (searched (all_found (all_found (started g) ts) g.roots) g.objects (length g.objects)).flags
     → AreReached (record g { roots = reverse ts ++ g.roots }) (flag_of g.first_name flags)
 search_reached g ts flags holds is = subst (λ (l : List Bool). AreReached s (flag_of g.first_name l)) (sym is)
-    (flags_reached s last (searched_looked s holds second (looked_begins s second rest.finds.grows) (length g.objects)) roots_on)
+    (flags_reached s last
+    (searched_looked s holds second (record { to = 0; grows = rest.finds.grows; why = inl refl }) (length g.objects)) roots_on)
   where
     s : Graph
     s = record g { roots = reverse ts ++ g.roots }

@@ -4,7 +4,7 @@ use Rattle.std.proofs.Common.{ℕ, Option, Some, None, List, [], take, length, g
 use Rattle.std.proofs.Common.{inr, arith}
 use Rattle.std.specs.Prelude.{IfOk}
 use Rattle.std.proofs.lemmas.List.{take_all, take_more}
-use Rattle.std.proofs.lemmas.Option.{slice_get-get_or}
+use Rattle.std.proofs.lemmas.Option.{slice_get-get_or, slice_get_within}
 use Rattle.heap_words.specs.declared.config.Config.{Config}
 use Rattle.heap_model.specs.Graph.{Graph, RootCounts, next_name}
 use Rattle.heap_model.specs.Weak.{cleared_graph}
@@ -33,13 +33,9 @@ use Rattle.object_graph.specs.declared.judge.Finding.TheVariants as findings
 use Rattle.graph_runs.proofs.Collected.{kind}
 use Rattle.object_graph.proofs.Reaching.{view_reached, cleared_by_flags}
 use Rattle.graph_runs.proofs.RunLaws.{IsRun-more}
-use Rattle.graph_runs.proofs.Sound.{get_in, first_sound, run_sound, run_places}
+use Rattle.graph_runs.proofs.Sound.{first_sound, run_sound, run_places}
 use Rattle.graph_runs.proofs.SinceLaws.{run_since}
 use Rattle.object_graph.proofs.SparingLaws.{follows, allowed, stands_sound}
-
--- what is given for a step does not hang on the snapshot
-pub given_same : (g h : Graph) (k : Step) (given : Given) → g ≡ h → IsGiven g k given → IsGiven h k given
-given_same g h k given e is = subst (λ (x : Graph). IsGiven x k given) e is
 
 -- the judge's state took the event, or tells why not: so of the machine that it stands for
 pub judges_next : (old new : Judging) (es : List Event) (e : Event) (told : Option Given) → new.config ≡ old.config → HasJudged old es
@@ -58,7 +54,7 @@ judges_next old new es e (Some given) same taken h =
       before = st;
       run = taken.1;
       stops = λ after happens. (let next = allowed old.state st after e.step e.reply taken.2 happens in h.0 next.0 next.1);
-      gives = given_same old.state.graph st.graph e.step given taken.2.graph h.1;
+      gives = subst (λ (x : Graph). IsGiven x e.step given) taken.2.graph h.1;
     }
 
 -- the state of a judge that took some events is sound
@@ -69,7 +65,7 @@ judged_sound j es taken = stands_sound j.state taken.0 (run_sound es (first_stat
 pub found_judged : (first : State) (es : List Event) (found : Finding) → Finds first es found → Judged first es (verdict_of found)
 found_judged first es (findings.Allowed n) h = h
 found_judged first es (findings.Refused n e given) h =
-    let inside = get_in es (n - 1) e h.1 in
+    let inside = slice_get_within es (n - 1) e h.1 in
     let positive = h.0 in
     record {
       positive = positive;

@@ -18,7 +18,7 @@ use Rattle.heap_steps.specs.declared.step.Step.{Step}
 use Rattle.heap_steps.specs.declared.step.Step.TheVariants as steps
 use Rattle.heap_steps.specs.declared.step.Reply.{Reply}
 use Rattle.graph_runs.proofs.Collected.{kind}
-use Rattle.graph_runs.proofs.Sound.{get_in}
+use Rattle.std.proofs.lemmas.Option.{slice_get_within}
 use Rattle.graph_runs.proofs.SinceLaws.{op_slots}
 
 -- without weak slots, each holds what you like
@@ -31,7 +31,7 @@ none_slots (y ∷ xs) none zero i x v at e = by_count (nat_lt 0 (length y.weaks)
     by_count true is none = cc
     by_count false is none =
         let here : y ≡ x = cc in
-        let inside : i < length x.weaks = get_in x.weaks i v e in
+        let inside : i < length x.weaks = slice_get_within x.weaks i v e in
         let some : 0 < length y.weaks = subst (λ (z : Object). 0 < length z.weaks) (sym here) (omega arith) in
         let yes : nat_lt 0 (length y.weaks) ≡ true = lt-ltb 0 (length y.weaks) some in cc
 none_slots (y ∷ xs) none (suc k) i x v at e = none_slots xs (rest (nat_lt 0 (length y.weaks)) none) k i x v at e
@@ -109,9 +109,6 @@ pub record Follows (judge old : State) (k : Step) (r : Reply) (next : State) : T
   pub happens : Happens old k r new
   pub stands : StandsFor next new
 
-stays_so : (judge old next : State) → StandsFor judge old → next ≡ judge → StandsFor next old
-stays_so judge old next stands e = subst (λ (t : State). StandsFor t old) (sym e) stands
-
 collects_follow : (judge old next : State) (c : CollectorStep) (r : Reply) → StandsFor judge old → IsCollectorReply c r
     → SparingCollects judge c r next → Follows judge old (steps.Collector c) r next
 collects_follow judge old next c r stands reply h = elim (kind c r) [
@@ -141,7 +138,7 @@ collects_follow judge old next c r stands reply h = elim (kind c r) [
     | inr n ↦ record {
       new = old;
       happens = (reply, (n.0 old old).1 refl);
-      stands = stays_so judge old next stands ((n.1 judge next).0 h);
+      stands = subst (λ (t : State). StandsFor t old) (sym ((n.1 judge next).0 h)) stands;
     }
   ]
 ]
@@ -163,7 +160,7 @@ follows judge old next (steps.Mutator o) r sound since stands (inr h) =
     record {
       new = old;
       happens = inr (subst (λ (g : Graph). Creates g o) stands.graph h.0, h.1, refl);
-      stands = stays_so judge old next stands h.2;
+      stands = subst (λ (t : State). StandsFor t old) (sym h.2) stands;
     }
 follows judge old next (steps.Collector c) r sound since stands h = collects_follow judge old next c r stands h.0 h.1
 

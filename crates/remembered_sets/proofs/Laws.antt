@@ -23,11 +23,6 @@ source_known card w n some h =
     let near : (card / w) * w < n * w = omega arith in
     lt_of_mul-lt-mul_right w near
 
-source_marked : (s : Sets) (region card : ℕ) → AreSets s → region < length s.sets → card < card_count s
-    → card / s.cards_per_region < length (set_of s region).sources
-source_marked s region card shaped known h =
-    omega (arith, source_known card s.cards_per_region (length s.sets) shaped.some_cards h, (shaped.each region no_set known).marks)
-
 -- ---- the cards that entered a set
 pub length-without : (w region : ℕ) (flags : List Bool) → length (without_region w region flags) ≡ length flags
 length-without w region flags = length-map-range_with_len (λ card. if eqb (card / w) region then false else has flags card) 0 (length flags)
@@ -73,17 +68,12 @@ in_region_is w region card some = elim (cases_lt card (region * w)) [
         subst (λ (k : ℕ). card < k * w + w) e r
 
 -- flags that agree are the ones without the region's
-pub without_is : (w region : ℕ) (flags after : List Bool) → length after ≡ length flags
-    → ((card : ℕ) → has after card ≡ (if eqb (card / w) region then false else has flags card)) → after ≡ without_region w region flags
-without_is w region flags after len each =
-    fill_by_all (λ card. if eqb (card / w) region then false else has flags card) after (length flags) false len (λ card h. each card)
-
 pub cleared_by : (w region : ℕ) (flags after : List Bool) → 0 < w → length after ≡ length flags
     → ((card : ℕ) → has after card ≡ (if is_between (region * w) (region * w + w) card then false else has flags card))
     → after ≡ without_region w region flags
 cleared_by w region flags after some len each =
-    without_is w region flags after len
-    (λ card. each card ∙ ap (λ (b : Bool). if b then false else has flags card) (in_region_is w region card some))
+    fill_by_all (λ card. if eqb (card / w) region then false else has flags card) after (length flags) false len
+    (λ card h. each card ∙ ap (λ (b : Bool). if b then false else has flags card) (in_region_is w region card some))
 
 pub own_gone : (w region : ℕ) (flags : List Bool) (card : ℕ) → card / w ≡ region → has (without_region w region flags) card ≡ false
 own_gone w region flags card e = has-without w region flags card ∙ rw (eq-eqb (card / w) region e) refl
@@ -91,9 +81,6 @@ own_gone w region flags card e = has-without w region flags card ∙ rw (eq-eqb 
 pub others_left : (w region : ℕ) (flags : List Bool) (card : ℕ) → card / w ≢ region
     → has (without_region w region flags) card ≡ has flags card
 others_left w region flags card ne = has-without w region flags card ∙ rw (ne_eqb (card / w) region ne) refl
-
-pub entered_here : (s : Sets) (card : ℕ) → AreSets s → card < card_count s → has (set s.entered card true) card ≡ true
-entered_here s card all h = get_or-set_same s.entered card true false (omega (arith, h, all.each_card))
 
 pub entered_still : (flags : List Bool) (card c : ℕ) → has flags c ≡ true → has (set flags card true) c ≡ true
 entered_still flags card c h = marks_grow flags card c h
@@ -147,7 +134,7 @@ pub covers-added : (s : Sets) (region card : ℕ) → AreSets s → region < len
 covers-added s region card shaped known h =
     ap (λ (t : CardSet). set_covers t card (card / s.cards_per_region)) (same_set s region card known)
     ∙ set_covers-with (letting (set_of s region) s.cards_per_region card) card (card / s.cards_per_region)
-    (source_marked s region card shaped known h)
+    (omega (arith, source_known card s.cards_per_region (length s.sets) shaped.some_cards h, (shaped.each region no_set known).marks))
 
 pub covers_grows : (s : Sets) (region card r c : ℕ) → region < length s.sets → covers s r c ≡ true → covers (added s region card) r c ≡ true
 covers_grows s region card r c known was =
@@ -187,7 +174,8 @@ leads_from s region card covered is_in through =
 pub leads-added : (s : Sets) (region card : ℕ) → AreSets s → region < length s.sets → card < card_count s
     → may_lead (added s region card) region card ≡ true
 leads-added s region card all known h =
-    leads_from (added s region card) region card (covers-added s region card all known h) (entered_here s card all h)
+    leads_from (added s region card) region card (covers-added s region card all known h)
+    (get_or-set_same s.entered card true false (omega (arith, h, all.each_card)))
     (ap (λ (t : CardSet). lets_through t.filter s.cards_per_region card) (same_set s region card known)
     ∙ set_lets_after (set_of s region) (length s.sets) s.cards_per_region card all.some_cards (all.each region no_set known))
 

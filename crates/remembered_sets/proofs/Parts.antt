@@ -57,6 +57,9 @@ lets_by_rows f w rows flags card is some =
     ap (λ (g : CardFilter). lets_through g w card) is
     ∙ ap (λ (b : Bool). b || both_in flags rows w card) (ne_eqb rows 0 (λ e. absurd (omega (arith, some, e))))
 
+pub in_groups : (w : ℕ) → w % 64 ≡ 0 → w ≡ 64 * (w / 64)
+in_groups w e = omega (arith, e)
+
 -- ---- one card
 module _ {f : CardFilter} {w : ℕ} {t : Inside} {part : ℕ} (is : IsPart f w t part) where
   abbrev pf : List Bool

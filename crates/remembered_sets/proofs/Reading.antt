@@ -60,6 +60,10 @@ pub record IsRead (k : Inside) (v : Sets) (region number : ℕ) (s : CardSet) : 
   pub number_is : number ≡ region
   pub read : s ≡ get_or k.sets.items number s
 
+pub reading : {k : Inside} {v : Sets} {region number : ℕ} {s : CardSet} → sets_of k ≡ v → IsSetTable k → region < length v.sets
+    → number ≡ region → s ≡ get_or k.sets.items number s → IsRead k v region number s
+reading view sound known number_is read = record { view = view; sound = sound; known = known; number_is = number_is; read = read }
+
 module _ {k : Inside} {v : Sets} {region number : ℕ} {s : CardSet} (is : IsRead k v region number s) where
   abbrev f : CardFilter
   f = filter_of k.filters.items region

@@ -1,7 +1,6 @@
-use Rattle.std.proofs.Common.{◌≡◌, ◌∙◌, ◌++◌, ◌⊎◌, ℕ, List, ap, refl, subst, take}
-use Rattle.script_text.specs.Watched.{TookBytes, TakesPart}
+use Rattle.std.proofs.Common.{◌≡◌, ◌∙◌, ◌++◌, ℕ, List, ap, refl, take}
 use Rattle.job_ends.specs.FaultLines.{fault_line}
-use Rattle.jobs.proofs.Reasons.{one_way}
+use Rattle.jobs.proofs.Reasons.{written}
 use Rattle.jobs.proofs.causes.conclude_explained.Goals as goal
 
 pub returns-in-Err : goal.returns-in-Err
@@ -14,8 +13,6 @@ returns-in-Err g c =
       (
         told.0,
         told.1,
-        subst (λ (t : List ℕ). TookBytes c.args.err.now c.write_bytes.new.writer t ⊎ TakesPart c.args.err.now c.write_bytes.new.writer t)
-            whole
-            (one_way c.write_bytes.result c.write_bytes.ensures.ok c.write_bytes.ensures.err),
+        written c.write_bytes.result _ _ _ _ whole c.write_bytes.ensures.ok c.write_bytes.ensures.err,
       ),
     )

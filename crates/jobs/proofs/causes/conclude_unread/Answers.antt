@@ -1,9 +1,8 @@
-use Rattle.std.proofs.Common.{◌≡◌, ◌∙◌, ◌++◌, ◌∷◌, ◌⊎◌, [], ℕ, List, ap, append_assoc, codes, subst, take}
+use Rattle.std.proofs.Common.{◌≡◌, ◌∙◌, ◌++◌, ◌∷◌, [], ℕ, List, ap, append_assoc, codes, take}
 use Rattle.script_text.specs.Faults.{shown}
-use Rattle.script_text.specs.Watched.{TookBytes, TakesPart}
 use Rattle.job_ends.specs.FaultLines.{fault_line}
 use Rattle.job_ends.specs.declared.faults.JobFault.TheVariants as faults
-use Rattle.jobs.proofs.Reasons.{one_way}
+use Rattle.jobs.proofs.Reasons.{written}
 use Rattle.jobs.proofs.causes.conclude_unread.Goals as goal
 
 -- four texts after a beginning
@@ -22,7 +21,5 @@ returns-clause-tells g c =
     ∙ ap (λ (t : List ℕ). t ++ told) c.put_fault_line-at.ensures.put in (
       told,
       (why, ap (λ (n : List ℕ). shown n ++ codes ": " ++ why ++ 10 ∷ []) c.as_bytes.ensures.value),
-      subst (λ (t : List ℕ). TookBytes c.args.err.now c.write_bytes.new.writer t ⊎ TakesPart c.args.err.now c.write_bytes.new.writer t)
-          whole
-          (one_way c.write_bytes.result c.write_bytes.ensures.ok c.write_bytes.ensures.err),
+      written c.write_bytes.result _ _ _ _ whole c.write_bytes.ensures.ok c.write_bytes.ensures.err,
     )

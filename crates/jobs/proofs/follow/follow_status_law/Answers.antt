@@ -1,8 +1,10 @@
-use Rattle.jobs.proofs.FollowLaws.{status_yes, status_no}
+use Rattle.jobs.proofs.FollowLaws.{yes_by, no_by}
 use Rattle.jobs.proofs.follow.follow_status_law.Goals as goal
 
 pub returns-clause-yes : goal.returns-clause-yes
-returns-clause-yes c = status_yes c.verdict_law.ensures.yes
+returns-clause-yes c = λ explained given left old new err told p.
+    yes_by c.verdict_law.ensures.yes p.outcome explained given left old new err told p.follows p.tells
 
 pub returns-clause-no : goal.returns-clause-no
-returns-clause-no c = status_no c.verdict_law.ensures.no
+returns-clause-no c = λ explained given left old new err told p.
+    no_by c.verdict_law.ensures.no p.outcome explained given left old new err told p.follows p.tells

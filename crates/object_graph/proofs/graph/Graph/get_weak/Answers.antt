@@ -3,7 +3,7 @@ use Rattle.object_graph.proofs.ActLaws.{no_object, no_field, the_field}
 use Rattle.object_graph.proofs.graph.Graph.get_weak.Goals as goal
 
 pub returns-in_default : goal.returns-in_default
-returns-in_default c = no_object c.args.self.now c.args.mutator c.args.object _ (sym c.place.ensures ∙ c.in_default.is)
+returns-in_default c = no_object c.args.self.now _ _ (sym c.place.ensures ∙ c.in_default.is)
 
 pub returns-in_default-get_weak : goal.returns-in_default-get_weak
 returns-in_default-get_weak c =

@@ -5,7 +5,7 @@ use Rattle.object_graph.proofs.ActLaws.{no_object, past_fields, changed_object}
 use Rattle.object_graph.proofs.graph.Graph.put_weak.Goals as goal
 
 pub returns-in_default : goal.returns-in_default
-returns-in_default c = no_object c.args.self.now c.args.mutator c.args.object _ (sym c.place.ensures ∙ c.in_default.is)
+returns-in_default c = no_object c.args.self.now _ _ (sym c.place.ensures ∙ c.in_default.is)
 
 pub returns-then-slot-from : goal.returns-then-slot-from
 returns-then-slot-from c = past_fields _ c.args.self.now c.args.mutator c.args.object c.in-Some.place c.args.slot c.weak_count.result

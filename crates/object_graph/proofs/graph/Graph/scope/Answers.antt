@@ -4,33 +4,25 @@ use Rattle.heap_model.specs.Graph.{Graph, with_nils, with_nil_roots, register_pl
 use Rattle.root_table.specs.Roots.{RootTable}
 use Rattle.root_table.proofs.Nils.{left_in, left_whole, left_nothing, length-nils}
 use Rattle.heap_steps.specs.declared.step.Reply.TheVariants as replies
+use Rattle.object_graph.specs.declared.graph.Graph.TheInside.{Inside}
+use Rattle.graph_runs.specs.Machine.{Outcome}
 use Rattle.object_graph.proofs.graph.Graph.scope.Goals as goal
+
+-- what the step leaves: by the words of the roots, and by the graph
+abbrev left : Inside → RootTable → Outcome
+left k t = (replies.Done, record { room = k.room; first_name = k.first_name; places = k.places; objects = k.objects; roots = t.words })
+
+abbrev scoped : ℕ → ℕ → Graph → Outcome
+scoped m from g = (replies.Done, with_nil_roots g (register_place g.places m from) (g.places.registers - from))
 
 pub returns-then-used-from : goal.returns-then-used-from
 returns-then-used-from c =
     let mutators = ap (λ (g : Graph). g.places.mutators) c.self.view_is in
     let registers = ap (λ (g : Graph). g.places.registers) c.self.view_is in
-    let nothing = left_nothing (record {
-      places = c.self.inside.places;
-      words = c.self.inside.roots.items;
-    }) c.self.inside.used.items c.args.mutator c.args.from.number c.index-used.result.now c.self.invariant.bounds
+    let nothing = left_nothing (record { places = c.self.inside.places; words = c.self.inside.roots.items }) c.self.inside.used.items
+    c.args.mutator c.args.from.number c.index-used.result.now c.self.invariant.bounds
     (omega (arith, c.requires.mutator, mutators)) (omega (arith, c.requires.from, registers)) c.if-used-from.true c.index-used.ensures in
-    subst (λ (g : Graph). (replies.Done, g)
-    ≡ (
-      replies.Done,
-      with_nil_roots g (register_place g.places c.args.mutator c.args.from.number)
-          (g.places.registers - c.args.from.number),
-    )) c.self.view_is
-    (ap (λ (t : RootTable). (
-      replies.Done,
-      record {
-        room = c.self.inside.room;
-        first_name = c.self.inside.first_name;
-        places = c.self.inside.places;
-        objects = c.self.inside.objects;
-        roots = t.words;
-      },
-    )) nothing)
+    subst (λ (g : Graph). (replies.Done, g) ≡ scoped c.args.mutator c.args.from.number g) c.self.view_is (ap (left c.self.inside) nothing)
 
 pub invariant_of-self : goal.invariant_of-self
 invariant_of-self c =
@@ -56,32 +48,11 @@ returns c =
     let mutators = ap (λ (g : Graph). g.places.mutators) c.self.view_is in
     let filled = c.fill_nil.ensures ∙ ap (λ (ws : List (Option ℕ)). with_nils ws c.register-first.result
     (c.index-used.result.now - c.args.from.number)) c.deref_mut.ensures.value in
-    let len : length c.fill_nil.new.roots ≡ c.self.inside.roots.len =
-    omega (
-      arith,
-      ap length filled,
-      length-nils c.self.inside.roots.items c.register-first.result
-          (c.index-used.result.now - c.args.from.number),
-      c.self.inside.roots.ok.0,
-    ) in
-    let whole = left_whole (record {
-      places = c.self.inside.places;
-      words = c.self.inside.roots.items;
-    }) _ c.self.inside.used.items c.args.mutator c.args.from.number c.index-used.result.now c.register-first.result c.self.invariant.bounds
+    let nils = length-nils c.self.inside.roots.items c.register-first.result (c.index-used.result.now - c.args.from.number) in
+    let len : length c.fill_nil.new.roots ≡ c.self.inside.roots.len = omega (arith, ap length filled, nils, c.self.inside.roots.ok.0) in
+    let whole = left_whole (record { places = c.self.inside.places; words = c.self.inside.roots.items }) _ c.self.inside.used.items
+    c.args.mutator c.args.from.number c.index-used.result.now c.register-first.result c.self.invariant.bounds
     (omega (arith, c.requires.mutator, mutators)) c.if-used-from.false c.register-first.ensures
     (with_items_is c.self.inside.roots c.fill_nil.new.roots len ∙ filled) c.index-used.ensures in
-    ap (λ (t : RootTable). (
-      replies.Done,
-      record {
-        room = c.self.inside.room;
-        first_name = c.self.inside.first_name;
-        places = c.self.inside.places;
-        objects = c.self.inside.objects;
-        roots = t.words;
-      },
-    )) whole
-    ∙ ap (λ (g : Graph). (
-      replies.Done,
-      with_nil_roots g (register_place g.places c.args.mutator c.args.from.number)
-          (g.places.registers - c.args.from.number),
-    )) c.self.view_is
+    ap (left c.self.inside) whole
+    ∙ ap (scoped c.args.mutator c.args.from.number) c.self.view_is

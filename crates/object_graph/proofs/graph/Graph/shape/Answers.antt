@@ -3,7 +3,7 @@ use Rattle.object_graph.proofs.ActLaws.{no_object, the_object}
 use Rattle.object_graph.proofs.graph.Graph.shape.Goals as goal
 
 pub returns-in_default : goal.returns-in_default
-returns-in_default c = no_object c.args.self.now c.args.mutator c.args.object _ (sym c.place.ensures ∙ c.in_default.is)
+returns-in_default c = no_object c.args.self.now _ _ (sym c.place.ensures ∙ c.in_default.is)
 
 pub returns : goal.returns
 returns c = rw c.pointer_count.ensures (rw c.value_count.ensures

@@ -3,5 +3,4 @@ use Rattle.object_graph.proofs.ObjectLaws.{entry_of}
 use Rattle.object_graph.proofs.objects.Objects.weak_count.Goals as goal
 
 pub returns : goal.returns
-returns c = c.weaks.ensures ∙ sym (entry_of c.self.inside.words.items c.self.inside.entries.items c.args.self.now c.args.place
-    c.index.result.now c.self.view_is c.self.invariant.0 c.requires c.index.ensures).weaks
+returns c = c.weaks.ensures ∙ sym (entry_of _ _ _ _ _ c.self.view_is c.self.invariant.0 c.requires c.index.ensures).weaks

@@ -16,14 +16,12 @@ returns-then-not-self-part c =
 
 pub places-first-requires-clause-few : goal.places-first-requires-clause-few
 places-first-requires-clause-few c =
-    let is = part_at c.self.inside _ _ _ c.self.view_is c.self.invariant c.requires.part c.requires.stands in
-    few_flags is (2 ^ 32) c.law.ensures
+    few_flags (part_at c.self.inside _ _ _ c.self.view_is c.self.invariant c.requires.part c.requires.stands) (2 ^ 32) c.law.ensures
 
 pub overflow_add-from : goal.overflow_add-from
 overflow_add-from c =
     let is = part_at c.self.inside _ _ _ c.self.view_is c.self.invariant c.requires.part c.requires.stands in
-    let there = in_table is c.places-first.result.0 c.places-first.ensures.within.0 in
-    omega (arith, there, c.law.ensures)
+    omega (arith, in_table is c.places-first.result.0 c.places-first.ensures.within.0, c.law.ensures)
 
 pub get-requires : goal.get-requires
 get-requires c =
@@ -33,8 +31,7 @@ get-requires c =
 pub overflow_add-from-then-get : goal.overflow_add-from-then-get
 overflow_add-from-then-get c =
     let is = part_at c.self.inside _ _ _ c.self.view_is c.self.invariant c.requires.part c.requires.stands in
-    let there = in_table is c.places-first.result.1 c.places-first.ensures.within.1 in
-    omega (arith, there, c.law.ensures)
+    omega (arith, in_table is c.places-first.result.1 c.places-first.ensures.within.1, c.law.ensures)
 
 pub get-requires-then-get : goal.get-requires-then-get
 get-requires-then-get c =

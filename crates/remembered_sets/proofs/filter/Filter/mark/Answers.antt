@@ -13,9 +13,8 @@ mark_rows-requires-clause-some_rows c =
 
 pub returns-then-self-eq0-clause-flags : goal.returns-then-self-eq0-clause-flags
 returns-then-self-eq0-clause-flags c =
-    let is = part_at c.self.inside _ _ _ c.self.view_is c.self.invariant c.requires.part c.requires.stands in
     λ k. c.set_members.ensures.flags k
     ∙ ap (λ (b : Bool). has c.args.flags.now k
     || (is_between (c.args.source * c.args.cards_per_region) (c.args.source * c.args.cards_per_region + c.args.cards_per_region) k && b))
     (all_member (has c.args.entered.now k) (lets_through (filter_at c.args.self.now c.args.part) c.args.cards_per_region k)
-    (lets_all is k c.if-self-eq0.true))
+    (lets_all (part_at c.self.inside _ _ _ c.self.view_is c.self.invariant c.requires.part c.requires.stands) k c.if-self-eq0.true))

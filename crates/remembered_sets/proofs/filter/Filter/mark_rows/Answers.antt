@@ -3,7 +3,7 @@ use Rattle.bit_sets.specs.Bits.{has, is_between, is_passing}
 use Rattle.remembered_sets.specs.Sets.{lets_through}
 use Rattle.remembered_sets.specs.Sharing.{filter_at}
 use Rattle.remembered_sets.proofs.Filters.{group_within, one_more}
-use Rattle.remembered_sets.proofs.Parts.{part_at, few_rows, group_fits, has_rows, lets_in_group, lets_none, none_more}
+use Rattle.remembered_sets.proofs.Parts.{part_at, few_rows, group_fits, in_groups, has_rows, lets_in_group, lets_none, none_more}
 use Rattle.remembered_sets.proofs.filter.Filter.mark_rows.Goals as goal
 
 pub returns-then-not-self-part-clause-flags : goal.returns-then-not-self-part-clause-flags
@@ -16,8 +16,7 @@ returns-then-not-self-part-clause-flags c =
 
 pub row_of_first-requires-clause-some : goal.row_of_first-requires-clause-some
 row_of_first-requires-clause-some c =
-    let is = part_at c.self.inside _ _ _ c.self.view_is c.self.invariant c.requires.part c.requires.stands in
-    has_rows is c.requires.some_rows
+    has_rows (part_at c.self.inside _ _ _ c.self.view_is c.self.invariant c.requires.part c.requires.stands) c.requires.some_rows
 
 pub row_of_first-requires-clause-few : goal.row_of_first-requires-clause-few
 row_of_first-requires-clause-few c =
@@ -26,8 +25,7 @@ row_of_first-requires-clause-few c =
 
 pub row_of_second-requires-clause-some : goal.row_of_second-requires-clause-some
 row_of_second-requires-clause-some c =
-    let is = part_at c.self.inside _ _ _ c.self.view_is c.self.invariant c.requires.part c.requires.stands in
-    has_rows is c.requires.some_rows
+    has_rows (part_at c.self.inside _ _ _ c.self.view_is c.self.invariant c.requires.part c.requires.stands) c.requires.some_rows
 
 pub row_of_second-requires-clause-few : goal.row_of_second-requires-clause-few
 row_of_second-requires-clause-few c =
@@ -37,48 +35,38 @@ row_of_second-requires-clause-few c =
 pub overflow_add-first : goal.overflow_add-first
 overflow_add-first c =
     let is = part_at c.self.inside _ _ _ c.self.view_is c.self.invariant c.requires.part c.requires.stands in
-    let q : ℕ = c.args.cards_per_region / 64 in
-    let whole : c.args.cards_per_region ≡ 64 * q = omega (arith, c.requires.stands.whole c.requires.some_rows) in
-    let inside =
-    group_fits is c.row_of_first.result q 0 whole (omega (arith, whole, c.requires.some_cards))
+    let whole = in_groups c.args.cards_per_region (c.requires.stands.whole c.requires.some_rows) in
+    let inside = group_fits is c.row_of_first.result _ 0 whole (omega (arith, whole, c.requires.some_cards))
     (omega (arith, c.row_of_first.ensures.below)) in
     omega (arith, inside, c.law-2.ensures)
 
 pub overflow_mul-second : goal.overflow_mul-second
 overflow_mul-second c =
     let is = part_at c.self.inside _ _ _ c.self.view_is c.self.invariant c.requires.part c.requires.stands in
-    let q : ℕ = c.args.cards_per_region / 64 in
-    let whole : c.args.cards_per_region ≡ 64 * q = omega (arith, c.requires.stands.whole c.requires.some_rows) in
-    let inside =
-    group_fits is c.row_of_second.result q 0 whole (omega (arith, whole, c.requires.some_cards)) c.row_of_second.ensures.below in
+    let whole = in_groups c.args.cards_per_region (c.requires.stands.whole c.requires.some_rows) in
+    let inside = group_fits is c.row_of_second.result _ 0 whole (omega (arith, whole, c.requires.some_cards)) c.row_of_second.ensures.below in
     omega (arith, inside, c.law-2.ensures)
 
 pub overflow_add-second : goal.overflow_add-second
 overflow_add-second c =
     let is = part_at c.self.inside _ _ _ c.self.view_is c.self.invariant c.requires.part c.requires.stands in
-    let q : ℕ = c.args.cards_per_region / 64 in
-    let whole : c.args.cards_per_region ≡ 64 * q = omega (arith, c.requires.stands.whole c.requires.some_rows) in
-    let inside =
-    group_fits is c.row_of_second.result q 0 whole (omega (arith, whole, c.requires.some_cards)) c.row_of_second.ensures.below in
+    let whole = in_groups c.args.cards_per_region (c.requires.stands.whole c.requires.some_rows) in
+    let inside = group_fits is c.row_of_second.result _ 0 whole (omega (arith, whole, c.requires.some_cards)) c.row_of_second.ensures.below in
     omega (arith, inside, c.law-2.ensures)
 
 pub overflow_add-first-in-loop-group : goal.overflow_add-first-in-loop-group
 overflow_add-first-in-loop-group c =
     let is = part_at c.self.inside _ _ _ c.self.view_is c.self.invariant c.requires.part c.requires.stands in
-    let q : ℕ = c.args.cards_per_region / 64 in
-    let whole : c.args.cards_per_region ≡ 64 * q = omega (arith, c.requires.stands.whole c.requires.some_rows) in
-    let inside =
-    group_fits is c.row_of_first.result q c.loop-group.group whole c.loop-group-test.true
+    let whole = in_groups c.args.cards_per_region (c.requires.stands.whole c.requires.some_rows) in
+    let inside = group_fits is c.row_of_first.result _ c.loop-group.group whole c.loop-group-test.true
     (omega (arith, c.row_of_first.ensures.below)) in
     omega (arith, inside, c.law-2.ensures)
 
 pub overflow_add-second-in-loop-group : goal.overflow_add-second-in-loop-group
 overflow_add-second-in-loop-group c =
     let is = part_at c.self.inside _ _ _ c.self.view_is c.self.invariant c.requires.part c.requires.stands in
-    let q : ℕ = c.args.cards_per_region / 64 in
-    let whole : c.args.cards_per_region ≡ 64 * q = omega (arith, c.requires.stands.whole c.requires.some_rows) in
-    let inside =
-    group_fits is c.row_of_second.result q c.loop-group.group whole c.loop-group-test.true c.row_of_second.ensures.below in
+    let whole = in_groups c.args.cards_per_region (c.requires.stands.whole c.requires.some_rows) in
+    let inside = group_fits is c.row_of_second.result _ c.loop-group.group whole c.loop-group-test.true c.row_of_second.ensures.below in
     omega (arith, inside, c.law-2.ensures)
 
 pub set_passing-requires-clause-within : goal.set_passing-requires-clause-within
@@ -94,16 +82,14 @@ set_passing-requires-clause-within c =
 pub set_passing-requires-clause-first : goal.set_passing-requires-clause-first
 set_passing-requires-clause-first c =
     let is = part_at c.self.inside _ _ _ c.self.view_is c.self.invariant c.requires.part c.requires.stands in
-    let q : ℕ = c.args.cards_per_region / 64 in
-    let whole : c.args.cards_per_region ≡ 64 * q = omega (arith, c.requires.stands.whole c.requires.some_rows) in
-    group_fits is c.row_of_first.result q c.loop-group.group whole c.loop-group-test.true (omega (arith, c.row_of_first.ensures.below))
+    let whole = in_groups c.args.cards_per_region (c.requires.stands.whole c.requires.some_rows) in
+    group_fits is c.row_of_first.result _ c.loop-group.group whole c.loop-group-test.true (omega (arith, c.row_of_first.ensures.below))
 
 pub set_passing-requires-clause-second : goal.set_passing-requires-clause-second
 set_passing-requires-clause-second c =
     let is = part_at c.self.inside _ _ _ c.self.view_is c.self.invariant c.requires.part c.requires.stands in
-    let q : ℕ = c.args.cards_per_region / 64 in
-    let whole : c.args.cards_per_region ≡ 64 * q = omega (arith, c.requires.stands.whole c.requires.some_rows) in
-    group_fits is c.row_of_second.result q c.loop-group.group whole c.loop-group-test.true c.row_of_second.ensures.below
+    let whole = in_groups c.args.cards_per_region (c.requires.stands.whole c.requires.some_rows) in
+    group_fits is c.row_of_second.result _ c.loop-group.group whole c.loop-group-test.true c.row_of_second.ensures.below
 
 pub loop-group-preserved : goal.loop-group-preserved
 loop-group-preserved c =

@@ -7,31 +7,26 @@ use Rattle.remembered_sets.proofs.filter.Filter.take_places.Goals as goal
 
 pub places-first-requires-clause-some_rows : goal.places-first-requires-clause-some_rows
 places-first-requires-clause-some_rows c =
-    let is = part_at c.self.inside _ _ _ c.self.view_is c.self.invariant c.requires.part c.requires.stands in
-    has_rows is c.requires.some_rows
+    has_rows (part_at c.self.inside _ _ _ c.self.view_is c.self.invariant c.requires.part c.requires.stands) c.requires.some_rows
 
 pub places-first-requires-clause-few : goal.places-first-requires-clause-few
 places-first-requires-clause-few c =
-    let is = part_at c.self.inside _ _ _ c.self.view_is c.self.invariant c.requires.part c.requires.stands in
-    few_flags is (2 ^ 32) c.law.ensures
+    few_flags (part_at c.self.inside _ _ _ c.self.view_is c.self.invariant c.requires.part c.requires.stands) (2 ^ 32) c.law.ensures
 
 pub overflow_add-from : goal.overflow_add-from
 overflow_add-from c =
     let is = part_at c.self.inside _ _ _ c.self.view_is c.self.invariant c.requires.part c.requires.stands in
-    let there = in_table is c.places-first.result.0 c.places-first.ensures.within.0 in
-    omega (arith, there, c.law.ensures)
+    omega (arith, in_table is c.places-first.result.0 c.places-first.ensures.within.0, c.law.ensures)
 
 pub set-requires : goal.set-requires
 set-requires c =
     let is = part_at c.self.inside _ _ _ c.self.view_is c.self.invariant c.requires.part c.requires.stands in
-    let there = in_table is c.places-first.result.0 c.places-first.ensures.within.0 in
-    omega (arith, there, c.begin.ensures.len)
+    omega (arith, in_table is c.places-first.result.0 c.places-first.ensures.within.0, c.begin.ensures.len)
 
 pub overflow_add-from-2 : goal.overflow_add-from-2
 overflow_add-from-2 c =
     let is = part_at c.self.inside _ _ _ c.self.view_is c.self.invariant c.requires.part c.requires.stands in
-    let there = in_table is c.places-first.result.1 c.places-first.ensures.within.1 in
-    omega (arith, there, c.law.ensures)
+    omega (arith, in_table is c.places-first.result.1 c.places-first.ensures.within.1, c.law.ensures)
 
 pub set-requires-2 : goal.set-requires-2
 set-requires-2 c =

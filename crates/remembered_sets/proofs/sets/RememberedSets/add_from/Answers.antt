@@ -3,14 +3,13 @@ use Rattle.remembered_sets.specs.Sets.{Sets, CardSet, CardFilter, AreSets, IsFil
 use Rattle.remembered_sets.specs.Sharing.{filter_of}
 use Rattle.remembered_sets.proofs.Filters.{rows_with}
 use Rattle.remembered_sets.proofs.Kept.{none_still}
-use Rattle.remembered_sets.proofs.Reading.{IsRead, added_is, all_are, filter_stands, is_set, kept_sets, known_set, known_table, put_tables}
+use Rattle.remembered_sets.proofs.Reading.{added_is, all_are, filter_stands, is_set, kept_sets, known_set, known_table, put_tables, reading}
 use Rattle.remembered_sets.proofs.Laws.{covers-added, leads-added, AreSets-added, source_known}
 use Rattle.remembered_sets.proofs.sets.RememberedSets.add_from.Goals as goal
 
 pub add_to_filter-requires-clause-known : goal.add_to_filter-requires-clause-known
 add_to_filter-requires-clause-known c =
-    let known = known_table c.self.inside c.args.self.now c.self.view_is c.self.invariant c.args.region c.requires.region in
-    omega (arith, known, c.number-number.ensures)
+    omega (arith, known_table c.self.inside _ c.self.view_is c.self.invariant c.args.region c.requires.region, c.number-number.ensures)
 
 pub add_to_filter-requires-clause-stands : goal.add_to_filter-requires-clause-stands
 add_to_filter-requires-clause-stands c =
@@ -23,18 +22,11 @@ add_to_filter-requires-clause-none c =
 
 pub index_mut-set-requires : goal.index_mut-set-requires
 index_mut-set-requires c =
-    let known = known_set c.self.inside c.args.self.now c.self.view_is c.args.region c.requires.region in
-    omega (arith, known, c.number-number.ensures)
+    omega (arith, known_set c.self.inside _ c.self.view_is c.args.region c.requires.region, c.number-number.ensures)
 
 pub add-requires : goal.add-requires
 add-requires c =
-    let is : IsRead c.self.inside c.args.self.now c.args.region c.number-number.result c.index_mut-set.result.now = record {
-      view = c.self.view_is;
-      sound = c.self.invariant;
-      known = c.requires.region;
-      number_is = c.number-number.ensures;
-      read = c.index_mut-set.ensures.value;
-    } in
+    let is = reading c.self.view_is c.self.invariant c.requires.region c.number-number.ensures c.index_mut-set.ensures.value in
     let own =
     source_known c.args.card c.args.self.now.cards_per_region (length c.args.self.now.sets) (all_are is).some_cards c.requires.card in
     let marks = (is_set is).marks in
@@ -42,13 +34,7 @@ add-requires c =
 
 pub returns-clause-after : goal.returns-clause-after
 returns-clause-after c =
-    let is : IsRead c.self.inside c.args.self.now c.args.region c.number-number.result c.index_mut-set.result.now = record {
-      view = c.self.view_is;
-      sound = c.self.invariant;
-      known = c.requires.region;
-      number_is = c.number-number.ensures;
-      read = c.index_mut-set.ensures.value;
-    } in
+    let is = reading c.self.view_is c.self.invariant c.requires.region c.number-number.ensures c.index_mut-set.ensures.value in
     ap (λ (x : CardSet). kept_sets c.add_to_filter.new.filters.items (set c.self.inside.sets.items c.number-number.result x)
     c.self.inside.cards_per_region c.set.new.self) c.add.ensures
     ∙ added_is is c.add_to_filter.new.filters.items c.args.card c.number-3.result c.set.new.self c.add_to_filter.ensures.own
@@ -57,13 +43,7 @@ returns-clause-after c =
 
 pub invariant_of-self : goal.invariant_of-self
 invariant_of-self c =
-    let is : IsRead c.self.inside c.args.self.now c.args.region c.number-number.result c.index_mut-set.result.now = record {
-      view = c.self.view_is;
-      sound = c.self.invariant;
-      known = c.requires.region;
-      number_is = c.number-number.ensures;
-      read = c.index_mut-set.ensures.value;
-    } in
+    let is = reading c.self.view_is c.self.invariant c.requires.region c.number-number.ensures c.index_mut-set.ensures.value in
     record {
       all = subst AreSets (sym (returns-clause-after c))
           (AreSets-added c.args.self.now c.args.region c.args.card (all_are is) c.requires.region c.requires.card);
@@ -76,12 +56,12 @@ invariant_of-self c =
 
 pub returns-clause-covered : goal.returns-clause-covered
 returns-clause-covered c =
-    let all : AreSets c.args.self.now = subst AreSets c.self.view_is c.self.invariant.all in
+    let all = subst AreSets c.self.view_is c.self.invariant.all in
     ap (λ (s : Sets). covers s c.args.region c.args.card) (returns-clause-after c)
     ∙ covers-added c.args.self.now c.args.region c.args.card all c.requires.region c.requires.card
 
 pub returns-clause-leads : goal.returns-clause-leads
 returns-clause-leads c =
-    let all : AreSets c.args.self.now = subst AreSets c.self.view_is c.self.invariant.all in
+    let all = subst AreSets c.self.view_is c.self.invariant.all in
     ap (λ (s : Sets). may_lead s c.args.region c.args.card) (returns-clause-after c)
     ∙ leads-added c.args.self.now c.args.region c.args.card all c.requires.region c.requires.card

@@ -5,11 +5,9 @@ use Rattle.remembered_sets.proofs.sets.RememberedSets.card_count.Goals as goal
 
 pub index-set-requires : goal.index-set-requires
 index-set-requires c =
-    let known = known_set c.self.inside c.args.self.now c.self.view_is c.args.region c.requires in
-    omega (arith, known, c.number.ensures)
+    omega (arith, known_set c.self.inside _ c.self.view_is c.args.region c.requires, c.number.ensures)
 
 pub returns : goal.returns
 returns c =
-    let is = set_read c.self.inside c.args.self.now c.self.view_is c.args.region c.number.result c.index-set.result.now
-    c.requires c.number.ensures c.index-set.ensures in
+    let is = set_read c.self.inside _ c.self.view_is _ _ _ c.requires c.number.ensures c.index-set.ensures in
     c.len.ensures ∙ ap (λ (x : CardSet). length x.inline) (sym is)

@@ -6,14 +6,12 @@ use Rattle.remembered_sets.proofs.sets.RememberedSets.covers.Goals as goal
 
 pub index-set-requires : goal.index-set-requires
 index-set-requires c =
-    let known = known_set c.self.inside c.args.self.now c.self.view_is c.args.region c.requires.region in
-    omega (arith, known, c.number-2.ensures)
+    omega (arith, known_set c.self.inside _ c.self.view_is c.args.region c.requires.region, c.number-2.ensures)
 
 pub covers-requires : goal.covers-requires
 covers-requires c =
-    let is = set_read c.self.inside c.args.self.now c.self.view_is c.args.region c.number-2.result c.index-set.result.now
-    c.requires.region c.number-2.ensures c.index-set.ensures in
-    let all : AreSets c.args.self.now = subst AreSets c.self.view_is c.self.invariant.all in
+    let is = set_read c.self.inside _ c.self.view_is _ _ _ c.requires.region c.number-2.ensures c.index-set.ensures in
+    let all = subst AreSets c.self.view_is c.self.invariant.all in
     let marks = (all.each c.args.region no_set c.requires.region).marks in
     let length_is = ap (λ (x : CardSet). length x.sources) is in
     let source : c.quotient-source.result ≡ c.args.card / c.args.self.now.cards_per_region =
@@ -24,8 +22,7 @@ covers-requires c =
 
 pub returns : goal.returns
 returns c =
-    let is = set_read c.self.inside c.args.self.now c.self.view_is c.args.region c.number-2.result c.index-set.result.now
-    c.requires.region c.number-2.ensures c.index-set.ensures in
+    let is = set_read c.self.inside _ c.self.view_is _ _ _ c.requires.region c.number-2.ensures c.index-set.ensures in
     let source : c.quotient-source.result ≡ c.args.card / c.args.self.now.cards_per_region =
     c.quotient-source.ensures ∙ ap (λ (k : ℕ). k / c.self.inside.cards_per_region) c.number.ensures
     ∙ ap (λ (x : Sets). c.args.card / x.cards_per_region) c.self.view_is in

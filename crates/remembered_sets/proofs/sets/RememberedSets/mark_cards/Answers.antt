@@ -1,18 +1,16 @@
 use Rattle.std.proofs.Common.{◌*◌, ◌∙◌, arith, ap, ap₂, sym, subst, Bool, ℕ, ◌||◌}
 use Rattle.bit_sets.specs.Bits.{has}
 use Rattle.remembered_sets.specs.Sets.{IsFilter, Sets}
-use Rattle.remembered_sets.proofs.Reading.{IsRead, filter_stands, is_set, known_set, known_table, leads_is, table_is}
+use Rattle.remembered_sets.proofs.Reading.{filter_stands, is_set, known_set, known_table, leads_is, reading, table_is}
 use Rattle.remembered_sets.proofs.sets.RememberedSets.mark_cards.Goals as goal
 
 pub index-set-requires : goal.index-set-requires
 index-set-requires c =
-    let known = known_set c.self.inside c.args.self.now c.self.view_is c.args.region c.requires.region in
-    omega (arith, known, c.number-number.ensures)
+    omega (arith, known_set c.self.inside _ c.self.view_is c.args.region c.requires.region, c.number-number.ensures)
 
 pub index-filter-requires : goal.index-filter-requires
 index-filter-requires c =
-    let known = known_table c.self.inside c.args.self.now c.self.view_is c.self.invariant c.args.region c.requires.region in
-    omega (arith, known, c.number-number.ensures)
+    omega (arith, known_table c.self.inside _ c.self.view_is c.self.invariant c.args.region c.requires.region, c.number-number.ensures)
 
 pub mark-requires-clause-filter : goal.mark-requires-clause-filter
 mark-requires-clause-filter c =
@@ -23,35 +21,17 @@ mark-requires-clause-filter c =
 
 pub mark-requires-clause-known : goal.mark-requires-clause-known
 mark-requires-clause-known c =
-    let is : IsRead c.self.inside c.args.self.now c.args.region c.number-number.result c.index-set.result.now = record {
-      view = c.self.view_is;
-      sound = c.self.invariant;
-      known = c.requires.region;
-      number_is = c.number-number.ensures;
-      read = c.index-set.ensures;
-    } in
+    let is = reading c.self.view_is c.self.invariant c.requires.region c.number-number.ensures c.index-set.ensures in
     λ j d h. (let below = (is_set is).known j d h in omega (arith, below, c.requires.each))
 
 pub mark-requires-clause-each : goal.mark-requires-clause-each
 mark-requires-clause-each c =
-    let is : IsRead c.self.inside c.args.self.now c.args.region c.number-number.result c.index-set.result.now = record {
-      view = c.self.view_is;
-      sound = c.self.invariant;
-      known = c.requires.region;
-      number_is = c.number-number.ensures;
-      read = c.index-set.ensures;
-    } in
+    let is = reading c.self.view_is c.self.invariant c.requires.region c.number-number.ensures c.index-set.ensures in
     c.requires.each
     ∙ ap₂ (λ (n w : ℕ). n * w) (sym (is_set is).marks) (ap (λ (x : Sets). x.cards_per_region) (sym c.self.view_is))
 
 pub returns-clause-flags : goal.returns-clause-flags
 returns-clause-flags c =
-    let is : IsRead c.self.inside c.args.self.now c.args.region c.number-number.result c.index-set.result.now = record {
-      view = c.self.view_is;
-      sound = c.self.invariant;
-      known = c.requires.region;
-      number_is = c.number-number.ensures;
-      read = c.index-set.ensures;
-    } in
+    let is = reading c.self.view_is c.self.invariant c.requires.region c.number-number.ensures c.index-set.ensures in
     λ j. c.mark.ensures.flags j
     ∙ ap (λ (b : Bool). has c.args.flags.now j || b) (leads_is is j c.index-filter.result.now c.index-filter.ensures)
