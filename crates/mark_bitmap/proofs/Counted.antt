@@ -1,5 +1,5 @@
 -- How many flags are set, as one comes or goes.
-use Rattle.regions.proofs.Common.{◌≡◌, ℕ, ◌+◌, ◌^◌, ◌<◌, Bool, true, false, cond, List, length, replicate, set, inl, inr, sym, ap, ◌∙◌}
+use Rattle.regions.proofs.Common.{◌≡◌, ℕ, ◌+◌, ◌^◌, ◌<◌, Bool, true, false, List, length, replicate, set, inl, inr, sym, ap, ◌∙◌}
 use Rattle.regions.proofs.Common.{arith, length-set, cases_Bool, cases_lt, get_or-replicate, length-replicate, set-get_or, sum_by-set}
 use Rattle.regions.proofs.Common.{count_by-le-length, has, HasNone}
 use Rattle.std.proofs.lemmas.List.{ext_get_or}

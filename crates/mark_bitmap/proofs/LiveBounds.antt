@@ -1,6 +1,6 @@
 -- How large live bounds are, and how they are summed.
 use Rattle.regions.proofs.Common.{◌≡◌, ◌+◌, ◌-◌, ◌*◌, ◌<◌, ◌≤◌, ◌∙◌, ℕ, zero, suc, Bool, true, false, List, Option, Some, None, length}
-use Rattle.regions.proofs.Common.{get_or, refl, sym, ap, arith, if◌then◌else◌, lt-ltb, Stored, Object, tile_size, Table, kind_of, top_of}
+use Rattle.regions.proofs.Common.{get_or, refl, sym, ap, arith, if◌then◌else◌, lt-ltb, Stored, Table, kind_of, top_of}
 use Rattle.regions.proofs.Common.{object_at, stored_size, object_words, IsShaped}
 use Rattle.regions.specs.declared.row.Kind.TheVariants as kinds
 use Rattle.mark_bitmap.specs.Marks.{is_marked}
