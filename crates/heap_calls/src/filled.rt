@@ -125,14 +125,7 @@ pub fn fill_made(core: &mut Core, reply: Reply, mutator: u32, to: u32, from: &[u
         Reply::Named(Some(_)) => {
             fill_object(core, mutator, to, from, words);
         }
-        Reply::Done => {}
-        Reply::Word(_) => {}
-        Reply::Shape { .. } => {}
-        Reply::Marked(_) => {}
-        Reply::Reclaimed(_) => {}
-        Reply::Refined(_) => {}
-        Reply::Moved { .. } => {}
-        Reply::Refused(_) => {}
+        _ => {}
     }
 }
 

@@ -1,20 +1,17 @@
 -- How many flags are set, as one comes or goes.
-use Rattle.regions.proofs.Common.{◌≡◌, ℕ, ◌+◌, ◌^◌, ◌<◌, Bool, true, false, cond, List, length, replicate, set, inl, inr, sym, ap, ◌∙◌}
+use Rattle.regions.proofs.Common.{◌≡◌, ℕ, ◌+◌, ◌^◌, ◌<◌, Bool, true, false, List, length, replicate, set, inl, inr, sym, ap, ◌∙◌}
 use Rattle.regions.proofs.Common.{arith, length-set, cases_Bool, cases_lt, get_or-replicate, length-replicate, set-get_or, sum_by-set}
 use Rattle.regions.proofs.Common.{count_by-le-length, has, HasNone}
 use Rattle.std.proofs.lemmas.List.{ext_get_or}
 use Rattle.bit_sets.proofs.BitWords.{has_past}
 use Rattle.mark_bitmap.specs.Marks.{marked_count}
-use Rattle.mark_bitmap.proofs.Counts.{marked_count-set}
+use Rattle.mark_bitmap.proofs.Counts.{bit, marked_count-set}
 
 -- one comes
 pub count_fits : (flags : List Bool) (n : ℕ) → n < length flags → has flags n ≡ false → length flags < 2 ^ 32
     → marked_count flags + 1 < 2 ^ 32
 count_fits flags n inside out short =
     omega (arith, marked_count-set flags n inside out, count_by-le-length (λ b. b) (set flags n true), length-set flags n true, short)
-
-abbrev bit : Bool → ℕ
-bit b = cond b 1 0
 
 -- one goes
 pub count_less : (flags : List Bool) (n : ℕ) → has flags n ≡ true → marked_count (set flags n false) + 1 ≡ marked_count flags

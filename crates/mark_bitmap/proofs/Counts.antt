@@ -3,7 +3,7 @@ use Rattle.std.proofs.Common.{◌≡◌, ℕ, ◌+◌, ◌-◌, ◌<◌, ◌≤�
 use Rattle.std.proofs.lemmas.List.Sums.{sum_by-set, count_by_more_yes, count_by_more_no}
 use Rattle.mark_bitmap.specs.Marks.{is_marked, marked_count}
 
-abbrev bit : Bool → ℕ
+abbrev pub bit : Bool → ℕ
 bit b = cond b 1 0
 
 pub marked_count-set : (marks : List Bool) (a : ℕ) → a < length marks → is_marked marks a ≡ false

@@ -1,6 +1,6 @@
 -- How large live bounds are, and how they are summed.
 use Rattle.regions.proofs.Common.{◌≡◌, ◌+◌, ◌-◌, ◌*◌, ◌<◌, ◌≤◌, ◌∙◌, ℕ, zero, suc, Bool, true, false, List, Option, Some, None, length}
-use Rattle.regions.proofs.Common.{get_or, refl, sym, ap, arith, if◌then◌else◌, lt-ltb, Stored, Object, tile_size, Table, kind_of, top_of}
+use Rattle.regions.proofs.Common.{get_or, refl, sym, ap, arith, if◌then◌else◌, lt-ltb, Stored, Table, kind_of, top_of}
 use Rattle.regions.proofs.Common.{object_at, stored_size, object_words, IsShaped}
 use Rattle.regions.specs.declared.row.Kind.TheVariants as kinds
 use Rattle.mark_bitmap.specs.Marks.{is_marked}
@@ -8,7 +8,7 @@ use Rattle.mark_bitmap.specs.Tops.{Tops, below_previous}
 use Rattle.mark_bitmap.specs.Kept.{MarksObjects, kept_in}
 use Rattle.mark_bitmap.specs.Live.{marked_words, kept_words, live_bound_of}
 use Rattle.mark_bitmap.proofs.Ranges.{below_in}
-use Rattle.mark_bitmap.proofs.Spans.{Spans, spans, chosen_words, IsChoice, chosen_le}
+use Rattle.mark_bitmap.proofs.Spans.{Spans, spans, chosen_words, chosen_le}
 use Rattle.mark_bitmap.proofs.LiveWords.{in_region, tops_le, none_words}
 
 -- the marked objects
@@ -29,6 +29,15 @@ kept_chosen : (t : Table) (tops : Tops) (previous : List Bool) (n a : ℕ)
 kept_chosen t tops previous zero a = refl
 kept_chosen t tops previous (suc n) a = omega (arith, kept_chosen t tops previous n (suc a))
 
+chosen_split : (g : ℕ → Option Stored) (n m whole a b : ℕ) → whole ≡ n + m → b ≡ a + n
+    → chosen_words g a whole ≡ chosen_words g a n + chosen_words g b m
+chosen_split g zero m whole a b e f =
+    let same : whole ≡ m = omega (arith, e) in
+    let here : b ≡ a = omega (arith, f) in
+    omega (arith, ap (chosen_words g a) same, ap (λ (x : ℕ). chosen_words g x m) here)
+chosen_split g (suc n) m zero a b e f = absurd (omega (arith, e))
+chosen_split g (suc n) m (suc whole) a b e f = omega (arith, chosen_split g n m whole (suc a) b (omega (arith, e)) (omega (arith, f)))
+
 if_some : (b : Bool) (o : Option Stored) (s : Stored) → (if b then o else None) ≡ Some s → (b ≡ true) × (o ≡ Some s)
 if_some true o s e = (refl, e)
 if_some false o s e = cc
@@ -38,23 +47,17 @@ kept_some : (below marked : Bool) (o : Option Stored) (s : Stored)
 kept_some true marked o s e = (if_some marked o s e).1
 kept_some false marked o s e = e
 
--- the marked objects of a region lie between its bottom and its top, and below a top at mark start over which none reaches
-marked_le : (t : Table) (marks : List Bool) (k limit a n : ℕ) → Spans t k
-    → ((x : ℕ) (s : Stored) → k * t.words_per_region ≤ x → x < k * t.words_per_region + t.words_per_region → is_marked marks x ≡ true
-    → object_at t x ≡ Some s → x + tile_size (Object s) ≤ limit)
-    → k * t.words_per_region ≤ a → a + n ≤ k * t.words_per_region + t.words_per_region → marked_words t marks a n ≤ limit - a
-marked_le t marks k limit a n p ends low high =
-    let is : (x : ℕ) (s : Stored) → marked_in t marks x ≡ Some s → (is_marked marks x ≡ true) × (object_at t x ≡ Some s) =
-    λ x s e. if_some (is_marked marks x) (object_at t x) s e in
-    let choice : IsChoice t k limit (marked_in t marks) = record {
-      object = λ x s e. (is x s e).1;
-      ends = λ x s l h e. ends x s l h (is x s e).0 (is x s e).1;
-    } in
-    omega (arith, marked_chosen t marks n a, chosen_le t k limit (marked_in t marks) p choice a n low high)
+-- chosen objects of a region lie between its bottom and its top
+below_top : (t : Table) (k : ℕ) (g : ℕ → Option Stored) → Spans t k → ((x : ℕ) (s : Stored) → g x ≡ Some s → object_at t x ≡ Some s)
+    → (a n : ℕ) → k * t.words_per_region ≤ a → a + n ≤ k * t.words_per_region + t.words_per_region → chosen_words g a n ≤ top_of t k - a
+below_top t k g p object a n low high =
+    chosen_le t k (top_of t k) g p (record { object = object; ends = λ x s l h e. p.ends x s l h (object x s e) }) a n low high
 
 pub marked_used : (t : Table) (marks : List Bool) (k a n : ℕ) → Spans t k → k * t.words_per_region ≤ a
     → a + n ≤ k * t.words_per_region + t.words_per_region → marked_words t marks a n ≤ top_of t k - a
-marked_used t marks k a n p low high = marked_le t marks k (top_of t k) a n p (λ x s l h _ e. p.ends x s l h e) low high
+marked_used t marks k a n p low high =
+    let le = below_top t k (marked_in t marks) p (λ x s e. (if_some (is_marked marks x) (object_at t x) s e).1) a n low high in
+    omega (arith, marked_chosen t marks n a, le)
 
 pub bound_le_twice : (t : Table) (tops : List ℕ) (marks : List Bool) (k : ℕ) → IsShaped t → MarksObjects t tops marks
     → k < length t.regions → kind_of t k ≡ kinds.Ordinary → live_bound_of t tops marks k ≤ 2 * t.words_per_region
@@ -65,16 +68,6 @@ bound_le_twice t tops marks k shape m known ordinary =
     let marked =
     marked_used t marks k (k * t.words_per_region) (get_or tops k 0 - k * t.words_per_region) p (omega arith) (omega (arith, top)) in
     omega (arith, marked, m.bottom k known, m.top k known, p.top_le)
-
-kept_split : (t : Table) (tops : Tops) (previous : List Bool) (n m whole a b : ℕ) → whole ≡ n + m → b ≡ a + n
-    → kept_words t tops previous a whole ≡ kept_words t tops previous a n + kept_words t tops previous b m
-kept_split t tops previous zero m whole a b e f =
-    let same : whole ≡ m = omega (arith, e) in
-    let here : b ≡ a = omega (arith, f) in
-    omega (arith, ap (kept_words t tops previous a) same, ap (λ (x : ℕ). kept_words t tops previous x m) here)
-kept_split t tops previous (suc n) m zero a b e f = absurd (omega (arith, e))
-kept_split t tops previous (suc n) m (suc whole) a b e f =
-    omega (arith, kept_split t tops previous n m whole (suc a) b (omega (arith, e)) (omega (arith, f)))
 
 size_kept : (below marked : Bool) (o : Option Stored) → below ≡ true
     → stored_size (if below then (if marked then o else None) else o) ≡ (if marked then stored_size o else 0)
@@ -94,13 +87,9 @@ kept_low t tops previous (suc n) a below =
 kept_high : (t : Table) (tops : Tops) (previous : List Bool) (k a n : ℕ) → Spans t k → k * t.words_per_region ≤ a
     → a + n ≤ k * t.words_per_region + t.words_per_region → kept_words t tops previous a n ≤ top_of t k - a
 kept_high t tops previous k a n p low high =
-    let is : (x : ℕ) (s : Stored) → kept_in t tops previous x ≡ Some s → object_at t x ≡ Some s =
-    λ x s e. kept_some (below_previous t tops x) (is_marked previous x) (object_at t x) s e in
-    let choice : IsChoice t k (top_of t k) (kept_in t tops previous) = record {
-      object = is;
-      ends = λ x s l h e. p.ends x s l h (is x s e);
-    } in
-    omega (arith, kept_chosen t tops previous n a, chosen_le t k (top_of t k) (kept_in t tops previous) p choice a n low high)
+    let le = below_top t k (kept_in t tops previous) p
+    (λ x s e. kept_some (below_previous t tops x) (is_marked previous x) (object_at t x) s e) a n low high in
+    omega (arith, kept_chosen t tops previous n a, le)
 
 pub kept_le : (t : Table) (tops : Tops) (previous : List Bool) (k : ℕ) → IsShaped t → MarksObjects t tops.previous previous
     → k < length t.regions → kind_of t k ≡ kinds.Ordinary
@@ -115,21 +104,12 @@ kept_le t tops previous k shape m known ordinary =
     let low = m.bottom k known in
     let below : (x : ℕ) → bottom ≤ x → x < bottom + (start - bottom) → below_previous t tops x ≡ true = λ x l h.
     below_in words tops.previous k x (in_region words k x l (omega (arith, h, top))) ∙ lt-ltb x start (omega (arith, h, low)) in
-    let split = kept_split t tops previous (start - bottom) (words - (start - bottom)) words bottom start
+    let split = chosen_split (kept_in t tops previous) (start - bottom) (words - (start - bottom)) words bottom start
     (omega (arith, top, low)) (omega (arith, low)) in
+    let chosen = kept_chosen t tops previous in
     let marked = kept_low t tops previous (start - bottom) bottom below in
     let rest = kept_high t tops previous k start (words - (start - bottom)) p low (omega (arith, top, low)) in
-    omega (arith, split, marked, rest)
-
-marked_split : (t : Table) (marks : List Bool) (n m whole a b : ℕ) → whole ≡ n + m → b ≡ a + n
-    → marked_words t marks a whole ≡ marked_words t marks a n + marked_words t marks b m
-marked_split t marks zero m whole a b e f =
-    let same : whole ≡ m = omega (arith, e) in
-    let here : b ≡ a = omega (arith, f) in
-    omega (arith, ap (marked_words t marks a) same, ap (λ (x : ℕ). marked_words t marks x m) here)
-marked_split t marks (suc n) m zero a b e f = absurd (omega (arith, e))
-marked_split t marks (suc n) m (suc whole) a b e f =
-    omega (arith, marked_split t marks n m whole (suc a) b (omega (arith, e)) (omega (arith, f)))
+    omega (arith, split, chosen words bottom, chosen (start - bottom) bottom, chosen (words - (start - bottom)) start, marked, rest)
 
 -- the words of what is marked from one address up to another
 abbrev pub words_between : Table → List Bool → ℕ → ℕ → ℕ
@@ -138,8 +118,9 @@ words_between t marks from to = marked_words t marks from (to - from)
 pub words_stay : (t : Table) (marks : List Bool) (from at to : ℕ) → from ≤ at → at ≤ to
     → ((a : ℕ) → at ≤ a → a < to → is_marked marks a ≡ false) → words_between t marks from to ≡ words_between t marks from at
 words_stay t marks from at to low high none =
-    let split = marked_split t marks (at - from) (to - at) (to - from) from at (omega (arith, low, high)) (omega (arith, low)) in
-    omega (arith, split, none_words t marks (to - at) at (λ x l h. none x l (omega (arith, h, high))))
+    let split = chosen_split (marked_in t marks) (at - from) (to - at) (to - from) from at (omega (arith, low, high)) (omega (arith, low)) in
+    let chosen = marked_chosen t marks in
+    omega (arith, split, chosen (to - from) from, chosen (at - from) from, chosen (to - at) at, none_words t marks (to - at) at (λ x l h. none x l (omega (arith, h, high))))
 
 -- the live bound in its two parts
 pub bound_is : (t : Table) (tops : List ℕ) (marks : List Bool) (k below top start : ℕ)

@@ -1,5 +1,5 @@
 -- Which addresses lie in a region, and below its top.
-use Rattle.regions.proofs.Common.{◌≡◌, ◌≢◌, ◌+◌, ◌-◌, ◌*◌, ◌/◌, ◌%◌, ◌<◌, ◌≤◌, ◌∙◌, ℕ, true, false, List, length, get_or, set, ltb, leb}
+use Rattle.regions.proofs.Common.{◌≡◌, ◌≢◌, ◌+◌, ◌*◌, ◌/◌, ◌%◌, ◌<◌, ◌≤◌, ◌∙◌, ℕ, true, false, List, length, get_or, set, ltb, leb}
 use Rattle.regions.proofs.Common.{refl, sym, ap, arith, ⊎_elim, get_or-set_same, get_or-set_other, cases_lt, and_parts, ltb-true, leb-true}
 use Rattle.regions.proofs.Common.{le-leb, lt-ltb, get_or_past}
 use Rattle.mark_bitmap.specs.Tops.{is_in_region, is_below, LiesBelow}

@@ -35,6 +35,7 @@ impl Drop for Fingers {
 }
 
 /// A finger is one of those that are set, which are counted.
+#[tactic(auto, using(crate::proofs::Counted::count_fits))]
 fn join(set: &mut Summary, count: &mut u32, finger: u32)
     requires known { finger < length set.old }
     requires counted { count.old ≡ marked_count set.old }
@@ -50,6 +51,7 @@ fn join(set: &mut Summary, count: &mut u32, finger: u32)
 }
 
 /// A finger isn't one of those that are set, if it was.
+#[tactic(auto, using(crate::proofs::Counted::none_counted, crate::proofs::Counted::unset_stays))]
 fn leave(set: &mut Summary, count: &mut u32, finger: u32)
     requires known { finger < length set.old }
     requires counted { count.old ≡ marked_count set.old }
@@ -67,6 +69,7 @@ fn leave(set: &mut Summary, count: &mut u32, finger: u32)
 }
 
 /// No finger is set. Where none is counted nothing is written.
+#[tactic(auto, using(crate::proofs::Counted::all_unset))]
 fn empty(set: &mut Summary, count: &mut u32)
     requires counted { count.old ≡ marked_count set.old }
     ensures set { set.new ≡ replicate (length set.old) false }

@@ -62,6 +62,7 @@ fn lowest_member(set: &SmallBits, group: u32) -> Option<u32>
 }
 
 /// The lowest member of a group that has one.
+#[tactic(auto, using(crate::proofs::Summaries::has_some))]
 fn first_member(set: &SmallBits, group: u32) -> u32
     requires known { 64 * group < length set.now }
     requires some { HasMember (has set.now) group }

@@ -22,10 +22,8 @@ pub lefts_moved : (ss : List (List Step)) (ps : List ℕ) (k : ℕ) → k < leng
     → lefts ss (slice_set ps k (slice_index ps k + 1)) ≡ one_less (lefts ss ps) k
 lefts_moved [] ps k row spot = absurd (omega arith)
 lefts_moved (s ∷ ss) [] k row spot = absurd (omega arith)
-lefts_moved (s ∷ ss) (p ∷ ps) zero row spot = ap (λ n. n ∷ lefts ss ps) (less (length s) p)
-  where
-    less : (n p : ℕ) → n - (p + 1) ≡ n - p - 1
-    less n p = omega arith
+lefts_moved (s ∷ ss) (p ∷ ps) zero row spot =
+    let less : length s - (p + 1) ≡ length s - p - 1 = omega arith in ap (λ n. n ∷ lefts ss ps) less
 lefts_moved (s ∷ ss) (p ∷ ps) (suc k) row spot = ap (λ l. (length s - p) ∷ l) (lefts_moved ss ps k (omega arith) (omega arith))
 
 -- an open place is one with a line left

@@ -1,6 +1,7 @@
 -- what is left to look at
 use Rattle.std.proofs.Common.{◌≡◌, ◌+◌, ◌-◌, ◌<◌, ◌≤◌, ◌∷◌, ◌++◌, ◌∙◌, ℕ, zero, suc, List, [], length, take, drop, refl, ap, sym, arith}
 use Rattle.std.proofs.Common.{get_or, get_or-set_same, add-one, drop-cons, subst, slice_index}
+use Rattle.std.proofs.lemmas.List.{drop_all}
 use Rattle.mutators.specs.Journals.{JournalState, Keeps, mutators_of, script_at}
 use Rattle.mutators.specs.Draws.{open_from, lefts_of, one_less}
 use Rattle.mutators.proofs.Draws.{lefts_at, length-lefts, open_same, open_gone}
@@ -19,13 +20,7 @@ open_past ns k below none = rw (add-one, drop-cons ns k 0, none) refl
 
 -- a list to its end has none
 pub open_end : (ns : List ℕ) (k : ℕ) → length ns ≤ k → open_from k (drop k ns) ≡ []
-open_end ns k over = rw (drop-all ns k over) refl
-  where
-    drop-all : (ns : List ℕ) (k : ℕ) → length ns ≤ k → drop k ns ≡ []
-    drop-all [] zero over = refl
-    drop-all [] (suc k) over = refl
-    drop-all (n ∷ ns) zero over = absurd (omega arith)
-    drop-all (n ∷ ns) (suc k) over = drop-all ns k (omega arith)
+open_end ns k over = rw (drop_all k ns over) refl
 
 pub lefts_len : (d w : JournalState) → w ≡ d → Keeps w
     → (length (lefts_of d) ≡ mutators_of w + 1) × (length d.scripts ≡ mutators_of w + 1) × (length d.places ≡ mutators_of w + 1)

@@ -1,8 +1,9 @@
 -- A new journal keeps what every journal keeps.
 use Rattle.std.proofs.Common.{◌≡◌, ◌+◌, ◌≤◌, ◌∷◌, ◌∙◌, ℕ, Bool, true, false, cond, List, [], length, map, get_or, refl, sym, ap, subst}
-use Rattle.std.proofs.Common.{arith, zero, suc, All, slice_index}
+use Rattle.std.proofs.Common.{arith, suc, All, slice_index}
 use Rattle.std.proofs.lemmas.Bool.{eqb-true}
 use Rattle.std.proofs.lemmas.List.{length-map}
+use Rattle.std.proofs.lemmas.List.Elements.{All-cons}
 use Rattle.heap_words.specs.declared.config.Config.{Config}
 use Rattle.heap_words.specs.Configs.{Suits}
 use Rattle.heap_words.proofs.Limits.{few_mutators}
@@ -32,13 +33,9 @@ lines_are config a [] yet = λ k d below. absurd (omega arith)
 lines_are config a (s ∷ ss) yet =
     both (same_actor a (actor_of s)) refl (lines_are config a ss (λ k d below. yet (suc k) d (omega arith)))
   where
-    cons : (s : Step) (ls : List Step) → IsLineOf config a s → All (IsLineOf config a) ls → All (IsLineOf config a) (s ∷ ls)
-    cons s ls one rest zero d below = one
-    cons s ls one rest (suc k) d below = rest k d (omega arith)
-
     both : (b : Bool) → same_actor a (actor_of s) ≡ b → All (IsLineOf config a) (lines_of a ss)
         → All (IsLineOf config a) (cond b (s ∷ lines_of a ss) (lines_of a ss))
-    both true e rest = cons s (lines_of a ss) (yet 0 s (omega arith), same_is a (actor_of s) e) rest
+    both true e rest = All-cons (IsLineOf config a) s (lines_of a ss) (yet 0 s (omega arith), same_is a (actor_of s) e) rest
     both false e rest = rest
 
 keeps_none : {V : Type 0} (f : V → List Step) (xs : List V) (config : Config) (steps : List Step) (c : CoreState) (places : List ℕ)

@@ -1,6 +1,7 @@
 -- A journal that does a plan: a turn keeps it, and at its end the record is the plan's.
-use Rattle.std.proofs.Common.{◌≡◌, ℕ, ◌<◌, ◌≤◌, List, [], ◌∷◌, ap, sym, ◌∙◌, subst, arith, get_or, zero, suc, take, length, refl}
+use Rattle.std.proofs.Common.{◌≡◌, ℕ, ◌<◌, ◌≤◌, List, [], ap, sym, ◌∙◌, subst, arith, get_or, length}
 use Rattle.std.specs.Prelude.{slice_index}
+use Rattle.std.proofs.lemmas.List.{take_all}
 use Rattle.heap_words.specs.declared.config.Config.{Config}
 use Rattle.heap_steps.specs.Actors.{StepList, EventList}
 use Rattle.step_core.specs.Steps.{Event, Step}
@@ -21,12 +22,6 @@ same_plan plan markers refiners j j' same asked was = record {
   asked = asked;
 }
 
-past_all : (xs : List Step) (n : ℕ) → length xs ≤ n → take n xs ≡ xs
-past_all [] zero over = refl
-past_all [] (suc n) over = refl
-past_all (x ∷ xs) zero over = absurd (omega arith)
-past_all (x ∷ xs) (suc n) over = ap (λ l. x ∷ l) (past_all xs n (omega arith))
-
 -- what a journal holds at its end
 pub whole_run : (plan : StepList) (markers refiners : ℕ) (d : JournalState) (r : EventList) → IsOf plan markers refiners d → Keeps d
     → ((k : ℕ) → k ≤ mutators_of d → length (script_at d k) ≤ slice_index d.places k) → r.config ≡ d.core.config
@@ -37,7 +32,7 @@ whole_run plan markers refiners d r is keeps end config events =
     → steps_of (scripted plan.config.mutators k) d.events ≡ lines_of (scripted plan.config.mutators k) plan.steps = λ k within.
     let within' : k ≤ mutators_of d = omega (arith, m) in
     ap (λ (n : ℕ). steps_of (scripted n k) d.events) (sym m) ∙ (keeps.begins k within').0
-    ∙ past_all (script_at d k) (slice_index d.places k) (end k within')
+    ∙ take_all (slice_index d.places k) (script_at d k) (end k within')
     ∙ is.scripts k within in
     let runs : RunsTo plan.config r.events d.core =
     subst (λ (x : Config × List Event). RunsTo x.0 x.1 d.core) (λ i. (is.config i, sym events i)) keeps.runs in

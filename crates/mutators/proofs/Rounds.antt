@@ -3,8 +3,8 @@ use Rattle.std.proofs.Common.{◌≡◌, ◌+◌, ◌<◌, ◌≤◌, ◌∷◌,
 use Rattle.std.proofs.Common.{length, map, refl, ap, sym, subst, arith, get_or, take, drop, add-one, append_assoc, slice_set, slice_index}
 use Rattle.std.proofs.Common.{slice_get, filter, All}
 use Rattle.std.proofs.lemmas.Bool.{lt-ltb}
-use Rattle.std.proofs.lemmas.List.{map-append}
-use Rattle.std.proofs.lemmas.List.Elements.{filter-append, All-append}
+use Rattle.std.proofs.lemmas.List.{ext_get_or, map-append}
+use Rattle.std.proofs.lemmas.List.Elements.{filter-append, All-append, All-cons}
 use Rattle.std.proofs.lemmas.List.FromFn.{length-map-range_with_len, get_or-map-range_with_len}
 use Rattle.std.proofs.lemmas.Option.{slice_get-get_or}
 use Rattle.step_core.specs.Steps.{Actor, Event, Step}
@@ -44,14 +44,8 @@ line_is d k row some none =
     cc (some' mark_4, none)
 
 asked_row : (markers refiners m k : ℕ) → IsAsked markers refiners (scripted m k)
-asked_row markers refiners m k = elim (k == m) as (λ b. IsAsked markers refiners (cond b Collector (Mutator k))) [
-  | true ↦ refl
-  | false ↦ refl
-]
-
-only : (P : Event → Type 0) (e : Event) → P e → All P (e ∷ [])
-only P e h zero d below = h
-only P e h (suc k) d below = absurd (omega arith)
+asked_row markers refiners m k = elim (k == m) as (λ b. IsAsked markers refiners (cond b Collector (Mutator k)))
+    [ true ↦ refl | false ↦ refl ]
 
 -- a scripted actor with a line left does it in its turn
 pub takes_row : (d e : JournalState) (t : Turn) (a : Actor) (k : ℕ) → Keeps d → TurnIs t d e a → a ≡ scripted (mutators_of d) k
@@ -77,7 +71,8 @@ takes_row d e Done a k keeps takes actor some same =
       subst (λ (y : Actor). TakesTurn d e y) actor takes,
       λ markers refiners was.
           let P : Event → Type 0 = λ y. IsAsked markers refiners y.actor in
-          subst (λ (l : List Event). All P l) (sym events) (All-append P d.events (x ∷ []) was (only P x (asked_row markers refiners m k))),
+          let one = All-cons P x [] (asked_row markers refiners m k) (λ i y below. absurd (omega arith)) in
+          subst (λ (l : List Event). All P l) (sym events) (All-append P d.events (x ∷ []) was one),
     )
 takes_row d e Idle a k keeps turn actor some same =
     let h = next_row d k in absurd (cc (turn.0, actor, h.2, ap is_scripted actor))
@@ -234,15 +229,6 @@ none_asked markers refiners d none =
     let P : Event → Type 0 = λ y. IsAsked markers refiners y.actor in
     subst (λ (l : List Event). All P l) (sym none) (λ k x below. absurd (omega arith))
 
-same_list : (xs ys : List ℕ) → length xs ≡ length ys → ((k : ℕ) → k < length xs → get_or xs k 0 ≡ get_or ys k 0) → xs ≡ ys
-same_list [] [] len each = refl
-same_list [] (y ∷ ys) len each = absurd (omega arith)
-same_list (x ∷ xs) [] len each = absurd (omega arith)
-same_list (x ∷ xs) (y ∷ ys) len each =
-    let head = each 0 (omega arith) in
-    let tail = same_list xs ys (omega arith) (λ k below. each (suc k) (omega arith)) in
-    ap (λ (p : ℕ × List ℕ). p.0 ∷ p.1) (λ i. (head i, tail i))
-
 -- at the start each actor has all its lines left
 pub lefts_first : (d : JournalState) (m : ℕ) (lines : List Step) → Keeps d → mutators_of d ≡ m → ((k : ℕ) → slice_index d.places k ≡ 0)
     → ((k : ℕ) → k ≤ m → script_at d k ≡ lines_of (scripted m k) lines) → lefts_of d ≡ counts_of m lines
@@ -250,7 +236,7 @@ lefts_first d m lines keeps is zeros scripts =
     let f : ℕ → ℕ = λ k. length (lines_of (scripted m k) lines) in
     let len = length-lefts d.scripts d.places in
     let counts = length-map-range_with_len f 0 (m + 1) in
-    same_list (lefts_of d) (counts_of m lines) (omega (arith, len, counts, keeps.each_script))
+    ext_get_or 0 (lefts_of d) (counts_of m lines) (omega (arith, len, counts, keeps.each_script))
     (λ k below.
     let row : k < length d.scripts = omega (arith, len) in
     let within : k ≤ m = omega (arith, keeps.each_script) in

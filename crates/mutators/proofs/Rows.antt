@@ -1,11 +1,11 @@
 -- A turn keeps what the journal keeps.
 use Rattle.std.proofs.Common.{◌≡◌, ◌≢◌, ◌+◌, ◌<◌, ◌≤◌, ◌==◌, ◌∷◌, ◌++◌, ◌∙◌, ℕ, Bool, true, false, cond, List, [], Some, None, length}
-use Rattle.std.proofs.Common.{take, refl, ap, sym, subst, arith, get_or, get_or-set_same, get_or-set_other, ⊎_elim, zero, suc, length-set}
+use Rattle.std.proofs.Common.{take, refl, ap, sym, subst, arith, get_or, get_or-set_same, get_or-set_other, ⊎_elim, length-set}
 use Rattle.std.proofs.Common.{eqb, map, ◌↔◌, IsTrue, All, slice_index, slice_index_or, slice_get, slice_set}
 use Rattle.std.proofs.lemmas.List.{take_more, get_or-map, length-map}
-use Rattle.std.proofs.lemmas.Option.{get_or_from_slice_get, slice_get-get_or}
+use Rattle.std.proofs.lemmas.Option.{get_or_from_slice_get, slice_get-get_or, slice_get_past, slice_get_within}
 use Rattle.std.proofs.lemmas.Grind.{get_or_default_zero}
-use Rattle.std.proofs.lemmas.List.Elements.{All-append}
+use Rattle.std.proofs.lemmas.List.Elements.{All-append, All-cons}
 use Rattle.std.proofs.lemmas.Bool.Decides.{nat_tests, eqb_tells}
 use Rattle.std.proofs.lemmas.Bool.{cases_eq}
 use Rattle.heap_words.specs.declared.config.Config.{Config}
@@ -32,14 +32,9 @@ pub other_scripted : (m j k : ℕ) → j ≢ k → same_actor (scripted m j) (sc
 other_scripted m j k apart = grind (arith, nat_tests)
 
 -- at a place that is there, one element more is taken
-inside : (xs : List Step) (i : ℕ) (s : Step) → slice_get xs i ≡ Some s → i < length xs
-inside [] i s here = absurd (cc)
-inside (x ∷ xs) zero s here = omega arith
-inside (x ∷ xs) (suc i) s here = let h = inside xs i s here in omega arith
-
 pub take_next : (xs : List Step) (i : ℕ) (s : Step) → slice_get xs i ≡ Some s → (i < length xs) × (take (i + 1) xs ≡ take i xs ++ s ∷ [])
 take_next xs i s here =
-    let low = inside xs i s here in
+    let low = slice_get_within xs i s here in
     (low, take_more xs i s low ∙ ap (λ x. take i xs ++ x ∷ []) (get_or_from_slice_get xs i s s here))
 
 pub begins_row : (m : ℕ) (scripts : List (List Step)) (places : List ℕ) (events : List Event) (k : ℕ) (s : Step) (r : Reply)
@@ -75,22 +70,11 @@ begins_other m scripts places events a s r was background j within =
     not_scripted : (m j : ℕ) (a : Actor) → is_scripted a ≡ false → same_actor (scripted m j) a ≡ false
     not_scripted m j (Mutator i) b = absurd (cc)
     not_scripted m j Collector b = absurd (cc)
-    not_scripted m j (Marker i) b = elim (j == m) as (λ x. same_actor (cond x Collector (Mutator j)) (Marker i) ≡ false) [
-      | true ↦ refl
-      | false ↦ refl
-    ]
-    not_scripted m j (Refiner i) b = elim (j == m) as (λ x. same_actor (cond x Collector (Mutator j)) (Refiner i) ≡ false) [
-      | true ↦ refl
-      | false ↦ refl
-    ]
+    not_scripted m j a b = grind (arith, nat_tests)
 
 -- what a step of the core gives: whatever the events lead to, they lead to it with one event more
 abbrev pub Records : CoreState → List Event → CoreState → Event → Type 0
 Records c es c' e = (config : Config) → RunsTo config es c → RunsTo config (es ++ e ∷ []) c'
-
-only : (P : Event → Type 0) (e : Event) → P e → All P (e ∷ [])
-only P e h zero d below = h
-only P e h (suc k) d below = absurd (omega arith)
 
 -- one event more
 keeps_event : (d : JournalState) (c : CoreState) (places : List ℕ) (a : Actor) (s : Step) (r : Reply) → Keeps d
@@ -106,7 +90,8 @@ keeps_event d c places a s r was runs same len begins own =
       runs = subst (λ (n : Config). RunsTo n (d.events ++ e ∷ []) c) (sym same) (runs d.core.config was.runs);
       begins = subst (λ (n : ℕ). IsBeginning n d.scripts places (d.events ++ e ∷ [])) (sym m) begins;
       own = subst (λ (n : Config). All (Own n) (d.events ++ e ∷ [])) (sym same)
-          (All-append (Own d.core.config) d.events (e ∷ []) was.own (only (Own d.core.config) e own));
+          (All-append (Own d.core.config) d.events (e ∷ []) was.own
+          (All-cons (Own d.core.config) e [] own (λ i x below. absurd (omega arith))));
       each_script = was.each_script ∙ ap (λ n. n + 1) (sym m);
       each_place = len ∙ was.each_place ∙ ap (λ n. n + 1) (sym m);
       lines = subst (λ (n : Config). (k : ℕ) → k ≤ n.mutators → All (IsScriptLine n k) (script_at d k)) (sym same) was.lines;
@@ -123,7 +108,7 @@ own_line config k s line = subst (λ (a : Actor). IsOwn config a s) line.1 (own 
 
 pub line_at : (d : JournalState) (k : ℕ) (s : Step) → Keeps d → k ≤ mutators_of d → next_at d k ≡ Some s → IsScriptLine d.core.config k s
 line_at d k s was below next =
-    let at = inside (script_at d k) (slice_index d.places k) s next in
+    let at = slice_get_within (script_at d k) (slice_index d.places k) s next in
     subst (IsScriptLine d.core.config k) (get_or_from_slice_get (script_at d k) (slice_index d.places k) s s next)
     (was.lines k below (slice_index d.places k) s at)
 
@@ -194,12 +179,7 @@ pub none_is : {V : Type 0} (f : V → List Step) (xs : List V) (places : List �
     → slice_get (get_or (map f xs) k []) (get_or places k 0) ≡ None
 none_is {V} f xs places k v p row spot place script over =
     let h = reads f xs places k v p row spot place script in
-    rw (h.0, h.1) (past (f v) p over)
-  where
-    past : (xs : List Step) (i : ℕ) → length xs ≤ i → slice_get xs i ≡ None
-    past [] i over = refl
-    past (x ∷ xs) zero over = absurd (omega arith)
-    past (x ∷ xs) (suc i) over = past xs i (omega arith)
+    rw (h.0, h.1) (slice_get_past (f v) p over)
 
 -- each of the scripts that the code read is at its end just where each of the journal's is
 pub each_ended : {V : Type 0} (f : V → List Step) (xs ys : List V) (places qs : List ℕ) (m : ℕ) (b : Bool) → ys ≡ xs

@@ -1,7 +1,7 @@
 -- `empty` owns nothing.
 use Rattle.std.proofs.Common.{◌≡◌, List, [], ◌∷◌, ◌++◌, refl, sym, subst, Option, None}
 use mir.Val.{Val}
-use base.Logic.{ent, emp, id⊢}
+use base.Logic.{SProp, ent, emp, id⊢}
 use types.Kit.{‵, raw, ◌⊛◌, ◌$◌, ◌∵◌, !, qed, by, keep, split, fsplit, fjoin, drop, suffices, use0}
 use types.Run.{lit, enter, and_then, no_more, returns}
 use types.ByLocal.{alloc_all, pass_all, free_all, look_at, get, sets}
@@ -11,7 +11,6 @@ use contract.Running.{tables}
 use prog.Wp.{WpFn}
 use lib.Dec.{lit<}
 use base.Fml.{ftrue}
-use base.Logic.{SProp}
 use denote.Exit.{yes}
 use denote.RattleType.{RattleType, owns}
 use denote.RawPtr.{null_ptr, ptr_val}

@@ -1,7 +1,7 @@
 -- `into_loose` keeps what the handle owns, where it owns something.
 use Rattle.std.proofs.Common.{◌≡◌, List, [], ◌∷◌, ◌++◌, refl, sym, subst, Some}
 use mir.Val.{Val, vptr}
-use base.Logic.{ent, emp, id⊢}
+use base.Logic.{SProp, ent, emp, id⊢}
 use types.Kit.{‵, raw, ◌⊛◌, ◌$◌, ◌∵◌, !, qed, by, move, keep, split, fsplit, fjoin, drop, suffices, use0}
 use types.Run.{enter, stop, fld, of_opd, and_then, no_more, returns}
 use types.ByLocal.{alloc_all, pass_all, free_all, look_at, get, get_in, sets}
@@ -12,7 +12,6 @@ use prog.Wp.{WpFn}
 use mathlib.Core.Bool.{true}
 use Rattle.heap_calls.specs.Held.{is_held}
 use base.Fml.{ftrue}
-use base.Logic.{SProp}
 use denote.Exit.{yes}
 use denote.RattleType.{RattleType, owns}
 use denote.RawPtr.{block_ptr}
