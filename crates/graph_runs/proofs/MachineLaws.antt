@@ -1,5 +1,6 @@
 -- What each step keeps.
-use Rattle.std.proofs.Common.{◌≡◌, ℕ, ◌-◌, ◌^◌, Option, Some, None, Bool, true, false, cond, slice_get, replicate, Result, Ok, Err, refl, ap, ◌∙◌}
+use Rattle.std.proofs.Common.{◌≡◌, ◌-◌, ◌^◌, ◌∙◌, ℕ, Option, Some, None, Bool, true, false, cond, slice_get, replicate, refl, ap}
+use Rattle.std.proofs.Common.{Result, Ok, Err}
 use Rattle.heap_words.specs.Sizes.{size_of}
 use Rattle.std.specs.Prelude.{◌==◌, nat_lt, IfOk, OnErr}
 use Rattle.heap_steps.specs.declared.step.Reply.{Reply}

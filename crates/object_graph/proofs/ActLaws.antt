@@ -18,7 +18,8 @@ within-some : (objects : List Object) (at place : ℕ) → within objects at ≡
 within-some objects at place some = grind (arith, nat_tests)
 
 -- Where a root names no object.
-pub no_object : (g : Graph) (root : Option ℕ) (f : ℕ → Object → Outcome) → index_of g root ≡ None → refused g refusals.Nil ≡ on_name g root f
+pub no_object : (g : Graph) (root : Option ℕ) (f : ℕ → Object → Outcome) → index_of g root ≡ None
+    → refused g refusals.Nil ≡ on_name g root f
 no_object g None f none = refl
 no_object g (Some name) f none =
     ap (λ (o : Option Object). on_contents g o (f name))

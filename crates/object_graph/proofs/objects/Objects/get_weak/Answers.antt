@@ -24,7 +24,8 @@ pub returns-then-slot-from : goal.returns-then-slot-from
 returns-then-slot-from c =
     let w = entry_of _ _ _ _ _ c.self.view_is c.self.invariant.0 c.requires c.index.ensures in
     ap (λ (p : Option ℕ). Some p) c.of_word.ensures
-    ∙ sym (weak_read _ _ _ _ _ _ w (omega (arith, c.weaks.ensures, c.from.ensures, c.if-slot-from.true)) (rw (← c.start.ensures) c.index-word.ensures))
+    ∙ sym (weak_read _ _ _ _ _ _ w (omega (arith, c.weaks.ensures, c.from.ensures, c.if-slot-from.true))
+    (rw (← c.start.ensures) c.index-word.ensures))
 
 pub returns-else-slot-from : goal.returns-else-slot-from
 returns-else-slot-from c =

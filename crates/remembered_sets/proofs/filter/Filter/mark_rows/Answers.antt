@@ -44,14 +44,16 @@ pub overflow_mul-second : goal.overflow_mul-second
 overflow_mul-second c =
     let is = part_at c.self.inside _ _ _ c.self.view_is c.self.invariant c.requires.part c.requires.stands in
     let whole = in_groups c.args.cards_per_region (c.requires.stands.whole c.requires.some_rows) in
-    let inside = group_fits is c.row_of_second.result _ 0 whole (omega (arith, whole, c.requires.some_cards)) c.row_of_second.ensures.below in
+    let inside = group_fits is c.row_of_second.result _ 0 whole (omega (arith, whole, c.requires.some_cards))
+    c.row_of_second.ensures.below in
     omega (arith, inside, c.law-2.ensures)
 
 pub overflow_add-second : goal.overflow_add-second
 overflow_add-second c =
     let is = part_at c.self.inside _ _ _ c.self.view_is c.self.invariant c.requires.part c.requires.stands in
     let whole = in_groups c.args.cards_per_region (c.requires.stands.whole c.requires.some_rows) in
-    let inside = group_fits is c.row_of_second.result _ 0 whole (omega (arith, whole, c.requires.some_cards)) c.row_of_second.ensures.below in
+    let inside = group_fits is c.row_of_second.result _ 0 whole (omega (arith, whole, c.requires.some_cards))
+    c.row_of_second.ensures.below in
     omega (arith, inside, c.law-2.ensures)
 
 pub overflow_add-first-in-loop-group : goal.overflow_add-first-in-loop-group
