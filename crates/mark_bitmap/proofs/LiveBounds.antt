@@ -118,11 +118,11 @@ words_between t marks from to = marked_words t marks from (to - from)
 pub words_stay : (t : Table) (marks : List Bool) (from at to : ℕ) → from ≤ at → at ≤ to
     → ((a : ℕ) → at ≤ a → a < to → is_marked marks a ≡ false) → words_between t marks from to ≡ words_between t marks from at
 words_stay t marks from at to low high none =
-    let split = chosen_split (marked_in t marks) (at - from) (to - at) (to - from) from at (omega (arith, low, high)) (omega (arith, low))
-        in
+    let split = chosen_split (marked_in t marks) (at - from) (to - at) (to - from) from at (omega (arith, low, high))
+    (omega (arith, low)) in
     let chosen = marked_chosen t marks in
-    omega (arith, split, chosen (to - from) from, chosen (at - from) from, chosen (to - at) at, none_words t marks (to - at) at (λ x l h.
-        none x l (omega (arith, h, high))))
+    let rest = none_words t marks (to - at) at (λ x l h. none x l (omega (arith, h, high))) in
+    omega (arith, split, chosen (to - from) from, chosen (at - from) from, chosen (to - at) at, rest)
 
 -- the live bound in its two parts
 pub bound_is : (t : Table) (tops : List ℕ) (marks : List Bool) (k below top start : ℕ)

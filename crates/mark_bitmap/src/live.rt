@@ -20,8 +20,6 @@ ghost use Rattle.mark_bitmap.specs.Live.{kept_words, live_bound_of};
 /// What the live bound says of a region. The region's kept objects have no more words. At zero nothing of it is kept, and
 /// its top is that at mark start. It is told by the region's tiles, its marks and its top at mark start, whatever happens
 /// to other regions.
-#[tactic(auto, using(crate::proofs::LiveBounds::kept_le, crate::proofs::LiveWords::same_bound, crate::proofs::LiveWords::dead_of_zero,
-    crate::proofs::LiveWords::dead_kept))]
 pub fn live_law()
     ensures at_least { (t : Table) (tops : Tops) (previous : List Bool) (k : ℕ)
         → IsShaped t → MarksObjects t tops.previous previous → k < length t.regions → kind_of t k ≡ kinds.Ordinary

@@ -168,8 +168,6 @@ impl Tams {
 
 /// What lies below a top, by ranges: an address of region k where it is less than the region's top, and no address
 /// that is in no region with a top. A region's new top counts in that region alone.
-#[tactic(auto, using(crate::proofs::Ranges::below_in, crate::proofs::Ranges::lies_below, crate::proofs::Ranges::below_set_in,
-    crate::proofs::Ranges::below_set_other))]
 pub fn below_law()
     ensures region { (words : ℕ) (tops : List ℕ) (k a : ℕ) → is_in_region words k a ≡ true
         → is_below words tops a ≡ nat_lt a (slice_index tops k) }
