@@ -123,7 +123,7 @@ fn do_steps<H: Threads + Wait + Sync, R: Read, W: Write, E: Write>(
     out: &mut WatchedWriter<W>,
     err: &mut WatchedWriter<E>,
 ) -> u8
-    requires { (followed : Bool) → task ≢ Check followed }
+    requires steps { (followed : Bool) → task ≢ Check followed }
     ensures { DoesJob names.now (name.now, task, explained) reader.old reader.new out.old out.new err.old err.new result }
 {
     if explained {

@@ -2,8 +2,8 @@ use Rattle.g1heap.specs.Jobs.{DoesJob}
 use Rattle.g1heap.proofs.Asking.{at_parts}
 use Rattle.g1heap.proofs.job.do_job.Goals as goal
 
-pub do_steps-requires : goal.do_steps-requires
-do_steps-requires g c = c.in_default.not-Check
+pub do_steps-requires-clause-steps : goal.do_steps-requires-clause-steps
+do_steps-requires-clause-steps g c = c.in_default.not-Check
 
 pub returns-in_default : goal.returns-in_default
 returns-in_default g c =
