@@ -1,5 +1,5 @@
 -- What is told of a file that can't be opened, by task.
-use Rattle.std.proofs.Common.{◌≡◌, ◌≢◌, Err, ℕ, Bool, List, None, true, false, inr, refl}
+use Rattle.std.proofs.Common.{◌≡◌, Err, ℕ, Bool, List, true, false, inr, refl}
 use Rattle.script_text.specs.Watched.{Reader, Writer, FailsToGive, WritesNothing}
 use Rattle.script_text.specs.declared.fault.ReadFault.TheVariants as reads
 use Rattle.jobs.specs.Reasons.{IsReadReason, TellsMore}
@@ -8,14 +8,8 @@ use Rattle.jobs.specs.Verdicts.{TellsVerdict}
 use Rattle.job_ends.specs.declared.faults.JobFault.TheVariants as faults
 use Rattle.command_line.specs.declared.Task.{Task}
 use Rattle.command_line.specs.declared.Task.TheVariants.{Script, Check, View, Draw}
-use Rattle.g1heap.specs.Jobs.{DoesCheck, DoesJob, DoesSteps, EndsAs}
-
--- a reader of no file, before and after it refused
-abbrev pub fresh : Reader
-fresh = record { left = None; refused = false }
-
-abbrev pub spent : Reader
-spent = record { left = None; refused = true }
+use Rattle.heap_view.specs.declared.glance.Glance.{Glance}
+use Rattle.g1heap.specs.Jobs.{DoesCheck, DoesDraw, DoesExplained, DoesJob, DoesView, glance_of}
 
 -- a record that isn't read as it is written
 pub unread_check : (name : List ℕ) (given left : Reader) (old new err err' : Writer) (status : ℕ)
@@ -39,39 +33,47 @@ unread_followed name false given left old new err err' status unread kept tells 
 unread_followed name true given left old new err err' status unread kept tells =
     record { outcome = Err (faults.Read reads.CannotRead); follows = (unread, kept); tells = tells }
 
-unread_ends : (name names : List ℕ) (task : Task) (given left : Reader) (old new : Writer) → ((followed : Bool) → task ≢ Check followed)
+unread_view : (recorded : Bool) (glance : Glance) (given left : Reader) (old new err err' : Writer) (status : ℕ)
     → FailsToGive reads.CannotRead given left → WritesNothing old new
-    → EndsAs name names task given left old new (Err (faults.Read reads.CannotRead))
-unread_ends name names (Script order) given left old new other unread kept = (unread, kept)
-unread_ends name names (Check followed) given left old new other unread kept = absurd (other followed refl)
-unread_ends name names (View false at region summary) given left old new other unread kept = (unread, kept)
-unread_ends name names (View true at region summary) given left old new other unread kept = (unread, kept)
-unread_ends name names (Draw every false) given left old new other unread kept = (unread, kept)
-unread_ends name names (Draw every true) given left old new other unread kept = (unread, kept)
+    → TellsEnd err err' (Err (faults.Read reads.CannotRead)) status → DoesView recorded glance given left old new err err' status
+unread_view false glance given left old new err err' status unread kept tells =
+    record { outcome = Err (faults.Read reads.CannotRead); views = (unread, kept); tells = tells }
+unread_view true glance given left old new err err' status unread kept tells =
+    record { outcome = Err (faults.Read reads.CannotRead); views = (unread, kept); tells = tells }
 
--- a task that does a heap's steps is the job
-pub as_job : (name names : List ℕ) (task : Task) (explained : Bool) (given left : Reader) (old new err err' : Writer) (status : ℕ)
-    → ((followed : Bool) → task ≢ Check followed) → DoesSteps name names task explained given left old new err err' status
-    → DoesJob names (name, task, explained) given left old new err err' status
-as_job name names (Check followed) explained given left old new err err' status other does = absurd (other followed refl)
-as_job name names _ explained given left old new err err' status other does = does
+unread_draw : (name names : List ℕ) (recorded : Bool) (every : ℕ) (given left : Reader) (old new err err' : Writer) (status : ℕ)
+    → FailsToGive reads.CannotRead given left → WritesNothing old new
+    → TellsEnd err err' (Err (faults.Read reads.CannotRead)) status → DoesDraw name names recorded every given left old new err err' status
+unread_draw name names false every given left old new err err' status unread kept tells =
+    record { outcome = Err (faults.Read reads.CannotRead); draws = (unread, kept); tells = tells }
+unread_draw name names true every given left old new err err' status unread kept tells =
+    record { outcome = Err (faults.Read reads.CannotRead); draws = (unread, kept); tells = tells }
 
 -- the file of another task
 pub unread_task : (name names : List ℕ) (task : Task) (given left : Reader) (old new err err' : Writer) (status : ℕ)
-    → ((followed : Bool) → task ≢ Check followed) → FailsToGive reads.CannotRead given left → WritesNothing old new
+    → ((followed : Bool) → task ≡ Check followed → ⊥) → FailsToGive reads.CannotRead given left → WritesNothing old new
     → TellsEnd err err' (Err (faults.Read reads.CannotRead)) status → DoesJob names (name, task, false) given left old new err err' status
-unread_task name names task given left old new err err' status other unread kept tells =
-    as_job name names task false given left old new err err' status other (record {
-      outcome = Err (faults.Read reads.CannotRead);
-      ends = unread_ends name names task given left old new other unread kept;
-      tells = tells;
-    })
+unread_task name names (Script order) given left old new err err' status other unread kept tells =
+    record { outcome = Err (faults.Read reads.CannotRead); ends = (unread, kept); tells = tells }
+unread_task name names (Check followed) given left old new err err' status other unread kept tells = absurd (other followed refl)
+unread_task name names (View recorded at region summary) given left old new err err' status other unread kept tells =
+    unread_view recorded (glance_of at region summary) given left old new err err' status unread kept tells
+unread_task name names (Draw every recorded) given left old new err err' status other unread kept tells =
+    unread_draw name names recorded every given left old new err err' status unread kept tells
 
 -- the same where it is to be explained
+pub as_job : (name names : List ℕ) (task : Task) (given left : Reader) (old new err err' : Writer) (status : ℕ)
+    → ((followed : Bool) → task ≡ Check followed → ⊥) → DoesExplained name names task given left old new err err' status
+    → DoesJob names (name, task, true) given left old new err err' status
+as_job name names (Script order) given left old new err err' status other does = does
+as_job name names (Check followed) given left old new err err' status other does = absurd (other followed refl)
+as_job name names (View recorded at region summary) given left old new err err' status other does = does
+as_job name names (Draw every recorded) given left old new err err' status other does = does
+
 pub unread_more : (name names : List ℕ) (task : Task) (given left : Reader) (old new err err' : Writer) (status : ℕ)
-    → ((followed : Bool) → task ≢ Check followed) → FailsToGive reads.CannotRead given left → WritesNothing old new → status ≡ 1
+    → ((followed : Bool) → task ≡ Check followed → ⊥) → FailsToGive reads.CannotRead given left → WritesNothing old new → status ≡ 1
     → TellsMore (faults.Read reads.CannotRead) (IsReadReason name) err err'
     → DoesJob names (name, task, true) given left old new err err' status
 unread_more name names task given left old new err err' status other unread kept one tells =
-    as_job name names task true given left old new err err' status other
+    as_job name names task given left old new err err' status other
     (inr (record { fault = reads.CannotRead; fails = unread; stays = kept; one = one; tells = tells }))

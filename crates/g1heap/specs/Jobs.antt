@@ -4,18 +4,18 @@ use Rattle.script_text.specs.Watched.{Reader, Writer, FailsToGive, WritesNothing
 use Rattle.script_text.specs.declared.fault.ReadFault.{ReadFault}
 use Rattle.script_text.specs.declared.expected.TextKind.{TextKind}
 use Rattle.script_text.specs.declared.expected.TextKind.TheVariants as texts
-use Rattle.g1heap.specs.Runs.{EndsIn}
+use Rattle.g1heap.specs.Runs.{EndsIn, MakesRecord, MayFail}
 use Rattle.jobs.specs.Reasons.{IsReadReason, TellsExplained, TellsMore}
-use Rattle.job_ends.specs.Runs.{GivesAll, TellsEnd}
+use Rattle.job_ends.specs.Runs.{GivesAll, Performs}
 use Rattle.jobs.specs.declared.causes.Counts.{Counts}
 use Rattle.jobs.specs.Verdicts.{PerformsCheck}
 use Rattle.jobs.specs.Explanations.{PerformsExplain}
 use Rattle.jobs.specs.Followed.{PerformsFollow}
 use Rattle.heap_view.specs.declared.glance.Glance.{Glance}
-use Rattle.heap_view.specs.Views.{Views}
-use Rattle.heap_view.specs.Reviews.{Reviews}
-use Rattle.heap_life.specs.Drawings.{Draws}
-use Rattle.heap_life.specs.Redrawings.{Redraws}
+use Rattle.heap_view.specs.Views.{PerformsView, Views}
+use Rattle.heap_view.specs.Reviews.{PerformsReview, Reviews}
+use Rattle.heap_life.specs.Drawings.{Draws, PerformsDraw}
+use Rattle.heap_life.specs.Redrawings.{PerformsRedraw, Redraws}
 use Rattle.job_ends.specs.FaultLines.{TellsLine}
 use Rattle.job_ends.specs.declared.faults.JobFault.{JobFault}
 use Rattle.job_ends.specs.declared.faults.JobFault.TheVariants.{Read, Run}
@@ -31,6 +31,16 @@ abbrev pub DoesCheck : List ℕ → Bool → Bool → Reader → Reader → Writ
 DoesCheck name false false given left old new err err' status = PerformsCheck given left old new err err' status
 DoesCheck name true false given left old new err err' status = PerformsExplain name given left old new err err' status
 DoesCheck name explained true given left old new err err' status = PerformsFollow explained given left old new err err' status
+
+-- what was asked for was viewed of a heap, of a record's or of a script's
+abbrev pub DoesView : Bool → Glance → Reader → Reader → Writer → Writer → Writer → Writer → ℕ → Type 0
+DoesView false glance given left old new err err' status = PerformsView glance given left old new err err' status
+DoesView true glance given left old new err err' status = PerformsReview glance given left old new err err' status
+
+-- the life of a heap was drawn, of a record or of a script in a file of this name, with these names for shapes
+abbrev pub DoesDraw : List ℕ → List ℕ → Bool → ℕ → Reader → Reader → Writer → Writer → Writer → Writer → ℕ → Type 0
+DoesDraw name names false every given left old new err err' status = PerformsDraw name names every given left old new err err' status
+DoesDraw name names true every given left old new err err' status = PerformsRedraw name names every given left old new err err' status
 
 -- what of a heap a task views
 abbrev pub glance_of : Option ℕ → Option ℕ → Bool → Glance
@@ -97,24 +107,18 @@ abbrev pub DoesExplained : List ℕ → List ℕ → Task → Reader → Reader 
 DoesExplained name names task given left old new err err' status =
     DoesOver name names task given left old new err err' status ⊎ IsUnreadFile name given left old new err err' status
 
--- A task that does a heap's steps, of a file of this name, was done, and its end was told. A page has these names for shapes.
-pub record PerformsTask (name names : List ℕ) (task : Task) (given left : Reader) (old new err err' : Writer) (status : ℕ) : Type 0 where
-  pub outcome : Result ⊤ JobFault
-  pub ends : EndsAs name names task given left old new outcome
-  pub tells : TellsEnd err err' outcome status
-
--- the same, or it was done and its fault explained, where that was asked for
-abbrev pub DoesSteps : List ℕ → List ℕ → Task → Bool → Reader → Reader → Writer → Writer → Writer → Writer → ℕ → Type 0
-DoesSteps name names task false given left old new err err' status = PerformsTask name names task given left old new err err' status
-DoesSteps name names task true given left old new err err' status = DoesExplained name names task given left old new err err' status
-
 -- A script was run, a record judged, a heap viewed, or its life drawn, and its end was told, and explained where that was asked for: what
 -- was read of the file of this name, what was written, what standard error took, and the status. A page has these names for shapes.
 abbrev pub DoesJob : List ℕ → Asked → Reader → Reader → Writer → Writer → Writer → Writer → ℕ → Type 0
 DoesJob names (name, Check followed, explained) given left old new err err' status =
     DoesCheck name explained followed given left old new err err' status
-DoesJob names (name, task, explained) given left old new err err' status =
-    DoesSteps name names task explained given left old new err err' status
+DoesJob names (name, Script order, false) given left old new err err' status =
+    Performs (MakesRecord order) (MayFail order) given left old new err err' status
+DoesJob names (name, View recorded at region summary, false) given left old new err err' status =
+    DoesView recorded (glance_of at region summary) given left old new err err' status
+DoesJob names (name, Draw every recorded, false) given left old new err err' status =
+    DoesDraw name names recorded every given left old new err err' status
+DoesJob names (name, task, true) given left old new err err' status = DoesExplained name names task given left old new err err' status
 
 -- what was asked for was done, on the program's own input where the path is `-`, else on some input; a page has these names for shapes
 abbrev pub DoesAsked : List ℕ → Asked → Reader → Reader → Writer → Writer → Writer → Writer → ℕ → Type 0

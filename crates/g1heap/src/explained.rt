@@ -2,16 +2,62 @@
 
 ghost use Rattle.std.specs.Prelude.{◌≡◌, ◌≢◌, Bool, if◌then◌else◌};
 ghost use Rattle.command_line.specs.declared.Task.TheVariants.{Check};
-ghost use Rattle.g1heap.specs.Jobs.{DoesExplained, TellsOver, kind_of, no_counts, counts_in, counts_of};
+ghost use Rattle.g1heap.specs.Jobs.{DoesExplained, EndsAs, TellsOver, kind_of, no_counts, counts_in, counts_of};
 
-use crate::job::do_task;
+use crate::job::do_script;
 use command_line::{Order, Task};
+use heap_life::{draw_record, draw_script};
+use heap_view::{Glance, view_record, view_script};
+use job_ends::JobFault;
 use jobs::{Counts, conclude_explained, conclude_unread};
 use script_text::{TextKind, WatchedReader, WatchedWriter, read_text};
 use std::alloc::Global;
 use std::io::{Read, Write};
 use std::sync::Wait;
 use std::thread::Threads;
+
+/// Does a task that does a heap's steps, of a file of this name, with these names for shapes in a page.
+fn do_task<H: Threads + Wait + Sync, R: Read, W: Write>(
+    rt: &H,
+    alloc: Global,
+    name: &str,
+    names: &[u8],
+    task: Task,
+    reader: &mut WatchedReader<R>,
+    out: &mut WatchedWriter<W>,
+) -> Result<(), JobFault>
+    requires { (followed : Bool) → task ≢ Check followed }
+    ensures { EndsAs name.now names.now task reader.old reader.new out.old out.new result }
+{
+    match task {
+        Task::Script(order) => do_script(rt, alloc, order, reader, out),
+        Task::View {
+            recorded,
+            at,
+            region,
+            summary,
+        } => {
+            let glance = Glance {
+                at,
+                region,
+                summary,
+            };
+            if recorded {
+                view_record(alloc, &glance, reader, out)
+            } else {
+                view_script(alloc, &glance, reader, out)
+            }
+        }
+        Task::Draw { every, recorded } => {
+            if recorded {
+                draw_record(alloc, name, names, every, reader, out)
+            } else {
+                draw_script(alloc, name, names, every, reader, out)
+            }
+        }
+        Task::Check { .. } => unreachable!(),
+    }
+}
 
 /// What a text is read as that is a record or else a script.
 fn kind_if(recorded: bool) -> TextKind

@@ -1,10 +1,9 @@
 //! What the program does with a job.
 
-ghost use Rattle.std.specs.Prelude.{◌≢◌, Bool};
+ghost use Rattle.std.specs.Prelude.{false, true};
 ghost use Rattle.g1heap.specs.Runs.{EndsIn};
 ghost use Rattle.command_line.specs.Asked.{asked_by};
-ghost use Rattle.command_line.specs.declared.Task.TheVariants.{Check};
-ghost use Rattle.g1heap.specs.Jobs.{DoesCheck, DoesJob, EndsAs};
+ghost use Rattle.g1heap.specs.Jobs.{DoesCheck, DoesDraw, DoesJob, DoesView};
 
 use crate::actors::{simulate_script, thread_script};
 use crate::explained::do_explained;
@@ -67,8 +66,51 @@ fn do_check<R: Read, W: Write, E: Write>(
     }
 }
 
-/// Does a task that does a heap's steps, of a file of this name, with these names for shapes in a page.
-pub(crate) fn do_task<H: Threads + Wait + Sync, R: Read, W: Write>(
+/// Views the heap of a script, or of a record, and answers the program's status.
+fn do_view<R: Read, W: Write, E: Write>(
+    alloc: Global,
+    recorded: bool,
+    glance: &Glance,
+    reader: &mut WatchedReader<R>,
+    out: &mut WatchedWriter<W>,
+    err: &mut WatchedWriter<E>,
+) -> u8
+    ensures { DoesView recorded glance.now reader.old reader.new out.old out.new err.old err.new result }
+{
+    if recorded {
+        let viewed = view_record(alloc, glance, reader, out);
+        conclude(viewed, err)
+    } else {
+        let viewed = view_script(alloc, glance, reader, out);
+        conclude(viewed, err)
+    }
+}
+
+/// Draws the life of a script's heap, or of a record's, in a file of this name, with these names for shapes, and answers the program's
+/// status.
+fn do_draw<R: Read, W: Write, E: Write>(
+    alloc: Global,
+    name: &str,
+    names: &[u8],
+    recorded: bool,
+    every: u32,
+    reader: &mut WatchedReader<R>,
+    out: &mut WatchedWriter<W>,
+    err: &mut WatchedWriter<E>,
+) -> u8
+    ensures { DoesDraw name.now names.now recorded every reader.old reader.new out.old out.new err.old err.new result }
+{
+    if recorded {
+        let drawn = draw_record(alloc, name, names, every, reader, out);
+        conclude(drawn, err)
+    } else {
+        let drawn = draw_script(alloc, name, names, every, reader, out);
+        conclude(drawn, err)
+    }
+}
+
+/// Does a task with a file of this name and these names for shapes, whose faults aren't to be explained, and answers the program's status.
+fn do_plain<H: Threads + Wait + Sync, R: Read, W: Write, E: Write>(
     rt: &H,
     alloc: Global,
     name: &str,
@@ -76,12 +118,16 @@ pub(crate) fn do_task<H: Threads + Wait + Sync, R: Read, W: Write>(
     task: Task,
     reader: &mut WatchedReader<R>,
     out: &mut WatchedWriter<W>,
-) -> Result<(), JobFault>
-    requires { (followed : Bool) → task ≢ Check followed }
-    ensures { EndsAs name.now names.now task reader.old reader.new out.old out.new result }
+    err: &mut WatchedWriter<E>,
+) -> u8
+    ensures { DoesJob names.now (name.now, task, false) reader.old reader.new out.old out.new err.old err.new result }
 {
     match task {
-        Task::Script(order) => do_script(rt, alloc, order, reader, out),
+        Task::Script(order) => {
+            let outcome = do_script(rt, alloc, order, reader, out);
+            conclude(outcome, err)
+        }
+        Task::Check { followed } => do_check(alloc, name, false, followed, reader, out, err),
         Task::View {
             recorded,
             at,
@@ -93,44 +139,33 @@ pub(crate) fn do_task<H: Threads + Wait + Sync, R: Read, W: Write>(
                 region,
                 summary,
             };
-            if recorded {
-                view_record(alloc, &glance, reader, out)
-            } else {
-                view_script(alloc, &glance, reader, out)
-            }
+            do_view(alloc, recorded, &glance, reader, out, err)
         }
         Task::Draw { every, recorded } => {
-            if recorded {
-                draw_record(alloc, name, names, every, reader, out)
-            } else {
-                draw_script(alloc, name, names, every, reader, out)
-            }
+            do_draw(alloc, name, names, recorded, every, reader, out, err)
         }
-        Task::Check { .. } => unreachable!(),
     }
 }
 
-/// Does a task that does a heap's steps, with a file of this name and these names for shapes, and explains its fault where that is asked
-/// for, and answers the program's status.
-fn do_steps<H: Threads + Wait + Sync, R: Read, W: Write, E: Write>(
+/// Does a task with a file of this name and these names for shapes, and explains its fault, and answers the program's status.
+fn do_explaining<H: Threads + Wait + Sync, R: Read, W: Write, E: Write>(
     rt: &H,
     alloc: Global,
     name: &str,
     names: &[u8],
     task: Task,
-    explained: bool,
     reader: &mut WatchedReader<R>,
     out: &mut WatchedWriter<W>,
     err: &mut WatchedWriter<E>,
 ) -> u8
-    requires steps { (followed : Bool) → task ≢ Check followed }
-    ensures { DoesJob names.now (name.now, task, explained) reader.old reader.new out.old out.new err.old err.new result }
+    ensures { DoesJob names.now (name.now, task, true) reader.old reader.new out.old out.new err.old err.new result }
 {
-    if explained {
-        return do_explained(rt, alloc, name, names, task, reader, out, err);
+    match task {
+        Task::Check { followed } => do_check(alloc, name, true, followed, reader, out, err),
+        Task::Script(_) | Task::View { .. } | Task::Draw { .. } => {
+            do_explained(rt, alloc, name, names, task, reader, out, err)
+        }
     }
-    let outcome = do_task(rt, alloc, name, names, task, reader, out);
-    conclude(outcome, err)
 }
 
 /// Does the job, with these names for shapes in a page, and answers the program's status.
@@ -148,8 +183,8 @@ pub fn do_job<H: Threads + Wait + Sync, R: Read, W: Write, E: Write>(
     let name = job.file();
     let task = job.task();
     let explained = job.explained();
-    match task {
-        Task::Check { followed } => do_check(alloc, name, explained, followed, reader, out, err),
-        _ => do_steps(rt, alloc, name, names, task, explained, reader, out, err),
+    if explained {
+        return do_explaining(rt, alloc, name, names, task, reader, out, err);
     }
+    do_plain(rt, alloc, name, names, task, reader, out, err)
 }

@@ -74,7 +74,9 @@ fn conclude_unopened<E: Write>(job: &Job, reason: Reason, err: &mut WatchedWrite
     let explained = job.explained();
     match task {
         Task::Check { followed } => unopened_check(name, explained, followed, reason, err),
-        _ => unopened_task(name, task, explained, reason, err),
+        Task::Script(_) | Task::View { .. } | Task::Draw { .. } => {
+            unopened_task(name, task, explained, reason, err)
+        }
     }
 }
 

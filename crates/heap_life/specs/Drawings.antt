@@ -5,6 +5,7 @@ use Rattle.script_text.specs.Lines.{script_of}
 use Rattle.script_text.specs.Watched.{Reader, Writer}
 use Rattle.step_core.specs.Passages.{IsRunInOrder}
 use Rattle.job_ends.specs.Answers.{AnswersScript}
+use Rattle.job_ends.specs.Runs.{TellsEnd}
 use Rattle.job_ends.specs.declared.faults.JobFault.{JobFault}
 use Rattle.heap_life.specs.declared.life.Life.{Life}
 use Rattle.heap_life.specs.Lives.{IsLifeOf}
@@ -28,3 +29,9 @@ pub record IsPageOfScript (name names : List ℕ) (every : ℕ) (input page : Li
 -- how a drawing of a file of this name, with these names for shapes, ended
 abbrev pub Draws : List ℕ → List ℕ → ℕ → Reader → Reader → Writer → Writer → Result ⊤ JobFault → Type 0
 Draws name names every given left old new outcome = AnswersScript (IsPageOfScript name names every) given left old new outcome
+
+-- A script was drawn so, and it was told so.
+pub record PerformsDraw (name names : List ℕ) (every : ℕ) (given left : Reader) (old new err err' : Writer) (status : ℕ) : Type 0 where
+  pub outcome : Result ⊤ JobFault
+  pub draws : Draws name names every given left old new outcome
+  pub tells : TellsEnd err err' outcome status

@@ -6,6 +6,7 @@ use Rattle.script_text.specs.Events.{record_of}
 use Rattle.script_text.specs.Watched.{Reader, Writer}
 use Rattle.step_core.specs.Passages.{RunsFromNew}
 use Rattle.job_ends.specs.Answers.{AnswersRecord}
+use Rattle.job_ends.specs.Runs.{TellsEnd}
 use Rattle.job_ends.specs.declared.faults.JobFault.{JobFault}
 use Rattle.job_ends.specs.declared.faults.JobFault.TheVariants as faults
 use Rattle.jobs.specs.Replays.{DiffersAt}
@@ -37,3 +38,9 @@ IsHistoryFault history _ = ⊥
 abbrev pub Redraws : List ℕ → List ℕ → ℕ → Reader → Reader → Writer → Writer → Result ⊤ JobFault → Type 0
 Redraws name names every given left old new outcome =
     AnswersRecord (IsPageOfRecord name names every) (DiffersAt RunsFromNew) given left old new outcome
+
+-- A record was drawn so, and it was told so.
+pub record PerformsRedraw (name names : List ℕ) (every : ℕ) (given left : Reader) (old new err err' : Writer) (status : ℕ) : Type 0 where
+  pub outcome : Result ⊤ JobFault
+  pub draws : Redraws name names every given left old new outcome
+  pub tells : TellsEnd err err' outcome status

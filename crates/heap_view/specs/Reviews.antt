@@ -8,6 +8,7 @@ use Rattle.script_text.specs.Watched.{Reader, Writer}
 use Rattle.step_core.specs.Stands.{CoreState}
 use Rattle.step_core.specs.Passages.{RunsFromNew, RunsTo, step_in}
 use Rattle.job_ends.specs.Answers.{AnswersRecord}
+use Rattle.job_ends.specs.Runs.{TellsEnd}
 use Rattle.job_ends.specs.declared.faults.JobFault.{JobFault}
 use Rattle.job_ends.specs.declared.faults.JobFault.TheVariants as faults
 use Rattle.jobs.specs.Replays.{reply_in, DiffersAt}
@@ -48,3 +49,9 @@ IsRedoFault events _ = ⊥
 abbrev pub Reviews : Glance → Reader → Reader → Writer → Writer → Result ⊤ JobFault → Type 0
 Reviews glance given left old new outcome =
     AnswersRecord (IsReviewOfRecord glance) (λ history. DiffersAt RunsFromNew (beginning_of glance.at history)) given left old new outcome
+
+-- A record was viewed so, and it was told so.
+pub record PerformsReview (glance : Glance) (given left : Reader) (old new err err' : Writer) (status : ℕ) : Type 0 where
+  pub outcome : Result ⊤ JobFault
+  pub views : Reviews glance given left old new outcome
+  pub tells : TellsEnd err err' outcome status

@@ -6,6 +6,7 @@ use Rattle.script_text.specs.Watched.{Reader, Writer}
 use Rattle.step_core.specs.Stands.{CoreState}
 use Rattle.step_core.specs.Passages.{IsRunInOrder, RunsTo}
 use Rattle.job_ends.specs.Answers.{AnswersScript}
+use Rattle.job_ends.specs.Runs.{TellsEnd}
 use Rattle.job_ends.specs.declared.faults.JobFault.{JobFault}
 use Rattle.heap_view.specs.declared.glance.Glance.{Glance}
 use Rattle.heap_view.specs.Glances.{view_text}
@@ -36,3 +37,9 @@ pub record IsViewOfScript (glance : Glance) (input text : List ℕ) : Type 0 whe
 -- how a view ended
 abbrev pub Views : Glance → Reader → Reader → Writer → Writer → Result ⊤ JobFault → Type 0
 Views glance given left old new outcome = AnswersScript (IsViewOfScript glance) given left old new outcome
+
+-- A script was viewed so, and it was told so.
+pub record PerformsView (glance : Glance) (given left : Reader) (old new err err' : Writer) (status : ℕ) : Type 0 where
+  pub outcome : Result ⊤ JobFault
+  pub views : Views glance given left old new outcome
+  pub tells : TellsEnd err err' outcome status
