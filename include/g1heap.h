@@ -96,7 +96,7 @@ enum {
     G1_MARKED = 5,     /* g1_remark: `first` objects were marked in this cycle */
     G1_RECLAIMED = 6,  /* g1_cleanup: `first` regions are free again */
     G1_REFINED = 7,    /* g1_refine: `first` cards were refined */
-    G1_MOVED = 8,      /* g1_pause, g1_compact: `first` words were copied, `second` regions are free again */
+    G1_MOVED = 8,      /* pauses and g1_compact: `first` words were copied, `second` regions are free again */
     G1_SCANNED = 9,    /* g1_mark: `first` objects were scanned */
     G1_NUMBER = 10,    /* what a reader tells: `first` */
 
@@ -204,27 +204,39 @@ g1_answer g1_new_filled(g1_heap *heap, uint32_t mutator, uint32_t to, const uint
 
 /* The steps of the collector, taken whenever the program likes.
 
-   Call         Step of a script   What it does                                                             Done         Refused
-   g1_begin     gc begin           marking begins, with the present graph as its snapshot                   DONE         MARK_RUNNING
-   g1_mark      gc mark            at most so many objects are scanned                                      SCANNED      NOT_MARKING
-   g1_remark    gc remark          marking ends, and weak slots are cleared                                 MARKED       NOT_MARKING
-   g1_cleanup   gc cleanup         regions with nothing live are free again, but the one that objects are   RECLAIMED    MARK_RUNNING
-                                   cut from now
-   g1_refine    gc refine          at most so many queued cards are refined                                 REFINED
-   g1_pause     gc pause           live objects are copied out of some regions, at most so many words,      MOVED
-                                   and at most half the words of the free regions; these regions are
-                                   free again
-   g1_compact   gc compact         the same, within the same limit, of the highest ordinary regions, full   MOVED
-                                   ones too, as many as go down: so free regions are side by side, for
-                                   objects of more than half a region, which never move. While marking
-                                   runs nothing is copied, and no region is freed */
+   Call             Step of a script   What it does                                                             Done         Refused
+   g1_begin         gc begin           marking begins, with the present graph as its snapshot                   DONE         MARK_RUNNING
+   g1_mark          gc mark            so many words are looked at, and those of the last object all            SCANNED      NOT_MARKING
+   g1_remark        gc remark          marking ends: a weak slot that leads to what it didn't reach reads nil   MARKED       NOT_MARKING
+   g1_cleanup       gc cleanup         regions with nothing live are free again, but the one that objects are   RECLAIMED    MARK_RUNNING
+                                       cut from now
+   g1_refine        gc refine          at most so many queued cards are refined                                 REFINED
+   g1_pause         gc pause           live objects are copied out of some regions, at most so many words,      MOVED
+                                       and at most half the words of the free regions; these regions are
+                                       free again
+   g1_compact       gc compact         the same, within the same limit, of the highest ordinary regions, full   MOVED
+                                       ones too, as many as go down: so free regions are side by side, for
+                                       objects of more than half a region, which never move. While marking
+                                       runs nothing is copied, and no region is freed
+   g1_pause_within  gc pausewithin     the same as g1_pause, of those of its regions that at most `cards`       MOVED
+                                       cards lead into, as long as these are at most so many together: a
+                                       pause takes time for words that it copies and for cards that it visits
+   g1_young         gc young           the same of the regions that objects were made in since marking began    MOVED
+                                       last, the oldest first, full ones too; what was copied is old
+   g1_clear         gc clear           what marking didn't reach leaves the weak slots of at most so many       DONE
+                                       objects, which is seen by no answer: these slots read nil since
+                                       g1_remark. The next marking, pause or cleanup clears what is left
+                                       first, so clear little by little before it, while g1_clearing is 1 */
 g1_answer g1_begin(g1_heap *heap);
-g1_answer g1_mark(g1_heap *heap, uint32_t objects);
+g1_answer g1_mark(g1_heap *heap, uint32_t words);
 g1_answer g1_remark(g1_heap *heap);
 g1_answer g1_cleanup(g1_heap *heap);
 g1_answer g1_refine(g1_heap *heap, uint32_t cards);
 g1_answer g1_pause(g1_heap *heap, uint32_t words);
 g1_answer g1_compact(g1_heap *heap, uint32_t words);
+g1_answer g1_pause_within(g1_heap *heap, uint32_t words, uint32_t cards);
+g1_answer g1_young(g1_heap *heap, uint32_t words, uint32_t cards);
+g1_answer g1_clear(g1_heap *heap, uint32_t objects);
 
 /* What a policy of collection steers by. Nothing changes. Each answers NUMBER, g1_name alone NAME or NIL_VALUE; or NO_HEAP, and g1_name
    also NO_STEP.
@@ -234,7 +246,8 @@ g1_answer g1_compact(g1_heap *heap, uint32_t words);
    g1_used_words     how many words of the other regions are handed out, to objects and to allocation buffers
    g1_live_words     how many words are live: those of the objects that the last complete marking marked, and all handed out since it began
    g1_marking        1 while marking runs, else 0
-   g1_grey           1 while marking runs and some marked object isn't scanned yet, else 0
+   g1_grey           1 while marking runs and something is left to be marked, else 0
+   g1_clearing       1 while weak slots that read nil wait to be cleared, else 0
    g1_queued         how many cards wait for refinement
    g1_globals        how many globals there are
    g1_registers      how many registers each mutator has
@@ -247,6 +260,7 @@ g1_answer g1_used_words(const g1_heap *heap);
 g1_answer g1_live_words(const g1_heap *heap);
 g1_answer g1_marking(const g1_heap *heap);
 g1_answer g1_grey(const g1_heap *heap);
+g1_answer g1_clearing(const g1_heap *heap);
 g1_answer g1_queued(const g1_heap *heap);
 g1_answer g1_globals(const g1_heap *heap);
 g1_answer g1_registers(const g1_heap *heap);
@@ -279,10 +293,10 @@ g1_answer g1_name(const g1_heap *heap, uint32_t mutator, uint32_t of);
 typedef struct g1_policy {
     uint32_t reserve;      /* regions: a cycle of marking ends before fewer are free */
     uint32_t pause_words;  /* words: the budget of a pause, but for those of a whole collection */
-    uint32_t mark_objects; /* objects: as many are scanned at a look, at most */
+    uint32_t mark_words;   /* words: as many are looked at by marking at a look, at most, and those of one object more */
     uint32_t cycle_words;  /* words: where so many were asked for since the last cycle began, another one begins */
     uint32_t young_words;  /* words: new regions of so many are evacuated first, and no fewer later */
-    uint32_t cards_left;   /* cards: where more are queued at a look, it refines all but so many */
+    uint32_t cards_left;   /* cards: where more are queued at a look, it refines as many at most */
     uint32_t look, left;   /* words that may be asked for before the next look, as it was set, and what is left of them */
     uint32_t begin_at;     /* regions: where so many are free, or fewer, a cycle begins */
     uint32_t young_at;     /* regions: where so many are free, or fewer, new regions are evacuated; 0 where that brings little */
@@ -290,13 +304,14 @@ typedef struct g1_policy {
     uint32_t young;        /* regions: so many of them are to be evacuated still */
     uint32_t gained;       /* regions: so many that brought */
     uint32_t wanted;       /* regions: after a cycle regions are evacuated until so many are free; 0 where that is over */
-    uint32_t pace;         /* objects to scan at each look of a cycle */
+    uint32_t pace;         /* words that marking looks at, at each look of a cycle */
     uint32_t packed_free;  /* what the last whole collection left: free regions, */
     uint64_t packed_live;  /* live words */
     uint64_t packed_next;  /* and the next name; while these stay, pauses gain nothing more */
     uint64_t paid;         /* words that were copied for what was gained */
     uint64_t asked;        /* words asked for since the last cycle began */
-    uint64_t marked;       /* objects that the last cycle marked */
+    uint64_t looked;       /* words that the marking of the running cycle looked at, */
+    uint64_t marked;       /* and that of the last one */
     uint64_t cycles;       /* cycles that ended, */
     uint64_t scanned;      /* and the objects that they marked */
     uint64_t pauses;       /* pauses, those of whole collections too, */

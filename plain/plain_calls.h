@@ -92,6 +92,18 @@ g1_answer g1_compact(g1_heap* heap, std::uint32_t words) {
     return collect(heap, [=](Heap& plain) { return plain.compact(words); });
 }
 
+g1_answer g1_pause_within(g1_heap* heap, std::uint32_t words, std::uint32_t cards) {
+    return collect(heap, [=](Heap& plain) { return plain.pause_within(words, cards); });
+}
+
+g1_answer g1_young(g1_heap* heap, std::uint32_t words, std::uint32_t cards) {
+    return collect(heap, [=](Heap& plain) { return plain.young(words, cards); });
+}
+
+g1_answer g1_clear(g1_heap* heap, std::uint32_t objects) {
+    return collect(heap, [=](Heap& plain) { return plain.clear(objects); });
+}
+
 g1_answer g1_free_regions(const g1_heap* heap) {
     return number(heap, [](Heap& plain) { return plain.free_regions(); });
 }
@@ -114,6 +126,10 @@ g1_answer g1_marking(const g1_heap* heap) {
 
 g1_answer g1_grey(const g1_heap* heap) {
     return number(heap, [](Heap& plain) { return plain.grey(); });
+}
+
+g1_answer g1_clearing(const g1_heap* heap) {
+    return number(heap, [](Heap& plain) { return plain.clearing(); });
 }
 
 g1_answer g1_queued(const g1_heap* heap) {

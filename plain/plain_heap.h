@@ -83,6 +83,8 @@ struct Region {
     Address previous_start, next_start;
     // Words of marked objects, of the last finished marking and of the running one.
     Number previous_live, next_live;
+    // As many regions had objects made in them up to it; 0 where none are.
+    Word age;
 };
 
 struct Buffer {
@@ -104,7 +106,10 @@ public:
           next_marks_(heap_words_), grey_(heap_words_), finger_(heap_words_),
           stack_room_(sizes.format == 3 ? 64 : 0),
           deletion_logs_(sizes.mutators * deletion_log_length), deletion_log_counts_(sizes.mutators),
-          weak_regions_(sizes.regions), covered_(heap_words_ / card_words_), noted_(heap_words_ / card_words_) {
+          weak_regions_(sizes.regions), covered_(heap_words_ / card_words_), noted_(heap_words_ / card_words_),
+          entered_(heap_words_ / card_words_),
+          filter_rows_(sizes.format == 3 && region_cards_ % 64 == 0 ? 21 * card_words_ / 32 : 0),
+          filters_(std::size_t(sizes.regions) * filter_words()) {
         for (Number region = 0; region < sizes.regions; ++region) {
             make_free(region);
             free_regions_.add(region);
@@ -235,18 +240,23 @@ public:
         }
         marked_ = 0;
         marking_ = true;
-        roots_.each([&](Word pointer) { mark_object(Address(pointer - 1)); });
+        old_ = ages_;
+        roots_.each([&](Word pointer) {
+            if (sizes_.format == 3) waiting_.push_back(Address(pointer - 1));
+            else mark_object(Address(pointer - 1));
+        });
         return reply(Form::Ok);
     }
 
     Reply mark(Number units) {
         if (!marking_) return refused(Refusal::NotMarking);
-        return reply(Form::Ok, scan(units));
+        return reply(Form::Ok, sizes_.format == 3 ? scan_words(units) : scan(units));
     }
 
     Reply remark() {
         if (!marking_) return refused(Refusal::NotMarking);
         for (Number mutator = 0; mutator < sizes_.mutators; ++mutator) take_deletion_log(mutator);
+        while (!waiting_.empty()) take_root();
         scan(~Number(0));
         clear_weak_slots();
         previous_marks_.swap(next_marks_);
@@ -296,6 +306,25 @@ public:
         return evacuate();
     }
 
+    Reply pause_within(Number budget, Number cards) {
+        make_ready();
+        choose(budget);
+        keep_within(cards);
+        if (chosen_.empty()) return reply(Form::Moved);
+        return evacuate();
+    }
+
+    // Weak slots are cleared by remark.
+    Reply clear(Number) { return reply(Form::Ok); }
+
+    Reply young(Number budget, Number cards) {
+        make_ready();
+        choose_young(budget);
+        keep_within(cards);
+        if (chosen_.empty()) return reply(Form::Moved);
+        return evacuate();
+    }
+
 protected:
     // What the words of the tiles that start in a region are: of objects that the last finished marking marked, of objects that it didn't,
     // of objects made since it began, of fillers.
@@ -326,7 +355,7 @@ protected:
 
     void make_free(Number number) {
         Address start = bottom(number);
-        regions_[number] = Region{Kind::Free, Role::None, start, start, start, 0, 0};
+        regions_[number] = Region{Kind::Free, Role::None, start, start, start, 0, 0, 0};
     }
 
     void release(Number number) {
@@ -340,6 +369,8 @@ protected:
             std::fill_n(sources_.begin() + number * stride, stride, 0);
             set.has_sources = false;
         }
+        entered_.fill_block(number * region_cards_, region_cards_, false);
+        std::fill_n(filters_.begin() + number * filter_words(), filter_words(), 0);
         weak_regions_.remove(number);
         free_regions_.add(number);
         ++free_count_;
@@ -384,6 +415,7 @@ protected:
             Number lowest = free_regions_.next(0);
             if (lowest == nowhere) return nowhere;
             take(lowest, Kind::Ordinary);
+            regions_[lowest].age = ++ages_;
             current_ = lowest;
         }
         Address at = regions_[current_].top;
@@ -505,6 +537,8 @@ protected:
     }
 
     void remember(Number region, Number card, Number source) {
+        entered_.add(card);
+        enter_filter(region, card, source);
         RememberedSet& set = remembered_[region];
         Word& sources = sources_[region * source_stride(sizes_.regions) + (source >> 6)];
         Word mark = Word(1) << (source & 63);
@@ -519,14 +553,54 @@ protected:
         }
     }
 
-    void gather_covered(Number region) {
+    // In a large heap each set has a filter: rows of a flag for each card of a region, which several regions share. A card has a place in
+    // a row of the first kind, of which there are twice as many, and in one of the second.
+    std::size_t filter_words() const { return std::size_t(3) * filter_rows_ * region_cards_ / 64; }
+
+    std::size_t filter_place(Number row, Number card) const { return std::size_t(row) * region_cards_ + (card & (region_cards_ - 1)); }
+
+    std::size_t first_place(Number card, Number source) const { return filter_place(source % (2 * filter_rows_), card); }
+
+    std::size_t second_place(Number card, Number source) const {
+        return filter_place(2 * filter_rows_ + source / (2 * filter_rows_) % filter_rows_, card);
+    }
+
+    // The words of the row of a region's first card.
+    const Word* filter_row(Number region, Number card, bool is_first) const {
+        Number source = region_of(card << card_shift_);
+        return &filters_[region * filter_words() + (is_first ? first_place(card, source) : second_place(card, source)) / 64];
+    }
+
+    void enter_filter(Number region, Number card, Number source) {
+        if (filter_rows_ == 0) return;
+        Word* filter = &filters_[region * filter_words()];
+        for (std::size_t place : {first_place(card, source), second_place(card, source)}) filter[place / 64] |= Word(1) << (place & 63);
+    }
+
+    bool lets_through(Number region, Number card) const {
+        if (filter_rows_ == 0) return true;
+        const Word* filter = &filters_[region * filter_words()];
+        Number source = region_of(card << card_shift_);
+        std::size_t first = first_place(card, source), second = second_place(card, source);
+        return (filter[first / 64] >> (first & 63) & 1) != 0 && (filter[second / 64] >> (second & 63) & 1) != 0;
+    }
+
+    // Adds the cards that may lead into a region to covered_: those that its set covers and its filter lets through, and that entered a set.
+    void find_leading(Number region) {
         const RememberedSet& set = remembered_[region];
-        for (Number place = 0; place < set.count; ++place) covered_.add(set.cards[place]);
+        auto look = [&](Number card) {
+            if (entered_.has(card) && lets_through(region, card)) covered_.add(card);
+        };
+        for (Number place = 0; place < set.count; ++place) look(set.cards[place]);
         if (!set.has_sources) return;
         std::size_t stride = source_stride(sizes_.regions);
-        for (std::size_t index = 0; index < stride; ++index)
-            for (Word bits = sources_[region * stride + index]; bits != 0; bits &= bits - 1)
-                covered_.add_block((Number(index << 6) + Number(__builtin_ctzll(bits))) * region_cards_, region_cards_);
+        for (std::size_t index = 0; index < stride; ++index) {
+            for (Word bits = sources_[region * stride + index]; bits != 0; bits &= bits - 1) {
+                Number first = (Number(index << 6) + Number(__builtin_ctzll(bits))) * region_cards_;
+                if (filter_rows_ == 0) covered_.add_members(first, region_cards_, entered_);
+                else covered_.add_members(first, region_cards_, entered_, filter_row(region, first, true), filter_row(region, first, false));
+            }
+        }
     }
 
     // Marking.
@@ -575,11 +649,39 @@ protected:
         for (Number scanned = 0; scanned != units; ++scanned) {
             Address at = take_held();
             if (at == nowhere) return scanned;
-            Address end = at + 2 + pointer_count(words_[at]);
-            for (Address field = at + 2; field < end; ++field)
-                if (words_[field] != 0) mark_object(Address(words_[field] - 1));
+            scan_object(at);
         }
         return units;
+    }
+
+    // Scans an object that isn't grey any more, and says how many pointers it has.
+    Number scan_object(Address at) {
+        Number count = pointer_count(words_[at]);
+        Address end = at + 2 + count;
+        for (Address field = at + 2; field < end; ++field)
+            if (words_[field] != 0) mark_object(Address(words_[field] - 1));
+        return count;
+    }
+
+    // In the third format: takes roots that wait, and then scans grey objects, until so many words are looked at. A root is one, an object
+    // is one, and each of its pointers is. How many objects were scanned.
+    Number scan_words(Number words) {
+        Number scanned = 0;
+        Word looked = 0;
+        for (; looked < words && !waiting_.empty(); ++looked) take_root();
+        while (looked < words) {
+            Address at = take_held();
+            if (at == nowhere) break;
+            looked += 1 + scan_object(at);
+            ++scanned;
+        }
+        return scanned;
+    }
+
+    // The last of the roots that wait: what it named when marking began is marked.
+    void take_root() {
+        mark_object(waiting_.back());
+        waiting_.pop_back();
     }
 
     // Notes an object that a pointer or a weak slot named, if it was there when marking began.
@@ -666,12 +768,42 @@ protected:
         }
     }
 
+    // Leaves in chosen_ the ordinary regions that objects were made in since marking began last, the oldest first, within the copy limit.
+    void choose_young(Number budget) {
+        Word limit = std::min(Word(budget), Word(free_count_) * sizes_.words / 2), sum = 0;
+        chosen_.clear();
+        for (Number number = 0; number < sizes_.regions; ++number) {
+            const Region& region = regions_[number];
+            bool is_new = !marking_ || region.next_start == bottom(number);
+            if (region.kind == Kind::Ordinary && region.age > old_ && is_new) chosen_.push_back(number);
+        }
+        std::sort(chosen_.begin(), chosen_.end(), [&](Number one, Number other) { return regions_[one].age < regions_[other].age; });
+        std::size_t count = 0;
+        while (count < chosen_.size() && (sum += live_bound(regions_[chosen_[count]])) <= limit) ++count;
+        chosen_.resize(count);
+    }
+
+    // Of the chosen regions those stay that at most so many cards may lead into, as long as these are at most so many together.
+    void keep_within(Number cards) {
+        std::size_t kept = 0;
+        Word sum = 0;
+        for (Number number : chosen_) {
+            Number count = 0;
+            find_leading(number);
+            covered_.drain([&](Number) { ++count; });
+            if (count > cards) continue;
+            if ((sum += count) > cards) break;
+            chosen_[kept++] = number;
+        }
+        chosen_.resize(kept);
+    }
+
     Reply evacuate() {
         copied_ = 0;
         destinations_.clear();
         for (Number number : chosen_) {
             regions_[number].role = Role::Chosen;
-            gather_covered(number);
+            find_leading(number);
         }
         roots_.each([&](Word& pointer) { pointer = moved(pointer); });
         covered_.drain([&](Number card) {
@@ -765,12 +897,20 @@ protected:
     Number stack_room_, stacked_ = 0;
     bool marking_ = false;
     Number marked_ = 0;
+    // What roots named when marking began, and is still to be marked: in the third format.
+    std::vector<Address> waiting_;
     std::vector<Address> deletion_logs_;
     std::vector<Number> deletion_log_counts_;
     // The regions in which objects with weak slots were placed since they were taken; a run's first alone.
     Bitmap weak_regions_;
 
     CardSet covered_, noted_;
+    // The cards that entered a set since that of their own region was emptied last.
+    Bitmap entered_;
+    const Number filter_rows_;
+    std::vector<Word> filters_;
+    // How many regions had objects made in them; and how many when marking began last.
+    Word ages_ = 0, old_ = 0;
     std::vector<Word> rows_;
     std::vector<Number> chosen_;
     std::vector<Number> destinations_;

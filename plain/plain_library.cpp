@@ -31,7 +31,8 @@ public:
     Number registers() const { return sizes_.registers; }
     Number free_regions() const { return free_count_; }
     bool marking() const { return marking_; }
-    bool grey() const { return marking_ && held_ != plain::nowhere; }
+    bool grey() const { return marking_ && (held_ != plain::nowhere || !waiting_.empty()); }
+    bool clearing() const { return false; }
     Number queued() const { return queue_count_; }
     plain::Reply name(Number mutator, Number number) const { return named(root(mutator, number)); }
     plain::Reply new_object(Number mutator, Number to, Number pointers, Number values) { return make(mutator, to, pointers, 0, values); }
@@ -223,8 +224,8 @@ g1_answer g1_new_filled(g1_heap* heap, std::uint32_t mutator, std::uint32_t to, 
     return filled(g1_new_object(heap, mutator, to, Number(pointers), Number(values)), heap, mutator, to, from, pointers, words, values);
 }
 
-g1_answer g1_mark(g1_heap* heap, std::uint32_t objects) {
-    g1_answer marked = collect(heap, [=](Heap& plain) { return plain.mark(objects); });
+g1_answer g1_mark(g1_heap* heap, std::uint32_t words) {
+    g1_answer marked = collect(heap, [=](Heap& plain) { return plain.mark(words); });
     if (marked.code == G1_DONE) marked.code = G1_SCANNED;
     return marked;
 }

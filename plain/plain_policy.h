@@ -31,10 +31,10 @@ static inline uint32_t policy_pause_budget(const g1_sizes *sizes)
 }
 static inline void policy_start(g1_policy *policy, const g1_sizes *sizes)
 {
-    g1_policy start = {0, 0, 0, 0, 0, 0, 0, 0, 0, 0, 0, 0, 0, 0, 0, 0, 0, 0, 0, 0, 0, 0, 0, 0, 0, 0, 0};
+    g1_policy start = {0, 0, 0, 0, 0, 0, 0, 0, 0, 0, 0, 0, 0, 0, 0, 0, 0, 0, 0, 0, 0, 0, 0, 0, 0, 0, 0, 0};
     start.reserve = policy_most(3, sizes->regions / 24);
     start.pause_words = policy_pause_budget(sizes);
-    start.mark_objects = policy_most(32768, policy_within((uint64_t)4 * sizes->words));
+    start.mark_words = policy_most(131072, policy_within((uint64_t)16 * sizes->words));
     start.cycle_words = policy_within((uint64_t)4 * policy_within((uint64_t)sizes->regions * sizes->words));
     start.young_words = 131072, start.cards_left = 8192, start.packed_next = UINT64_MAX;
     start.begin_at = start.reserve + sizes->regions / 8;
@@ -59,8 +59,9 @@ static inline int policy_compact(policy_of *of)
 static inline void policy_remark(policy_of *of)
 {
     g1_policy *policy = of->policy;
-    policy->marked = g1_remark(of->heap).first;
-    policy->cycles++, policy->scanned += policy->marked;
+    uint64_t objects = g1_remark(of->heap).first;
+    policy->marked = policy->looked > 2 * objects ? policy->looked : 2 * objects;
+    policy->cycles++, policy->scanned += objects;
 }
 static inline void policy_plan_young(policy_of *of, uint32_t free, uint32_t span)
 {
@@ -72,7 +73,7 @@ static inline void policy_plan_young(policy_of *of, uint32_t free, uint32_t span
 static inline void policy_plan_cycle(policy_of *of, uint32_t free)
 {
     uint32_t room = policy_above(free, of->policy->reserve), needed;
-    uint64_t objects = policy_within(of->policy->marked), marking = objects * 3 / 2 / policy_most(of->policy->mark_objects, 1);
+    uint64_t words = policy_within(of->policy->marked), marking = words * 3 / 2 / policy_most(of->policy->mark_words, 1);
     needed = policy_least(policy_within(marking), room / 4 * 3);
     of->policy->wanted = 0;
     of->policy->begin_at = room < 2 ? policy_above(free, 1)
@@ -147,18 +148,20 @@ static inline void policy_begin(policy_of *of)
 {
     g1_policy *policy = of->policy;
     uint32_t free = policy_free(of->heap);
-    uint64_t objects, pace;
+    uint64_t words, pace;
     if (free > policy->begin_at && policy->asked < policy->cycle_words) return;
-    objects = policy->cycles == 0 ? g1_used_words(of->heap).first / 4 : policy->marked;
-    pace = 16 + objects * 3 / 2 / policy_most(1, policy_above(free, policy->reserve));
-    policy->pace = pace < policy->mark_objects ? (uint32_t)pace : policy->mark_objects, policy->asked = 0, policy->wanted = 0;
+    words = policy->cycles == 0 ? g1_used_words(of->heap).first / 2 : policy->marked;
+    pace = 64 + policy_within(words) * 3ull / 2 / policy_most(1, policy_above(free, policy->reserve));
+    policy->pace = pace < policy->mark_words ? (uint32_t)pace : policy->mark_words, policy->asked = 0, policy->wanted = 0;
+    policy->looked = 0;
     g1_begin(of->heap);
     if (free <= policy->reserve) policy_end(of);
 }
 static inline void policy_mark_or_begin(policy_of *of)
 {
     if (g1_marking(of->heap).first == 1) {
-        g1_mark(of->heap, policy_least(of->policy->pace, of->policy->mark_objects));
+        uint32_t words = policy_least(of->policy->pace, of->policy->mark_words);
+        g1_mark(of->heap, words), of->policy->looked += words;
         if (policy_free(of->heap) <= of->policy->reserve || g1_grey(of->heap).first == 0) policy_end(of);
     } else policy_begin(of);
 }

@@ -19,11 +19,12 @@ constexpr std::size_t longest_line = 120;
 enum class Verb : std::uint8_t {
     New, Get, Put, PutNil, Read, Write, Move, Drop, Load, Save, Scope, Shape,
     NewWeak, GetWeak, PutWeak, PutWeakNil, Weaks,
-    Begin, Mark, Remark, Cleanup, Refine, Pause, Compact
+    Begin, Mark, Remark, Cleanup, Refine, Pause, Compact, PauseWithin, Young, Clear
 };
 
 // A line's step. `first` and `second` are registers or globals in the line's order, `number` is an index, a count
-// or the pointers of a new object, `value` a data word or the data words of a new object, whose weak slots are `second`.
+// or the pointers of a new object, `value` a data word or the data words of a new object, whose weak slots are `second`. A collector's
+// second number is `second`.
 struct Step {
     Word value;
     Number number, first, second;
@@ -82,6 +83,10 @@ public:
     bool global(Number& value) { return text("g") && number(value) && value < sizes_.globals; }
     bool scope() { return sizes_.format == 3 && text("scope "); }
     bool compact() { return sizes_.format == 3 && text("compact "); }
+    bool pause_within() { return sizes_.format == 3 && text("pausewithin "); }
+    bool clear() { return sizes_.format == 3 && text("clear "); }
+    bool young() { return sizes_.format == 3 && text("young "); }
+    bool limits(Number& words, Number& cards) { return number(words) && space() && number(cards); }
 
 private:
     const char *at_, *end_;
@@ -179,11 +184,22 @@ static bool read_collector_step(Cursor& line, Step& step) {
             step.verb = Verb::Compact;
             return line.number(step.number);
         }
+        if (line.clear()) {
+            step.verb = Verb::Clear;
+            return line.number(step.number);
+        }
         step.verb = Verb::Cleanup;
         return line.text("cleanup");
     case 'p':
+        if (line.pause_within()) {
+            step.verb = Verb::PauseWithin;
+            return line.limits(step.number, step.second);
+        }
         step.verb = Verb::Pause;
         return line.text("pause ") && line.number(step.number);
+    case 'y':
+        step.verb = Verb::Young;
+        return line.young() && line.limits(step.number, step.second);
     default:
         return false;
     }
@@ -262,6 +278,9 @@ static Reply do_step(Heap& heap, const Step& step) {
     case Verb::Refine: return heap.refine(step.number);
     case Verb::Pause: return heap.pause(step.number);
     case Verb::Compact: return heap.compact(step.number);
+    case Verb::PauseWithin: return heap.pause_within(step.number, step.second);
+    case Verb::Young: return heap.young(step.number, step.second);
+    case Verb::Clear: return heap.clear(step.number);
     }
     std::abort();
 }

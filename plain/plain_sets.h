@@ -33,6 +33,7 @@ public:
             else words_[first >> 6] &= ~mask;
         }
     }
+    Word word(Number index) const { return words_[index]; }
     // The lowest member from `from` on; nowhere if there is none.
     Number next(Number from) const {
         std::size_t index = from >> 6;
@@ -113,16 +114,18 @@ public:
         words_[index] |= Word(1) << (card & 63);
         widen(index, index + 1);
     }
-    // Adds the cards from `first` on, `count` of them; count is a power of two that divides first.
-    void add_block(Number first, Number count) {
-        Number index = first >> 6;
-        if (count >= 64) {
-            std::fill_n(words_.begin() + index, count >> 6, ~Word(0));
-            widen(index, index + (count >> 6));
-        } else {
-            words_[index] |= ((Word(1) << count) - 1) << (first & 63);
-            widen(index, index + 1);
-        }
+    // Adds those of the cards from `first` on, `count` of them, that others have; count is a power of two that divides first.
+    void add_members(Number first, Number count, const Bitmap& others) {
+        Number index = first >> 6, end = index + (count + 63) / 64;
+        Word mask = count >= 64 ? ~Word(0) : ((Word(1) << count) - 1) << (first & 63);
+        for (Number place = index; place < end; ++place) words_[place] |= others.word(place) & mask;
+        widen(index, end);
+    }
+    // The same of those that two rows of as many flags have, too.
+    void add_members(Number first, Number count, const Bitmap& others, const Word* one, const Word* two) {
+        Number index = first >> 6, end = index + count / 64;
+        for (Number place = index; place < end; ++place) words_[place] |= others.word(place) & one[place - index] & two[place - index];
+        widen(index, end);
     }
     // Gives each card to `visit`, by rising number, and leaves the set empty.
     template <class Visit>

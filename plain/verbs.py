@@ -50,6 +50,9 @@ COLLECTOR = (
     Step("refine", "N", "refined N", background="f"),
     Step("pause", "N", "moved N W"),
     Step("compact", "N", "moved N W", is_third=True),
+    Step("pausewithin", "N N", "moved N W", is_third=True),
+    Step("young", "N N", "moved N W", is_third=True),
+    Step("clear", "N", "ok", is_third=True),
 )
 
 

@@ -21,18 +21,22 @@ g1_answer g1raw_write_words(g1_heap *heap, uint32_t mutator, uint32_t object, ui
 g1_answer g1raw_new_filled(g1_heap *heap, uint32_t mutator, uint32_t to, const uint32_t *from, size_t pointers, const uint64_t *words,
                            size_t values);
 g1_answer g1raw_begin(g1_heap *heap);
-g1_answer g1raw_mark(g1_heap *heap, uint32_t objects);
+g1_answer g1raw_mark(g1_heap *heap, uint32_t words);
 g1_answer g1raw_remark(g1_heap *heap);
 g1_answer g1raw_cleanup(g1_heap *heap);
 g1_answer g1raw_refine(g1_heap *heap, uint32_t cards);
 g1_answer g1raw_pause(g1_heap *heap, uint32_t words);
 g1_answer g1raw_compact(g1_heap *heap, uint32_t words);
+g1_answer g1raw_pause_within(g1_heap *heap, uint32_t words, uint32_t cards);
+g1_answer g1raw_young(g1_heap *heap, uint32_t words, uint32_t cards);
+g1_answer g1raw_clear(g1_heap *heap, uint32_t objects);
 g1_answer g1raw_free_regions(const g1_heap *heap);
 g1_answer g1raw_free_run(const g1_heap *heap);
 g1_answer g1raw_used_words(const g1_heap *heap);
 g1_answer g1raw_live_words(const g1_heap *heap);
 g1_answer g1raw_marking(const g1_heap *heap);
 g1_answer g1raw_grey(const g1_heap *heap);
+g1_answer g1raw_clearing(const g1_heap *heap);
 g1_answer g1raw_queued(const g1_heap *heap);
 g1_answer g1raw_globals(const g1_heap *heap);
 g1_answer g1raw_registers(const g1_heap *heap);
@@ -47,7 +51,7 @@ g1_answer g1_collect_all_noted(g1_heap *heap, g1_policy *policy, entry *entries,
 
 /* The lines of the collector's steps, by the numbers of entries. */
 static const char *const collector_forms[] = {"gc begin", "gc mark %", "gc remark", "gc cleanup", "gc refine %", "gc pause %",
-                                              "gc compact %"};
+                                              "gc compact %", "gc pausewithin % %", "gc young % %", "gc clear %"};
 
 g1_answer g1_new_object(g1_heap *heap, uint32_t mutator, uint32_t to, uint32_t pointers, uint32_t values)
 {
@@ -149,10 +153,10 @@ g1_answer g1_begin(g1_heap *heap)
     return note(in, g1raw_begin(&in->heap), "gc begin", NULL);
 }
 
-g1_answer g1_mark(g1_heap *heap, uint32_t objects)
+g1_answer g1_mark(g1_heap *heap, uint32_t words)
 {
     box *in = box_of(heap);
-    return note(in, g1raw_mark(&in->heap, objects), "gc mark %", (uint64_t[]){objects});
+    return note(in, g1raw_mark(&in->heap, words), "gc mark %", (uint64_t[]){words});
 }
 
 g1_answer g1_remark(g1_heap *heap)
@@ -185,6 +189,24 @@ g1_answer g1_compact(g1_heap *heap, uint32_t words)
     return note(in, g1raw_compact(&in->heap, words), "gc compact %", (uint64_t[]){words});
 }
 
+g1_answer g1_pause_within(g1_heap *heap, uint32_t words, uint32_t cards)
+{
+    box *in = box_of(heap);
+    return note(in, g1raw_pause_within(&in->heap, words, cards), "gc pausewithin % %", (uint64_t[]){words, cards});
+}
+
+g1_answer g1_young(g1_heap *heap, uint32_t words, uint32_t cards)
+{
+    box *in = box_of(heap);
+    return note(in, g1raw_young(&in->heap, words, cards), "gc young % %", (uint64_t[]){words, cards});
+}
+
+g1_answer g1_clear(g1_heap *heap, uint32_t objects)
+{
+    box *in = box_of(heap);
+    return note(in, g1raw_clear(&in->heap, objects), "gc clear %", (uint64_t[]){objects});
+}
+
 g1_answer g1_free_regions(const g1_heap *heap)
 {
     return g1raw_free_regions(&box_of(heap)->heap);
@@ -213,6 +235,11 @@ g1_answer g1_marking(const g1_heap *heap)
 g1_answer g1_grey(const g1_heap *heap)
 {
     return g1raw_grey(&box_of(heap)->heap);
+}
+
+g1_answer g1_clearing(const g1_heap *heap)
+{
+    return g1raw_clearing(&box_of(heap)->heap);
 }
 
 g1_answer g1_queued(const g1_heap *heap)

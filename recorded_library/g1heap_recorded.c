@@ -8,10 +8,10 @@
 
 #include "g1heap_record.h"
 
-/* A step that a call of the policy took: one of the collector's, counted from 0 in the header's order, with its number; or, by the number
+/* A step that a call of the policy took: one of the collector's, counted from 0 in the header's order, with its numbers; or, by the number
    after these, the mutator's own. The library writes as many of the first ones as there is room for, and counts all. */
 typedef struct entry {
-    uint32_t step, number;
+    uint32_t step, number, second;
     g1_answer answer;
 } entry;
 
@@ -235,7 +235,7 @@ g1_answer g1_write_words(g1_heap *heap, uint32_t mutator, uint32_t object, uint3
 }
 
 /* The number of an entry that is the mutator's own step, which comes after those of the collector's steps. */
-enum { OWN_STEP = 7 };
+enum { OWN_STEP = 10 };
 _Static_assert(sizeof collector_forms / sizeof *collector_forms == OWN_STEP, "the heap numbers as many steps of the collector");
 
 /* Notes the steps of the collector that a call of the policy took. Answers whether the mutator's own step was the last. */
@@ -244,7 +244,7 @@ static int note_all(box *in, uint32_t count)
     for (uint32_t i = 0; i < count && i < in->room; i++) {
         const entry *of = &in->entries[i];
         if (of->step >= OWN_STEP) return 1;
-        note(in, of->answer, collector_forms[of->step], (uint64_t[]){of->number});
+        note(in, of->answer, collector_forms[of->step], (uint64_t[]){of->number, of->second});
     }
     return 0;
 }

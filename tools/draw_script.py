@@ -28,7 +28,7 @@ MOST_WEAKS = 255
 FRAME_WEIGHTS = {"call": 8, "scope": 8}
 # How many registers and globals a burst needs.
 BURST_ROOTS = {"many_cards": (8, 3), "many_deletions": (2, 0), "many_copies": (5, 0), "many_reuses": (3, 0), "many_slots": (4, 0),
-               "many_frames": (1, 0), "many_gaps": (8, 0)}
+               "many_frames": (1, 0), "many_gaps": (8, 0), "many_limits": (8, 0)}
 MOST_ROOTS = 2 ** 20
 # All registers from each of them on.
 ORDERS = [[(start + place) % 8 for place in range(8)] for start in range(8)]
@@ -140,6 +140,11 @@ class Drawer:
         # In the third format some of the pauses are compactions, drawn apart too.
         self.compactions = random.Random(f"compactions {seed}")
         self.compacted = self.compactions.choice((0, 0.2, 0.5, 0.9)) if self.third else 0
+        # Some of the others are within cards, or of young regions.
+        self.limits = random.Random(f"limits {seed}")
+        self.limited = self.limits.choice((0, 0.2, 0.5, 0.9)) if self.third else 0
+        # And what a remark leaves in weak slots is cleared in pieces.
+        self.clears = random.Random(f"clears {seed}")
         if self.third:
             self.make_third(chosen, card or 8, globals, registers, mutators)
         else:
@@ -166,6 +171,9 @@ class Drawer:
         if self.compacted and chosen.random() < 0.6:
             self.burst = "many_gaps"
             self.regions = self.told_regions or min(max(self.regions, self.number(6, 24)), 1048576 // self.words)
+        if self.limited and self.limits.random() < 0.4:
+            self.burst = "many_limits"
+            self.regions = self.told_regions or min(max(self.regions, self.limits.randint(6, 24)), 1048576 // self.words)
         self.lines = [f"heap3 {self.regions} {self.words} {self.buffer} {self.mutators} {self.first_name} {card} "
                       f"{self.globals.count} {self.roots[0].count}"]
 
@@ -243,9 +251,24 @@ class Drawer:
     def collect(self, step, number):
         """A step of the collector; one of weight 0 never comes."""
         if self.weights[step] > 0:
-            if step == "pause" and self.compactions.random() < self.compacted:
-                step = "compact"
-            self.say("gc", step, number)
+            self.say("gc", *self.kind_of_pause(number) if step == "pause" else (step, number))
+
+    def kind_of_pause(self, budget):
+        """A pause or what comes in its place, with its numbers."""
+        if self.compactions.random() < self.compacted:
+            return "compact", budget
+        if self.limits.random() < self.limited:
+            return self.limits.choice(("pausewithin", "young")), budget, self.most_cards()
+        return "pause", budget
+
+    def clear_some(self):
+        """After a remark weak slots are cleared little by little, or not before something else needs it."""
+        while self.third and self.clears.random() < 0.5:
+            self.say("gc", "clear", self.clears.choice((0, 1, 1, 2, 3, self.clears.randrange(20), 4294967295)))
+
+    def most_cards(self):
+        """How many cards may lead into what a pause takes: often few, so that it passes over regions."""
+        return self.limits.choice((0, 1, 2, 3, self.limits.randrange(10), self.limits.randrange(100), 1000, 4294967295))
 
     def mutator_step(self, kind):
         mutator = self.any_mutator() if self.mutators > 1 else 0
@@ -499,6 +522,32 @@ class Drawer:
                 self.get(mutator, registers)
                 self.put(mutator, registers)
 
+    def many_limits(self):
+        """Objects over many regions, which name some that are old when marking begins, and pauses within limits of what is left."""
+        mutator = self.any_mutator()
+        registers = self.roots[mutator]
+        if self.marking:
+            self.mark_step("remark")
+        count = self.number(8, 30)
+        begins = self.number(0, count)
+        for place in range(count):
+            size = self.pick((self.words // 2, self.words // 4 + 2, self.number(3, self.words // 2)))
+            pointers = self.number(1, size - 2)
+            self.make(mutator, place % 8, pointers, size - 2 - pointers)
+            for field in range(0, pointers, self.pick((1, 8, 8, size))):
+                self.fill(mutator, place % 8, field, self.number(0, 7))
+            if place == begins:
+                self.mark_step("begin")
+        if self.chance() < 0.7:
+            self.mark_step("remark")
+        for _ in range(self.number(1, 6)):
+            budget = self.pick((self.words // 2, self.words, 2 * self.words, self.number(0, 4 * self.words), 4294967295))
+            self.say("gc", self.limits.choice(("pausewithin", "young")), budget, self.most_cards())
+            self.refine_after_pause()
+            for _ in range(self.number(0, 2)):
+                self.get(mutator, registers)
+                self.put(mutator, registers)
+
     def read(self, mutator, registers):
         register = self.dataful(registers)
         place = self.index(registers[register].data if registers[register] else 0)
@@ -540,11 +589,12 @@ class Drawer:
         elif kind == "remark":
             self.marked_once = self.marked_once or self.marking
             self.marking = False
+            self.clear_some()
             if self.chance() < 0.6:
                 self.mark_step("cleanup")
 
     def pause(self):
-        """A pause, or a compaction in its place."""
+        """A pause, or what comes in its place."""
         budget = self.pick((0, self.number(1, 12), self.words // 2, self.words, self.number(0, 4 * self.words), 1000, 1000,
                             4294967295))
         self.collect("pause", budget)

@@ -41,6 +41,10 @@ static void refuse_sizes(void)
     is("no heap", g1_get(&heap, 0, 0, 0, 0), G1_NO_HEAP, 0, 0);
     is("no heap", g1_pause(&heap, 0), G1_NO_HEAP, 0, 0);
     is("no heap", g1_compact(&heap, 0), G1_NO_HEAP, 0, 0);
+    is("no heap", g1_pause_within(&heap, 0, 0), G1_NO_HEAP, 0, 0);
+    is("no heap", g1_young(&heap, 0, 0), G1_NO_HEAP, 0, 0);
+    is("no heap", g1_clear(&heap, 0), G1_NO_HEAP, 0, 0);
+    is("no heap", g1_clearing(&heap), G1_NO_HEAP, 0, 0);
     is("no heap", g1_free_regions(&heap), G1_NO_HEAP, 0, 0);
     is("no heap", g1_free_run(&heap), G1_NO_HEAP, 0, 0);
     is("no heap", g1_name(&heap, 0, 0), G1_NO_HEAP, 0, 0);
@@ -205,8 +209,9 @@ static void collect(g1_heap *h, uint64_t name)
     is("cleanup", g1_cleanup(h), G1_MARK_RUNNING, 0, 0);
     is("marking", g1_marking(h), G1_NUMBER, 1, 0);
     is("grey", g1_grey(h), G1_NUMBER, 1, 0);
-    is("mark", g1_mark(h, 1), G1_SCANNED, 1, 0);
-    is("mark", g1_mark(h, 9), G1_SCANNED, 1, 0);
+    is("mark", g1_mark(h, 1), G1_SCANNED, 0, 0); /* a root that waits is a word */
+    is("grey", g1_grey(h), G1_NUMBER, 1, 0);
+    is("mark", g1_mark(h, 99), G1_SCANNED, 2, 0);
     is("grey", g1_grey(h), G1_NUMBER, 0, 0);
     is("remark", g1_remark(h), G1_MARKED, 2, 0);
     is("marking", g1_marking(h), G1_NUMBER, 0, 0);
@@ -220,6 +225,11 @@ static void collect(g1_heap *h, uint64_t name)
     is("compact", g1_compact(h, 16), G1_MOVED, 9, 1);
     is("free run", g1_free_run(h), G1_NUMBER, 3, 0);
     is("compact", g1_compact(h, 16), G1_MOVED, 0, 0);
+    is("young", g1_young(h, 16, UINT32_MAX), G1_MOVED, 0, 0);
+    is("clear", g1_clear(h, 16), G1_DONE, 0, 0);
+    is("clearing", g1_clearing(h), G1_NUMBER, 0, 0);
+    is("pausewithin", g1_pause_within(h, 8, UINT32_MAX), G1_MOVED, 0, 0);
+    is("pausewithin", g1_pause_within(h, 16, 0), G1_MOVED, 9, 1);
     is("free regions", g1_free_regions(h), G1_NUMBER, 3, 0);
     is("used words", g1_used_words(h), G1_NUMBER, 9, 0);
     is("read", g1_read(h, 0, 0, 0), G1_WORD, UINT64_MAX, 0);
@@ -227,6 +237,23 @@ static void collect(g1_heap *h, uint64_t name)
     is("new", g1_new_object(h, 0, 2, 16, 0), G1_FULL, 0, 0);
     is("globals", g1_globals(h), G1_NUMBER, 3, 0);
     is("registers", g1_registers(h), G1_NUMBER, 4, 0);
+}
+
+/* Pauses within cards and young ones: a new heap has 4 regions of 16 words and buffers of 8. */
+static void within_cards(g1_heap *h)
+{
+    g1_new_object(h, 0, 0, 1, 5), g1_new_object(h, 0, 1, 1, 5);   /* they fill a region */
+    g1_new_object(h, 0, 2, 1, 5);
+    g1_put(h, 0, 0, 0, 2);                                        /* a card leads into the other region */
+    is("young", g1_young(h, 15, UINT32_MAX), G1_MOVED, 0, 0);     /* the oldest has 16 words */
+    is("young", g1_young(h, 16, 0), G1_MOVED, 16, 1);
+    is("young", g1_young(h, 16, 0), G1_MOVED, 0, 0);
+    is("young", g1_young(h, 16, 1), G1_MOVED, 8, 1);
+    is("young", g1_young(h, UINT32_MAX, UINT32_MAX), G1_MOVED, 0, 0);
+    is("pausewithin", g1_pause_within(h, UINT32_MAX, 0), G1_MOVED, 0, 0);
+    is("pausewithin", g1_pause_within(h, 7, 1), G1_MOVED, 0, 0);
+    is("pausewithin", g1_pause_within(h, 8, 1), G1_MOVED, 8, 1);
+    is("get", g1_get(h, 0, 3, 0, 0), G1_NAME, g1_name(h, 0, 2).first, 0);
 }
 
 int main(void)
@@ -254,6 +281,7 @@ int main(void)
     sizes.first_name = 0, g1_free(&one), g1_new(&one, &sizes);
     words(&one), filled(&one), made_filled(&one, &sizes);
     g1_free(&one), g1_new(&one, &sizes), filled_everywhere(&one);
+    g1_free(&one), g1_new(&one, &sizes), within_cards(&one);
     g1_free(&one), g1_free(&one), g1_free(&other);
     if (failed == 0) puts("all calls answered as the header has it");
     return failed != 0;

@@ -33,7 +33,7 @@ static void start_policy(const g1_sizes *s)
     g1_policy_start(&policy, s);
     by_policy = draw() % 2 == 0;
     if (draw() % 2 == 0) return;
-    policy.reserve = below(4), policy.pause_words = below(600), policy.mark_objects = below(30);
+    policy.reserve = below(4), policy.pause_words = below(600), policy.mark_words = below(30);
     policy.cycle_words = below(3 * s->words), policy.young_words = below(4 * s->words), policy.cards_left = below(40);
 }
 static void note_policy(void)

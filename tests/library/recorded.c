@@ -56,7 +56,9 @@ static const char wanted[] =
     "36 gc cleanup = reclaimed 0\n"
     "37 gc refine 2 = refined 0\n"
     "38 gc pause 9 = moved 1 4\n"
-    "39 gc compact 9 = moved 1 4\n";
+    "39 gc compact 9 = moved 1 4\n"
+    "40 gc young 9 2 = moved 0 0\n"
+    "41 gc pausewithin 9 2 = moved 1 4\n";
 
 static void steps(g1_heap *h)
 {
@@ -73,6 +75,7 @@ static void steps(g1_heap *h)
     g1_save(h, 0, 0, 0), g1_move(h, 0, 1, 0), g1_drop(h, 0, 0), g1_get(h, 0, 0, 0, 0), g1_scope(h, 0, 0);
     g1_load(h, 0, 1, 0), g1_get(h, 0, 0, 1, 0), g1_new_object(h, 0, 0, 60, 3), g1_new_object(h, 0, 0, 40, 8);
     g1_mark(h, 3), g1_begin(h), g1_begin(h), g1_mark(h, 1), g1_remark(h), g1_cleanup(h), g1_refine(h, 2), g1_pause(h, 9), g1_compact(h, 9);
+    g1_young(h, 9, 2), g1_pause_within(h, 9, 2);
 }
 
 /* What is asked of the policy in a heap with room: no step of the collector is due. */
@@ -113,7 +116,7 @@ int main(void)
     size_t length = 0, before;
     if (g1_record(&heap, take, &length) != G1_NO_HEAP) return 1;
     if (g1_new(&heap, &sizes) != G1_DONE || g1_new(&other, &sizes) != G1_DONE) return 1;
-    left_lines = 40;
+    left_lines = 42;
     if (g1_record(&heap, take, &length) != G1_DONE) return 1;
     steps(&heap), steps(&other);
     if (strcmp(got, wanted) != 0) {

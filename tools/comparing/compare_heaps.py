@@ -109,8 +109,9 @@ def tally(record):
             counts["compactions"] += 1
             counts["compacted"] += int(first)
             counts["compacted_words"] += int(second)
-        elif step == b"pause":
+        elif step in (b"pause", b"pausewithin", b"young"):
             counts["pauses"] += 1
+            counts[step.decode()] += 1
             counts["paused"] += int(first)
             if second != b"0":
                 counts["copied"] += 1
@@ -221,6 +222,7 @@ def main():
           f"{counts['marked']} cycles marked, {counts['refined']} cards refined, {counts['full']} Full; "
           f"weak slots taken: {counts['slots']}, {counts['nil_slots']} of them nil; "
           f"of the third format: {counts['third']} scripts, {counts['scopes']} frames left, "
-          f"{counts['compactions']} compactions: {counts['compacted_words']} words, {counts['compacted']} regions reclaimed; "
+          f"{counts['compactions']} compactions: {counts['compacted_words']} words, {counts['compacted']} regions reclaimed, "
+          f"pauses within cards: {counts['pausewithin']}, young ones: {counts['young']}; "
           f"different: {counts['different']}{', stopped there' if counts['different'] >= ENOUGH else ''}")
     sys.exit(1 if counts["different"] else 0)

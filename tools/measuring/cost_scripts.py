@@ -41,6 +41,9 @@ actors and of the third format, have 1,024 regions of 1,024 words, the largest t
 | third_pause_all | 200 times `pause 0` with them; no region is taken |
 | third_moved_all | 200 pauses with them, each of which moves the 64 objects |
 | third_none_base, third_all_base | the same without these steps |
+| passed_over | 5,000 times `pausewithin` where 510 regions are candidates, into each of which 64 cards lead: all are passed over |
+| passed_over_base | the same without these steps |
+| young_pauses | 1,000 times a `young` of five regions of garbage, but for one object in each, beside 20 old ones; 125 marking cycles |
 
 A pause copies at most half of the free words, so never more than a third of the heap, here 349,525 words.
 """
@@ -360,6 +363,31 @@ def frames():
     return (lines + frame * (1000000 // len(frame) + 1))[:1000002]
 
 
+def passed_over(times):
+    """Tables whose cards each name an object of the same candidate, and pauses that take no region, as too many cards lead into each."""
+    lines = [f"heap3 {REGIONS} {WORDS} 8 1 0 8 16 8"]
+    for _ in range(255):
+        # Two tables fill a region; in the two after it are two objects each, and too little after them for a third.
+        lines += [f"0 new r{register} {shape(HALF, HALF - 2)}" for register in (0, 1)]
+        for register in (0, 1):
+            lines += [f"0 new r2 {shape(HALF - 9, 0)}", f"0 new r3 {shape(HALF - 1, 0)}"]
+            lines += [f"0 put r{register} {8 * card} r2" for card in range(64)]
+    return lines + ["gc refine 100000"] + ["gc pausewithin 100000 63"] * times
+
+
+def young_pauses():
+    lines = [f"heap3 64 {WORDS} 8 1 0 8 16 8", f"0 new r0 {shape(HALF, 2)}"]
+    for _ in range(39):
+        lines += [f"0 new r1 {shape(HALF, 2)}", "0 put r1 0 r0", "0 move r0 r1"]
+    for number in range(1000):
+        lines += ["0 drop r2"] + ["gc begin", "gc remark", "gc cleanup"] * (number % 8 == 0)
+        for _ in range(5):
+            lines += [f"0 new r1 {shape(HALF, 2)}", f"0 new r3 {shape(40, 2)}", "0 put r3 0 r2", "0 move r2 r3"]
+            lines += [f"0 new r1 {shape(HALF - 40, 2)}"]
+        lines += ["gc young 100000 1000"]
+    return lines
+
+
 def third(is_used, steps):
     """Steps where no register is used, or all name an object of their mutator. The objects take a part of a region, so that a
     pause with room for them moves them each time."""
@@ -409,6 +437,9 @@ SCRIPTS = {
     **{f"third_{name}_all": lambda steps=steps: third(True, steps * 200)
        for name, steps in (("begin", ["gc begin", "gc remark"]), ("pause", ["gc pause 0"]), ("moved", ["gc pause 1000"]))},
     "third_all_base": lambda: third(True, []),
+    "passed_over": lambda: passed_over(5000),
+    "passed_over_base": lambda: passed_over(0),
+    "young_pauses": young_pauses,
     "weak_spread": lambda: weak_spread("newweak r2 0 1 0"),
     "weak_spread_none": lambda: weak_spread("new r2 0 1"),
 }

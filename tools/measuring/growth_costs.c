@@ -34,13 +34,19 @@ static void alone(void)
     for (long place = 1; place < WORDS / OBJECT; place++) g1_new_object(&heap, 0, 2, 0, OBJECT - 2);
 }
 
-/* So many regions with nothing live, and above them as many of which every second object is reached. */
-static void half_regions(long size)
+/* So many regions, of which every second object is reached. */
+static void half_live(long size)
 {
-    for (long place = 0; place < size * (WORDS / OBJECT); place++) g1_new_object(&heap, 0, 2, 0, OBJECT - 2);
     for (long place = 0; place < size * (WORDS / OBJECT); place++)
         if (place % 2 == 0) link_object(1, OBJECT);
         else g1_new_object(&heap, 0, 2, 0, OBJECT - 2);
+}
+
+/* So many regions with nothing live, and above them as many of the others, all of them marked. */
+static void half_regions(long size)
+{
+    for (long place = 0; place < size * (WORDS / OBJECT); place++) g1_new_object(&heap, 0, 2, 0, OBJECT - 2);
+    half_live(size);
     mark();
     g1_cleanup(&heap);
 }
@@ -77,6 +83,12 @@ int main(int count, char **words)
     } else if (strcmp(step, "pause of half regions") == 0) {
         half_regions(size);
         if (times > 0) sum += g1_pause(&heap, UINT32_MAX).first;
+    } else if (strcmp(step, "pause within cards of half regions") == 0) {
+        half_regions(size);
+        if (times > 0) sum += g1_pause_within(&heap, UINT32_MAX, UINT32_MAX).first;
+    } else if (strcmp(step, "young pause of half regions") == 0) {
+        half_live(size);
+        if (times > 0) sum += g1_young(&heap, UINT32_MAX, UINT32_MAX).first;
     } else if (strcmp(step, "compaction of half regions") == 0) {
         half_regions(size);
         if (times > 0) sum += g1_compact(&heap, UINT32_MAX).first;

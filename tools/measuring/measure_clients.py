@@ -47,7 +47,8 @@ GROWTH = [
     *[("pause named from regions", size, 2, 12, 10) for size in (10, 17, 100, 900)],
     *[("pause with candidates", size, 2, 12, 10) for size in (16, 256, 1000)],
     # Of each object that is copied.
-    *[(f"{step} of half regions", size, 0, 1, size * 512) for size in (4, 64) for step in ("pause", "compaction")],
+    *[(f"{step} of half regions", size, 0, 1, size * 512) for size in (4, 64)
+      for step in ("pause", "pause within cards", "young pause", "compaction")],
     *[("cleanup", size, 0, 1, size) for size in (256, 1000)],
     ("begin", 1, 0, 1, 1),
     ("make", 0, 1, 6, 5),

@@ -254,7 +254,8 @@ def broad():
     lines += ["0 put r2 5 r1", "0 put r3 9 r2", "1 putweak r37 17 r39", "1 put r38 16 r39"]
     lines += [f"0 put r2 {place} r0" for place in range(1, 120, 15)] + ["gc refine 30", "0 new r4 2 1", "0 new r5 1 0", "0 put r4 0 r5"]
     lines += ["gc begin", "gc mark 2", "1 put r38 16 nil", "0 new r6 1 1", "gc mark 1", "gc remark", "0 drop r4", "0 drop r5", "gc begin"]
-    lines += ["gc mark 1", "gc remark", "gc cleanup", "gc pause 100", "gc pause 200", "gc refine 5", "1 scope r30", "gc pause 0", ""]
+    lines += ["gc mark 1", "gc remark", "gc cleanup", "gc pause 100", "gc pausewithin 200 3", "gc pause 200", "gc refine 5", "1 scope r30"]
+    lines += ["1 new r29 60 0", "1 new r28 60 0", "1 put r29 0 r28", "1 put r28 9 r29", "gc young 300 9", "gc pause 0", ""]
     return "\n".join(lines)
 
 

@@ -34,7 +34,7 @@ pub struct g1_answer {
 pub struct g1_policy {
     pub reserve: u32,
     pub pause_words: u32,
-    pub mark_objects: u32,
+    pub mark_words: u32,
     pub cycle_words: u32,
     pub young_words: u32,
     pub cards_left: u32,
@@ -52,6 +52,7 @@ pub struct g1_policy {
     pub packed_next: u64,
     pub paid: u64,
     pub asked: u64,
+    pub looked: u64,
     pub marked: u64,
     pub cycles: u64,
     pub scanned: u64,
@@ -122,18 +123,22 @@ extern "C" {
         values: usize,
     ) -> g1_answer;
     pub fn g1_begin(heap: *mut g1_heap) -> g1_answer;
-    pub fn g1_mark(heap: *mut g1_heap, objects: u32) -> g1_answer;
+    pub fn g1_mark(heap: *mut g1_heap, words: u32) -> g1_answer;
     pub fn g1_remark(heap: *mut g1_heap) -> g1_answer;
     pub fn g1_cleanup(heap: *mut g1_heap) -> g1_answer;
     pub fn g1_refine(heap: *mut g1_heap, cards: u32) -> g1_answer;
     pub fn g1_pause(heap: *mut g1_heap, words: u32) -> g1_answer;
     pub fn g1_compact(heap: *mut g1_heap, words: u32) -> g1_answer;
+    pub fn g1_pause_within(heap: *mut g1_heap, words: u32, cards: u32) -> g1_answer;
+    pub fn g1_young(heap: *mut g1_heap, words: u32, cards: u32) -> g1_answer;
+    pub fn g1_clear(heap: *mut g1_heap, objects: u32) -> g1_answer;
     pub fn g1_free_regions(heap: *const g1_heap) -> g1_answer;
     pub fn g1_free_run(heap: *const g1_heap) -> g1_answer;
     pub fn g1_used_words(heap: *const g1_heap) -> g1_answer;
     pub fn g1_live_words(heap: *const g1_heap) -> g1_answer;
     pub fn g1_marking(heap: *const g1_heap) -> g1_answer;
     pub fn g1_grey(heap: *const g1_heap) -> g1_answer;
+    pub fn g1_clearing(heap: *const g1_heap) -> g1_answer;
     pub fn g1_queued(heap: *const g1_heap) -> g1_answer;
     pub fn g1_globals(heap: *const g1_heap) -> g1_answer;
     pub fn g1_registers(heap: *const g1_heap) -> g1_answer;
@@ -174,18 +179,22 @@ macro_rules! each_call_of_numbers {
             weaks = g1_weaks(mutator: u32, object: u32);
             scope = g1_scope(mutator: u32, first: u32);
             begin = g1_begin();
-            mark = g1_mark(objects: u32);
+            mark = g1_mark(words: u32);
             remark = g1_remark();
             cleanup = g1_cleanup();
             refine = g1_refine(cards: u32);
             pause = g1_pause(words: u32);
             compact = g1_compact(words: u32);
+            pause_within = g1_pause_within(words: u32, cards: u32);
+            young = g1_young(words: u32, cards: u32);
+            clear = g1_clear(objects: u32);
             free_regions = g1_free_regions();
             free_run = g1_free_run();
             used_words = g1_used_words();
             live_words = g1_live_words();
             marking = g1_marking();
             grey = g1_grey();
+            clearing = g1_clearing();
             queued = g1_queued();
             globals = g1_globals();
             registers = g1_registers();

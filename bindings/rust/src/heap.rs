@@ -150,7 +150,7 @@ pub struct Sizes {
     pub card: u32,
     /// Globals, for [`Global`] and [`Kept`]: 0 to 65,536.
     pub globals: u32,
-    /// Registers of each thread, which are the roots that it can have at once: 1 to 65,536, at 8 bytes each.
+    /// Registers of each thread, which are the roots that it can have at once: 1 to 65,536, at 12 bytes each.
     pub registers: u32,
     /// Whether [`Frame::alloc`] and its like take the steps of the collector that are due, by the library's policy. Else the program takes
     /// them, by [`Frame::steps`].
@@ -232,8 +232,8 @@ pub struct Pace {
     pub reserve: u32,
     /// Words: the budget of a pause, but for those of a whole collection.
     pub pause_words: u32,
-    /// Objects: as many are scanned at a look, at most.
-    pub mark_objects: u32,
+    /// Words: as many are looked at by marking at a look, at most, and those of one object more.
+    pub mark_words: u32,
     /// Words: where so many were asked for since the last cycle began, another one begins.
     pub cycle_words: u32,
     /// Words: new regions of so many are evacuated first, and no fewer later.
@@ -242,7 +242,7 @@ pub struct Pace {
     pub cards_left: u32,
 }
 
-with! { Pace { reserve: u32, pause_words: u32, mark_objects: u32, cycle_words: u32, young_words: u32, cards_left: u32 } }
+with! { Pace { reserve: u32, pause_words: u32, mark_words: u32, cycle_words: u32, young_words: u32, cards_left: u32 } }
 
 /// A heap. It may go to another thread. Threads that are in it at once share a [`Shared`](crate::Shared), or a `Mutex<Heap>`.
 ///
@@ -338,9 +338,9 @@ impl Heap {
     /// ```
     pub fn pace(&self) -> Pace {
         let it = self.core.raw.policy();
-        let (reserve, pause_words, mark_objects) = (it.reserve, it.pause_words, it.mark_objects);
+        let (reserve, pause_words, mark_words) = (it.reserve, it.pause_words, it.mark_words);
         let (cycle_words, young_words, cards_left) = (it.cycle_words, it.young_words, it.cards_left);
-        Pace { reserve, pause_words, mark_objects, cycle_words, young_words, cards_left }
+        Pace { reserve, pause_words, mark_words, cycle_words, young_words, cards_left }
     }
 
     /// Sets how much the policy does at once.
@@ -348,12 +348,12 @@ impl Heap {
     /// ```
     /// # use g1heap::*;
     /// let mut heap = Heap::new(&Sizes::default())?;
-    /// heap.set_pace(heap.pace().mark_objects(100));
+    /// heap.set_pace(heap.pace().mark_words(100));
     /// # Ok::<_, BadSizes>(())
     /// ```
     pub fn set_pace(&mut self, pace: Pace) {
         let mut it = self.core.raw.policy();
-        (it.reserve, it.pause_words, it.mark_objects) = (pace.reserve, pace.pause_words, pace.mark_objects);
+        (it.reserve, it.pause_words, it.mark_words) = (pace.reserve, pace.pause_words, pace.mark_words);
         (it.cycle_words, it.young_words, it.cards_left) = (pace.cycle_words, pace.young_words, pace.cards_left);
         self.core.raw.set_policy(it);
     }

@@ -43,7 +43,7 @@ impl fmt::Debug for Steps<'_> {
     }
 }
 
-/// What a [`pause`](Steps::pause) or a [`compact`](Steps::compact) did.
+/// What a pause or a [`compact`](Steps::compact) did.
 #[derive(Clone, Copy, Debug, Default, PartialEq, Eq)]
 pub struct Moved {
     /// Words that were copied.
@@ -68,9 +68,10 @@ impl<'a> Steps<'a> {
     pub fn begin(&self) -> bool {
         taken(self.raw.begin()).is_some()
     }
-    /// Scans at most so many objects, and answers how many; `None` where marking isn't running.
-    pub fn mark(&self, objects: u32) -> Option<u64> {
-        taken(self.raw.mark(objects))
+    /// Marks, looking at so many words and at those of the last object all, and answers how many objects it scanned; `None` where
+    /// marking isn't running.
+    pub fn mark(&self, words: u32) -> Option<u64> {
+        taken(self.raw.mark(words))
     }
     /// Brings marking to its end, and clears weak slots; answers how many objects were marked in this cycle. `None` where marking
     /// isn't running.
@@ -98,6 +99,24 @@ impl<'a> Steps<'a> {
     pub fn compact(&self, words: u32) -> Moved {
         moved(self.raw.compact(words))
     }
+    /// The same as [`pause`](Steps::pause), of those of its regions that at most `cards` cards lead into, as long as these are at most so
+    /// many together.
+    pub fn pause_within(&self, words: u32, cards: u32) -> Moved {
+        moved(self.raw.pause_within(words, cards))
+    }
+    /// The same of the regions that objects were made in since marking began last, full ones too, the oldest first. What was copied is
+    /// old.
+    pub fn young(&self, words: u32, cards: u32) -> Moved {
+        moved(self.raw.young(words, cards))
+    }
+    /// What the last marking found dead leaves the weak slots of at most so many objects. What is read from weak slots stays the same.
+    pub fn clear(&self, objects: u32) {
+        self.raw.clear(objects);
+    }
+    /// Whether weak slots that read nil wait to be cleared.
+    pub fn clearing(&self) -> bool {
+        self.raw.clearing().first == 1
+    }
     /// How many regions are free.
     pub fn free_regions(&self) -> u32 {
         self.raw.free_regions().first as u32
@@ -114,7 +133,7 @@ impl<'a> Steps<'a> {
     pub fn is_marking(&self) -> bool {
         self.raw.marking().first == 1
     }
-    /// Whether marking is running, and some marked object isn't scanned yet.
+    /// Whether marking is running, and something is left to be marked.
     pub fn is_grey(&self) -> bool {
         self.raw.grey().first == 1
     }

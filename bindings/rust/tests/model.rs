@@ -183,7 +183,7 @@ impl Model {
     }
     fn steps(&mut self, f: &Frame<'_, '_>) {
         let steps = f.steps();
-        let _ = match self.random.below(8) {
+        let _ = match self.random.below(10) {
             0 => u64::from(steps.begin()),
             1 => steps.mark(3).unwrap_or(0),
             2 => steps.remark().unwrap_or(0),
@@ -191,6 +191,8 @@ impl Model {
             4 => steps.pause(200).words,
             5 => steps.refine(2),
             6 => steps.compact(200).words,
+            7 => steps.pause_within(200, 4).words,
+            8 => steps.young(200, 4).words,
             _ => {
                 f.collect_due();
                 0

@@ -13,7 +13,7 @@ use Rattle.bit_sets.proofs.BitRanges.{IsMask, IsDoneUpTo, done_more, bit_before,
 use Rattle.bit_sets.proofs.BitFilters.{or_none, and_word, or_word}
 use Rattle.bit_sets.proofs.Bounds.{AreWide, still}
 
-and_swap : (a b : Bool) → (a && b) ≡ (b && a)
+pub and_swap : (a b : Bool) → (a && b) ≡ (b && a)
 and_swap true true = refl
 and_swap true false = refl
 and_swap false true = refl

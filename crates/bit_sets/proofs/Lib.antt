@@ -6,3 +6,4 @@ pub mod Bounds
 pub mod BitUnions
 pub mod BitFilters
 pub mod PageWords
+pub mod Counts

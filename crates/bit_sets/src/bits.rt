@@ -14,10 +14,11 @@
 //! pages that have some, and a look at each other page. A set of few numbers, which isn't to pay for that look, is a `SmallBits`.
 
 ghost use Rattle.std.specs.Prelude.{◌≡◌, ◌+◌, ◌*◌, ◌/◌, ◌^◌, ◌<◌, ◌≤◌, ◌||◌, ◌&&◌, if◌then◌else◌};
-ghost use Rattle.std.specs.Prelude.{ℕ, false, true, IfOk, IfSome, length, MatchOption, not, replicate, slice_set};
+ghost use Rattle.std.specs.Prelude.{ℕ, count_by, false, true, IfOk, IfSome, length, MatchOption, not, replicate, slice_set};
+ghost use Rattle.std.specs.List.{range_with_len};
 ghost use Rattle.bit_sets.specs.Bits.{has, has_alone, is_between, is_passing, HasNone, HasNoneBelow, IsLowest};
 
-use crate::groups::{join_bits, lowest_if_any, lowest_of, put_bits, whole_word};
+use crate::groups::{count_bits, join_bits, lowest_if_any, lowest_of, put_bits, whole_word};
 use crate::pages::PagedWords;
 use std::alloc::{AllocError, Global};
 use std::marker::Model;
@@ -195,6 +196,14 @@ impl Bits {
         if more != 0 {
             self.words.join(group, more);
         }
+    }
+
+    /// How many numbers from `from` up to `to`, which is not one of them, are in the set. It looks at the words of this range alone.
+    pub(crate) fn count_between(&self, from: u32, to: u32) -> u32
+        requires { to ≤ length self.now }
+        ensures { result ≡ count_by (λ a. is_between from to a && has self.now a) (range_with_len 0 to) }
+    {
+        count_bits(&self.words, from, to)
     }
 
     /// The numbers from `from` up to `to`, which is not one of them, are not in the set.

@@ -9,7 +9,7 @@
 //! few members come into, few words. The bounds widen as members come, and close when the set is cleared.
 
 ghost use Rattle.std.specs.Prelude.{◌≡◌, ◌+◌, ◌*◌, ◌^◌, ◌<◌, ◌≤◌, ◌||◌, ◌&&◌, if◌then◌else◌};
-ghost use Rattle.std.specs.Prelude.{ℕ, max, false, true, IfOk, IfSome, length, MatchOption, replicate, slice_set};
+ghost use Rattle.std.specs.Prelude.{ℕ, count_by, max, false, true, IfOk, IfSome, length, MatchOption, replicate, slice_set};
 ghost use Rattle.bit_sets.specs.Bits.{has, is_between, is_passing, HasNone, IsLowest};
 
 use crate::bits::Bits;
@@ -173,5 +173,12 @@ impl BoundedBits {
             }
         }
         self.bits.search_below(from.max(self.low), self.high)
+    }
+
+    /// How many numbers are in the set. It looks at the words between the lowest and the highest of them, 64 numbers at once.
+    pub fn count(&self) -> u32
+        ensures { result ≡ count_by (λ is_in. is_in) self.now }
+    {
+        self.bits.count_between(self.low, self.high)
     }
 }

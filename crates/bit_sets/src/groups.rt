@@ -10,8 +10,9 @@
 //! looks for some, takes none.
 
 ghost use Rattle.std.specs.Prelude.{◌≡◌, ◌+◌, ◌*◌, ◌^◌, ◌<◌, ◌≤◌, ◌⊎◌, ◌||◌, ◌&&◌, if◌then◌else◌};
-ghost use Rattle.std.specs.Prelude.{ℕ, ◌-◌, bit_and, bit_or, length, slice_index, slice_set, IfSome, MatchOption};
+ghost use Rattle.std.specs.Prelude.{ℕ, ◌-◌, bit_and, bit_or, count_by, length, slice_index, slice_set, IfSome, MatchOption};
 ghost use Rattle.std.specs.Int.{bit_at, div_ceil, trailing_zeros, w64};
+ghost use Rattle.std.specs.List.{range_with_len};
 ghost use Rattle.bit_sets.specs.Bits.{is_between};
 ghost use Rattle.bit_sets.specs.BitWords.{bit_of};
 
@@ -77,6 +78,19 @@ pub(crate) fn join_bits(words: &mut PagedWords, members: &PagedWords, from: u32,
         }
         words.join(index, more);
     }
+}
+
+/// How many numbers from `from` up to `to`, which is not one of them, are in the set. It looks at the words of this range alone.
+pub(crate) fn count_bits(words: &PagedWords, from: u32, to: u32) -> u32
+    requires { div_ceil to 64 ≤ length words.now }
+    ensures { result ≡ count_by (λ a. is_between from to a && bit_of words.now a) (range_with_len 0 to) }
+{
+    let mut count = 0;
+    for index in from / 64..to.div_ceil(64) {
+        let word = words.get(index) & mask_of(index, from, to);
+        count += word.count_ones();
+    }
+    count
 }
 
 /// The lowest number of a group that its word has, where it is below `end`. The word isn't 0.

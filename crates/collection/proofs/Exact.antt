@@ -66,12 +66,14 @@ pub remarked_exact : (n : ℕ) (c d e : CoreState) → HasBegun c d → HasRemar
 remarked_exact n c d e b r shape = record {
   idle = r.over;
   exact = λ k h o.
-      let z = r.cleared.count in
+      let t = ap (λ (x : CoreState). x.table) r.same in
+      let z = ap (λ (u : Table). length u.regions) t in
       let s = ap (λ (x : CoreState). x.table) b.same in
       let y = ap (λ (u : Table). length u.regions) s in
       let top = b.tops k (omega (arith, h, z, y)) in
       low_exact e.table e.marker.tams e.marker.bitmaps.previous k shape
-      (ap (λ (v : Tops). get_or v.previous k 0) r.tops ∙ top ∙ ap (λ (u : Table). top_of u k) (sym s) ∙ sym (r.cleared.tops k));
+      (ap (λ (v : Tops). get_or v.previous k 0) r.tops ∙ top ∙ ap (λ (u : Table). top_of u k) (sym s)
+      ∙ ap (λ (u : Table). top_of u k) (sym t));
 }
 
 -- ---- after a cleanup

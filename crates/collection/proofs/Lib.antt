@@ -8,6 +8,7 @@ pub mod Paced
 pub mod Paused
 pub mod Counts
 pub mod Packed
+pub mod Settled
 pub mod Cycles
 pub mod Placed
 pub mod Made

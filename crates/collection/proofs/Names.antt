@@ -3,7 +3,8 @@ use Rattle.std.proofs.Common.{◌≡◌, ◌≢◌, ◌+◌, ◌*◌, ◌/◌, �
 use Rattle.std.proofs.Common.{refl, sym, ap, subst, arith, slice_get}
 use Rattle.std.proofs.Math.Nat.{suc-mul}
 use Rattle.heap_model.specs.Graph.{Graph, IsReachable, object_named}
-use Rattle.heap_model.specs.Heap.{Stored, Shows}
+use Rattle.heap_model.specs.Clearing.{WillShow, IsWeakShown}
+use Rattle.heap_model.specs.Heap.{Stored}
 use Rattle.regions.specs.Tiles.{Object, tile_size}
 use Rattle.regions.specs.Table.{Table, Region, Free, Ordinary, First, Rest, AreHalves, kind_of, nth_region, stored_size}
 use Rattle.regions.specs.Shaped.{IsShaped}
@@ -150,7 +151,7 @@ module _ (kept f : ℕ → Option Stored) (sub : (a : ℕ) (x : Stored) → f a 
           (ap (λ (o : Option Stored). slice_get (put o a (listed f (suc a) n)) (suc j)) (sym q) ∙ k))
 
 -- the kept objects that a part of the heap has
-module _ (c : CoreState) (g : Graph) (shows : Shows g (heap_of c)) (reached : (a : ℕ) (x : Stored) → kept_of c a ≡ Some x
+module _ (c : CoreState) (g : Graph) (shows : WillShow g (heap_of c)) (reached : (a : ℕ) (x : Stored) → kept_of c a ≡ Some x
     → IsReachable g x.name) (here : ℕ → Option Stored) (sub : (a : ℕ) (x : Stored) → here a ≡ Some x → kept_of c a ≡ Some x) where
   abbrev size : ℕ
   size = length c.table.regions * c.table.words_per_region

@@ -151,8 +151,8 @@ module _ (which : Choice) (budget n w : ℕ) (c c' : CoreState) (shape : IsShape
   moved_taken = record {
     positive = shape.positive;
     within = p.evacuates.evacuated.within;
-    limit = (let a = (set_moves which c.table c.marker.tams c.marker.bitmaps.previous c.marker.running budget p.evacuates.chosen
-        p.evacuates.choice).within in
+    limit = (let a = (set_moves which c.table c.marker.tams c.marker.bitmaps.previous c.marker.running p.ready.sets c.ages budget
+        p.evacuates.chosen p.evacuates.choice).within in
         let b = limit_le c.table.words_per_region budget (free_count c.table) in
         omega (arith, a, b));
     empty = none_sum p.evacuates.chosen;
@@ -173,7 +173,8 @@ module _ (which : Choice) (budget n w : ℕ) (c c' : CoreState) (shape : IsShape
       let (i, row, at, same) = found p.evacuates.chosen k e in
       let (lt, is) = get_is p.evacuates.chosen i row at in
       let r = chosen_rows c.table c.marker.tams c.marker.bitmaps.previous c.marker.running budget p.evacuates.chosen
-      (set_moves which c.table c.marker.tams c.marker.bitmaps.previous c.marker.running budget p.evacuates.chosen p.evacuates.choice)
+      (set_moves which c.table c.marker.tams c.marker.bitmaps.previous c.marker.running p.ready.sets c.ages budget p.evacuates.chosen
+      p.evacuates.choice)
       i row lt in
       subst (λ (j : ℕ). kind_of c.table j ≡ kinds.Ordinary) (ap (λ (x : LiveRow). x.region) is ∙ same) r.ordinary
 

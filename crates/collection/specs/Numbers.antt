@@ -9,7 +9,7 @@ pub record IsStarted (config : Config) (p : Policy) : Type 0 where
   pub reserve : p.reserve ≡ max (config.regions / 24) 3
   pub pause_regions : min (config.words * 4) (2 ^ 32 - 1) ≤ p.pause_words
   pub pause_words : 98304 ≤ p.pause_words
-  pub mark_regions : min (config.words * 4) (2 ^ 32 - 1) ≤ p.mark_objects
+  pub mark_regions : min (config.words * 4) (2 ^ 32 - 1) ≤ p.mark_words
   pub young_words : p.young_words ≡ 131072
   pub cards_left : p.cards_left ≡ 8192
   pub left : p.left ≡ 0

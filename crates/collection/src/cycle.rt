@@ -31,12 +31,13 @@ fn end_cycle<W: Watch>(core: &mut Core, policy: &mut Policy, watch: &mut W)
     policy.plan_evacuation(&core.config(), core.free_regions(), core.live_words());
 }
 
-/// Marks, and ends the cycle where nothing is grey, or few regions are free.
+/// Marks, and ends the cycle where nothing is left to be marked, or few regions are free.
 fn mark_on<W: Watch>(core: &mut Core, policy: &mut Policy, watch: &mut W)
     ensures { CollectsSome W.sees 3 core.old watch.old core.new watch.new }
 {
-    let objects = policy.pace.min(policy.mark_objects);
-    take(core, policy, CollectorStep::Mark(objects), watch);
+    let words = policy.pace.min(policy.mark_words);
+    policy.looked = policy.looked.saturating_add(u64::from(words));
+    take(core, policy, CollectorStep::Mark(words), watch);
     if core.free_regions() <= policy.reserve || !core.grey() {
         end_cycle(core, policy, watch);
     }
@@ -100,12 +101,12 @@ fn begin_cycle<W: Watch>(core: &mut Core, policy: &mut Policy, watch: &mut W)
     if free > policy.begin_at && policy.asked < u64::from(policy.cycle_words) {
         return;
     }
-    let objects = if policy.cycles == 0 {
-        core.used_words() / 4
+    let words = if policy.cycles == 0 {
+        core.used_words() / 2
     } else {
         policy.marked
     };
-    policy.plan_marking(free, objects);
+    policy.plan_marking(free, words);
     take(core, policy, CollectorStep::Begin, watch);
     if free <= policy.reserve {
         end_cycle(core, policy, watch);

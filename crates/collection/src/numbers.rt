@@ -18,8 +18,8 @@ pub struct Policy {
     pub reserve: u32,
     /// Words: the budget of a pause, but for those of a whole collection.
     pub pause_words: u32,
-    /// Objects: as many are scanned at a look, at most.
-    pub mark_objects: u32,
+    /// Words: as many are looked at by marking at a look, at most, and those of one object more.
+    pub mark_words: u32,
     /// Words: where so many were asked for since the last cycle began, another one begins.
     pub cycle_words: u32,
     /// Words: new regions of so many are evacuated first, and no fewer later.
@@ -39,7 +39,7 @@ pub struct Policy {
     pub gained: u32,
     /// Regions: after a cycle regions are evacuated until so many are free; 0 where that is over.
     pub wanted: u32,
-    /// Objects to scan at each look of a cycle.
+    /// Words that marking looks at, at each look of a cycle.
     pub pace: u32,
     /// What the last whole collection left: the free regions, the live words and the next name. While these stay no object was made, and
     /// none died, so that pauses gain nothing more.
@@ -50,7 +50,8 @@ pub struct Policy {
     pub paid: u64,
     /// Words asked for since the last cycle began.
     pub asked: u64,
-    /// Objects that the last cycle marked.
+    /// Words that the marking of the running cycle looked at, and that of the last one.
+    pub looked: u64,
     pub marked: u64,
     /// Cycles that ended, and the objects that they marked.
     pub cycles: u64,
@@ -104,7 +105,7 @@ impl Policy {
         Policy {
             reserve,
             pause_words: pause_budget(config),
-            mark_objects: config.words.saturating_mul(4).max(32768),
+            mark_words: config.words.saturating_mul(16).max(131072),
             cycle_words: config
                 .regions
                 .saturating_mul(config.words)
@@ -125,6 +126,7 @@ impl Policy {
             packed_next: u64::MAX,
             paid: 0,
             asked: 0,
+            looked: 0,
             marked: 0,
             cycles: 0,
             scanned: 0,
@@ -153,7 +155,7 @@ impl Policy {
     pub(crate) fn count(&mut self, step: CollectorStep, reply: Reply) {
         match reply {
             Reply::Marked(objects) => {
-                self.marked = u64::from(objects);
+                self.marked = self.looked.max(u64::from(objects) * 2);
                 self.cycles = self.cycles.wrapping_add(1);
                 self.scanned = self.scanned.wrapping_add(u64::from(objects));
             }
@@ -204,14 +206,15 @@ impl Policy {
         self.left = self.look;
     }
 
-    /// Sets how fast a cycle marks: three times as fast as it would take to end at the reserve. The heap has so many objects, by estimate.
-    /// What is left of an evacuation waits for the end of the cycle.
-    pub(crate) fn plan_marking(&mut self, free: u32, objects: u64) {
+    /// Sets how fast a cycle marks: three times as fast as it would take to end at the reserve, where marking looks at so many words by
+    /// estimate. What is left of an evacuation waits for the end of the cycle.
+    pub(crate) fn plan_marking(&mut self, free: u32, words: u64) {
         let room = u64::from(free.saturating_sub(self.reserve).max(1));
-        let pace = 16 + objects.min(u64::from(u32::MAX)) * 3 / 2 / room;
-        self.pace = pace.min(u64::from(self.mark_objects)) as u32;
+        let pace = 64 + words.min(u64::from(u32::MAX)) * 3 / 2 / room;
+        self.pace = pace.min(u64::from(self.mark_words)) as u32;
         self.asked = 0;
         self.wanted = 0;
+        self.looked = 0;
     }
 
     /// Sets until how many free regions those that hold little live are evacuated after a cycle: three quarters of what is to be had. Where
@@ -264,8 +267,8 @@ impl Policy {
         self.begin_at = if room < 2 {
             free.saturating_sub(1)
         } else {
-            let objects = self.marked.min(u64::from(u32::MAX));
-            let marking = objects * 3 / 2 / u64::from(self.mark_objects.max(1));
+            let words = self.marked.min(u64::from(u32::MAX));
+            let marking = words * 3 / 2 / u64::from(self.mark_words.max(1));
             let needed = marking.min(u64::from(room / 4 * 3)) as u32;
             self.reserve
                 .saturating_add((room / 4).min(config.regions / 8).max(needed))

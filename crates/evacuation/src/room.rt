@@ -15,14 +15,16 @@
 ghost use Rattle.std.specs.Prelude.{◌≡◌, ◌<◌, ℕ, All, false, IfOk, length};
 ghost use Rattle.std.specs.List.Sorted.{IsStrictlyIncreasing};
 ghost use Rattle.cards.specs.Cards.{is_dirty};
+ghost use Rattle.remembered_sets.specs.Sets.{card_count, cards_into};
 ghost use Rattle.evacuation.specs.Evacuates.{is_chosen};
 ghost use Rattle.evacuation.specs.Space.{flag};
 
 use bit_sets::bounded::BoundedBits;
 use cards::CardTable;
-use heap_words::addr::Card;
+use heap_words::addr::{Card, RegionNo};
 use object_copy::Destinations;
 use region_choice::LiveRow;
+use remembered_sets::RememberedSets;
 use std::alloc::{AllocError, Global};
 use std::marker::Model;
 
@@ -83,6 +85,19 @@ impl PauseRoom {
             },
             visited: BoundedBits::new(alloc, cards)?,
         })
+    }
+
+    /// How many cards may have a field that leads into a region. It costs what the region's set holds, and a look at each 64 cards between
+    /// the lowest and the highest of them.
+    pub fn count_cards(&mut self, sets: &RememberedSets, region: RegionNo) -> u32
+        requires region { region < length sets.now.sets }
+        requires each_card { self.old.cards ≡ card_count sets.now }
+        ensures room { self.new ≡ self.old }
+        ensures count { result ≡ cards_into sets.now region }
+    {
+        self.visited.clear();
+        sets.mark_cards(region, &mut self.visited);
+        self.visited.count()
     }
 }
 

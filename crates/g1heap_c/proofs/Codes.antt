@@ -18,7 +18,7 @@ use Rattle.heap_calls.specs.declared.answer.Answer.{Answer}
 use Rattle.g1heap_c.specs.Calls.{Call, Called, IsAnswerTo, Question, telling}
 use Rattle.g1heap_c.specs.Calls.{NewCall, StepCall, NewFilledCall, MakeCall, MakeFilledCall, CollectCall, CollectAllCall, ReadWordsCall}
 use Rattle.g1heap_c.specs.Calls.{WriteWordsCall, AskCall, NoStepCall, FreeCall}
-use Rattle.g1heap_c.specs.Calls.{FreeRegions, FreeRun, UsedWords, LiveWords, Marking, Grey, Queued, Globals, Registers, Name}
+use Rattle.g1heap_c.specs.Calls.{FreeRegions, FreeRun, UsedWords, LiveWords, Marking, Grey, Clearing, Queued, Globals, Registers, Name}
 use Rattle.g1heap_c.specs.Runs.{AreRun, CallsRun, HasCode, HasEvents, IsCode}
 use Rattle.g1heap_c.proofs.Named.{is_register}
 
@@ -56,6 +56,8 @@ of_question Marking c y (inl h) = alike y _ h.0 (inl (omega arith))
 of_question Marking c y (inr h) = alike y _ h.0 (inl (omega arith))
 of_question Grey c y (inl h) = alike y _ h.0 (inl (omega arith))
 of_question Grey c y (inr h) = alike y _ h.0 (inl (omega arith))
+of_question Clearing c y (inl h) = alike y _ h.0 (inl (omega arith))
+of_question Clearing c y (inr h) = alike y _ h.0 (inl (omega arith))
 of_question (Name m r) c y h = elim (is_register c m r) [
   | inl is ↦ alike y _ (h.name is) (of_numbers (replies.Named (name_in c.table (register_of c m (register r)))))
   | inr isnt ↦ alike y _ (h.none isnt) none

@@ -10,7 +10,7 @@ use Rattle.heap_steps.specs.declared.step.Reply.{Reply}
 use Rattle.heap_steps.specs.declared.step.Reply.TheVariants as replies
 use Rattle.heap_steps.specs.declared.step.Step.{Step}
 use Rattle.heap_steps.specs.declared.step.Step.TheVariants as steps
-use Rattle.step_core.specs.Measures.{HasGrey}
+use Rattle.step_core.specs.Measures.{HasGrey, HasSlotsLeft}
 use Rattle.step_core.specs.Stands.{CoreState}
 use Rattle.collection.specs.Steps.{IsCollectors}
 use Rattle.heap_calls.specs.Filled.{AreFields}
@@ -21,7 +21,7 @@ use Rattle.heap_calls.specs.declared.answer.Answer.{Answer}
 use Rattle.g1heap_c.specs.Calls.{Call, IsAnswerTo, Question, telling}
 use Rattle.g1heap_c.specs.Calls.{NewCall, StepCall, NewFilledCall, MakeCall, MakeFilledCall, CollectCall, CollectAllCall, ReadWordsCall}
 use Rattle.g1heap_c.specs.Calls.{WriteWordsCall, AskCall, NoStepCall, FreeCall}
-use Rattle.g1heap_c.specs.Calls.{FreeRegions, FreeRun, UsedWords, LiveWords, Marking, Grey, Queued, Globals, Registers, Name}
+use Rattle.g1heap_c.specs.Calls.{FreeRegions, FreeRun, UsedWords, LiveWords, Marking, Grey, Clearing, Queued, Globals, Registers, Name}
 use Rattle.g1heap_c.specs.Runs.{HasEvents, HasFilling, HasMaking, HasMakingAndFilling, HasNoEvent, HasNotRead, HasRead, HasRefused, HasStep}
 use Rattle.g1heap_c.specs.Runs.{HasWritten, IfElse, event_of, last_read, last_write, reads_of, writes_of}
 use Rattle.g1heap_c.proofs.Named.{is_register}
@@ -140,6 +140,7 @@ module _ (c : CoreState) (es : List Event) (y z : Answer) (d : CoreState) where
       h.is ∙ ap (λ (n : ℕ). told 10 n 0) same ∙ sym k.is
   ask_one Marking h k = sign_one IsMarking h k
   ask_one Grey h k = sign_one HasGrey h k
+  ask_one Clearing h k = sign_one HasSlotsLeft h k
   ask_one (Name m r) h k = elim (is_register c m r) [
     | inl is ↦ h.name is ∙ sym (k.name is)
     | inr isnt ↦ h.none isnt ∙ sym (k.none isnt)

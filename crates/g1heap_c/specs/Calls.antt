@@ -8,7 +8,7 @@ use Rattle.heap_steps.specs.declared.step.Op.{Op}
 use Rattle.heap_steps.specs.declared.step.Reply.{Reply}
 use Rattle.heap_steps.specs.declared.step.Step.{Step}
 use Rattle.heap_steps.specs.declared.step.Step.TheVariants as steps
-use Rattle.step_core.specs.Measures.{used_words, live_words, HasGrey}
+use Rattle.step_core.specs.Measures.{used_words, live_words, HasGrey, HasSlotsLeft}
 use Rattle.step_core.specs.Stands.{CoreState}
 use Rattle.heap_calls.specs.Filled.{MakesFilled}
 use Rattle.heap_calls.specs.Numbers.{told}
@@ -19,8 +19,8 @@ use Rattle.g1heap_c.specs.MadeFilled.{AsksFilled}
 use Rattle.g1heap_c.specs.Policies.{AsksFor, CollectsAll, CollectsDue}
 
 -- What is asked of a heap: how many regions are free, and how many of them side by side; how many words are handed out, and how many are
--- live; whether marking runs, and whether it has more to scan; how many cards are queued; how many globals there are, and how many
--- registers a mutator has; which name a mutator's register holds
+-- live; whether marking runs, whether it has more to scan, and whether weak slots wait to be cleared; how many cards are queued; how many
+-- globals there are, and how many registers a mutator has; which name a mutator's register holds
 pub data Question : Type 0 where
   FreeRegions : Question
   FreeRun : Question
@@ -28,6 +28,7 @@ pub data Question : Type 0 where
   LiveWords : Question
   Marking : Question
   Grey : Question
+  Clearing : Question
   Queued : Question
   Globals : Question
   Registers : Question
@@ -63,6 +64,7 @@ IsAnswerTo UsedWords = IsNumber used_words
 IsAnswerTo LiveWords = IsNumber live_words
 IsAnswerTo Marking = IsSign IsMarking
 IsAnswerTo Grey = IsSign HasGrey
+IsAnswerTo Clearing = IsSign HasSlotsLeft
 IsAnswerTo Queued = IsNumber (λ c. length c.cards.queue)
 IsAnswerTo Globals = IsNumber (λ c. globals_of c.config)
 IsAnswerTo Registers = IsNumber (λ c. registers_of c.config)

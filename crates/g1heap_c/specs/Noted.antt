@@ -13,14 +13,19 @@ abbrev pub step_code : Step → ℕ
 step_code (steps.Collector k) = collection_place (collection_verb k)
 step_code (steps.Mutator op) = length collection_verbs
 
--- its number, 0 if it has none
-abbrev pub step_number : Step → ℕ
-step_number (steps.Collector k) = get_or (collection_numbers k) 0 0
-step_number (steps.Mutator op) = 0
+-- its number of this place, 0 if it has none
+abbrev pub step_number : Step → ℕ → ℕ
+step_number (steps.Collector k) i = get_or (collection_numbers k) i 0
+step_number (steps.Mutator op) i = 0
 
 -- a step with its answer
 abbrev pub entry_of : Event → Entry
-entry_of e = record { step = step_code e.step; number = step_number e.step; answer = numbers e.reply }
+entry_of e = record {
+  step = step_code e.step;
+  number = step_number e.step 0;
+  second = step_number e.step 1;
+  answer = numbers e.reply;
+}
 
 -- an event is noted: its entry is the next one, if there is room for it, no other changes, and one step more is counted
 pub record IsEntered (x : Notes) (e : Event) (y : Notes) : Type 0 where

@@ -6,7 +6,7 @@ ghost use Rattle.g1heap_c.specs.Calls.{IsCall, StepCall};
 
 use heap_calls::answer::Answer;
 use heap_calls::heap::{Heap, mark, take};
-use heap_steps::{CollectorStep, Step};
+use heap_steps::{CollectorStep, Limits, Step};
 
 /// Marking begins.
 #[unsafe(no_mangle)]
@@ -62,4 +62,36 @@ pub extern "C" fn g1_compact(heap: &mut Heap, words: u32) -> Answer
     ensures { IsCall heap.old.handle.core (StepCall (steps.Collector (collector.Compact words))) result heap.new.handle.core }
 {
     take(heap, Step::Collector(CollectorStep::Compact(words)))
+}
+
+/// The same as a pause, of those of its regions that few cards lead into, as long as these are at most `cards` together.
+#[unsafe(no_mangle)]
+pub extern "C" fn g1_pause_within(heap: &mut Heap, words: u32, cards: u32) -> Answer
+    ensures { IsCall heap.old.handle.core (StepCall (steps.Collector (collector.PauseWithin (record { words = words; cards = cards }))))
+        result heap.new.handle.core }
+{
+    take(
+        heap,
+        Step::Collector(CollectorStep::PauseWithin(Limits { words, cards })),
+    )
+}
+
+/// The same of the regions that objects were made in last, the oldest of these first.
+#[unsafe(no_mangle)]
+pub extern "C" fn g1_young(heap: &mut Heap, words: u32, cards: u32) -> Answer
+    ensures { IsCall heap.old.handle.core (StepCall (steps.Collector (collector.Young (record { words = words; cards = cards }))))
+        result heap.new.handle.core }
+{
+    take(
+        heap,
+        Step::Collector(CollectorStep::Young(Limits { words, cards })),
+    )
+}
+
+/// What the last marking found dead leaves the weak slots of at most so many objects.
+#[unsafe(no_mangle)]
+pub extern "C" fn g1_clear(heap: &mut Heap, objects: u32) -> Answer
+    ensures { IsCall heap.old.handle.core (StepCall (steps.Collector (collector.Clear objects))) result heap.new.handle.core }
+{
+    take(heap, Step::Collector(CollectorStep::Clear(objects)))
 }

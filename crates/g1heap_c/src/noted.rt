@@ -7,13 +7,14 @@ use collection::Watch;
 use heap_calls::answer::{Answer, answer_of};
 use heap_steps::{CollectionVerb, Event, Step, Verb};
 
-/// A step that was taken, with its answer: one of the collector's by its verb's place in the table, 0 begin to 6 compact, with its number;
+/// A step that was taken, with its answer: one of the collector's by its verb's place in the table, 0 begin to 9 clear, with its numbers;
 /// and one past these the mutator's own.
 #[repr(C)]
 #[derive(Clone, Copy, Debug, PartialEq, Eq, Drop)]
 pub struct Entry {
     pub step: u32,
     pub number: u32,
+    pub second: u32,
     pub answer: Answer,
 }
 
@@ -24,14 +25,24 @@ pub(crate) struct Notes<'a> {
     pub(crate) count: u32,
 }
 
-/// Which step it is, and its number.
-fn numbers_of(step: Step) -> (u32, u32)
-    ensures step { result.0 ≡ step_code step }
-    ensures number { result.1 ≡ step_number step }
+/// Which step it is.
+fn code_of(step: Step) -> u32
+    ensures { result ≡ step_code step }
 {
     match step {
-        Step::Collector(collection) => (collection.verb().place(), collection.number()),
-        Step::Mutator(_) => (CollectionVerb::all().len() as u32, 0),
+        Step::Collector(collection) => collection.verb().place(),
+        Step::Mutator(_) => CollectionVerb::all().len() as u32,
+    }
+}
+
+/// Its numbers.
+fn numbers_of(step: Step) -> (u32, u32)
+    ensures first { result.0 ≡ step_number step 0 }
+    ensures second { result.1 ≡ step_number step 1 }
+{
+    match step {
+        Step::Collector(collection) => collection.numbers(),
+        Step::Mutator(_) => (0, 0),
     }
 }
 
@@ -39,12 +50,14 @@ fn numbers_of(step: Step) -> (u32, u32)
 fn note(entries: &mut [Entry], at: u32, event: &Event)
     ensures { entries.new ≡ slice_set entries.old at (entry_of event.now) }
 {
-    let (step, number) = numbers_of(event.step);
+    let step = code_of(event.step);
+    let (number, second) = numbers_of(event.step);
     let at = at as usize;
     if at < entries.len() {
         entries[at] = Entry {
             step,
             number,
+            second,
             answer: answer_of(event.reply),
         };
     }

@@ -2,7 +2,8 @@
 //! after the call as before.
 
 ghost use Rattle.g1heap_c.specs.Calls.{AskCall, IsCall};
-ghost use Rattle.g1heap_c.specs.Calls.{FreeRegions, FreeRun, UsedWords, LiveWords, Marking, Grey, Queued, Globals, Registers, Name};
+ghost use Rattle.g1heap_c.specs.Calls.{FreeRegions, FreeRun, UsedWords, LiveWords, Marking, Grey, Clearing, Queued, Globals};
+ghost use Rattle.g1heap_c.specs.Calls.{Registers, Name};
 
 use heap_calls::answer::{Answer, no_heap, number};
 use heap_calls::heap::Heap;
@@ -68,7 +69,7 @@ pub extern "C" fn g1_marking(heap: &mut Heap) -> Answer
     number(u64::from(core.marking()))
 }
 
-/// 1 while marking runs and some marked object isn't scanned yet, else 0.
+/// 1 while marking runs and something is left to be marked, else 0.
 #[unsafe(no_mangle)]
 pub extern "C" fn g1_grey(heap: &mut Heap) -> Answer
     ensures { IsCall heap.old.handle.core (AskCall Grey) result heap.new.handle.core }
@@ -78,6 +79,18 @@ pub extern "C" fn g1_grey(heap: &mut Heap) -> Answer
     }
     let core = heap.handle.core_mut();
     number(u64::from(core.grey()))
+}
+
+/// 1 while weak slots that read nil wait to be cleared, else 0.
+#[unsafe(no_mangle)]
+pub extern "C" fn g1_clearing(heap: &mut Heap) -> Answer
+    ensures { IsCall heap.old.handle.core (AskCall Clearing) result heap.new.handle.core }
+{
+    if !heap.live {
+        return no_heap();
+    }
+    let core = heap.handle.core_mut();
+    number(u64::from(core.clearing()))
 }
 
 /// How many cards wait for refinement.

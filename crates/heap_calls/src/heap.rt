@@ -178,20 +178,20 @@ pub fn take_none(heap: &mut Heap) -> Answer
     if heap.live { no_step() } else { no_heap() }
 }
 
-fn scan(core: &mut Core, objects: u32) -> Answer
-    ensures { Steps scanned core.old (steps.Collector (collector.Mark objects)) result (Some core.new) }
+fn scan(core: &mut Core, units: u32) -> Answer
+    ensures { Steps scanned core.old (steps.Collector (collector.Mark units)) result (Some core.new) }
 {
     let before = core.scans();
-    let reply = core.step(Step::Collector(CollectorStep::Mark(objects)));
+    let reply = core.step(Step::Collector(CollectorStep::Mark(units)));
     counted(core.scans() - before, reply)
 }
 
-/// Marks, and counts the objects that were scanned.
-pub fn mark(heap: &mut Heap, objects: u32) -> Answer
-    ensures { TakesStep scanned heap.old.handle.core (steps.Collector (collector.Mark objects)) result heap.new.handle.core }
+/// Marks for so many units, words in the third format, and counts the objects that were scanned.
+pub fn mark(heap: &mut Heap, units: u32) -> Answer
+    ensures { TakesStep scanned heap.old.handle.core (steps.Collector (collector.Mark units)) result heap.new.handle.core }
 {
     if !heap.live {
         return no_heap();
     }
-    scan(heap.handle.core_mut(), objects)
+    scan(heap.handle.core_mut(), units)
 }

@@ -1,9 +1,10 @@
 -- The fields of an object, spelled for a terminal or for a page.
 use Rattle.std.specs.Prelude.{ℕ, ◌-◌, ◌==◌, nat_lt, Bool, List, [], ◌++◌, Option, Some, None, length, codes, flat_map, if◌then◌else◌}
 use Rattle.std.specs.Fmt.{decimal}
-use Rattle.regions.specs.Table.{Table, pointers_at, weaks_at, values_at}
+use Rattle.regions.specs.Table.{Table, pointers_at, values_at}
 use Rattle.script_text.specs.Texts.{spaced_number}
-use Rattle.step_core.specs.Stands.{name_in}
+use Rattle.step_core.specs.Stands.{CoreState, name_in}
+use Rattle.step_core.specs.Mutators.{weaks_shown}
 use Rattle.heap_dump.specs.Lists.{first}
 use Rattle.heap_dump.specs.declared.fields.Spelling.{Spelling}
 use Rattle.heap_dump.specs.declared.fields.Spelling.TheVariants.{Lines, Page}
@@ -56,11 +57,11 @@ abbrev pub values_text : Spelling → List ℕ → List ℕ
 values_text spelling values = title_text spelling (length values) (codes ", data") (codes " ;")
     ++ flat_map spaced_number (first (shown spelling) values) ++ more_text spelling (length values)
 
--- an object's pointers, or its weak slots
-abbrev pub links_at : Bool → Table → ℕ → List (Option ℕ)
-links_at weak t a = if weak then weaks_at t a else pointers_at t a
+-- an object's pointers, or what its weak slots show
+abbrev pub links_at : Bool → CoreState → ℕ → List (Option ℕ)
+links_at weak c a = if weak then weaks_shown c a else pointers_at c.table a
 
 -- the fields of an object: its pointers, its weak slots and its data
-abbrev pub fields_text : Spelling → Table → ℕ → List ℕ
-fields_text spelling t a = links_text spelling (codes ", pointers") [] t (pointers_at t a)
-    ++ links_text spelling (codes ", weak slots") (codes " ;") t (weaks_at t a) ++ values_text spelling (values_at t a)
+abbrev pub fields_text : Spelling → CoreState → ℕ → List ℕ
+fields_text spelling c a = links_text spelling (codes ", pointers") [] c.table (pointers_at c.table a)
+    ++ links_text spelling (codes ", weak slots") (codes " ;") c.table (weaks_shown c a) ++ values_text spelling (values_at c.table a)

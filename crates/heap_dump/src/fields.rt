@@ -9,7 +9,7 @@ ghost use Rattle.heap_dump.specs.Fields.{title_text, values_text};
 use heap_words::addr::{Addr, Ptr};
 use regions::RegionTable;
 use script_text::Text;
-use step_core::object_name;
+use step_core::{Core, object_name};
 
 /// Whom a text is spelled for.
 #[derive(Clone, Copy, Debug, PartialEq, Eq)]
@@ -109,32 +109,32 @@ fn put_title(text: &mut Text, count: u32, line: &str, page: &str, spelling: Spel
 }
 
 /// How many pointers, or weak slots, an object has.
-fn link_count(table: &RegionTable, object: Addr, weak: bool) -> u32
-    requires { IsSome (object_at table.now object) }
-    ensures { result ≡ length (links_at weak table.now object) }
+fn link_count(core: &Core, object: Addr, weak: bool) -> u32
+    requires { IsSome (object_at core.now.table object) }
+    ensures { result ≡ length (links_at weak core.now object) }
 {
     if weak {
-        table.weak_count(object)
+        core.table().weak_count(object)
     } else {
-        table.pointer_count(object)
+        core.table().pointer_count(object)
     }
 }
 
-/// A pointer, or a weak slot, of an object.
-fn link_at(table: &RegionTable, object: Addr, weak: bool, index: u32) -> Ptr
-    requires { index < length (links_at weak table.now object) }
-    ensures { slice_get (links_at weak table.now object) index ≡ Some result }
+/// A pointer of an object, or what a weak slot shows.
+fn link_at(core: &Core, object: Addr, weak: bool, index: u32) -> Ptr
+    requires { index < length (links_at weak core.now object) }
+    ensures { slice_get (links_at weak core.now object) index ≡ Some result }
 {
     if weak {
-        table.get_weak(object, index)
+        core.weak_shown(object, index)
     } else {
-        table.get_ptr(object, index)
+        core.table().get_ptr(object, index)
     }
 }
 
 /// Puts an object's pointers, or its weak slots, after their title.
 fn put_links(
-    table: &RegionTable,
+    core: &Core,
     text: &mut Text,
     object: Addr,
     weak: bool,
@@ -142,13 +142,18 @@ fn put_links(
     page: &str,
     spelling: Spelling,
 )
-    requires { IsSome (object_at table.now object) }
-    ensures { Adds text.old (links_text spelling line.now page.now table.now (links_at weak table.now object)) text.new }
+    requires { IsSome (object_at core.now.table object) }
+    ensures { Adds text.old (links_text spelling line.now page.now core.now.table (links_at weak core.now object)) text.new }
 {
-    let count = link_count(table, object, weak);
+    let count = link_count(core, object, weak);
     put_title(text, count, line, page, spelling);
     for index in 0..count.min(shown(spelling)) {
-        put_spaced_pointer(table, text, link_at(table, object, weak, index), spelling);
+        put_spaced_pointer(
+            core.table(),
+            text,
+            link_at(core, object, weak, index),
+            spelling,
+        );
     }
     put_more(text, count, spelling);
 }
@@ -166,12 +171,12 @@ fn put_values(table: &RegionTable, text: &mut Text, object: Addr, spelling: Spel
     put_more(text, count, spelling);
 }
 
-/// Puts the fields of an object: its pointers, its weak slots and its data.
-pub fn put_fields(table: &RegionTable, text: &mut Text, object: Addr, spelling: Spelling)
-    requires { IsSome (object_at table.now object) }
-    ensures { Adds text.old (fields_text spelling table.now object) text.new }
+/// Puts the fields of an object: its pointers, what its weak slots show, and its data.
+pub fn put_fields(core: &Core, text: &mut Text, object: Addr, spelling: Spelling)
+    requires { IsSome (object_at core.now.table object) }
+    ensures { Adds text.old (fields_text spelling core.now object) text.new }
 {
-    put_links(table, text, object, false, ", pointers", "", spelling);
-    put_links(table, text, object, true, ", weak slots", " ;", spelling);
-    put_values(table, text, object, spelling);
+    put_links(core, text, object, false, ", pointers", "", spelling);
+    put_links(core, text, object, true, ", weak slots", " ;", spelling);
+    put_values(core.table(), text, object, spelling);
 }

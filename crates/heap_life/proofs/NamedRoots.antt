@@ -72,9 +72,9 @@ told_enough ws from n e = ap (λ (k : ℕ). flat_map root_text (take k (named fr
 
 pub object_told : (c : CoreState) (a : ℕ) (part : Part) (name : ℕ) (o : Option Stored) → IsSome o → IfSome o (λ s. name ≡ s.name)
     → (x y : Option (List ℕ))
-    → Adds x (decimal name ++ codes " " ++ letter_text part ++ progress_text c a ++ fields_text Page c.table a) y
+    → Adds x (decimal name ++ codes " " ++ letter_text part ++ progress_text c a ++ fields_text Page c a) y
     → Adds x (stored_text c a part o) y
 object_told c a part name None some named x y h = absurd (cc)
 object_told c a part name (Some s) some named x y h =
     adds_at (λ (n : ℕ). decimal n ++ codes " " ++ letter_text part ++ progress_text c a
-    ++ fields_text Page c.table a) x y s.name name (sym named) h
+    ++ fields_text Page c a) x y s.name name (sym named) h

@@ -65,7 +65,7 @@ progress_text c a = if c.marker.running then progress_letter (progress_of c a) e
 -- an object's name, its state and its fields
 abbrev pub stored_text : CoreState → ℕ → Part → Option Stored → List ℕ
 stored_text c a part None = []
-stored_text c a part (Some s) = decimal s.name ++ codes " " ++ letter_text part ++ progress_text c a ++ fields_text Page c.table a
+stored_text c a part (Some s) = decimal s.name ++ codes " " ++ letter_text part ++ progress_text c a ++ fields_text Page c a
 
 abbrev pub object_text : CoreState → ℕ → Part → List ℕ
 object_text c a part = stored_text c a part (object_at c.table a)

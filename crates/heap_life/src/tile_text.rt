@@ -68,7 +68,7 @@ fn put_object(core: &Core, text: &mut Text, object: Addr, part: Part)
     text.put(" ");
     text.put(letter(part));
     put_progress(core, text, object);
-    put_fields(table, text, object, Spelling::Page);
+    put_fields(core, text, object, Spelling::Page);
 }
 
 /// Adds a tile that is no object.

@@ -1,9 +1,11 @@
 -- `begin` makes the invariant, with the present graph as the snapshot.
-use Rattle.std.proofs.Common.{◌≡◌, ℕ, true, Some, ap, ◌∙◌, subst, inr, arith}
+use Rattle.std.proofs.Common.{◌≡◌, ℕ, Some, ap, ◌∙◌, subst, inl, inr, arith}
 use Rattle.heap_model.specs.Graph.{Graph, object_named, IsReachable, FromRoot, FromObject}
-use Rattle.heap_model.specs.Heap.{Heap, Stored, Shows}
-use Rattle.heap_model.specs.Marking.{Marking, Pending, FromGrey, Through, IsOldLive, IsFound, ByRoot, ByLive, ByNew, KeepsSnapshot, Begins}
-use Rattle.heap_model.proofs.Names.{named_below, nothing_in}
+use Rattle.heap_model.specs.Heap.{Heap, Stored, IsRoot}
+use Rattle.heap_model.specs.Clearing.{WillShow}
+use Rattle.heap_model.specs.Marking.{Marking, Pending, FromGrey, FromLogged, Through, IsOldLive, IsFound, ByRoot, ByLive, ByNew}
+use Rattle.heap_model.specs.Marking.{KeepsSnapshot, Begins}
+use Rattle.heap_model.proofs.Names.{named_below}
 use Rattle.heap_model.proofs.Shown.{root_stands, pointer_stands, target_reachable, root_reachable}
 
 pub record IsPending (h : Heap) (m : Marking) (n : ℕ) : Type 0 where
@@ -13,7 +15,7 @@ pub record IsPending (h : Heap) (m : Marking) (n : ℕ) : Type 0 where
   pub named : object.name ≡ n
   pub pending : Pending h m address
 
-module _ (g : Graph) (h : Heap) (m : Marking) (shows : Shows g h) (b : Begins h m) where
+module _ (g : Graph) (h : Heap) (m : Marking) (shows : WillShow g h) (b : Begins h m) where
   each_pending : (n : ℕ) → IsReachable g n → IsPending h m n
   each_pending n (FromRoot j k e) =
       let t = root_stands g h shows j k e in
@@ -22,7 +24,10 @@ module _ (g : Graph) (h : Heap) (m : Marking) (shows : Shows g h) (b : Begins h 
         object = t.object;
         at = t.at;
         named = t.named;
-        pending = FromGrey t.address (b.roots t.address t.root) (b.scanned t.address);
+        pending = elim (b.roots t.address t.root) [
+          | inl marked ↦ FromGrey t.address marked (b.scanned t.address)
+          | inr logged ↦ FromLogged t.address logged
+        ];
       }
   each_pending n (FromObject k l i o r e q) =
       let before = each_pending k r in
@@ -36,9 +41,9 @@ module _ (g : Graph) (h : Heap) (m : Marking) (shows : Shows g h) (b : Begins h 
             (b.scanned before.address) t.points;
       }
 
-  marked_reachable : (a : ℕ) → m.marked a ≡ true → IsOldLive (IsReachable g) h m a
-  marked_reachable a k =
-      let (y, at, r) = root_reachable g h shows a (b.marked a k) in
+  root_live : (a : ℕ) → IsRoot h a → IsOldLive (IsReachable g) h m a
+  root_live a root =
+      let (y, at, r) = root_reachable g h shows a root in
       record { object = y; at = at; old = b.old a y at; is_live = r }
 
   found_reachable : (a : ℕ) (x : Stored) → h.kept a ≡ Some x → IsFound (IsReachable g) h m a → IsReachable g x.name
@@ -60,8 +65,8 @@ module _ (g : Graph) (h : Heap) (m : Marking) (shows : Shows g h) (b : Begins h 
         let k = named_below g p.object.name o.object o.named in let named = p.named in omega arith;
     all = λ n r. let p = each_pending n r in
         record { address = p.address; object = p.object; at = p.at; named = p.named; why = inr p.pending };
-    marked = marked_reachable;
-    logged = λ a e. absurd (nothing_in m.logged a b.logged e);
+    marked = λ a k. root_live a (b.marked a k);
+    logged = λ a l. root_live a (b.logged a l);
     found = λ a x at o f. found_reachable a x at f;
     old_names = λ a x at o. let s = shows.objects a x at in named_below g x.name s.object s.named;
     new_names = λ a x at o. let old = b.old a x at in absurd cc;

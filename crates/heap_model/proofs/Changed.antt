@@ -44,7 +44,7 @@ unfolding object_named
 rooted_same g j n v = refl
 
 -- a word shows the same in a heap where each kept object is kept under its name
-shown_in : (h h' : Heap) → ((a : ℕ) (x : Stored) → h.kept a ≡ Some x → (y : Stored) × (h'.kept a ≡ Some y) × (y.name ≡ x.name))
+pub shown_in : (h h' : Heap) → ((a : ℕ) (x : Stored) → h.kept a ≡ Some x → (y : Stored) × (h'.kept a ≡ Some y) × (y.name ≡ x.name))
     → (w v : Option ℕ) → IsShown h w v → IsShown h' w v
 shown_in h h' f None None s = tt
 shown_in h h' f (Some a) (Some n) s = let (y, at, named) = f a s.0 s.1 in (y, at, named ∙ s.2)

@@ -5,6 +5,7 @@ use Rattle.std.specs.List.{AllZip}
 use Rattle.std.proofs.lemmas.Bool.{cases_eq, cases_lt}
 use Rattle.heap_model.specs.Graph.{Graph, Object, object_named, next_name, IsReachable, FromRoot, FromObject}
 use Rattle.heap_model.specs.Heap.{Heap, Stored, IsShown, IsObjectShown, Shows}
+use Rattle.heap_model.specs.Clearing.{IsWeakShown, WillShowObject, WillShow}
 use Rattle.heap_model.specs.Marking.{Marking, IsFound, ByRoot, KeepsSnapshot, IsDone, kept_after}
 use Rattle.heap_model.specs.Count.{IsReachableCount}
 use Rattle.heap_model.specs.Weak.{IsClearedSlot, ClearsObject, Clears, cleared_word, cleared, cleared_object, cleared_after, AreReached}
@@ -13,6 +14,7 @@ use Rattle.heap_model.proofs.Names.{bool_cases}
 use Rattle.heap_model.proofs.Fields.{ltb_above}
 use Rattle.heap_model.proofs.Lists.{AllZip_map_at, AllZip-get, AllZip-get_right}
 use Rattle.heap_model.proofs.Changed.{named_at, at_least}
+use Rattle.heap_model.proofs.Shown.{will_show}
 use Rattle.heap_model.proofs.Finish.{kept_before_here, old_marked, found_kept, pointer_found, marked_reachable, reachable_kept, kept_or_new}
 use Rattle.heap_model.proofs.Finish.{quiet_kept}
 
@@ -59,17 +61,8 @@ cleared_was h m a y e = cleared_from m (kept_after h m a) y e
 pub cleared_is : (h : Heap) (m : Marking) (a : ℕ) (x : Stored) → kept_after h m a ≡ Some x → cleared_after h m a ≡ Some (cleared m x)
 cleared_is h m a x e = ap (cleared_object m) e
 
-module _ (s g g' : Graph) (h : Heap) (m : Marking) (i : KeepsSnapshot s h m) (done : IsDone m) (shows : Shows g h) (c : Clears s g g') where
-  after : Heap
-  after = record { kept = cleared_after h m; roots = h.roots }
-
-  -- a word that names only what is found shows the same value
-  shown_after : (w v : Option ℕ) → ((a : ℕ) → w ≡ Some a → IsFound (IsReachable s) h m a) → IsShown h w v → IsShown after w v
-  unfolding after
-  shown_after None None f z = tt
-  shown_after (Some a) (Some n) f z = (cleared m z.0, cleared_is h m a z.0 (found_kept s g h m i done shows a z.0 z.1 (f a refl)), z.2)
-  shown_after _ _ f z = absurd z
-
+module _ (s g g' : Graph) (h : Heap) (m : Marking) (i : KeepsSnapshot s h m) (done : IsDone m) (shows : WillShow g h)
+    (c : Clears s g g') where
   -- an old target that isn't to be marked is unmarked
   unmarked : (a : ℕ) (x : Stored) → h.kept a ≡ Some x → (IsReachable s x.name → ⊥) → m.marked a ≡ false
   unmarked a x at away = elim (bool_cases (m.marked a)) [
@@ -86,26 +79,111 @@ module _ (s g g' : Graph) (h : Heap) (m : Marking) (i : KeepsSnapshot s h m) (do
   new_kept : (a : ℕ) (x : Stored) → h.kept a ≡ Some x → m.old a ≡ false → kept_after h m a ≡ Some x
   new_kept a x at o = elim (bool_cases (m.marked a)) [ inl k ↦ rw k at | inr k ↦ rw (k, o) at ]
 
+  -- the same where no slot is written
+  ended : Heap
+  ended = record { kept = kept_after h m; roots = h.roots }
+
+  shown_ended : (w v : Option ℕ) → ((a : ℕ) → w ≡ Some a → IsFound (IsReachable s) h m a) → IsShown h w v → IsShown ended w v
+  unfolding ended
+  shown_ended None None f z = tt
+  shown_ended (Some a) (Some n) f z = (z.0, found_kept s g h m i done shows a z.0 z.1 (f a refl), z.2)
+  shown_ended _ _ f z = absurd z
+
+  none_ended : (a : ℕ) → h.kept a ≡ None → kept_after h m a ≡ None
+  none_ended a none = elim (bool_cases (m.marked a)) [
+    | inl k ↦ rw k none
+    | inr k ↦ elim (bool_cases (m.old a)) [ inl o ↦ rw (k, o) refl | inr o ↦ rw (k, o) none ]
+  ]
+
+  weak_ended : (w v v' : Option ℕ) → IsWeakShown h w v → IsClearedSlot s v v' → IsWeakShown ended w v'
+  unfolding ended
+  weak_ended None None None z q = tt
+  weak_ended None None (Some k) z q = absurd q
+  weak_ended (Some a) None None z q = none_ended a z
+  weak_ended (Some a) None (Some k) z q = absurd q
+  weak_ended (Some a) (Some n) None z q =
+      let old = is_old a z.0 z.1 (subst (λ k. k < next_name s) (sym z.2) q.0) in
+      let un = unmarked a z.0 z.1 (λ r. q.1 (subst (IsReachable s) z.2 r)) in
+      rw (un, old) refl
+  weak_ended (Some a) (Some n) (Some k) z q =
+      elim q.1 [
+        | inl live ↦
+            let marked = old_marked s g h m i done shows a z.0 z.1 (subst (IsReachable s) (sym z.2) live) in
+            let kept : kept_after h m a ≡ Some z.0 = rw marked z.1 in
+            (z.0, kept, z.2 ∙ sym q.0)
+        | inr above ↦
+            let new = is_new a z.0 z.1 (subst (λ k. next_name s ≤ k) (sym z.2) above) in
+            (z.0, new_kept a z.0 z.1 new, z.2 ∙ sym q.0)
+      ]
+  weak_ended _ _ v' z q = absurd z
+
+  weaks_ended : (ws vs vs' : List (Option ℕ)) → AllZip (IsWeakShown h) ws vs → AllZip (IsClearedSlot s) vs vs'
+      → AllZip (IsWeakShown ended) ws vs'
+  weaks_ended [] [] [] z q = tt
+  weaks_ended [] (v ∷ vs) vs' z q = absurd z
+  weaks_ended (w ∷ ws) [] vs' z q = absurd z
+  weaks_ended (w ∷ ws) (v ∷ vs) (v' ∷ vs') z q = (weak_ended w v v' z.0 q.0, weaks_ended ws vs vs' z.1 q.1)
+  weaks_ended _ _ _ z q = absurd q
+
+  object_ended : (a : ℕ) (x : Stored) → kept_after h m a ≡ Some x → WillShowObject g' ended x
+  object_ended a x e =
+      let (at, why) = kept_before_here s g h m i done a x e in
+      let o = shows.objects a x at in
+      let (p, named, z) = cleared_named s g g' c x.name o.object o.named in
+      record {
+        object = p;
+        named = named;
+        values = o.values ∙ sym z.values;
+        pointers = subst (λ ps. AllZip (IsShown ended) x.pointers ps) (sym z.pointers)
+            (AllZip_map_at (IsShown h) (IsShown ended) x.pointers o.object.pointers
+            (λ j w v is k. shown_ended w v (λ b q. pointer_found s g h m i done shows a x j b at why (is ∙ ap Some q)) k) o.pointers);
+        weaks = weaks_ended x.weaks o.object.weaks p.weaks o.weaks z.weaks;
+      }
+
+  pub will_show_ended : WillShow g' (record { kept = kept_after h m; roots = h.roots })
+  unfolding ended
+  will_show_ended = record {
+    roots = subst (λ rs. AllZip (IsShown ended) h.roots rs) (sym c.roots) (AllZip_map_at (IsShown h) (IsShown ended) h.roots g.roots
+        (λ j w v is z. shown_ended w v (λ a q. ByRoot a (record { place = j; is = is ∙ ap Some q })) z) shows.roots);
+    distinct = λ a b x y ea eb e.
+        shows.distinct a b x y (kept_before_here s g h m i done a x ea).0 (kept_before_here s g h m i done b y eb).0 e;
+    objects = object_ended;
+  }
+
+module _ (s g g' : Graph) (h : Heap) (m : Marking) (i : KeepsSnapshot s h m) (done : IsDone m) (shows : Shows g h) (c : Clears s g g') where
+  shown_now : WillShow g h
+  shown_now = will_show g h shows
+
+  after : Heap
+  after = record { kept = cleared_after h m; roots = h.roots }
+
+  -- a word that names only what is found shows the same value
+  shown_after : (w v : Option ℕ) → ((a : ℕ) → w ≡ Some a → IsFound (IsReachable s) h m a) → IsShown h w v → IsShown after w v
+  unfolding after
+  shown_after None None f z = tt
+  shown_after (Some a) (Some n) f z = (cleared m z.0, cleared_is h m a z.0 (found_kept s g h m i done shown_now a z.0 z.1 (f a refl)), z.2)
+  shown_after _ _ f z = absurd z
+
   -- a weak slot and what the graph has for it
   weak_after : (w v v' : Option ℕ) → IsShown h w v → IsClearedSlot s v v' → IsShown after (cleared_word m w) v'
   unfolding after
   weak_after None None None z q = tt
   weak_after None None (Some k) z q = absurd q
   weak_after (Some a) (Some n) None z q =
-      let old = is_old a z.0 z.1 (subst (λ k. k < next_name s) (sym z.2) q.0) in
-      let un = unmarked a z.0 z.1 (λ r. q.1 (subst (IsReachable s) z.2 r)) in
+      let old = is_old s g g' h m i done shown_now c a z.0 z.1 (subst (λ k. k < next_name s) (sym z.2) q.0) in
+      let un = unmarked s g g' h m i done shown_now c a z.0 z.1 (λ r. q.1 (subst (IsReachable s) z.2 r)) in
       rw (old, un) tt
   weak_after (Some a) (Some n) (Some k) z q =
       elim q.1 [
         | inl live ↦
-            let marked = old_marked s g h m i done shows a z.0 z.1 (subst (IsReachable s) (sym z.2) live) in
+            let marked = old_marked s g h m i done shown_now a z.0 z.1 (subst (IsReachable s) (sym z.2) live) in
             let old = (i.marked a marked).old in
             let kept : kept_after h m a ≡ Some z.0 = rw marked z.1 in
             let is = cleared_is h m a z.0 kept in
             rw (old, marked) (cleared m z.0, is, z.2 ∙ sym q.0)
         | inr above ↦
-            let new = is_new a z.0 z.1 (subst (λ k. next_name s ≤ k) (sym z.2) above) in
-            let is = cleared_is h m a z.0 (new_kept a z.0 z.1 new) in
+            let new = is_new s g g' h m i done shown_now c a z.0 z.1 (subst (λ k. next_name s ≤ k) (sym z.2) above) in
+            let is = cleared_is h m a z.0 (new_kept s g g' h m i done shown_now c a z.0 z.1 new) in
             rw new (cleared m z.0, is, z.2 ∙ sym q.0)
       ]
   weak_after _ _ v' z q = absurd z
@@ -129,7 +207,7 @@ module _ (s g g' : Graph) (h : Heap) (m : Marking) (i : KeepsSnapshot s h m) (do
         values = o.values ∙ sym z.values;
         pointers = subst (λ ps. AllZip (IsShown after) x.pointers ps) (sym z.pointers)
             (AllZip_map_at (IsShown h) (IsShown after) x.pointers o.object.pointers
-            (λ j w v is k. shown_after w v (λ b q. pointer_found s g h m i done shows a x j b at why (is ∙ ap Some q)) k) o.pointers);
+            (λ j w v is k. shown_after w v (λ b q. pointer_found s g h m i done shown_now a x j b at why (is ∙ ap Some q)) k) o.pointers);
         weaks = weaks_after x.weaks o.object.weaks p.weaks o.weaks z.weaks;
       }
 
@@ -245,7 +323,7 @@ cleared_only s h m i done a y e =
     let (x, k, same) = cleared_was h m a y e in
     subst (λ (z : Stored). IsReachable s z.name ⊎ (next_name s ≤ z.name)) (sym same) (kept_or_new s s h m i done a x k)
 
-pub cleared_quiet : (g : Graph) (h : Heap) (m : Marking) → KeepsSnapshot g h m → IsDone m → Shows g h → (a : ℕ) (y : Stored)
+pub cleared_quiet : (g : Graph) (h : Heap) (m : Marking) → KeepsSnapshot g h m → IsDone m → WillShow g h → (a : ℕ) (y : Stored)
     → cleared_after h m a ≡ Some y → IsReachable g y.name
 cleared_quiet g h m i done shows a y e =
     let (x, k, same) = cleared_was h m a y e in

@@ -1,7 +1,8 @@
 -- The number of marked objects is that of the names that are reachable in the snapshot.
 use Rattle.std.proofs.Common.{◌≡◌, ℕ, zero, suc, List, [], ◌∷◌, length, Option, Some, None, refl, sym, ap, ◌∙◌, subst, slice_get, map}
 use Rattle.heap_model.specs.Graph.{Graph, IsReachable}
-use Rattle.heap_model.specs.Heap.{Heap, Stored, Shows}
+use Rattle.heap_model.specs.Heap.{Heap, Stored}
+use Rattle.heap_model.specs.Clearing.{WillShow}
 use Rattle.heap_model.specs.Marking.{Marking, KeepsSnapshot, IsDone}
 use Rattle.heap_model.specs.Count.{IsReachableCount, ListsMarked}
 use Rattle.heap_model.proofs.Finish.{reachable_marked}
@@ -24,7 +25,7 @@ length_map : (f : ℕ → ℕ) (xs : List ℕ) → length (map f xs) ≡ length 
 length_map f [] = refl
 length_map f (x ∷ xs) = ap suc (length_map f xs)
 
-module _ (s g : Graph) (h : Heap) (m : Marking) (shows : Shows g h) (inv : KeepsSnapshot s h m) (done : IsDone m)
+module _ (s g : Graph) (h : Heap) (m : Marking) (shows : WillShow g h) (inv : KeepsSnapshot s h m) (done : IsDone m)
     (marks : List ℕ) (listed : ListsMarked m.marked marks) where
   name_at : ℕ → ℕ
   name_at a = name_in (h.kept a)

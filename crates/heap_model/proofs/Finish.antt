@@ -1,7 +1,8 @@
 -- The end of marking.
 use Rattle.std.proofs.Common.{◌≡◌, ℕ, ◌≤◌, ◌⊎◌, true, false, Some, refl, sym, ap, ◌∙◌, subst, inl, inr, arith, slice_get}
 use Rattle.heap_model.specs.Graph.{Graph, next_name, IsReachable}
-use Rattle.heap_model.specs.Heap.{Heap, Stored, Shows}
+use Rattle.heap_model.specs.Heap.{Heap, Stored}
+use Rattle.heap_model.specs.Clearing.{WillShow}
 use Rattle.heap_model.specs.Marking.{Marking, Pending, FromGrey, FromLogged, Through, IsFound, ByLive, ByNew, KeepsSnapshot, IsDone}
 use Rattle.heap_model.specs.Marking.{IsMarkedName, MarksExactly, kept_after}
 use Rattle.heap_model.proofs.Names.{bool_cases, nothing_in, named_below}
@@ -42,7 +43,7 @@ module _ (s g : Graph) (h : Heap) (m : Marking) (i : KeepsSnapshot s h m) (done 
         ]
       ]
 
-  module _ (shows : Shows g h) where
+  module _ (shows : WillShow g h) where
     -- an old object that is reachable in the snapshot is marked
     pub old_marked : (a : ℕ) (x : Stored) → h.kept a ≡ Some x → IsReachable s x.name → m.marked a ≡ true
     old_marked a x at r =
@@ -78,7 +79,7 @@ module _ (s g : Graph) (h : Heap) (m : Marking) (i : KeepsSnapshot s h m) (done 
       ]
 
 -- with no step of a mutator since, the kept names are those that are reachable
-pub quiet_kept : (g : Graph) (h : Heap) (m : Marking) → KeepsSnapshot g h m → IsDone m → Shows g h → (a : ℕ) (x : Stored)
+pub quiet_kept : (g : Graph) (h : Heap) (m : Marking) → KeepsSnapshot g h m → IsDone m → WillShow g h → (a : ℕ) (x : Stored)
     → kept_after h m a ≡ Some x → IsReachable g x.name
 quiet_kept g h m i done shows a x e =
     elim (kept_or_new g g h m i done a x e) [

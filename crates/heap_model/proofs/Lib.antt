@@ -3,6 +3,7 @@ pub mod Names
 pub mod Fields
 pub mod Advance
 pub mod Shown
+pub mod Waiting
 pub mod Begin
 pub mod Marks
 pub mod Mutate

@@ -3,7 +3,8 @@ use Rattle.std.proofs.Common.{◌≡◌, ℕ, ◌≤◌, ◌⊎◌, true, false,
 use Rattle.std.specs.Prelude.{slice_set, slice_get, Contains}
 use Rattle.std.proofs.lemmas.Bool.{cases_eq}
 use Rattle.heap_model.specs.Graph.{Graph}
-use Rattle.heap_model.specs.Heap.{Heap, Stored, Points, IsRoot, Shows, IsHeld, RootSet, ObjectSet, ObjectAdded}
+use Rattle.heap_model.specs.Heap.{Heap, Stored, Points, IsRoot, IsHeld, RootSet, ObjectSet, ObjectAdded}
+use Rattle.heap_model.specs.Clearing.{WillShow}
 use Rattle.heap_model.specs.Marking.{Marking, IsOldLive, IsFound, ByRoot, ByLive, ByNew, MarkingInvariant, IsSaved}
 use Rattle.heap_model.proofs.Names.{bool_cases}
 use Rattle.heap_model.proofs.Lists.{get-set_cases, get_kept-set}
@@ -113,7 +114,7 @@ module _ (live : ℕ → Type 0) (limit : ℕ) (h : Heap) (m : Marking) (i : Mar
       ];
     }) i
 
-module _ (live : ℕ → Type 0) (limit : ℕ) (g : Graph) (h : Heap) (m : Marking) (shows : Shows g h)
+module _ (live : ℕ → Type 0) (limit : ℕ) (g : Graph) (h : Heap) (m : Marking) (shows : WillShow g h)
     (i : MarkingInvariant live limit h m) where
   -- an old address that a mutator can hold is found
   pub held_found : (a : ℕ) → IsHeld h (Some a) → IsFound live h m a

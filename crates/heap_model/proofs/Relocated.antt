@@ -7,7 +7,7 @@ use Rattle.heap_model.specs.Marking.{Marking, IsFound, ByRoot, ByLive, ByNew, Ma
 use Rattle.heap_model.specs.Relocation.{IsMoved, Relocates, KeepsOld}
 use Rattle.heap_model.proofs.Names.{bool_cases}
 use Rattle.heap_model.proofs.Lists.{AllZip-get, AllZip-get_right, AllZip_through}
-use Rattle.heap_model.proofs.Shown.{target_reachable, root_reachable}
+use Rattle.heap_model.proofs.Shown.{will_show, target_reachable, root_reachable}
 use Rattle.heap_model.proofs.Advance.{invariant_after}
 
 moved_from : (place : ℕ → Option ℕ) (w : Option ℕ) (b : ℕ) → IsMoved place w (Some b) → (a : ℕ) × (w ≡ Some a) × (place a ≡ Some b)
@@ -83,7 +83,7 @@ module _ (place : ℕ → Option ℕ) (g : Graph) (h h' : Heap) (shows : Shows g
         let k = r.kept a a p.object p.at (keeps.stays a p.object p.at oa) in
         let (w, is, t) = AllZip-get (IsMoved place) p.object.pointers k.copy.pointers k.pointers p.field (Some b) p.is in
         let (c, e, placed) = moved_to place b w t in
-        let (y, at, _) = target_reachable g h shows g a b p in
+        let (y, at, _) = target_reachable g h (will_show g h shows) g a b p in
         let stays = keeps.stays b y at ob in
         let same : c ≡ b = cc in
         record { object = k.copy; at = k.at; field = p.field; is = is ∙ ap Some (e ∙ ap Some same) }
@@ -93,7 +93,7 @@ module _ (place : ℕ → Option ℕ) (g : Graph) (h h' : Heap) (shows : Shows g
         let (w, is, t) = AllZip-get_right (IsMoved place) h.roots h'.roots r.roots root.place (Some c) root.is in
         let (a, e, placed) = moved_from place w c t in
         let before : IsRoot h a = record { place = root.place; is = is ∙ ap Some e } in
-        let (y, at, _) = root_reachable g h shows a before in
+        let (y, at, _) = root_reachable g h (will_show g h shows) a before in
         subst (IsRoot h) (keeps.none_comes a c y at placed o) before
 
     pub record Before (c d : ℕ) (y : Stored) : Type 0 where
@@ -107,7 +107,7 @@ module _ (place : ℕ → Option ℕ) (g : Graph) (h h' : Heap) (shows : Shows g
         let (w, is, t) = AllZip-get_right (IsMoved place) k.object.pointers p.object.pointers k.pointers p.field (Some d) p.is in
         let (a, e, placed) = moved_from place w d t in
         let before : Points h k.from a = record { object = k.object; at = k.at; field = p.field; is = is ∙ ap Some e } in
-        let (y, at, _) = target_reachable g h shows g k.from a before in
+        let (y, at, _) = target_reachable g h (will_show g h shows) g k.from a before in
         let same = keeps.none_comes a d y at placed o in
         record {
           origin = k;

@@ -2,8 +2,9 @@
 use Rattle.std.proofs.Common.{◌≡◌, ℕ, Option, Some, None, refl, sym, ap, ◌∙◌, slice_get}
 use Rattle.heap_model.specs.Graph.{Graph, Object, object_named, object_fields, IsReachable, FromRoot, FromObject}
 use Rattle.std.specs.List.{AllZip}
-use Rattle.heap_model.specs.Heap.{Heap, Stored, Points, IsRoot, IsShown, IsObjectShown, Shows, StandsOnce, IsClosed, fields}
-use Rattle.heap_model.proofs.Lists.{AllZip-get, AllZip-get_right, AllZip-append}
+use Rattle.heap_model.specs.Heap.{Heap, Stored, Points, IsRoot, IsShown, IsObjectShown, Shows, IsClosed, fields}
+use Rattle.heap_model.specs.Clearing.{IsWeakShown, WillShowObject, WillShow, StandsOnce, CanBeFollowed}
+use Rattle.heap_model.proofs.Lists.{AllZip-get, AllZip-get_right, AllZip_map, AllZip-append}
 
 -- the object of this name is at the end of this pointer
 pub record PointsTo (h : Heap) (a n : ℕ) : Type 0 where
@@ -46,7 +47,26 @@ pub fields_shown : {g : Graph} {h : Heap} (x : Stored) (shown : IsObjectShown g 
 fields_shown {g} {h} x shown = AllZip-append
     (IsShown h) x.pointers shown.object.pointers x.weaks shown.object.weaks shown.pointers shown.weaks
 
-module _ (g : Graph) (h : Heap) (shows : Shows g h) where
+-- a weak slot shows nil also where nothing is kept
+pub weak_shown : (h : Heap) (w v : Option ℕ) → IsShown h w v → IsWeakShown h w v
+weak_shown h None None s = tt
+weak_shown h (Some a) (Some n) s = s
+weak_shown h _ _ s = absurd s
+
+pub will_show_object : (g : Graph) (h : Heap) (x : Stored) → IsObjectShown g h x → WillShowObject g h x
+will_show_object g h x o = record {
+  object = o.object;
+  named = o.named;
+  pointers = o.pointers;
+  weaks = AllZip_map (IsShown h) (IsWeakShown h) (weak_shown h) x.weaks o.object.weaks o.weaks;
+  values = o.values;
+}
+
+-- a heap that shows a graph will show it
+pub will_show : (g : Graph) (h : Heap) → Shows g h → WillShow g h
+will_show g h s = record { roots = s.roots; distinct = s.distinct; objects = λ a x at. will_show_object g h x (s.objects a x at) }
+
+module _ (g : Graph) (h : Heap) (shows : WillShow g h) where
   pub root_stands : (j n : ℕ) → slice_get g.roots j ≡ Some (Some n) → StandsRoot h n
   root_stands j n e =
       let (w, at, s) = AllZip-get_right (IsShown h) h.roots g.roots shows.roots j (Some n) e in
@@ -76,15 +96,15 @@ module _ (g : Graph) (h : Heap) (shows : Shows g h) where
       let (n, is', y, here, called) = shown_name h a v s in
       (y, here, FromRoot r.place y.name (is ∙ ap Some (is' ∙ ap Some (sym called))))
 
-  pub closed : IsClosed h
-  closed = record {
+  pub followed : CanBeFollowed h
+  followed = record {
     root = λ j a e.
         let (v, is, s) = AllZip-get (IsShown h) h.roots g.roots shows.roots j (Some a) e in
         let (n, is', y, here, called) = shown_name h a v s in
         (y, here);
-    field = λ b i a y at e.
+    pointer = λ b i a y at e.
         let shown = shows.objects b y at in
-        let (v, is, s) = AllZip-get (IsShown h) (fields y) (object_fields shown.object) (fields_shown y shown) i (Some a) e in
+        let (v, is, s) = AllZip-get (IsShown h) y.pointers shown.object.pointers shown.pointers i (Some a) e in
         let (n, is', z, here, called) = shown_name h a v s in
         (z, here);
   }
@@ -108,3 +128,17 @@ module _ (g : Graph) (h : Heap) (shows : Shows g h) where
         only = λ b y here called. shows.distinct b a y x here at (called ∙ sym named);
         contents = shows.objects a x at;
       }
+
+module _ (g : Graph) (h : Heap) (shows : Shows g h) where
+  pub closed : IsClosed h
+  closed = record {
+    root = λ j a e.
+        let (v, is, s) = AllZip-get (IsShown h) h.roots g.roots shows.roots j (Some a) e in
+        let (n, is', y, here, called) = shown_name h a v s in
+        (y, here);
+    field = λ b i a y at e.
+        let shown = shows.objects b y at in
+        let (v, is, s) = AllZip-get (IsShown h) (fields y) (object_fields shown.object) (fields_shown y shown) i (Some a) e in
+        let (n, is', z, here, called) = shown_name h a v s in
+        (z, here);
+  }

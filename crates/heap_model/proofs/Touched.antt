@@ -1,7 +1,8 @@
 -- What a mutator reads from a weak slot while marking runs: its target is saved, its name touched.
 use Rattle.std.proofs.Common.{◌≡◌, ℕ, ◌<◌, ◌≤◌, ◌⊎◌, true, Option, Some, None, refl, sym, ap, ◌∙◌, subst, inl, inr, arith, slice_get}
 use Rattle.heap_model.specs.Graph.{Graph, Object, object_named, next_name, IsReachable, FromRoot, FromObject}
-use Rattle.heap_model.specs.Heap.{Heap, Stored, Points, IsShown, Shows, RootSet}
+use Rattle.heap_model.specs.Heap.{Heap, Stored, Points, IsShown, RootSet}
+use Rattle.heap_model.specs.Clearing.{WillShow}
 use Rattle.heap_model.specs.Marking.{Marking, Pending, FromGrey, FromLogged, Through, WillBeMarked, IsOldLive, IsFound, ByRoot, ByLive}
 use Rattle.heap_model.specs.Marking.{ByNew, KeepsSnapshot, IsSaved}
 use Rattle.heap_model.specs.Weak.{touched, KeepsUnreached}
@@ -29,7 +30,7 @@ apart k n p q = omega arith
 abbrev pub IsKnown : Graph → ℕ → Type 0
 IsKnown s n = IsReachable s n ⊎ (next_name s ≤ n)
 
-module _ (s g : Graph) (h : Heap) (m : Marking) (shows : Shows g h) (i : KeepsSnapshot s h m) where
+module _ (s g : Graph) (h : Heap) (m : Marking) (shows : WillShow g h) (i : KeepsSnapshot s h m) where
   known_at : (a : ℕ) (x : Stored) → h.kept a ≡ Some x → IsFound (IsReachable s) h m a → IsKnown s x.name
   known_at a x at f = elim (bool_cases (m.old a)) [ inl o ↦ inl (i.found a x at o f) | inr o ↦ inr (i.new_names a x at o) ]
 

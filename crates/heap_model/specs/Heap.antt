@@ -52,15 +52,6 @@ pub record IsClosed (h : Heap) : Type 0 where
   pub root : (j a : ℕ) → slice_get h.roots j ≡ Some (Some a) → (x : Stored) × (h.kept a ≡ Some x)
   pub field : (b i a : ℕ) (y : Stored) → h.kept b ≡ Some y → slice_get (fields y) i ≡ Some (Some a) → (x : Stored) × (h.kept a ≡ Some x)
 
--- exactly one kept object has the name, and it has the graph's contents
-pub record StandsOnce (g : Graph) (h : Heap) (n : ℕ) : Type 0 where
-  pub address : ℕ
-  pub object : Stored
-  pub at : h.kept address ≡ Some object
-  pub named : object.name ≡ n
-  pub only : (b : ℕ) (y : Stored) → h.kept b ≡ Some y → y.name ≡ n → b ≡ address
-  pub contents : IsObjectShown g h object
-
 -- a root place holds a
 pub record IsRoot (h : Heap) (a : ℕ) : Type 0 where
   pub place : ℕ

@@ -4,6 +4,7 @@ pub mod Count
 pub mod Heap
 pub mod Marking
 pub mod Weak
+pub mod Clearing
 pub mod Kept
 pub mod Relocation
 pub mod Evacuation

@@ -10,7 +10,7 @@ pub record Marking : Type 0 where
   pub old : ℕ → Bool
   pub marked : ℕ → Bool
   pub scanned : ℕ → Bool
-  -- old values of overwritten pointers, which marking has not taken yet
+  -- what roots named when marking began, and old values of overwritten pointers, which marking has not taken yet
   pub logged : List ℕ
 
 -- a path of present pointers leads to the address from a grey or logged object, and all objects of the path but
@@ -57,13 +57,14 @@ pub record MarkingInvariant (live : ℕ → Type 0) (limit : ℕ) (h : Heap) (m 
 abbrev pub KeepsSnapshot : Graph → Heap → Marking → Type 0
 KeepsSnapshot s h m = MarkingInvariant (IsReachable s) (next_name s) h m
 
--- marking has just begun: all objects are old, and what roots name is marked and grey
+-- marking has just begun: all objects are old, what roots name is marked or logged, what is marked or logged is named by a root, and
+-- nothing is scanned
 pub record Begins (h : Heap) (m : Marking) : Type 0 where
   pub old : (a : ℕ) (x : Stored) → h.kept a ≡ Some x → m.old a ≡ true
+  pub roots : (a : ℕ) → IsRoot h a → (m.marked a ≡ true) ⊎ Contains m.logged a
   pub marked : (a : ℕ) → m.marked a ≡ true → IsRoot h a
-  pub roots : (a : ℕ) → IsRoot h a → m.marked a ≡ true
+  pub logged : (a : ℕ) → Contains m.logged a → IsRoot h a
   pub scanned : (a : ℕ) → m.scanned a ≡ false
-  pub logged : m.logged ≡ []
 
 -- a grey object points to the old address b
 pub record IsTarget (h : Heap) (m : Marking) (b : ℕ) : Type 0 where

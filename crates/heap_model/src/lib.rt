@@ -15,7 +15,8 @@
 //! - what a mutator reads from a weak slot meanwhile is saved, and its name counts as a root of the snapshot
 //!   (`weak::touch_law`);
 //! - what is marked, or was made since, still shows the graph once weak slots are cleared in both, so the rest may be
-//!   reclaimed (`weak::clear_law`, `marking::done_law`);
+//!   reclaimed (`weak::clear_law`, `marking::done_law`); the heap's slots may be cleared later, in pieces, as long as a slot
+//!   whose target isn't kept shows nil (`clearing::end_law`, `further_law`);
 //! - a heap whose objects were moved shows the graph, and so does one whose reached objects were copied out of a set
 //!   of regions that is then released (`relocation::move_law`, `evacuation::evacuation_law`).
 //!
@@ -27,12 +28,14 @@
 //!   9      pointers []        values [1, 2]      40     name 9  pointers []         values [1, 2]
 //! ```
 //!
-//! The definitions, in order of reading: `Graph` (objects by name, `IsReachable`), `Heap` (objects by address, `Shows`, `StandsOnce`),
+//! The definitions, in order of reading: `Graph` (objects by name, `IsReachable`), `Heap` (objects by address, `Shows`),
 //! `Marking` (the snapshot-at-the-beginning invariant `KeepsSnapshot`, the steps that keep it, `MarksExactly`), `Weak` (touched names,
-//! `KeepsUnreached`, `Clears`), `Kept` (what is kept by marks and tops at mark start), `Relocation`, `Evacuation`; `Paths` and `Count` say
+//! `KeepsUnreached`, `Clears`), `Clearing` (what the heap will show), `Kept` (what is kept by marks and tops at mark start),
+//! `Relocation`, `Evacuation`; `Paths` and `Count` say
 //! again what reachable is.
 #![tactic(auto)]
 
+pub mod clearing;
 pub mod evacuation;
 pub mod marking;
 pub mod reaching;

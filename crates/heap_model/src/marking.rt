@@ -2,7 +2,8 @@
 
 ghost use Rattle.std.specs.Prelude.{◌≡◌, ℕ, ◌≤◌, ◌⊎◌, Bool, true, false, List, Option, Some, length, slice_get, slice_set};
 ghost use Rattle.heap_model.specs.Graph.{Graph, IsReachable, next_name};
-ghost use Rattle.heap_model.specs.Heap.{Heap, Stored, Shows, IsRoot, IsHeld, RootSet, ObjectSet, ObjectAdded, SameHeap};
+ghost use Rattle.heap_model.specs.Clearing.{WillShow};
+ghost use Rattle.heap_model.specs.Heap.{Heap, Stored, IsRoot, IsHeld, RootSet, ObjectSet, ObjectAdded, SameHeap};
 ghost use Rattle.heap_model.specs.Marking.{Marking, KeepsSnapshot, Begins, MarksMore, IsSaved, IsDone, MarksExactly, SameMarking};
 ghost use Rattle.heap_model.specs.Weak.{cleared_object, cleared_after};
 ghost use Rattle.heap_model.specs.Kept.{kept_by};
@@ -11,25 +12,25 @@ ghost use Rattle.heap_model.specs.Count.{IsReachableCount, ListsMarked};
 /// Marking begins with the present graph as its snapshot.
 #[tactic(auto, using(crate::proofs::Begin::begins))]
 pub fn begin_law()
-    ensures { (g : Graph) (h : Heap) (m : Marking) → Shows g h → Begins h m → KeepsSnapshot g h m }
+    ensures { (g : Graph) (h : Heap) (m : Marking) → WillShow g h → Begins h m → KeepsSnapshot g h m }
 {}
 
 /// Each part of marking keeps the invariant.
 pub fn mark_law()
-    ensures { (s g : Graph) (h : Heap) (m m' : Marking) → Shows g h → KeepsSnapshot s h m → MarksMore h m m' → KeepsSnapshot s h m' }
+    ensures { (s g : Graph) (h : Heap) (m m' : Marking) → WillShow g h → KeepsSnapshot s h m → MarksMore h m m' → KeepsSnapshot s h m' }
 {}
 
 /// A root place that is set to what a mutator can hold keeps the invariant: roots need no barrier.
 pub fn root_law()
     ensures { (s g : Graph) (h h' : Heap) (m : Marking) (place : ℕ) (w : Option ℕ)
-        → Shows g h → KeepsSnapshot s h m → IsHeld h w → RootSet h h' place w → KeepsSnapshot s h' m }
+        → WillShow g h → KeepsSnapshot s h m → IsHeld h w → RootSet h h' place w → KeepsSnapshot s h' m }
 {}
 
 /// A store into a pointer keeps the invariant, where the old value is saved.
 pub fn put_law()
     ensures { (s g : Graph) (h h' : Heap) (m m' : Marking)
         (d : ℕ) (x y : Stored) (field : ℕ) (was w : Option ℕ)
-        → Shows g h → KeepsSnapshot s h m → IsRoot h d → IsHeld h w
+        → WillShow g h → KeepsSnapshot s h m → IsRoot h d → IsHeld h w
         → slice_get x.pointers field ≡ Some was → ObjectSet h h' d x y → y.pointers ≡ slice_set x.pointers field w
         → IsSaved m m' was → KeepsSnapshot s h' m' }
 {}
@@ -54,18 +55,18 @@ pub fn same_marking_law()
 /// At the end marking is exact. What is kept from then on, its weak slots cleared, is all that was reachable in the
 /// snapshot, and what was made since. Where no mutator took a step meanwhile, that is what is reachable.
 pub fn done_law()
-    ensures exact { (s g : Graph) (h : Heap) (m : Marking) → Shows g h → KeepsSnapshot s h m → IsDone m → MarksExactly s h m }
+    ensures exact { (s g : Graph) (h : Heap) (m : Marking) → WillShow g h → KeepsSnapshot s h m → IsDone m → MarksExactly s h m }
     ensures all { (s : Graph) (h : Heap) (m : Marking) → KeepsSnapshot s h m → IsDone m
         → (n : ℕ) → IsReachable s n → (a : ℕ) × (x : Stored) × (cleared_after h m a ≡ Some x) × (x.name ≡ n) }
     ensures only { (s : Graph) (h : Heap) (m : Marking) → KeepsSnapshot s h m → IsDone m
         → (a : ℕ) (x : Stored) → cleared_after h m a ≡ Some x → IsReachable s x.name ⊎ (next_name s ≤ x.name) }
-    ensures quiet { (g : Graph) (h : Heap) (m : Marking) → Shows g h → KeepsSnapshot g h m → IsDone m
+    ensures quiet { (g : Graph) (h : Heap) (m : Marking) → WillShow g h → KeepsSnapshot g h m → IsDone m
         → (a : ℕ) (x : Stored) → cleared_after h m a ≡ Some x → IsReachable g x.name }
 {}
 
 /// The number of marked addresses at the end is that of the names that are reachable in the snapshot.
 pub fn count_law()
-    ensures { (s g : Graph) (h : Heap) (m : Marking) → Shows g h → KeepsSnapshot s h m → IsDone m
+    ensures { (s g : Graph) (h : Heap) (m : Marking) → WillShow g h → KeepsSnapshot s h m → IsDone m
         → (marks : List ℕ) → ListsMarked m.marked marks → IsReachableCount s (length marks) }
 {}
 

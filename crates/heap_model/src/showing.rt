@@ -3,13 +3,14 @@
 ghost use Rattle.std.specs.Prelude.{◌≡◌, ℕ, Option, Some, length, slice_get, slice_set};
 ghost use Rattle.std.specs.List.{AllZip};
 ghost use Rattle.heap_model.specs.Graph.{Graph, Object, IsReachable, next_name, object_named, with_root, with_object, with_changed};
-ghost use Rattle.heap_model.specs.Heap.{Heap, Stored, Shows, IsShown, StandsOnce, IsClosed, RootSet, ObjectSet, ObjectAdded, SameHeap};
+ghost use Rattle.heap_model.specs.Heap.{Heap, Stored, Shows, IsShown, IsClosed, RootSet, ObjectSet, ObjectAdded, SameHeap};
 ghost use Rattle.heap_model.specs.Heap.{fields, with_field};
+ghost use Rattle.heap_model.specs.Clearing.{WillShow, StandsOnce};
 
 /// Each object that a root reaches is in the heap once, with the graph's contents.
 #[tactic(auto, using(crate::proofs::Shown::stands_once))]
 pub fn stands_law()
-    ensures { (g : Graph) (h : Heap) → Shows g h → (n : ℕ) → IsReachable g n → StandsOnce g h n }
+    ensures { (g : Graph) (h : Heap) → WillShow g h → (n : ℕ) → IsReachable g n → StandsOnce g h n }
 {}
 
 /// No root and no field names anything but the start of a kept object.

@@ -4,6 +4,7 @@ ghost use Rattle.std.specs.Prelude.{◌≡◌, ◌≢◌, ℕ, ◌<◌, ◌≤�
 ghost use Rattle.heap_model.specs.Graph.{Graph, Object, IsReachable, IsSound, next_name, object_named, object_fields, with_root};
 ghost use Rattle.heap_model.specs.Graph.{with_object, with_changed};
 ghost use Rattle.heap_model.specs.Heap.{Heap, IsShown, Shows, RootSet};
+ghost use Rattle.heap_model.specs.Clearing.{WillShow};
 ghost use Rattle.heap_model.specs.Marking.{Marking, KeepsSnapshot, IsSaved, IsDone};
 ghost use Rattle.heap_model.specs.Count.{IsReachableCount};
 ghost use Rattle.heap_model.specs.Weak.{touched, KeepsUnreached, Clears, cleared_after, AreReached, cleared_graph};
@@ -37,14 +38,14 @@ pub fn unreached_law()
 /// from a weak slot is reachable then.
 #[tactic(auto, using(crate::proofs::Touched::reached_known))]
 pub fn reached_law()
-    ensures { (s g : Graph) (h : Heap) (m : Marking) → Shows g h → KeepsSnapshot s h m → (n : ℕ) → IsReachable g n
+    ensures { (s g : Graph) (h : Heap) (m : Marking) → WillShow g h → KeepsSnapshot s h m → (n : ℕ) → IsReachable g n
         → IsReachable s n ⊎ (next_name s ≤ n) }
 {}
 
 /// A root place may take what a weak slot holds, where the target is saved and its name touched.
 pub fn touch_law()
     ensures { (s g : Graph) (h h' : Heap) (m m' : Marking) (place : ℕ) (w v : Option ℕ)
-        → Shows g h → KeepsSnapshot s h m → KeepsUnreached s g → ((a : ℕ) → m.scanned a ≡ true → m.marked a ≡ true)
+        → WillShow g h → KeepsSnapshot s h m → KeepsUnreached s g → ((a : ℕ) → m.scanned a ≡ true → m.marked a ≡ true)
         → IsShown h w v → RootSet h h' place w → IsSaved m m' w → KeepsSnapshot (touched s v) h' m' }
 {}
 

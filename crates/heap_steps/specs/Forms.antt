@@ -61,6 +61,9 @@ collection_row collections.Cleanup = every (codes "cleanup") []
 collection_row collections.Refine = every (codes "refine") (Small ∷ [])
 collection_row collections.Pause = every (codes "pause") (Small ∷ [])
 collection_row collections.Compact = third (codes "compact") (Small ∷ [])
+collection_row collections.PauseWithin = third (codes "pausewithin") (Small ∷ Small ∷ [])
+collection_row collections.Young = third (codes "young") (Small ∷ Small ∷ [])
+collection_row collections.Clear = third (codes "clear") (Small ∷ [])
 
 -- the replies of each: what it replies where it is done, and what it may be refused for
 abbrev replies_by : DoneReply → Option Refusal → Replies
@@ -74,6 +77,9 @@ collection_replies collections.Cleanup = replies_by dones.Reclaimed (Some refusa
 collection_replies collections.Refine = replies_by dones.Refined None
 collection_replies collections.Pause = replies_by dones.Moved None
 collection_replies collections.Compact = replies_by dones.Moved None
+collection_replies collections.PauseWithin = replies_by dones.Moved None
+collection_replies collections.Young = replies_by dones.Moved None
+collection_replies collections.Clear = replies_by dones.Ok None
 
 -- the number of a refusal
 abbrev pub refusal_number : Refusal → ℕ
@@ -106,7 +112,7 @@ action_verbs = verbs.New ∷ verbs.NewWeak ∷ verbs.Get ∷ verbs.GetWeak ∷ v
 
 abbrev pub collection_verbs : List CollectionVerb
 collection_verbs = collections.Begin ∷ collections.Mark ∷ collections.Remark ∷ collections.Cleanup ∷ collections.Refine
-    ∷ collections.Pause ∷ collections.Compact ∷ []
+    ∷ collections.Pause ∷ collections.Compact ∷ collections.PauseWithin ∷ collections.Young ∷ collections.Clear ∷ []
 
 -- the place of a verb among those of the collector, which its word tells
 abbrev pub collection_place : CollectionVerb → ℕ
@@ -183,12 +189,18 @@ collection_verb collector.Cleanup = collections.Cleanup
 collection_verb (collector.Refine k) = collections.Refine
 collection_verb (collector.Pause b) = collections.Pause
 collection_verb (collector.Compact b) = collections.Compact
+collection_verb (collector.PauseWithin limits) = collections.PauseWithin
+collection_verb (collector.Young limits) = collections.Young
+collection_verb (collector.Clear k) = collections.Clear
 
 abbrev pub collection_numbers : CollectorStep → List ℕ
 collection_numbers (collector.Mark k) = k ∷ []
 collection_numbers (collector.Refine k) = k ∷ []
 collection_numbers (collector.Pause b) = b ∷ []
 collection_numbers (collector.Compact b) = b ∷ []
+collection_numbers (collector.PauseWithin limits) = limits.words ∷ limits.cards ∷ []
+collection_numbers (collector.Young limits) = limits.words ∷ limits.cards ∷ []
+collection_numbers (collector.Clear k) = k ∷ []
 collection_numbers _ = []
 
 abbrev pub collection_by : CollectionVerb → (ℕ → ℕ) → CollectorStep
@@ -199,6 +211,9 @@ collection_by collections.Cleanup n = collector.Cleanup
 collection_by collections.Refine n = collector.Refine (n 0)
 collection_by collections.Pause n = collector.Pause (n 0)
 collection_by collections.Compact n = collector.Compact (n 0)
+collection_by collections.PauseWithin n = collector.PauseWithin (record { words = n 0; cards = n 1 })
+collection_by collections.Young n = collector.Young (record { words = n 0; cards = n 1 })
+collection_by collections.Clear n = collector.Clear (n 0)
 
 -- a grammar: verbs with their rows, and what a verb and its numbers stand for
 pub record Grammar (V A : Type 0) : Type 0 where

@@ -7,7 +7,7 @@ ghost use Rattle.heap_steps.specs.Forms.{action_verbs, action_row, action_by, co
 ghost use Rattle.heap_steps.specs.Forms.{collection_verb, collection_numbers, collection_place, collection_replies, refusal_number};
 ghost use Rattle.heap_steps.specs.Forms.{IsDone, IsAmong, low, numbered_value, numbers_in};
 
-use crate::step::{Action, CollectorStep, Counts, GlobalRoot, Refusal, Register, Reply};
+use crate::step::{Action, CollectorStep, Counts, GlobalRoot, Limits, Refusal, Register, Reply};
 
 /// What a word after a verb is.
 #[derive(Clone, Copy)]
@@ -56,6 +56,9 @@ pub enum CollectionVerb {
     Refine,
     Pause,
     Compact,
+    PauseWithin,
+    Young,
+    Clear,
 }
 
 /// What a step of the collector replies where it is done.
@@ -104,7 +107,7 @@ pub trait Verb: Copy + 'static {
     /// All of its kind, in the order in which hints list them.
     ///
     /// ```rust
-    /// assert_eq!(rt; CollectionVerb::all().len(), 7);
+    /// assert_eq!(rt; CollectionVerb::all().len(), 10);
     /// ```
     fn all() -> &'static [Self]
         ensures { result.now ≡ verbs };
@@ -229,6 +232,17 @@ fn global(numbers: &[u64; 4], index: usize) -> GlobalRoot
 {
     GlobalRoot {
         number: small(numbers, index),
+    }
+}
+
+/// The limits that the first two numbers are.
+fn limits(numbers: &[u64; 4]) -> Limits
+    ensures words { result.words ≡ get_or numbers.now 0 0 % 2 ^ 32 }
+    ensures cards { result.cards ≡ get_or numbers.now 1 0 % 2 ^ 32 }
+{
+    Limits {
+        words: small(numbers, 0),
+        cards: small(numbers, 1),
     }
 }
 
@@ -400,6 +414,9 @@ impl Verb for CollectionVerb {
             CollectionVerb::Refine,
             CollectionVerb::Pause,
             CollectionVerb::Compact,
+            CollectionVerb::PauseWithin,
+            CollectionVerb::Young,
+            CollectionVerb::Clear,
         ]
     }
 
@@ -412,6 +429,11 @@ impl Verb for CollectionVerb {
             CollectionVerb::Refine => every(b"refine", &[Operand::Small]),
             CollectionVerb::Pause => every(b"pause", &[Operand::Small]),
             CollectionVerb::Compact => third(b"compact", &[Operand::Small]),
+            CollectionVerb::PauseWithin => {
+                third(b"pausewithin", &[Operand::Small, Operand::Small])
+            }
+            CollectionVerb::Young => third(b"young", &[Operand::Small, Operand::Small]),
+            CollectionVerb::Clear => third(b"clear", &[Operand::Small]),
         }
     }
 }
@@ -444,6 +466,9 @@ impl CollectionVerb {
             CollectionVerb::Refine => replies_by(DoneReply::Refined, None),
             CollectionVerb::Pause => replies_by(DoneReply::Moved, None),
             CollectionVerb::Compact => replies_by(DoneReply::Moved, None),
+            CollectionVerb::PauseWithin => replies_by(DoneReply::Moved, None),
+            CollectionVerb::Young => replies_by(DoneReply::Moved, None),
+            CollectionVerb::Clear => replies_by(DoneReply::Ok, None),
         }
     }
 
@@ -463,6 +488,9 @@ impl CollectionVerb {
             CollectionVerb::Refine => CollectorStep::Refine(small(numbers, 0)),
             CollectionVerb::Pause => CollectorStep::Pause(small(numbers, 0)),
             CollectionVerb::Compact => CollectorStep::Compact(small(numbers, 0)),
+            CollectionVerb::PauseWithin => CollectorStep::PauseWithin(limits(numbers)),
+            CollectionVerb::Young => CollectorStep::Young(limits(numbers)),
+            CollectionVerb::Clear => CollectorStep::Clear(small(numbers, 0)),
         }
     }
 }
@@ -485,24 +513,32 @@ impl CollectorStep {
             CollectorStep::Refine(_) => CollectionVerb::Refine,
             CollectorStep::Pause(_) => CollectionVerb::Pause,
             CollectorStep::Compact(_) => CollectionVerb::Compact,
+            CollectorStep::PauseWithin(_) => CollectionVerb::PauseWithin,
+            CollectorStep::Young(_) => CollectionVerb::Young,
+            CollectorStep::Clear(_) => CollectionVerb::Clear,
         }
     }
 
-    /// Its number, 0 where it has none.
+    /// Its numbers, two at most, and 0 for those that it hasn't.
     ///
     /// ```rust
-    /// assert_eq!(rt; CollectorStep::Pause(8).number(), 8);
+    /// assert_eq!(rt; CollectorStep::Pause(8).numbers(), (8, 0));
     /// ```
     #[inline(always)]
-    pub fn number(self) -> u32
-        ensures { result ≡ get_or (collection_numbers self) 0 0 }
+    pub fn numbers(self) -> (u32, u32)
+        ensures first { result.0 ≡ get_or (collection_numbers self) 0 0 }
+        ensures second { result.1 ≡ get_or (collection_numbers self) 1 0 }
     {
         match self {
             CollectorStep::Mark(number)
             | CollectorStep::Refine(number)
             | CollectorStep::Pause(number)
-            | CollectorStep::Compact(number) => number,
-            _ => 0,
+            | CollectorStep::Compact(number)
+            | CollectorStep::Clear(number) => (number, 0),
+            CollectorStep::PauseWithin(limits) | CollectorStep::Young(limits) => {
+                (limits.words, limits.cards)
+            }
+            _ => (0, 0),
         }
     }
 }

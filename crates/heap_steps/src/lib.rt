@@ -36,5 +36,6 @@ pub use fault::{RunFault, run_fault};
 pub use form::{ActionVerb, CollectionVerb, DoneReply, Operand, Replies, Row, Verb};
 pub use record::{Plan, Record};
 pub use step::{
-    Action, Actor, CollectorStep, Counts, Event, GlobalRoot, Op, Refusal, Register, Reply, Step,
+    Action, Actor, CollectorStep, Counts, Event, GlobalRoot, Limits, Op, Refusal, Register, Reply,
+    Step,
 };

@@ -131,6 +131,15 @@ pub struct Op {
     pub action: Action,
 }
 
+/// What a pause may cost at most.
+#[derive(Clone, Copy, Debug, PartialEq, Eq)]
+pub struct Limits {
+    /// The words that it copies.
+    pub words: u32,
+    /// The cards that may lead into its regions.
+    pub cards: u32,
+}
+
 /// What the collector does.
 #[derive(Clone, Copy, Debug, PartialEq, Eq)]
 pub enum CollectorStep {
@@ -149,6 +158,13 @@ pub enum CollectorStep {
     /// Live objects of the highest ordinary regions are copied down into the lowest free ones, at most so many words, and these regions
     /// are reclaimed, so that free regions are side by side.
     Compact(u32),
+    /// A pause that takes only as many of its regions as few cards lead into.
+    PauseWithin(Limits),
+    /// Live objects are copied out of the regions that objects were made in last, the oldest of these first, within limits, and these
+    /// regions are reclaimed.
+    Young(Limits),
+    /// At most so many objects with weak slots are looked at, and those of their slots that the last marking found dead are cleared.
+    Clear(u32),
 }
 
 /// A step of a mutator or of the collector.

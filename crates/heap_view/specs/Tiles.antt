@@ -30,7 +30,7 @@ marking_text c a = if c.marker.running then codes ", " ++ progress_text (progres
 
 -- an object: its name, its fields, whether it is kept, and what marking knows of it
 abbrev pub object_text : CoreState → ℕ → List ℕ
-object_text c a = pointer_text Lines c.table (Some a) ++ fields_text Lines c.table a ++ keeping_text c a ++ marking_text c a
+object_text c a = pointer_text Lines c.table (Some a) ++ fields_text Lines c a ++ keeping_text c a ++ marking_text c a
 
 -- what a tile is
 abbrev pub shape_text : CoreState → ℕ → Shape → List ℕ

@@ -59,7 +59,7 @@ fn put_object(core: &Core, text: &mut Text, object: Addr, kept: bool)
     let table = core.table();
     text.put("#");
     text.put_digits(table.name(object));
-    put_fields(table, text, object, Spelling::Lines);
+    put_fields(core, text, object, Spelling::Lines);
     put_keeping(core, text, object, kept);
     put_progress(core, text, object);
 }

@@ -8,12 +8,11 @@ use Rattle.mark_bitmap.specs.Marks.{is_marked, marked_count}
 use Rattle.mark_bitmap.specs.Tops.{Tops, below_next}
 use Rattle.mark_bitmap.specs.Grey.{Scans, HasFingers, is_grey}
 use Rattle.mark_bitmap.proofs.Counts.{marked_count-set}
-use Rattle.satb_log.specs.Logs.{logged}
-use Rattle.marker.specs.Views.{heap_of, marking_of}
+use Rattle.marker.specs.Views.{heap_of, marking_of, untaken}
 use Rattle.marker.specs.Stands.{MarkerStands}
 use Rattle.marker.specs.Steps.{KeepsSnapshots, SameRoles, MarksWanted}
 use Rattle.marker.specs.declared.marker.Marker.{Marker}
-use Rattle.marker.proofs.Views.{kept_object, object_pointers_at}
+use Rattle.marker.proofs.Views.{kept_object, object_pointers_at, same_untaken}
 use Rattle.marker.proofs.Reached.{Reached, stands_step, marked_set, same_trans}
 use Rattle.marker.proofs.Scanned.{same_snapshots, grey_is, with_scan, all_pointers, grey_within}
 
@@ -23,7 +22,7 @@ pub scan_stands : (t : Table) (m : Marker) (object : ℕ) (g : Scans) → Marker
 scan_stands t m object g st run grey scanned finger =
     let is = grey_is m.bitmaps.next m.grey object grey in
     let inside : object < length m.grey.scanned = grey_within t m object st grey in
-    stands_step t m (with_scan m g) st run (record { previous = refl; tams = refl; running = refl })
+    stands_step t m (with_scan m g) st run (record { previous = refl; tams = refl; running = refl; room = refl })
     (ap length scanned ∙ length-set m.grey.scanned object true) refl (λ a c. c) st.next finger (λ a c. inl c)
     (λ a c. elim (marked_set m.grey.scanned object a (ap (λ (b : List Bool). is_marked b a) (sym scanned) ∙ c)) [
       | inl was ↦ st.scanned_marked run a was
@@ -39,6 +38,7 @@ pub record Entered (t : Table) (object : ℕ) (m m' : Marker) : Type 0 where
   pub scanned : m'.grey.scanned ≡ set m.grey.scanned object true
   pub same : SameRoles m m'
   pub logs : m'.logs ≡ m.logs
+  pub waiting : m'.waiting ≡ m.waiting
 
 pub entered_marked : (t : Table) (object : ℕ) (m m' : Marker) (a : ℕ) → Entered t object m m' → is_marked m.bitmaps.next a ≡ true
     → is_marked m'.bitmaps.next a ≡ true
@@ -58,7 +58,7 @@ scan_more t m m' m'' object roots st run grey e p =
     let pointers = object_pointers_at t object k.object (kept_object t m.tams m.bitmaps.previous object k.object k.is) in
     let tams : m''.tams ≡ m.tams = p.same.tams ∙ e.same.tams in
     let scanned : m''.grey.scanned ≡ set m.grey.scanned object true = p.scanned ∙ e.scanned in
-    let logs : m''.logs ≡ m.logs = p.logs ∙ e.logs in
+    let left : untaken m'' ≡ untaken m = same_untaken m m'' (p.waiting ∙ e.waiting) (p.logs ∙ e.logs) in
     let old_same : (a : ℕ) → below_next t m''.tams a ≡ below_next t m.tams a = λ a. ap (λ (x : Tops). below_next t x a) tams in
     record {
       old = old_same;
@@ -83,8 +83,8 @@ scan_more t m m' m'' object roots st run grey e p =
             p.marks.each b (record { place = q.field; front = slice_get_within (pointers_at t object) q.field (Some b) place; is = place })
             (ap (λ (x : Tops). below_next t x b) e.same.tams ∙ old))
       ];
-      taken = λ a l. inr (subst (λ (ls : List (List ℕ)). Contains (logged ls) a) (sym logs) l);
-      logged = λ a l. subst (λ (ls : List (List ℕ)). Contains (logged ls) a) logs l;
+      taken = λ a l. inr (subst (λ (xs : List ℕ). Contains xs a) (sym left) l);
+      logged = λ a l. subst (λ (xs : List ℕ). Contains xs a) left l;
     }
 
 pub scan_keeps : (t : Table) (m m' m'' : Marker) (object : ℕ) → MarkerStands t m → m.running ≡ true

@@ -1,20 +1,20 @@
 -- Marking can follow every pointer of a heap that shows a graph, while it keeps a snapshot.
 use Rattle.std.proofs.Common.{List, Option, ℕ}
 use Rattle.heap_model.specs.Graph.{Graph}
-use Rattle.heap_model.specs.Heap.{Shows}
+use Rattle.heap_model.specs.Clearing.{WillShow}
 use Rattle.heap_model.specs.Marking.{KeepsSnapshot}
-use Rattle.heap_model.proofs.Shown.{closed}
+use Rattle.heap_model.proofs.Shown.{followed}
 use Rattle.regions.specs.Table.{Table}
 use Rattle.marker.specs.Views.{heap_of, marking_of}
 use Rattle.marker.specs.Stands.{CanFollow}
 use Rattle.marker.specs.declared.marker.Marker.{Marker}
 
-pub can_follow : (s g : Graph) (t : Table) (roots : List (Option ℕ)) (m : Marker) → Shows g (heap_of t roots m)
+pub can_follow : (s g : Graph) (t : Table) (roots : List (Option ℕ)) (m : Marker) → WillShow g (heap_of t roots m)
     → KeepsSnapshot s (heap_of t roots m) (marking_of t m) → CanFollow t m
 can_follow s g t roots m shows keeps =
-    let all = closed g (heap_of t roots m) shows in
+    let all = followed g (heap_of t roots m) shows in
     record {
-      closed = record { root = λ j a e. absurd (let f = e in cc); field = all.field };
+      closed = record { root = λ j a e. absurd (let f = e in cc); pointer = all.pointer };
       marked = λ a k. let o = keeps.marked a k in record { object = o.object; is = o.at };
       logged_kept = λ a l. let o = keeps.logged a l in record { object = o.object; is = o.at };
       logged_below = λ a l. (keeps.logged a l).old;

@@ -55,6 +55,7 @@ with_roles m previous next tops live = record {
   running = m.running;
   scans = m.scans;
   live = live;
+  waiting = m.waiting;
 }
 
 pub forgotten_stands : (t : Table) (m : Marker) (k from to : ℕ) (previous next : List Bool) (tops : Tops) (live : LiveCounts)
@@ -74,6 +75,7 @@ forgotten_stands t m k from to previous next tops live z st off known low high l
       newer = λ on. absurd (let e = off in cc);
       follows = λ on. absurd (let e = off in cc);
       idle = λ _. st.idle off;
+      none_wait = λ _. st.none_wait off;
       scanned_marked = λ on. absurd (let e = off in cc);
       counted = λ on. absurd (let e = off in cc);
       live = subst (λ (l : LiveCounts). CountsWords t previous l.previous) (sym none)
@@ -112,6 +114,7 @@ table_stands t t' m st count size low high stays stays' words words' follows = r
   newer = st.newer;
   follows = follows;
   idle = st.idle;
+  none_wait = st.none_wait;
   scanned_marked = st.scanned_marked;
   counted = st.counted;
   live = counts_same t t' m.bitmaps.previous m.bitmaps.previous m.live.previous st.live count size (λ a. refl) words;

@@ -6,8 +6,10 @@ pub mod Passed
 pub mod Scanned
 pub mod Entered
 pub mod Marking
+pub mod Looked
 pub mod Made
 pub mod Begun
+pub mod Waits
 pub mod Logs
 pub mod Ended
 pub mod Forgotten

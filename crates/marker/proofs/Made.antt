@@ -46,8 +46,9 @@ pub new_stands : (regions words mutators : ℕ) (m : Marker) → m.running ≡ f
     → m.bitmaps.previous ≡ replicate (regions * words) false → m.bitmaps.next ≡ replicate (regions * words) false
     → m.tams.previous ≡ bottoms regions words → m.tams.next ≡ bottoms regions words
     → m.grey.scanned ≡ replicate (regions * words) false → m.logs ≡ replicate mutators [] → m.live ≡ nothing_counted regions
+    → m.waiting.addresses ≡ []
     → (t : Table) → length t.regions ≡ regions → t.words_per_region ≡ words → MarkerStands t m
-new_stands regions words mutators m off previous next low high scanned logs none t count size =
+new_stands regions words mutators m off previous next low high scanned logs none waiting t count size =
     record {
       previous = new_objects t regions words m.tams.previous m.bitmaps.previous count size low previous;
       next = new_objects t regions words m.tams.next m.bitmaps.next count size high next;
@@ -56,6 +57,7 @@ new_stands regions words mutators m off previous next low high scanned logs none
       newer = λ on. absurd (let e = off in cc);
       follows = λ on. absurd (let e = off in cc);
       idle = λ _. ap logged logs ∙ none_in mutators;
+      none_wait = λ _. waiting;
       scanned_marked = λ on. absurd (let e = off in cc);
       counted = λ on. absurd (let e = off in cc);
       live = counts_none t m.bitmaps.previous m.live.previous regions (ap (λ (l : LiveCounts). l.previous) none) (sym count)

@@ -6,8 +6,7 @@ use Rattle.regions.specs.Table.{Table}
 use Rattle.regions.specs.Shaped.{IsShaped}
 use Rattle.mark_bitmap.specs.Marks.{is_marked}
 use Rattle.marker.specs.Stands.{MarkerStands, IsKept}
-use Rattle.marker.specs.Steps.{IsInFirst}
-use Rattle.marker.specs.Roots.{AreNamedBelow, IsFirstUnmarked}
+use Rattle.marker.specs.Roots.{AreNamedBelow, IsInFirst, IsFirstUnmarked}
 use Rattle.marker.specs.declared.marker.Marker.{Marker}
 use Rattle.marker.proofs.Views.{kept_within}
 use Rattle.marker.proofs.Reached.{Reached, among_wider, among_past}
@@ -38,6 +37,7 @@ passed t words place end m m' first r = record {
   scanned = r.scanned;
   scans = r.scans;
   logs = r.logs;
+  waiting = r.waiting;
 }
 
 -- the same from the next place on that is named, of which only nil stands in front

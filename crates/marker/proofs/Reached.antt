@@ -3,9 +3,9 @@ use Rattle.std.proofs.Common.{◌≡◌, ◌⊎◌, ◌+◌, ◌/◌, ◌^◌, �
 use Rattle.std.proofs.Common.{get_or, set, refl, sym, ap, not, subst, arith, get_or-set_same, get_or-set_other, Contains, slice_get}
 use Rattle.std.proofs.lemmas.Bool.{cases_eq, cases_lt}
 use Rattle.std.proofs.lemmas.List.{get_or_past}
-use Rattle.std.proofs.lemmas.Option.{get_or_from_slice_get, slice_get-get_or}
+use Rattle.std.proofs.lemmas.Option.{get_or_from_slice_get, slice_get-get_or, slice_get_within}
 use Rattle.root_table.specs.Roots.{AreNil, IsNextNamed}
-use Rattle.heap_model.specs.Heap.{IsClosed}
+use Rattle.heap_model.specs.Clearing.{CanBeFollowed}
 use Rattle.regions.specs.Table.{Table, object_words}
 use Rattle.regions.specs.Shaped.{IsShaped}
 use Rattle.mark_bitmap.specs.Marks.{is_marked, marked_count}
@@ -14,18 +14,19 @@ use Rattle.mark_bitmap.specs.Grey.{Scans, HasFingers}
 use Rattle.mark_bitmap.specs.Kept.{MarksObjects}
 use Rattle.mark_bitmap.proofs.ObjectLaws.{set_objects, within}
 use Rattle.mark_bitmap.proofs.Ranges.{div_is, lies_below}
-use Rattle.satb_log.specs.Logs.{logged}
+use Rattle.marker.specs.Views.{untaken}
 use Rattle.marker.specs.Stands.{MarkerStands, IsKept}
 use Rattle.marker.specs.Live.{LiveCounts, CountsWords, with_more}
-use Rattle.marker.specs.Steps.{SameRoles, IsInFirst, MarksWanted}
+use Rattle.marker.specs.Roots.{IsInFirst}
+use Rattle.marker.specs.Steps.{SameRoles, MarksWanted}
 use Rattle.marker.specs.declared.marker.Marker.{Marker}
 use Rattle.marker.proofs.Views.{same_heap, kept_object, same_kept}
 use Rattle.marker.proofs.LiveCounts.{counts_added, region_small}
 
--- more is marked and logs may lose addresses: marks stand, if what came is kept
+-- more is marked, and logs and the roots that wait may lose addresses: marks stand, if what came is kept
 pub stands_step : (t : Table) (m m' : Marker) → MarkerStands t m → m.running ≡ true → SameRoles m m'
     → length m'.grey.scanned ≡ length m.grey.scanned → length m'.logs ≡ length m.logs
-    → ((a : ℕ) → Contains (logged m'.logs) a → Contains (logged m.logs) a)
+    → ((a : ℕ) → Contains (untaken m') a → Contains (untaken m) a)
     → MarksObjects t m.tams.next m'.bitmaps.next → HasFingers m'.bitmaps.next m'.grey
     → ((a : ℕ) → is_marked m'.bitmaps.next a ≡ true → (is_marked m.bitmaps.next a ≡ true) ⊎ IsKept t m a)
     → ((a : ℕ) → is_marked m'.grey.scanned a ≡ true → is_marked m'.bitmaps.next a ≡ true) → m'.scans.since ≡ marked_count m'.grey.scanned
@@ -42,12 +43,13 @@ stands_step t m m' st run same scanned len logs next finger came scanned_marked 
       finger = λ _. finger;
       newer = λ _. subst AreNewer tams (st.newer run);
       follows = λ _. record {
-        closed = subst IsClosed (sym (same_heap t [] m m' same)) f.closed;
+        closed = subst CanBeFollowed (sym (same_heap t [] m m' same)) f.closed;
         marked = λ a k. kept a (elim (came a k) [ inl old ↦ f.marked a old | inr new ↦ new ]);
         logged_kept = λ a l. kept a (f.logged_kept a (logs a l));
         logged_below = λ a l. subst (λ (x : Tops). below_next t x a ≡ true) tams (f.logged_below a (logs a l));
       };
       idle = λ off. absurd (let e = same.running in cc);
+      none_wait = λ off. absurd (let e = same.running in cc);
       scanned_marked = λ _. scanned_marked;
       counted = λ _. counted;
       live = subst (λ (b : List Bool). CountsWords t b m'.live.previous) (sym same.previous)
@@ -96,6 +98,7 @@ with_next m n g l = record {
   running = m.running;
   scans = m.scans;
   live = l;
+  waiting = m.waiting;
 }
 
 -- the words of what is newly marked are counted
@@ -124,7 +127,8 @@ pub set_stands : (t : Table) (m : Marker) (a : ℕ) (n : List Bool) (g : Scans) 
     → k ≡ a / t.words_per_region → size ≡ object_words t a → MarkerStands t (with_next m n g l)
 set_stands t m a n g l k size z st run below kept unmarked e scanned finger more own words =
     let object = kept_object t m.tams m.bitmaps.previous a kept.object kept.is in
-    stands_step t m (with_next m n g l) st run (record { previous = refl; tams = refl; running = refl }) (ap length scanned) refl (λ b l. l)
+    stands_step t m (with_next m n g l) st run (record { previous = refl; tams = refl; running = refl; room = refl })
+    (ap length scanned) refl (λ b l. l)
     (subst (λ (b : List Bool). MarksObjects t m.tams.next b) (sym e)
     (set_objects t m.tams.next m.bitmaps.next a kept.object st.next object below))
     finger
@@ -165,9 +169,15 @@ pub record Reached (t : Table) (wanted : ℕ → Type 0) (m m' : Marker) : Type 
   pub scanned : m'.grey.scanned ≡ m.grey.scanned
   pub scans : m'.scans ≡ m.scans
   pub logs : m'.logs ≡ m.logs
+  pub waiting : m'.waiting ≡ m.waiting
 
 pub same_trans : (m m' m'' : Marker) → SameRoles m m' → SameRoles m' m'' → SameRoles m m''
-same_trans m m' m'' p q = record { previous = q.previous ∙ p.previous; tams = q.tams ∙ p.tams; running = q.running ∙ p.running }
+same_trans m m' m'' p q = record {
+  previous = q.previous ∙ p.previous;
+  tams = q.tams ∙ p.tams;
+  running = q.running ∙ p.running;
+  room = q.room ∙ p.room;
+}
 
 pub more_reached : (t : Table) (first then both : ℕ → Type 0) (m m' m'' : Marker)
     → ((a : ℕ) → both a → first a ⊎ then a) → ((a : ℕ) → first a → both a) → ((a : ℕ) → then a → both a)
@@ -189,6 +199,7 @@ more_reached t first then both m m' m'' split left right p q = record {
   scanned = q.scanned ∙ p.scanned;
   scans = q.scans ∙ p.scans;
   logs = q.logs ∙ p.logs;
+  waiting = q.waiting ∙ p.waiting;
 }
 
 -- one word more
@@ -227,12 +238,13 @@ reached_as t wanted other m m' to from r = record {
   scanned = r.scanned;
   scans = r.scans;
   logs = r.logs;
+  waiting = r.waiting;
 }
 
 pub among_wider : (words : List (Option ℕ)) (n k a : ℕ) → n ≤ k → IsInFirst words n a → IsInFirst words k a
 among_wider words n k a le i = record { place = i.place; front = omega (arith, le, i.front); is = i.is }
 
-among_same : (words : List (Option ℕ)) (n k a : ℕ) → AreNil words n k → IsInFirst words k a → IsInFirst words n a
+pub among_same : (words : List (Option ℕ)) (n k a : ℕ) → AreNil words n k → IsInFirst words k a → IsInFirst words n a
 among_same words n k a nil i = elim (cases_lt i.place n) [
   | inl less ↦ record { place = i.place; front = less; is = i.is }
   | inr more ↦ absurd (let none = nil i.place more i.front in let some = get_or_from_slice_get words i.place (Some a) None i.is in cc)
@@ -243,6 +255,16 @@ pub among_past : (t : Table) (words : List (Option ℕ)) (n k : ℕ) (m m' : Mar
     → Reached t (IsInFirst words n) m m' → Reached t (IsInFirst words k) m m'
 among_past t words n k m m' le nil r =
     reached_as t (IsInFirst words n) (IsInFirst words k) m m' (λ a. among_wider words n k a le) (λ a. among_same words n k a nil) r
+
+-- up to the last place, where only nil is after
+pub all_named : (t : Table) (words : List (Option ℕ)) (n : ℕ) (m m' : Marker) → AreNil words n (length words)
+    → Reached t (IsInFirst words n) m m' → Reached t (IsInFirst words (length words)) m m'
+all_named t words n m m' nil r = elim (cases_lt n (length words)) [
+  | inl less ↦ among_past t words n (length words) m m' (omega (arith, less)) nil r
+  | inr more ↦ reached_as t (IsInFirst words n) (IsInFirst words (length words)) m m'
+      (λ a i. record { place = i.place; front = slice_get_within words i.place (Some a) i.is; is = i.is })
+      (λ a. among_wider words (length words) n a more) r
+]
 
 -- the word that stands in the next place that is named
 pub named_word : (words : List (Option ℕ)) (from place : ℕ) (w : Option ℕ) → IsNextNamed words from place

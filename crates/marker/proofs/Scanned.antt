@@ -4,7 +4,6 @@ use Rattle.heap_model.specs.Graph.{IsReachable, next_name}
 use Rattle.heap_model.specs.Heap.{Heap}
 use Rattle.heap_model.specs.Marking.{KeepsSnapshot, MarksMore}
 use Rattle.heap_model.proofs.Marks.{marks_more}
-use Rattle.heap_model.proofs.Lists.{get-append_left}
 use Rattle.regions.specs.Table.{Table, pointers_at}
 use Rattle.mark_bitmap.specs.Marks.{is_marked}
 use Rattle.mark_bitmap.specs.Grey.{Scans, is_grey}
@@ -12,7 +11,8 @@ use Rattle.mark_bitmap.proofs.ObjectLaws.{only_within}
 use Rattle.marker.specs.Views.{heap_of, marking_of}
 use Rattle.marker.specs.Counts.{added}
 use Rattle.marker.specs.Stands.{MarkerStands, CanFollow, IsKept}
-use Rattle.marker.specs.Steps.{KeepsSnapshots, SameRoles, IsInFirst}
+use Rattle.marker.specs.Roots.{IsInFirst}
+use Rattle.marker.specs.Steps.{KeepsSnapshots, SameRoles}
 use Rattle.marker.specs.declared.marker.Marker.{Marker}
 use Rattle.marker.proofs.Views.{same_heap, kept_object, object_pointers_at}
 
@@ -41,6 +41,7 @@ with_scan m g = record {
   running = m.running;
   scans = added m.scans;
   live = m.live;
+  waiting = m.waiting;
 }
 
 -- where a pointer of a marked object leads is kept
@@ -49,8 +50,7 @@ pub target_kept : (t : Table) (m : Marker) (object place a : ℕ) → CanFollow 
 target_kept t m object place a f marked e =
     let k = f.marked object marked in
     let pointers = object_pointers_at t object k.object (kept_object t m.tams m.bitmaps.previous object k.object k.is) in
-    let found =
-    f.closed.field object place a k.object k.is (get-append_left k.object.pointers k.object.weaks place (Some a) (rw pointers at e)) in
+    let found = f.closed.pointer object place a k.object k.is (rw pointers at e) in
     record { object = found.0; is = found.1 }
 
 abbrev pub all_pointers : Table → ℕ → ℕ → Type 0

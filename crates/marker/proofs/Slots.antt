@@ -10,8 +10,7 @@ use Rattle.regions.proofs.Tiles.Changes.{WritesObject, weak_put, object_same}
 use Rattle.mark_bitmap.specs.Tops.{is_below}
 use Rattle.mark_bitmap.specs.Kept.{MarksObjects}
 use Rattle.mark_bitmap.specs.Marks.{is_marked}
-use Rattle.satb_log.specs.Logs.{logged}
-use Rattle.marker.specs.Views.{marking_of}
+use Rattle.marker.specs.Views.{marking_of, untaken}
 use Rattle.marker.specs.Clears.{HasCleared}
 use Rattle.marker.specs.declared.marker.Marker.{Marker}
 use Rattle.marker.proofs.Forgotten.{role_stays}
@@ -51,7 +50,7 @@ same_marking t u m e = ap (λ (w : ℕ). record {
   old = λ a. is_below w m.tams.next a;
   marked = is_marked m.bitmaps.next;
   scanned = is_marked m.grey.scanned;
-  logged = logged m.logs;
+  logged = untaken m;
 }) e
 
 -- the object at x once i of its slots are cleared

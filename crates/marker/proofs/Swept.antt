@@ -1,12 +1,15 @@
 -- The clearing of one object with weak slots after another.
-use Rattle.std.proofs.Common.{◌≡◌, ◌+◌, ◌-◌, ◌^◌, ◌<◌, ◌≤◌, ◌⊎◌, ◌∷◌, ◌∙◌}
+use Rattle.std.proofs.Common.{◌≡◌, ◌+◌, ◌-◌, ◌^◌, ◌<◌, ◌≤◌, ◌⊎◌, ◌∷◌, ◌++◌, ◌∙◌, slice_get}
+use Rattle.std.proofs.lemmas.List.{length-map}
 use Rattle.std.proofs.Common.{ℕ, Bool, Option, Some, None, List, [], length, map, refl, sym, ap, subst, arith, inl, inr}
-use Rattle.std.specs.Prelude.{⊤, IsSome, IfSome}
+use Rattle.std.specs.Prelude.{IsSome, IfSome}
 use Rattle.std.proofs.lemmas.Bool.{cases_eq, cases_lt}
 use Rattle.heap_model.specs.Heap.{Stored}
+use Rattle.heap_model.specs.Clearing.{IsPassed}
 use Rattle.heap_model.specs.Marking.{Marking}
 use Rattle.heap_model.specs.Weak.{cleared, cleared_word, cleared_object}
 use Rattle.heap_model.proofs.Names.{bool_cases}
+use Rattle.heap_model.proofs.Lists.{get_kept-append, get-push_last, get-push_cases, length-push}
 use Rattle.regions.specs.Tiles.{Tile, Object, Filler, Forwarded}
 use Rattle.regions.specs.Shapes.{tile_shape}
 use Rattle.regions.specs.declared.row.Shape.{Shape}
@@ -17,7 +20,7 @@ use Rattle.regions.specs.Shaped.{IsShaped}
 use Rattle.regions.specs.WeakStarts.{HasWeaks, IsNextWithWeaks}
 use Rattle.regions.proofs.Tiles.Laws.{object_tile}
 use Rattle.mark_bitmap.specs.Kept.{MarksObjects}
-use Rattle.marker.specs.Clears.{ClearsTable, ClearsSome, ClearsStaying, HasCleared, IsStaying}
+use Rattle.marker.specs.Clears.{ClearsSome, ClearsStaying, HasCleared, IsStaying, IsBetween, LooksAt}
 use Rattle.marker.proofs.Forgotten.{role_stays}
 
 twice_word : (m : Marking) (w : Option ℕ) → cleared_word m (cleared_word m w) ≡ cleared_word m w
@@ -157,14 +160,9 @@ module _ (m : Marking) (t u : Table) (d : ℕ → Type 0) (c : ClearsSome m t u 
   ]
 
 -- ---- as the code goes
--- the address is before the next object with weak slots
-abbrev pub IsBefore : Option ℕ → ℕ → Type 0
-IsBefore None a = ⊤
-IsBefore (Some n) a = a < n
-
--- all before the next one is done, and it is an object
-pub record IsSweep (m : Marking) (t u : Table) (left : Option ℕ) : Type 0 where
-  pub some : ClearsSome m t u (IsBefore left)
+-- what is between is done, and the next one is an object with weak slots
+pub record IsSweep (m : Marking) (t u : Table) (from : ℕ) (left : Option ℕ) : Type 0 where
+  pub some : ClearsSome m t u (IsBetween from left)
   pub next : IfSome left (HasWeaks u)
 
 -- how far it may still go, addresses being words of 32 bits
@@ -172,37 +170,38 @@ abbrev pub left_over : Option ℕ → ℕ
 left_over None = 0
 left_over (Some a) = 2 ^ 32 - a
 
-sweep_done : (m : Marking) (t u : Table) (from : ℕ) (left : Option ℕ) → ClearsSome m t u (λ a. a < from)
-    → ((a : ℕ) → from ≤ a → IsBefore left a → HasWeaks u a → ⊥) → ClearsSome m t u (IsBefore left)
-sweep_done m t u from left c none = record {
+sweep_done : (m : Marking) (t u : Table) (start from : ℕ) (left : Option ℕ) → ClearsSome m t u (IsBetween start (Some from))
+    → ((a : ℕ) → from ≤ a → IsPassed left a → HasWeaks u a → ⊥) → ClearsSome m t u (IsBetween start left)
+sweep_done m t u start from left c none = record {
   size = c.size;
   count = c.count;
   kinds = c.kinds;
   tops = c.tops;
   unmoved = c.unmoved;
   each = c.each;
-  done_is = λ a before s. elim (cases_lt a from) [
-    | inl low ↦ c.done_is a low s
-    | inr high ↦ passed m t u (λ a. a < from) c a (none a high before)
+  done_is = λ a between s. elim (cases_lt a from) [
+    | inl low ↦ c.done_is a (between.0, low) s
+    | inr high ↦ passed m t u (IsBetween start (Some from)) c a (none a high between.1)
   ];
   tiles = c.tiles;
 }
 
-sweep_on : (m : Marking) (t u : Table) (from : ℕ) (left : Option ℕ) → ClearsSome m t u (λ a. a < from)
-    → IsNextWithWeaks u from left → IsSweep m t u left
-sweep_on m t u from None c next = record { some = sweep_done m t u from None c (λ a low before h. next a low h); next = tt }
-sweep_on m t u from (Some n) c next = record {
-  some = sweep_done m t u from (Some n) c (λ a low before h. next.2 a low before h);
+sweep_on : (m : Marking) (t u : Table) (start from : ℕ) (left : Option ℕ) → ClearsSome m t u (IsBetween start (Some from))
+    → IsNextWithWeaks u from left → IsSweep m t u start left
+sweep_on m t u start from None c next = record { some = sweep_done m t u start from None c (λ a low before h. next a low h); next = tt }
+sweep_on m t u start from (Some n) c next = record {
+  some = sweep_done m t u start from (Some n) c (λ a low before h. next.2 a low before h);
   next = next.1;
 }
 
-pub sweep_first : (m : Marking) (t : Table) (left : Option ℕ) → IsNextWithWeaks t 0 left → IsSweep m t t left
-sweep_first m t left next = sweep_on m t t 0 left
-    (swept_trans m t t t (λ a. ⊥) (λ a. ⊥) (λ a. a < 0) (swept_first m t) (swept_first m t) (λ a s. absurd (omega arith))) next
+pub sweep_first : (m : Marking) (t : Table) (from : ℕ) (left : Option ℕ) → IsNextWithWeaks t from left → IsSweep m t t from left
+sweep_first m t from left next = sweep_on m t t from from left
+    (swept_trans m t t t (λ a. ⊥) (λ a. ⊥) (IsBetween from (Some from)) (swept_first m t) (swept_first m t)
+    (λ a s. let low = s.0 in let high = s.1 in absurd (omega arith))) next
 
-module _ (m : Marking) (t u : Table) (left : Option ℕ) (n : ℕ) (is : left ≡ Some n) (p : IsSweep m t u left) where
-  here : IsSweep m t u (Some n)
-  here = subst (λ l. IsSweep m t u l) is p
+module _ (m : Marking) (t u : Table) (from : ℕ) (left : Option ℕ) (n : ℕ) (is : left ≡ Some n) (p : IsSweep m t u from left) where
+  here : IsSweep m t u from (Some n)
+  here = subst (λ l. IsSweep m t u from l) is p
 
   pub sweep_object : IsSome (object_at u n)
   sweep_object = rw here.next.is refl
@@ -220,15 +219,20 @@ module _ (m : Marking) (t u : Table) (left : Option ℕ) (n : ℕ) (is : left �
   sweep_marks tops marks o = marks_stay m t u _ p.some tops marks o
 
   pub sweep_next : (m' : Marking) (v : Table) (behind : ℕ) (next : Option ℕ) → m' ≡ m → behind ≡ n + 1 → ClearsStaying m' u v n
-      → IsNextWithWeaks v behind next → IsSweep m t v next
+      → IsNextWithWeaks v behind next → IsSweep m t v from next
   sweep_next m' v behind next e f c w =
-      let now = swept_trans m t u v (λ a. a < n) (λ a. a ≡ n) (λ a. a < behind) here.some
+      let now = swept_trans m t u v (IsBetween from (Some n)) (λ a. a ≡ n) (IsBetween from (Some behind)) here.some
       (swept_object m u v n (subst (λ k. ClearsStaying k u v n) e c))
-      (λ a low. elim (cases_lt a n) [ inl lt ↦ inl lt | inr ge ↦ inr (omega arith) ]) in
-      sweep_on m t v behind next now w
+      (λ a between. elim (cases_lt a n) [
+        | inl lt ↦ inl (between.0, lt)
+        | inr ge ↦ inr (let low : a < behind = between.1 in omega arith)
+      ]) in
+      sweep_on m t v from behind next now w
 
-pub sweep_last : (m : Marking) (t u : Table) (left : Option ℕ) → left ≡ None → IsSweep m t u left → ClearsTable m t u
-sweep_last m t u None e p =
+-- from the first address on to the end, all are done
+pub sweep_last : (m : Marking) (t u : Table) (from : ℕ) (left : Option ℕ) → left ≡ None → IsSweep m t u from left
+    → ClearsSome m t u (λ a. from ≤ a)
+sweep_last m t u from None e p =
     let c = p.some in
     record {
       size = c.size;
@@ -236,11 +240,142 @@ sweep_last m t u None e p =
       kinds = c.kinds;
       tops = c.tops;
       unmoved = c.unmoved;
-      kept = λ a s. c.done_is a tt s;
-      dead = λ a unmarked old. elim (c.each a) [ inl same ↦ same | inr x ↦ absurd (elim x.0 [ inl k ↦ cc | inr n ↦ cc ]) ];
+      each = c.each;
+      done_is = λ a low s. c.done_is a (low, tt) s;
       tiles = c.tiles;
     }
-sweep_last m t u (Some n) e p = cc
+sweep_last m t u from (Some n) e p = cc
+
+-- ---- how many were looked at
+-- an object has weak slots in both tables or in neither
+has_weaks_back : (m : Marking) (t u : Table) (d : ℕ → Type 0) (a : ℕ) → ClearsSome m t u d → HasWeaks u a → HasWeaks t a
+has_weaks_back m t u d a c h = elim (c.each a) [
+  | inl same ↦ record { object = h.object; is = sym same ∙ h.is; some = h.some }
+  | inr x ↦ was (object_at t a) refl (sym x.1 ∙ h.is)
+]
+  where
+    was : (o : Option Stored) → object_at t a ≡ o → cleared_object m (object_at t a) ≡ Some h.object → HasWeaks t a
+    was None e q = absurd (let n = ap (cleared_object m) e in cc)
+    was (Some s) e q =
+        let k : cleared m s ≡ h.object = let n = ap (cleared_object m) e in cc in
+        let some = h.some in
+        let long = ap (λ (z : Stored). length z.weaks) k in
+        let same = length-map s.weaks (cleared_word m) in
+        record { object = s; is = e; some = omega arith }
+
+has_weaks_on : (m : Marking) (t u : Table) (d : ℕ → Type 0) (a : ℕ) → ClearsSome m t u d → HasWeaks t a → HasWeaks u a
+has_weaks_on m t u d a c h = elim (c.each a) [
+  | inl same ↦ record { object = h.object; is = same ∙ h.is; some = h.some }
+  | inr x ↦ record {
+    object = cleared m h.object;
+    is = x.1 ∙ ap (cleared_object m) h.is;
+    some = let some = h.some in let same = length-map h.object.weaks (cleared_word m) in omega arith;
+  }
+]
+
+-- so far
+pub record IsLooking (m : Marking) (t u : Table) (from : ℕ) (left : Option ℕ) (n : ℕ) : Type 0 where
+  pub sweep : IsSweep m t u from left
+  pub looks : LooksAt t from left n
+  pub low : (x : ℕ) → left ≡ Some x → from ≤ x
+
+none_before : (t : Table) (from a : ℕ) (left : Option ℕ) → IsNextWithWeaks t from left → from ≤ a → IsPassed left a → HasWeaks t a → ⊥
+none_before t from a None next low before h = next a low h
+none_before t from a (Some x) next low before h = next.2 a low before h
+
+next_low : (t : Table) (from : ℕ) (left : Option ℕ) (x : ℕ) → IsNextWithWeaks t from left → left ≡ Some x → from ≤ x
+next_low t from None x next e = cc
+next_low t from (Some y) x next e = let low = next.0 in let same : y ≡ x = cc in omega arith
+
+pub looking_first : (m : Marking) (t : Table) (from : ℕ) (left : Option ℕ) → IsNextWithWeaks t from left
+    → IsLooking m t t from left 0
+looking_first m t from left next = record {
+  sweep = sweep_first m t from left next;
+  looks = record {
+    objects = [];
+    count = refl;
+    distinct = λ i j a p q. cc;
+    only = λ i a p. cc;
+    each = λ a between h. absurd (none_before t from a left next between.0 between.1 h);
+  };
+  low = λ x e. next_low t from left x next e;
+}
+
+module _ (m : Marking) (t u : Table) (from : ℕ) (left : Option ℕ) (n x : ℕ) (is : left ≡ Some x) (p : IsLooking m t u from left n) where
+  looks_here : LooksAt t from (Some x) n
+  looks_here = subst (λ l. LooksAt t from l n) is p.looks
+
+  sweep_here : IsSweep m t u from (Some x)
+  sweep_here = subst (λ l. IsSweep m t u from l) is p.sweep
+
+  module _ (m' : Marking) (v : Table) (behind : ℕ) (next : Option ℕ) (e : m' ≡ m) (f : behind ≡ x + 1) (c : ClearsStaying m' u v x)
+      (w : IsNextWithWeaks v behind next) where
+    now : IsSweep m t v from next
+    now = sweep_next m t u from left x is p.sweep m' v behind next e f c w
+
+    further : (a : ℕ) → a < behind → IsPassed next a
+    further a b = go next w
+      where
+        go : (l : Option ℕ) → IsNextWithWeaks v behind l → IsPassed l a
+        go None k = tt
+        go (Some y) k = let q = k.0 in omega arith
+
+    each_looked : (a : ℕ) → IsBetween from next a → HasWeaks t a → (i : ℕ) × (slice_get (looks_here.objects ++ x ∷ []) i ≡ Some a)
+    each_looked a between h = elim (cases_lt a x) [
+      | inl lt ↦
+          let (i, q) = looks_here.each a (between.0, lt) h in
+          (i, get_kept-append looks_here.objects (x ∷ []) a i q)
+      | inr ge ↦ elim (cases_eq a x) [
+        | inl same ↦ (length looks_here.objects, get-push_last looks_here.objects x ∙ ap Some (sym same))
+        | inr ne ↦ absurd (none_before v behind a next w (omega arith) between.1 (has_weaks_on m t v _ a now.some h))
+      ]
+    ]
+
+    only_looked : (i a : ℕ) → slice_get (looks_here.objects ++ x ∷ []) i ≡ Some a → IsBetween from next a × HasWeaks t a
+    only_looked i a q = elim (get-push_cases looks_here.objects x a i q) [
+      | inl before ↦
+          let k = looks_here.only i a before in
+          let b : a < x = k.0.1 in
+          ((k.0.0, further a (omega arith)), k.1)
+      | inr last ↦
+          let same : a ≡ x = last.1 in
+          let low = p.low x is in (
+            (omega arith, further a (omega arith)),
+            subst (HasWeaks t) (sym same) (has_weaks_back m t u _ x sweep_here.some sweep_here.next),
+          )
+    ]
+
+    distinct_looked : (i j a : ℕ) → slice_get (looks_here.objects ++ x ∷ []) i ≡ Some a
+        → slice_get (looks_here.objects ++ x ∷ []) j ≡ Some a
+        → i ≡ j
+    distinct_looked i j a p q = elim (get-push_cases looks_here.objects x a i p) [
+      | inl k ↦ elim (get-push_cases looks_here.objects x a j q) [
+        | inl l ↦ looks_here.distinct i j a k l
+        | inr l ↦ absurd (let b : a < x = (looks_here.only i a k).0.1 in let same : a ≡ x = l.1 in omega arith)
+      ]
+      | inr k ↦ elim (get-push_cases looks_here.objects x a j q) [
+        | inl l ↦ absurd (let b : a < x = (looks_here.only j a l).0.1 in let same : a ≡ x = k.1 in omega arith)
+        | inr l ↦ k.0 ∙ sym l.0
+      ]
+    ]
+
+    pub looking_next : IsLooking m t v from next (n + 1)
+    looking_next = record {
+      sweep = now;
+      looks = record {
+        objects = looks_here.objects ++ x ∷ [];
+        count = let k = looks_here.count in let l = length-push looks_here.objects x in omega arith;
+        distinct = distinct_looked;
+        only = only_looked;
+        each = each_looked;
+      };
+      low = λ y e. let here = p.low x is in let there = next_low v behind next y w e in omega arith;
+    }
+
+-- where no more is left, there is none
+pub looking_over : (m : Marking) (t u : Table) (from : ℕ) (left : Option ℕ) (n : ℕ) → left ≡ None → IsLooking m t u from left n
+    → IsLooking m t u from None n
+looking_over m t u from left n e p = subst (λ l. IsLooking m t u from l n) e p
 
 -- ---- what a tile's shape tells
 shaped : (o : Option Tile) (shape : Shape) (p weak d : ℕ) → IsSome o → IfSome o (λ u. shape ≡ tile_shape u)

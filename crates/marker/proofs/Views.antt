@@ -8,13 +8,17 @@ use Rattle.regions.proofs.Tiles.Laws.{object_tile}
 use Rattle.mark_bitmap.specs.Marks.{is_marked}
 use Rattle.mark_bitmap.specs.Tops.{Tops, below_previous}
 use Rattle.mark_bitmap.specs.Kept.{kept_in}
-use Rattle.marker.specs.Views.{heap_of}
+use Rattle.marker.specs.Views.{heap_of, untaken}
 use Rattle.marker.specs.Stands.{IsKept}
 use Rattle.marker.specs.Steps.{SameRoles}
 use Rattle.marker.specs.declared.marker.Marker.{Marker}
 
 pub same_heap : (t : Table) (roots : List (Option ℕ)) (m m' : Marker) → SameRoles m m' → heap_of t roots m' ≡ heap_of t roots m
 same_heap t roots m m' same = rw (same.tams, same.previous) refl
+
+-- what is still to be taken is told by the roots that wait and by the logs
+pub same_untaken : (m m' : Marker) → m'.waiting ≡ m.waiting → m'.logs ≡ m.logs → untaken m' ≡ untaken m
+same_untaken m m' waiting logs = rw (waiting, logs) refl
 
 was_some : (below marked : Bool) (object : Option Stored) (s : Stored)
     → (if below then (if marked then object else None) else object) ≡ Some s → object ≡ Some s

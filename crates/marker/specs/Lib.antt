@@ -1,8 +1,10 @@
 pub mod Counts
 pub mod Live
+pub mod Waiting
 pub mod Views
 pub mod Stands
 pub mod Steps
+pub mod Looks
 pub mod Roots
 pub mod Clears
 pub mod Ends

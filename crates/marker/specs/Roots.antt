@@ -1,6 +1,17 @@
--- Roots that name marked objects.
-use Rattle.std.specs.Prelude.{◌≡◌, ℕ, ◌<◌, ◌≤◌, Bool, true, List, Option, Some, slice_get}
+-- Roots: what they name, and which of them name marked objects.
+use Rattle.std.specs.Prelude.{◌≡◌, ℕ, ◌<◌, ◌≤◌, Bool, true, List, Option, Some, Contains, slice_get}
 use Rattle.mark_bitmap.specs.Marks.{is_marked}
+
+-- one of the first n words holds the address
+pub record IsInFirst (words : List (Option ℕ)) (n a : ℕ) : Type 0 where
+  pub place : ℕ
+  pub front : place < n
+  pub is : slice_get words place ≡ Some (Some a)
+
+-- the addresses are those that the first n words hold
+pub record AreHeldBy (words : List (Option ℕ)) (n : ℕ) (addresses : List ℕ) : Type 0 where
+  pub each : (a : ℕ) → IsInFirst words n a → Contains addresses a
+  pub only : (a : ℕ) → Contains addresses a → IsInFirst words n a
 
 -- each address that stands in a place from one on is below a number
 abbrev pub AreNamedBelow : List (Option ℕ) → ℕ → ℕ → Type 0

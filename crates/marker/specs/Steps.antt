@@ -1,33 +1,29 @@
 -- What parts of marking do to a marker.
-use Rattle.std.specs.Prelude.{◌≡◌, ◌+◌, ◌<◌, ◌⊎◌, ◌==◌, ◌∷◌, ◌++◌, if◌then◌else◌}
-use Rattle.std.specs.Prelude.{ℕ, Bool, true, false, List, [], Option, Some, None, Contains, length, slice_get, slice_set}
+use Rattle.std.specs.Prelude.{◌≡◌, ◌+◌, ◌⊎◌, ◌==◌, ◌∷◌, ◌++◌, if◌then◌else◌}
+use Rattle.std.specs.Prelude.{ℕ, Bool, true, false, List, [], Option, Some, None, Contains, length, slice_set}
 use Rattle.heap_model.specs.Graph.{Graph}
-use Rattle.heap_model.specs.Heap.{Shows}
+use Rattle.heap_model.specs.Clearing.{WillShow}
 use Rattle.heap_model.specs.Marking.{KeepsSnapshot}
 use Rattle.regions.specs.Table.{Table}
 use Rattle.mark_bitmap.specs.Marks.{is_marked, marked_count}
 use Rattle.mark_bitmap.specs.Tops.{below_next}
 use Rattle.satb_log.specs.Logs.{log_of}
 use Rattle.marker.specs.Counts.{IsMore}
+pub use Rattle.marker.specs.Roots.{IsInFirst}
 use Rattle.marker.specs.Views.{heap_of, marking_of}
 use Rattle.marker.specs.declared.marker.Marker.{Marker}
 
 -- whatever the snapshot, the graph that the heap shows and its roots: where the snapshot invariant held, it holds
 abbrev pub KeepsSnapshots : Table → Marker → Marker → Type 0
-KeepsSnapshots t m m' = (s g : Graph) (roots : List (Option ℕ)) → Shows g (heap_of t roots m)
+KeepsSnapshots t m m' = (s g : Graph) (roots : List (Option ℕ)) → WillShow g (heap_of t roots m)
     → KeepsSnapshot s (heap_of t roots m) (marking_of t m) → KeepsSnapshot s (heap_of t roots m') (marking_of t m')
 
--- what is kept, all tops and whether marking runs stay
+-- what is kept, all tops, whether marking runs and the room for roots that wait stay
 pub record SameRoles (m m' : Marker) : Type 0 where
   pub previous : m'.bitmaps.previous ≡ m.bitmaps.previous
   pub tams : m'.tams ≡ m.tams
   pub running : m'.running ≡ m.running
-
--- one of the first n words holds the address
-pub record IsInFirst (words : List (Option ℕ)) (n a : ℕ) : Type 0 where
-  pub place : ℕ
-  pub front : place < n
-  pub is : slice_get words place ≡ Some (Some a)
+  pub room : m'.waiting.room ≡ m.waiting.room
 
 -- of the wanted addresses those below the next tops are marked, and no mark came beside them or went
 pub record MarksWanted (t : Table) (wanted : ℕ → Type 0) (m m' : Marker) : Type 0 where
@@ -59,6 +55,7 @@ pub record HasTakenLog (t : Table) (mutator : ℕ) (m m' : Marker) : Type 0 wher
   pub same : SameRoles m m'
   pub scanned : m'.grey.scanned ≡ m.grey.scanned
   pub scans : m'.scans ≡ m.scans
+  pub waiting : m'.waiting ≡ m.waiting
 
 -- where the log is full
 abbrev pub TakesFull : Bool → Table → ℕ → Marker → Marker → Type 0

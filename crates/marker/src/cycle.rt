@@ -1,24 +1,25 @@
 //! The beginning of marking, deletion logs, and its end.
 
 ghost use Rattle.std.specs.Prelude.{◌≡◌, ◌≢◌, ◌<◌, ◌≤◌, ◌==◌, if◌then◌else◌, ◌*◌, ◌↔◌};
-ghost use Rattle.std.specs.Prelude.{ℕ, [], true, false, Some, IsTrue, Contains, length, slice_index, slice_set};
+ghost use Rattle.std.specs.Prelude.{ℕ, [], true, false, Some, IsTrue, Contains, length, slice_get, slice_index, slice_set};
 ghost use Rattle.heap_model.specs.Graph.{Graph};
-ghost use Rattle.heap_model.specs.Heap.{Shows, IsClosed};
+ghost use Rattle.heap_model.specs.Clearing.{WillShow, CanBeFollowed};
 ghost use Rattle.heap_model.specs.Marking.{KeepsSnapshot, Begins, IsSaved};
 ghost use Rattle.regions.specs.Table.{top_of};
 ghost use Rattle.mark_bitmap.specs.Marks.{is_between, is_marked, marked_count};
 ghost use Rattle.mark_bitmap.specs.Tops.{exchanged, is_in_region, with_bottom};
 ghost use Rattle.satb_log.specs.Logs.{log_of};
-ghost use Rattle.marker.specs.Views.{heap_of, marking_of, with_roles_exchanged};
+ghost use Rattle.marker.specs.Views.{heap_of, is_by_address, marking_of};
 ghost use Rattle.marker.specs.Stands.{MarkerStands, IsKept};
-ghost use Rattle.marker.specs.Clears.{ClearsTable};
 ghost use Rattle.marker.specs.Ends.{EndsExactly};
 ghost use Rattle.marker.specs.Steps.{KeepsSnapshots, SameRoles, MarksWanted, ScansMore, saved};
-ghost use Rattle.marker.specs.Roots.{AreNamedBelow, NamesMarked, IsFirstUnmarked};
+ghost use Rattle.marker.specs.Roots.{AreNamedBelow, IsInFirst, NamesMarked, IsFirstUnmarked};
+ghost use Rattle.marker.specs.Looks.{BeginsBy};
 ghost use Rattle.marker.specs.Counts.{restarted};
 
-use crate::marker::Marker;
+use crate::marker::{Marker, is_by_address};
 use heap_words::addr::{Addr, Ptr, RegionNo};
+use heap_words::config::Format;
 use mark_bitmap::marks::Marks;
 use mark_bitmap::tams::Tams;
 use regions::RegionTable;
@@ -83,7 +84,7 @@ impl Marker {
     fn start(&mut self, table: &RegionTable)
         requires stands { MarkerStands table.now self.old }
         requires idle { self.old.running ≡ false }
-        requires closed { IsClosed (heap_of table.now [] self.old) }
+        requires closed { CanBeFollowed (heap_of table.now [] self.old) }
         ensures stands { MarkerStands table.now self.new }
         ensures running { self.new.running ≡ true }
         ensures unmarked { (a : ℕ) → is_marked self.new.bitmaps.next a ≡ false }
@@ -93,6 +94,7 @@ impl Marker {
         ensures previous_marks { self.new.bitmaps.previous ≡ self.old.bitmaps.previous }
         ensures logs { self.new.logs ≡ self.old.logs }
         ensures scans { self.new.scans ≡ restarted self.old.scans }
+        ensures waiting { self.new.waiting ≡ self.old.waiting }
     {
         self.bitmaps.next.clear();
         self.grey.clear();
@@ -102,24 +104,20 @@ impl Marker {
         self.running = true;
     }
 
-    /// Marking begins: what is there is old, and each object that a root names is marked and grey.
-    pub fn begin(&mut self, table: &RegionTable, roots: &Roots)
+    /// Marks what the roots name. What is marked costs one look at a bit.
+    fn reach_roots(&mut self, table: &RegionTable, roots: &Roots)
         requires stands { MarkerStands table.now self.old }
-        requires idle { self.old.running ≡ false }
-        requires closed { IsClosed (heap_of table.now roots.now.words self.old) }
+        requires running { self.old.running ≡ true }
+        requires kept { (place a : ℕ) → slice_get roots.now.words place ≡ Some (Some a) → IsKept table.now self.old a }
         ensures stands { MarkerStands table.now self.new }
-        ensures running { self.new.running ≡ true }
-        ensures begins { Begins (heap_of table.now roots.now.words self.new) (marking_of table.now self.new) }
-        ensures snapshot { (g : Graph) → Shows g (heap_of table.now roots.now.words self.old)
-            → KeepsSnapshot g (heap_of table.now roots.now.words self.new) (marking_of table.now self.new) }
-        ensures tops { (k : ℕ) → k < length table.now.regions → slice_index self.new.tams.next k ≡ top_of table.now k }
-        ensures previous_tops { self.new.tams.previous ≡ self.old.tams.previous }
-        ensures previous_marks { self.new.bitmaps.previous ≡ self.old.bitmaps.previous }
+        ensures marks { MarksWanted table.now (IsInFirst roots.now.words (length roots.now.words)) self.old self.new }
+        ensures same { SameRoles self.old self.new }
+        ensures scanned { self.new.grey.scanned ≡ self.old.grey.scanned }
+        ensures scans { self.new.scans ≡ self.old.scans }
         ensures logs { self.new.logs ≡ self.old.logs }
-        ensures scans { self.new.scans ≡ restarted self.old.scans }
+        ensures waiting { self.new.waiting ≡ self.old.waiting }
     {
         table.law();
-        self.start(table);
         let mut from = 0;
         while let Some(place) = roots.next_named(from) {
             if !names_marked(&self.bitmaps.next, roots, place) {
@@ -129,6 +127,35 @@ impl Marker {
             }
             from = past_marked(&self.bitmaps.next, roots, place);
         }
+    }
+
+    /// Marking begins: what is there is old, and each object that a root names is marked and grey in the first two formats, and waits in
+    /// the third.
+    pub fn begin(&mut self, table: &RegionTable, roots: &Roots, format: Format)
+        requires stands { MarkerStands table.now self.old }
+        requires idle { self.old.running ≡ false }
+        requires closed { CanBeFollowed (heap_of table.now roots.now.words self.old) }
+        requires room { is_by_address format ≡ false → length roots.now.words ≤ self.old.waiting.room }
+        ensures stands { MarkerStands table.now self.new }
+        ensures running { self.new.running ≡ true }
+        ensures begins { Begins (heap_of table.now roots.now.words self.new) (marking_of table.now self.new) }
+        ensures roots { BeginsBy (is_by_address format) self.new }
+        ensures snapshot { (g : Graph) → WillShow g (heap_of table.now roots.now.words self.old)
+            → KeepsSnapshot g (heap_of table.now roots.now.words self.new) (marking_of table.now self.new) }
+        ensures tops { (k : ℕ) → k < length table.now.regions → slice_index self.new.tams.next k ≡ top_of table.now k }
+        ensures previous_tops { self.new.tams.previous ≡ self.old.tams.previous }
+        ensures previous_marks { self.new.bitmaps.previous ≡ self.old.bitmaps.previous }
+        ensures logs { self.new.logs ≡ self.old.logs }
+        ensures scans { self.new.scans ≡ restarted self.old.scans }
+        ensures room { self.new.waiting.room ≡ self.old.waiting.room }
+    {
+        table.law();
+        self.start(table);
+        if is_by_address(format) {
+            self.reach_roots(table, roots);
+            return;
+        }
+        self.waiting.copy(roots);
     }
 
     /// Marks what a log names. What is marked costs one look at a bit.
@@ -142,6 +169,7 @@ impl Marker {
         ensures scanned { self.new.grey.scanned ≡ self.old.grey.scanned }
         ensures scans { self.new.scans ≡ self.old.scans }
         ensures logs { self.new.logs ≡ self.old.logs }
+        ensures waiting { self.new.waiting ≡ self.old.waiting }
     {
         table.law();
         for place in 0..log.len() {
@@ -171,6 +199,7 @@ impl Marker {
         ensures same { SameRoles self.old self.new }
         ensures scans { self.new.scans ≡ self.old.scans }
         ensures mutators { length self.new.logs ≡ length self.old.logs }
+        ensures waiting { self.new.waiting ≡ self.old.waiting }
     {
         let Some(at) = overwritten else {
             return false;
@@ -195,6 +224,7 @@ impl Marker {
         ensures scanned { self.new.grey.scanned ≡ self.old.grey.scanned }
         ensures scans { self.new.scans ≡ self.old.scans }
         ensures same { SameRoles self.old self.new }
+        ensures waiting { self.new.waiting ≡ self.old.waiting }
     {
         let log = self.logs.drain(mutator);
         self.reach_all(table, &log);
@@ -211,6 +241,7 @@ impl Marker {
         ensures len { length self.new.logs ≡ length self.old.logs }
         ensures scans { self.new.scans ≡ self.old.scans }
         ensures same { SameRoles self.old self.new }
+        ensures waiting { self.new.waiting ≡ self.old.waiting }
     {
         for mutator in 0..self.logs.mutators() {
             if self.logs.len(mutator) == 0 {
@@ -220,15 +251,14 @@ impl Marker {
         }
     }
 
-    /// Marking ends: all logs are taken, all grey objects scanned, the weak slots of what is kept are cleared, and the next
-    /// marks and tops become the previous ones. The result is how many objects are marked, and as many were scanned.
-    pub fn finish(&mut self, table: &mut RegionTable) -> u32
-        requires stands { MarkerStands table.old self.old }
+    /// Marking ends: all logs and all roots that wait are taken, all grey objects scanned, and the next marks and tops become the previous
+    /// ones. No weak slot is cleared yet. The result is how many objects are marked, and as many were scanned.
+    pub fn finish(&mut self, table: &RegionTable) -> u32
+        requires stands { MarkerStands table.now self.old }
         requires running { self.old.running ≡ true }
-        ensures stands { MarkerStands table.new self.new }
+        ensures stands { MarkerStands table.now self.new }
         ensures over { self.new.running ≡ false }
-        ensures exact { EndsExactly table.old table.new self.old self.new result }
-        ensures cleared { ClearsTable (marking_of table.old (with_roles_exchanged self.new)) table.old table.new }
+        ensures exact { EndsExactly table.now self.old self.new result }
         ensures count { result ≡ marked_count self.new.bitmaps.previous }
         ensures scans { self.new.scans.since ≡ result }
         ensures scanned { (a : ℕ) → is_marked self.old.grey.scanned a ≡ true → is_marked self.new.grey.scanned a ≡ true }
@@ -237,11 +267,12 @@ impl Marker {
         ensures tops { self.new.tams ≡ exchanged self.old.tams }
         ensures marks { self.new.bitmaps.next ≡ self.old.bitmaps.previous }
         ensures mutators { length self.new.logs ≡ length self.old.logs }
+        ensures room { self.new.waiting.room ≡ self.old.waiting.room }
     {
         table.law();
         self.take_logs(table);
-        self.mark(table, u32::MAX);
-        self.clear_weaks(table);
+        self.take_all_roots(table);
+        self.scan_objects(table, u32::MAX);
         let count = self.scans.since();
         self.bitmaps.swap_roles();
         self.tams.swap_roles();
@@ -266,6 +297,7 @@ impl Marker {
         ensures running { self.new.running ≡ false }
         ensures grey { self.new.grey ≡ self.old.grey }
         ensures scans { self.new.scans ≡ self.old.scans }
+        ensures waiting { self.new.waiting ≡ self.old.waiting }
     {
         table.law();
         let words = table.words_per_region();

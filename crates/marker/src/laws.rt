@@ -3,7 +3,8 @@
 
 ghost use Rattle.std.specs.Prelude.{◌≡◌, ℕ, ◌*◌, ◌<◌, ◌≤◌, true, false, List, Option, Some, length, slice_index};
 ghost use Rattle.heap_model.specs.Graph.{Graph};
-ghost use Rattle.heap_model.specs.Heap.{Stored, Shows};
+ghost use Rattle.heap_model.specs.Clearing.{WillShow};
+ghost use Rattle.heap_model.specs.Heap.{Stored};
 ghost use Rattle.heap_model.specs.Marking.{KeepsSnapshot};
 ghost use Rattle.regions.specs.Table.{Table, kind_of, object_at, object_words, top_of, released};
 ghost use Rattle.regions.specs.Shaped.{IsShaped};
@@ -18,7 +19,7 @@ ghost use Rattle.marker.specs.declared.marker.Marker.{Marker};
 /// carries these two need not carry the third.
 pub fn follow_law()
     ensures { (s g : Graph) (t : Table) (roots : List (Option ℕ)) (m : Marker)
-        → Shows g (heap_of t roots m) → KeepsSnapshot s (heap_of t roots m) (marking_of t m) → CanFollow t m }
+        → WillShow g (heap_of t roots m) → KeepsSnapshot s (heap_of t roots m) (marking_of t m) → CanFollow t m }
 {}
 
 /// The table changes beneath the marker: no top falls below one at mark start, and where an object was there still is

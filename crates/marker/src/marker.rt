@@ -5,14 +5,16 @@ ghost use Rattle.heap_words.specs.Configs.{Suits};
 ghost use Rattle.regions.specs.Table.{Table};
 ghost use Rattle.mark_bitmap.specs.Tops.{below_previous};
 ghost use Rattle.marker.specs.Stands.{MarkerStands};
-ghost use Rattle.marker.specs.Views.{fresh_marker, is_by_address};
+ghost use Rattle.marker.specs.Views.{fresh_marker, is_by_address, waiting_room};
 
 use crate::counts::ScanCount;
 use crate::live::LiveWords;
+use crate::waiting::WaitingRoots;
 use heap_words::config::{Config, Format};
 use mark_bitmap::bitmaps::Bitmaps;
 use mark_bitmap::grey::Grey;
 use mark_bitmap::tams::Tams;
+use root_table::RootCounts;
 use satb_log::logs::DeletionLogs;
 use std::alloc::{AllocError, Global};
 
@@ -32,6 +34,8 @@ pub struct Marker {
     pub scans: ScanCount,
     /// How many words of each region are marked.
     pub live: LiveWords,
+    /// The roots that marking has still to take. None waits while marking doesn't run.
+    pub waiting: WaitingRoots,
 }
 
 /// Where it is dropped there is one call, and not a drop for each of its parts.
@@ -45,18 +49,29 @@ impl Drop for Marker {
             running: _,
             scans: _,
             live: _,
+            waiting: _,
         } = self;
     }
 }
 
 /// Whether grey objects are scanned by rising address. Else the one that was found last comes next, which a processor fetches sooner.
-fn is_by_address(format: Format) -> bool
+pub(crate) fn is_by_address(format: Format) -> bool
     ensures { result ≡ is_by_address format }
 {
     match format {
         Format::V1 | Format::V2 { .. } => true,
         Format::V3 { .. } => false,
     }
+}
+
+/// For how many roots there is room to wait: for all, or for none where they are marked at once.
+fn waiting_room(config: &Config) -> usize
+    ensures { result ≡ waiting_room config.now }
+{
+    if is_by_address(config.format) {
+        return 0;
+    }
+    RootCounts::of(config).count()
 }
 
 impl Marker {
@@ -72,6 +87,7 @@ impl Marker {
             → below_previous t marker.tams a ≡ false) }
         ensures idle { IfOk result (λ marker. marker.running ≡ false) }
         ensures logs { IfOk result (λ marker. marker.logs ≡ replicate config.now.mutators []) }
+        ensures room { IfOk result (λ marker. marker.waiting.room ≡ waiting_room config.now) }
     {
         let count = config.regions * config.words;
         Ok(Marker {
@@ -82,6 +98,7 @@ impl Marker {
             running: false,
             scans: ScanCount::new(),
             live: LiveWords::new(alloc, config.regions)?,
+            waiting: WaitingRoots::new(alloc, waiting_room(config))?,
         })
     }
 

@@ -4,18 +4,27 @@
 //!   grey     marked, and not scanned: its targets are still to be marked
 //!   scanned  marked, and so are its old targets as they were at the scan
 //! ```
+//!
+//! ```text
+//!   mark 6, in the third format      roots that wait        a grey object, 2 pointers     a grey object, 3 pointers
+//!   counted                          1       2              5                             9: no object more is scanned
+//! ```
 
-ghost use Rattle.std.specs.Prelude.{◌≡◌, ℕ, ◌+◌, ◌<◌, ◌≤◌, true, false, Some, length, slice_set};
+ghost use Rattle.std.specs.Prelude.{◌≡◌, ℕ, ◌+◌, ◌^◌, ◌<◌, ◌≤◌, [], true, false, Some, length, slice_set};
 ghost use Rattle.regions.specs.Table.{pointers_at};
 ghost use Rattle.mark_bitmap.specs.Marks.{is_marked, marked_count, HasNone};
 ghost use Rattle.mark_bitmap.specs.Tops.{below_next};
 ghost use Rattle.mark_bitmap.specs.Grey.{is_grey};
 ghost use Rattle.marker.specs.Stands.{MarkerStands, IsKept};
-ghost use Rattle.marker.specs.Steps.{KeepsSnapshots, SameRoles, IsInFirst, MarksWanted, Grows};
+ghost use Rattle.marker.specs.Views.{is_by_address};
+ghost use Rattle.marker.specs.Roots.{IsInFirst};
+ghost use Rattle.marker.specs.Steps.{KeepsSnapshots, SameRoles, MarksWanted, Grows, ScansMore};
+ghost use Rattle.marker.specs.Looks.{IsNearly, MarksUpTo, words_scanned};
 ghost use Rattle.marker.specs.Counts.{added, IsMore};
 
-use crate::marker::Marker;
+use crate::marker::{Marker, is_by_address};
 use heap_words::addr::{Addr, Ptr};
+use heap_words::config::Format;
 use regions::RegionTable;
 
 impl Marker {
@@ -31,6 +40,7 @@ impl Marker {
         ensures scanned { self.new.grey.scanned ≡ self.old.grey.scanned }
         ensures scans { self.new.scans ≡ self.old.scans }
         ensures logs { self.new.logs ≡ self.old.logs }
+        ensures waiting { self.new.waiting ≡ self.old.waiting }
     {
         let Some(at) = target else {
             return;
@@ -54,6 +64,7 @@ impl Marker {
         ensures scanned { self.new.grey.scanned ≡ self.old.grey.scanned }
         ensures scans { self.new.scans ≡ self.old.scans }
         ensures logs { self.new.logs ≡ self.old.logs }
+        ensures waiting { self.new.waiting ≡ self.old.waiting }
     {
         table.law();
         if !self.bitmaps.next.insert(at) {
@@ -77,27 +88,31 @@ impl Marker {
         ensures counted { self.new.scans ≡ added self.old.scans }
         ensures same { SameRoles self.old self.new }
         ensures logs { self.new.logs ≡ self.old.logs }
+        ensures waiting { self.new.waiting ≡ self.old.waiting }
     {
         table.law();
         self.grey.remove(&self.bitmaps.next, object);
         self.scans.add();
     }
 
-    /// Scans the grey object that is held: each of its targets that was there when marking began is marked.
+    /// Scans the grey object that is held: each of its targets that was there when marking began is marked. Answers how many pointers the
+    /// object has.
     #[inline(always)]
-    fn scan(&mut self, table: &RegionTable, object: Addr)
+    fn scan(&mut self, table: &RegionTable, object: Addr) -> u32
         requires stands { MarkerStands table.now self.old }
         requires running { self.old.running ≡ true }
         requires grey { is_grey self.old.bitmaps.next self.old.grey object ≡ true }
         requires held { self.old.grey.held ≡ Some object }
         ensures stands { MarkerStands table.now self.new }
         ensures snapshots { KeepsSnapshots table.now self.old self.new }
+        ensures count { result ≡ length (pointers_at table.now object) }
         ensures marks { MarksWanted table.now (IsInFirst (pointers_at table.now object) (length (pointers_at table.now object))) self.old
             self.new }
         ensures scanned { self.new.grey.scanned ≡ slice_set self.old.grey.scanned object true }
         ensures counted { self.new.scans ≡ added self.old.scans }
         ensures same { SameRoles self.old self.new }
         ensures logs { self.new.logs ≡ self.old.logs }
+        ensures waiting { self.new.waiting ≡ self.old.waiting }
     {
         let count = table.pointer_count(object);
         // It isn't grey any more before its targets are, so that down a list one object is grey at a time.
@@ -106,15 +121,16 @@ impl Marker {
             let target = table.get_ptr(object, field);
             self.reach(table, target);
         }
+        count
     }
 
-    /// Scans up to `units` grey objects, and says how many: fewer only if none is left. Which ones, no clause says: in the first two
+    /// Scans up to `most` grey objects, and says how many: fewer only if none is left. Which ones, no clause says: in the first two
     /// formats the lowest first, in the third the one that was found last.
-    pub fn mark(&mut self, table: &RegionTable, units: u32) -> u32
+    pub(crate) fn scan_objects(&mut self, table: &RegionTable, most: u32) -> u32
         requires stands { MarkerStands table.now self.old }
         requires running { self.old.running ≡ true }
-        ensures most { result ≤ units }
-        ensures none_left { result < units → HasNone (is_grey self.new.bitmaps.next self.new.grey) 0 }
+        ensures most { result ≤ most }
+        ensures none_left { result < most → HasNone (is_grey self.new.bitmaps.next self.new.grey) 0 }
         ensures count { marked_count self.new.grey.scanned ≡ marked_count self.old.grey.scanned + result }
         ensures scans { IsMore self.old.scans self.new.scans result }
         ensures grows { Grows self.old self.new }
@@ -122,13 +138,104 @@ impl Marker {
         ensures snapshots { KeepsSnapshots table.now self.old self.new }
         ensures same { SameRoles self.old self.new }
         ensures logs { self.new.logs ≡ self.old.logs }
+        ensures waiting { self.new.waiting ≡ self.old.waiting }
     {
-        for done in 0..units {
+        for done in 0..most {
             let Some(object) = self.grey.any(&self.bitmaps.next) else {
                 return done;
             };
             self.scan(table, object);
         }
-        units
+        most
+    }
+
+    /// Scans grey objects until `most` words are looked at, those of the last object all, and says how many: fewer only if none is left.
+    fn scan_words(&mut self, table: &RegionTable, most: u32) -> u64
+        requires stands { MarkerStands table.now self.old }
+        requires running { self.old.running ≡ true }
+        ensures most { IsNearly table.now most result self.old self.new }
+        ensures none_left { result < most → HasNone (is_grey self.new.bitmaps.next self.new.grey) 0 }
+        ensures count { words_scanned table.now self.new ≡ words_scanned table.now self.old + result }
+        ensures fits { result < 2 ^ 33 }
+        ensures work { ScansMore self.old self.new }
+        ensures grows { Grows self.old self.new }
+        ensures stands { MarkerStands table.now self.new }
+        ensures snapshots { KeepsSnapshots table.now self.old self.new }
+        ensures same { SameRoles self.old self.new }
+        ensures logs { self.new.logs ≡ self.old.logs }
+        ensures waiting { self.new.waiting ≡ self.old.waiting }
+    {
+        let mut done: u64 = 0;
+        'objects: while done < u64::from(most) {
+            let Some(object) = self.grey.any(&self.bitmaps.next) else {
+                return done;
+            };
+            done += 1 + u64::from(self.scan(table, object));
+        }
+        done
+    }
+
+    /// Takes up to `most` of the roots that wait, the last ones first, and says how many: fewer only if none is left. What they name is
+    /// marked.
+    fn take_roots(&mut self, table: &RegionTable, most: usize) -> usize
+        requires stands { MarkerStands table.now self.old }
+        requires running { self.old.running ≡ true }
+        ensures most { result ≤ most }
+        ensures none_left { result < most → self.new.waiting.addresses ≡ [] }
+        ensures count { length self.old.waiting.addresses ≡ length self.new.waiting.addresses + result }
+        ensures marked { (a : ℕ) → is_marked self.old.bitmaps.next a ≡ true → is_marked self.new.bitmaps.next a ≡ true }
+        ensures scanned { self.new.grey.scanned ≡ self.old.grey.scanned }
+        ensures scans { self.new.scans ≡ self.old.scans }
+        ensures stands { MarkerStands table.now self.new }
+        ensures snapshots { KeepsSnapshots table.now self.old self.new }
+        ensures same { SameRoles self.old self.new }
+        ensures logs { self.new.logs ≡ self.old.logs }
+    {
+        for taken in 0..most {
+            let Some(at) = self.waiting.pop() else {
+                return taken;
+            };
+            self.reach_old(table, at);
+        }
+        most
+    }
+
+    /// Takes all roots that wait.
+    pub(crate) fn take_all_roots(&mut self, table: &RegionTable)
+        requires stands { MarkerStands table.now self.old }
+        requires running { self.old.running ≡ true }
+        ensures none_left { self.new.waiting.addresses ≡ [] }
+        ensures marked { (a : ℕ) → is_marked self.old.bitmaps.next a ≡ true → is_marked self.new.bitmaps.next a ≡ true }
+        ensures scanned { self.new.grey.scanned ≡ self.old.grey.scanned }
+        ensures scans { self.new.scans ≡ self.old.scans }
+        ensures stands { MarkerStands table.now self.new }
+        ensures snapshots { KeepsSnapshots table.now self.old self.new }
+        ensures same { SameRoles self.old self.new }
+        ensures logs { self.new.logs ≡ self.old.logs }
+    {
+        let all = self.waiting.len();
+        self.take_roots(table, all);
+    }
+
+    /// Goes on with marking for up to `units` units, and says how many were counted: fewer only if nothing is left to be marked. In the
+    /// first two formats a unit is an object that is scanned. In the third it is a word that is looked at: a root that waits, which come
+    /// first, an object that is scanned, or one of its pointers. There the last object may go over by its own pointers.
+    pub fn mark(&mut self, table: &RegionTable, format: Format, units: u32) -> u64
+        requires stands { MarkerStands table.now self.old }
+        requires running { self.old.running ≡ true }
+        ensures counted { MarksUpTo (is_by_address format) table.now units result self.old self.new }
+        ensures work { ScansMore self.old self.new }
+        ensures grows { Grows self.old self.new }
+        ensures stands { MarkerStands table.now self.new }
+        ensures snapshots { KeepsSnapshots table.now self.old self.new }
+        ensures same { SameRoles self.old self.new }
+        ensures logs { self.new.logs ≡ self.old.logs }
+    {
+        if is_by_address(format) {
+            self.take_all_roots(table);
+            return u64::from(self.scan_objects(table, units));
+        }
+        let roots = self.take_roots(table, units as usize);
+        roots as u64 + self.scan_words(table, units - roots as u32)
     }
 }

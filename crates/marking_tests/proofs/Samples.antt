@@ -5,9 +5,9 @@ use Rattle.regions.proofs.Common.{length-set, slice_get, cases_eq, length-replic
 use Rattle.regions.proofs.Common.{get_or_from_slice_get, Stored, fields, with_field, Object, Filler, Region, Free, Table, region_tile}
 use Rattle.regions.proofs.Common.{region_at, tile_in, tile_object, object_at, stored_size, object_words, free_table, taken, first_free}
 use Rattle.regions.proofs.Common.{set_field, push_tile, replace_tile, new_object, remainder, used_of, top_of, kind_of, HasObject, IsShaped}
-use Rattle.heap_model.specs.Heap.{IsClosed}
+use Rattle.heap_model.specs.Clearing.{CanBeFollowed}
 use Rattle.heap_model.proofs.Fields.{field_set}
-use Rattle.heap_model.proofs.Lists.{get-set_cases}
+use Rattle.heap_model.proofs.Lists.{get-set_cases, get_kept-append}
 use Rattle.regions.proofs.Tiles.Changes.{WritesObject, field_put, field_size, object_same}
 use Rattle.regions.proofs.Tiles.Placing.{region_taken}
 use Rattle.mark_bitmap.specs.Tops.{is_below, below_previous}
@@ -139,12 +139,13 @@ set_leads t words k a l h i b e =
 
 -- a marker just made keeps every object
 pub linked_closed : (t : Table) (roots : List (Option ℕ)) (m : Marker) → IsLinked t → LeadToObjects t roots
-    → ((a : ℕ) → below_previous t m.tams a ≡ false) → IsClosed (heap_of t roots m)
+    → ((a : ℕ) → below_previous t m.tams a ≡ false) → CanBeFollowed (heap_of t roots m)
 linked_closed t roots m linked leads none =
     let kept : (a : ℕ) → (heap_of t roots m).kept a ≡ object_at t a = λ a. rw (none a) refl in
     record {
       root = λ j a e. let h = leads j a e in (h.object, kept a ∙ h.is);
-      field = λ b i a y e f. let h = linked b i a y (sym (kept b) ∙ e) f in (h.object, kept a ∙ h.is);
+      pointer = λ b i a y e f.
+          let h = linked b i a y (sym (kept b) ∙ e) (get_kept-append y.pointers y.weaks (Some a) i f) in (h.object, kept a ∙ h.is);
     }
 
 -- an object with nil fields is made where a filler was pushed

@@ -1,11 +1,12 @@
 //! Marking over tables made by hand.
 
-ghost use Rattle.std.specs.Prelude.{◌≡◌, ◌<◌, ℕ, true, false, [], Some, length, slice_get, IfOk, IfSome};
+ghost use Rattle.std.specs.Prelude.{◌≡◌, ◌<◌, ◌≤◌, ℕ, true, false, [], Some, length, slice_get, IfOk, IfSome};
 ghost use Rattle.heap_words.specs.Configs.{Suits};
 ghost use Rattle.regions.specs.Table.{HasObject};
 ghost use Rattle.mark_bitmap.specs.Tops.{below_previous};
 ghost use Rattle.satb_log.specs.Logs.{logged};
 ghost use Rattle.marker.specs.Stands.{MarkerStands, IsKept};
+ghost use Rattle.marker.specs.Views.{waiting_room};
 ghost use Rattle.marking_tests.specs.Samples.{IsLinked, LeadToObjects, KeepsTable};
 
 use heap_words::addr::{Addr, Ptr, RegionNo};
@@ -102,6 +103,27 @@ fn sizes() -> Config
     }
 }
 
+/// The same in the third format, with 32 globals.
+fn third_sizes() -> Config
+    ensures suits { Suits result }
+    ensures regions { result.regions ≡ 4 }
+    ensures words { result.words ≡ 16 }
+    ensures room { 32 ≤ waiting_room result }
+{
+    Config {
+        format: Format::V3 {
+            card: 16,
+            globals: 32,
+            registers: 1,
+        },
+        regions: 4,
+        words: 16,
+        buffer: 8,
+        mutators: 2,
+        first_name: 0,
+    }
+}
+
 /// Stores an object's address in a field of another one, both by their place in the list, if all are there.
 fn link_listed(table: &mut RegionTable, objects: &[Addr], from: usize, field: u32, to: usize)
     requires objects { (i a : ℕ) → slice_get objects.now i ≡ Some a → HasObject table.old a }
@@ -166,11 +188,30 @@ fn begun(alloc: Global, table: &RegionTable, roots: &Roots) -> Result<Marker, Fa
     ensures stands { IfOk result (MarkerStands table.now) }
     ensures running { IfOk result (λ marker. marker.running ≡ true) }
     ensures unlogged { IfOk result (λ marker. logged marker.logs ≡ []) }
+    ensures none_wait { IfOk result (λ marker. marker.waiting.addresses ≡ []) }
     ensures kept { IfOk result (λ marker. (a : ℕ) → HasObject table.now a → IsKept table.now marker a) }
     ensures all_kept { IfOk result (λ marker. (a : ℕ) → below_previous table.now marker.tams a ≡ false) }
 {
     let mut marker = Marker::new(alloc, &sizes())?;
-    marker.begin(table, roots);
+    marker.begin(table, roots, Format::V1);
+    Ok(marker)
+}
+
+/// The same in the third format, where the roots wait.
+fn begun_third(alloc: Global, table: &RegionTable, roots: &Roots) -> Result<Marker, Fail>
+    requires count { length table.now.regions ≡ 4 }
+    requires words { table.now.words_per_region ≡ 16 }
+    requires linked { IsLinked table.now }
+    requires roots { LeadToObjects table.now roots.now.words }
+    ensures stands { IfOk result (MarkerStands table.now) }
+    ensures running { IfOk result (λ marker. marker.running ≡ true) }
+{
+    if roots.len() > 32 {
+        return Err(Fail::from("there are 32 roots"));
+    }
+    let config = third_sizes();
+    let mut marker = Marker::new(alloc, &config)?;
+    marker.begin(table, roots, config.format);
     Ok(marker)
 }
 
@@ -199,34 +240,111 @@ fn count_from(
     links: &[(usize, u32, usize)],
     held: &[(u32, usize)],
 ) -> Result<u32, Fail> {
-    let mut made = build(alloc, shapes, links)?;
+    let made = build(alloc, shapes, links)?;
     let roots = roots_of(alloc, &made, held)?;
     let mut marker = begun(alloc, &made.table, &roots)?;
-    Ok(marker.finish(&mut made.table))
+    Ok(marker.finish(&made.table))
 }
 
 /// Two objects that name each other, the first in a register: two scans, and no third.
 #[test]
 fn marks_a_ring(rt: HostRuntime) -> Result<(), Fail> {
-    let mut made = build(rt.alloc(), &[(1, 0), (1, 0)], &[(0, 0, 1), (1, 0, 0)])?;
+    let made = build(rt.alloc(), &[(1, 0), (1, 0)], &[(0, 0, 1), (1, 0, 0)])?;
     let roots = roots_of(rt.alloc(), &made, &[(16, 0)])?;
     let mut marker = begun(rt.alloc(), &made.table, &roots)?;
-    assert_eq!(rt; (marker.mark(&made.table, 0), marker.scans()), (0, 0));
-    assert_eq!(rt; (marker.mark(&made.table, 1), marker.scans()), (1, 1));
-    assert_eq!(rt; (marker.mark(&made.table, 9), marker.scans()), (1, 2));
-    assert_eq!(rt; (marker.mark(&made.table, 9), marker.scans()), (0, 2));
-    assert_eq!(rt; (marker.finish(&mut made.table), marker.scans()), (2, 2));
+    assert_eq!(rt;
+        (marker.mark(&made.table, Format::V1, 0), marker.scans()),
+        (0, 0)
+    );
+    assert_eq!(rt;
+        (marker.mark(&made.table, Format::V1, 1), marker.scans()),
+        (1, 1)
+    );
+    assert_eq!(rt;
+        (marker.mark(&made.table, Format::V1, 9), marker.scans()),
+        (1, 2)
+    );
+    assert_eq!(rt;
+        (marker.mark(&made.table, Format::V1, 9), marker.scans()),
+        (0, 2)
+    );
+    assert_eq!(rt; (marker.finish(&made.table), marker.scans()), (2, 2));
+    Ok(())
+}
+
+/// Goes on with marking in the third format, and answers how many words were looked at.
+fn mark_third(marker: &mut Marker, table: &RegionTable, words: u32) -> u64
+    requires stands { MarkerStands table.now marker.old }
+    requires running { marker.old.running ≡ true }
+    ensures stands { MarkerStands table.now marker.new }
+    ensures running { marker.new.running ≡ true }
+{
+    marker.mark(table, third_sizes().format, words)
+}
+
+/// In the third format two roots that name one object wait, and each is a word; then the object of two pointers is scanned, which goes
+/// over by them, the one that was found last, of three, and the other one. Nothing is left then.
+#[test]
+fn counts_words(rt: HostRuntime) -> Result<(), Fail> {
+    let shapes = [(2, 0), (0, 0), (3, 0)];
+    let made = build(rt.alloc(), &shapes, &[(0, 0, 1), (0, 1, 2)])?;
+    let roots = roots_of(rt.alloc(), &made, &[(3, 0), (31, 0)])?;
+    let mut marker = begun_third(rt.alloc(), &made.table, &roots)?;
+    assert_eq!(rt;
+        (mark_third(&mut marker, &made.table, 0), marker.scans()),
+        (0, 0)
+    );
+    assert_eq!(rt;
+        (mark_third(&mut marker, &made.table, 1), marker.scans()),
+        (1, 0)
+    );
+    assert_eq!(rt;
+        (mark_third(&mut marker, &made.table, 1), marker.scans()),
+        (1, 0)
+    );
+    assert_eq!(rt;
+        (mark_third(&mut marker, &made.table, 1), marker.scans()),
+        (3, 1)
+    );
+    assert_eq!(rt;
+        (mark_third(&mut marker, &made.table, 2), marker.scans()),
+        (4, 2)
+    );
+    assert_eq!(rt;
+        (mark_third(&mut marker, &made.table, 9), marker.scans()),
+        (1, 3)
+    );
+    assert_eq!(rt;
+        (mark_third(&mut marker, &made.table, 9), marker.scans()),
+        (0, 3)
+    );
+    assert_eq!(rt; (marker.finish(&made.table), marker.scans()), (3, 3));
+    Ok(())
+}
+
+/// The same roots, where one call takes them and scans all, and where the end does.
+#[test]
+fn takes_all_that_waits(rt: HostRuntime) -> Result<(), Fail> {
+    let shapes = [(2, 0), (0, 0), (3, 0)];
+    for (asked, words) in [(0, 0), (100, 10)] {
+        let made = build(rt.alloc(), &shapes, &[(0, 0, 1), (0, 1, 2)])?;
+        let roots = roots_of(rt.alloc(), &made, &[(3, 0), (31, 0)])?;
+        let mut marker = begun_third(rt.alloc(), &made.table, &roots)?;
+        let looked = mark_third(&mut marker, &made.table, asked);
+        assert_eq!(rt; looked, words);
+        assert_eq!(rt; (marker.finish(&made.table), marker.scans()), (3, 3));
+    }
     Ok(())
 }
 
 /// The same two objects with nil roots: there is no scan.
 #[test]
 fn marks_nothing(rt: HostRuntime) -> Result<(), Fail> {
-    let mut made = build(rt.alloc(), &[(1, 0), (1, 0)], &[(0, 0, 1), (1, 0, 0)])?;
+    let made = build(rt.alloc(), &[(1, 0), (1, 0)], &[(0, 0, 1), (1, 0, 0)])?;
     let roots = roots_of(rt.alloc(), &made, &[])?;
     let mut marker = begun(rt.alloc(), &made.table, &roots)?;
-    assert_eq!(rt; marker.mark(&made.table, 9), 0);
-    assert_eq!(rt; (marker.finish(&mut made.table), marker.scans()), (0, 0));
+    assert_eq!(rt; marker.mark(&made.table, Format::V1, 9), 0);
+    assert_eq!(rt; (marker.finish(&made.table), marker.scans()), (0, 0));
     Ok(())
 }
 
@@ -282,23 +400,23 @@ fn ring_and_one(alloc: Global) -> Result<Made, Fail>
 /// What no root and no log names isn't marked.
 #[test]
 fn leaves_what_nothing_names(rt: HostRuntime) -> Result<(), Fail> {
-    let mut made = ring_and_one(rt.alloc())?;
+    let made = ring_and_one(rt.alloc())?;
     let roots = roots_of(rt.alloc(), &made, &[(3, 2)])?;
     let mut marker = begun(rt.alloc(), &made.table, &roots)?;
-    assert_eq!(rt; marker.mark(&made.table, 9), 1);
-    assert_eq!(rt; marker.finish(&mut made.table), 1);
+    assert_eq!(rt; marker.mark(&made.table, Format::V1, 9), 1);
+    assert_eq!(rt; marker.finish(&made.table), 1);
     Ok(())
 }
 
 /// What only a log names is marked in the end, and what it leads to.
 #[test]
 fn takes_what_was_logged(rt: HostRuntime) -> Result<(), Fail> {
-    let mut made = ring_and_one(rt.alloc())?;
+    let made = ring_and_one(rt.alloc())?;
     let roots = roots_of(rt.alloc(), &made, &[(3, 2)])?;
     let mut marker = begun(rt.alloc(), &made.table, &roots)?;
     save(&mut marker, &made, 1, 1);
-    assert_eq!(rt; marker.mark(&made.table, 9), 1);
-    assert_eq!(rt; (marker.finish(&mut made.table), marker.scans()), (3, 3));
+    assert_eq!(rt; marker.mark(&made.table, Format::V1, 9), 1);
+    assert_eq!(rt; (marker.finish(&made.table), marker.scans()), (3, 3));
     Ok(())
 }
 
@@ -329,14 +447,14 @@ fn next_of(table: &RegionTable, marker: &Marker, region: RegionNo) -> (Ptr, Addr
 /// nothing is counted of it; the other region's mark and count stay.
 #[test]
 fn forgets_a_region(rt: HostRuntime) -> Result<(), Fail> {
-    let mut made = build(rt.alloc(), &[(1, 0), (1, 0)], &[(0, 0, 1)])?;
+    let made = build(rt.alloc(), &[(1, 0), (1, 0)], &[(0, 0, 1)])?;
     let roots = roots_of(rt.alloc(), &made, &[(16, 0)])?;
     let region = RegionNo::new(0);
     let other = RegionNo::new(1);
     let bottom = Addr::new(0);
     let second = Addr::new(16);
     let mut marker = begun(rt.alloc(), &made.table, &roots)?;
-    assert_eq!(rt; marker.finish(&mut made.table), 2);
+    assert_eq!(rt; marker.finish(&made.table), 2);
     let found = previous_of(&made.table, &marker, region);
     assert_eq!(rt; found, (Some(bottom), Addr::new(3), 3));
     marker.forget(&made.table, region);
@@ -351,6 +469,7 @@ fn forgets_a_region(rt: HostRuntime) -> Result<(), Fail> {
 fn give_up(marker: &mut Marker, _table: &RegionTable)
     requires stands { MarkerStands _table.now marker.old }
     requires unlogged { logged marker.old.logs ≡ [] }
+    requires none_wait { marker.old.waiting.addresses ≡ [] }
     ensures stands { MarkerStands _table.now marker.new }
     ensures idle { marker.new.running ≡ false }
 {
@@ -453,7 +572,9 @@ fn clears_weak_slots(rt: HostRuntime) -> Result<(), Fail> {
     ];
     assert!(rt; lead(&made.table, 0, old));
     assert!(rt; lead(&made.table, 10, &[(0, Some(32)), (1, Some(10))]));
-    assert_eq!(rt; marker.finish(&mut made.table), 2);
+    assert_eq!(rt; marker.finish(&made.table), 2);
+    assert!(rt; lead(&made.table, 0, old));
+    marker.clear_rest(&mut made.table, Addr::new(0));
     let cleared = &[
         (0, Some(16)),
         (1, Some(16)),
@@ -474,7 +595,8 @@ fn keeps_what_was_read(rt: HostRuntime) -> Result<(), Fail> {
     let roots = roots_of(rt.alloc(), &made, &[(16, 0)])?;
     let mut marker = begun(rt.alloc(), &made.table, &roots)?;
     save(&mut marker, &made, 0, 1);
-    assert_eq!(rt; marker.finish(&mut made.table), 2);
+    assert_eq!(rt; marker.finish(&made.table), 2);
+    marker.clear_rest(&mut made.table, Addr::new(0));
     assert_eq!(rt; read(&made.table, 0, 0), Some(16));
     Ok(())
 }

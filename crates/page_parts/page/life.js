@@ -261,7 +261,7 @@ function reclaimedAt(life, moment) {
 
 // Whether a step of the collector moves objects.
 function movesObjects(step) {
-  return step.verb === "pause" || step.verb === "compact";
+  return ["pause", "compact", "pausewithin", "young"].includes(step.verb);
 }
 
 // What a pause or a compaction did: the regions that it emptied, the regions that it copied into, and the copies where the file tells tiles.

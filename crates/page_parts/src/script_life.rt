@@ -271,7 +271,7 @@ function reclaimedAt(life, moment) {\n\
 \n\
 // Whether a step of the collector moves objects.\n\
 function movesObjects(step) {\n\
-\x20 return step.verb === \"pause\" || step.verb === \"compact\";\n\
+\x20 return [\"pause\", \"compact\", \"pausewithin\", \"young\"].includes(step.verb);\n\
 }\n\
 \n\
 // What a pause or a compaction did: the regions that it emptied, the regions that it copied into, and the copies where the fil\

@@ -3,6 +3,7 @@
 ghost use Rattle.std.specs.Prelude.{◌≡◌, IfOk, length};
 
 use bit_sets::bounded::BoundedBits;
+use evacuation::PauseRoom;
 use heap_words::addr::{Card, RegionNo};
 use remembered_sets::RememberedSets;
 use std::alloc::{AllocError, Global};
@@ -41,6 +42,20 @@ fn marks_the_region_of_the_seventeenth(rt: HostRuntime) -> Result<(), Fail> {
             "{card}"
         );
     }
+    Ok(())
+}
+
+/// The cards that may lead into a region count once each: those that are inline, and of a marked region those that entered a set. Each
+/// region has a count of its own.
+#[test]
+fn counts_cards_into_a_region(rt: HostRuntime) -> Result<(), Fail> {
+    let mut sets = filled(rt.alloc())?;
+    let mut room = PauseRoom::new(rt.alloc(), 8, 128)?;
+    let region = RegionNo::new(7);
+    assert_eq!(rt; room.count_cards(&sets, region), 16);
+    sets.add(region, Card::new(50));
+    assert_eq!(rt; room.count_cards(&sets, region), 17);
+    assert_eq!(rt; room.count_cards(&sets, RegionNo::new(6)), 0);
     Ok(())
 }
 

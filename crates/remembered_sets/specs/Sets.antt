@@ -133,6 +133,10 @@ covers s region card = set_covers (set_of s region) card (card / s.cards_per_reg
 abbrev pub may_lead : Sets → ℕ → ℕ → Bool
 may_lead s region card = set_leads (set_of s region) s.cards_per_region (has s.entered card) card
 
+-- how many cards may have a field that leads into the region
+abbrev pub cards_into : Sets → ℕ → ℕ
+cards_into s region = count_by (may_lead s region) (range_with_len 0 (card_count s))
+
 -- the card is added to the region's set
 abbrev pub added : Sets → ℕ → ℕ → Sets
 added s region card = record {

@@ -5,4 +5,3 @@ pub mod RecordLaws
 pub mod LinesOut
 pub mod Counts
 pub mod Lines
-pub mod Collections

@@ -1,4 +1,5 @@
 pub mod Sizes
+pub mod Slots
 pub mod Resting
 pub mod Remembering
 pub mod Added
@@ -11,6 +12,7 @@ pub mod Running
 pub mod Acted
 pub mod Collecting
 pub mod Collected
+pub mod Settled
 pub mod Beginning
 pub mod Words
 pub mod Filling

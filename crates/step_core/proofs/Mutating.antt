@@ -11,6 +11,8 @@ pub mod Noting
 pub mod Creating
 pub mod Made
 pub mod WeakStoring
+pub mod WeakReading
+pub mod WeaksShown
 pub mod Touching
 pub mod Near
 pub mod Setting

@@ -1,7 +1,7 @@
 -- Tiles that are objects, and their names.
 use Rattle.std.proofs.Common.{◌≡◌, ℕ, ◌*◌, ◌<◌, Option, Some, None, length, refl, sym, ap, arith, ◌/◌, ◌≤◌, IsSome, IfSome}
 use Rattle.heap_model.specs.Heap.{Stored}
-use Rattle.regions.specs.Tiles.{Tile, Object, Filler, Forwarded}
+use Rattle.regions.specs.Tiles.{Tile, Object}
 use Rattle.regions.specs.Table.{Table, tile_object, tile_in, object_at, top_of}
 use Rattle.regions.specs.Shapes.{tile_shape}
 use Rattle.regions.specs.Shaped.{IsShaped}

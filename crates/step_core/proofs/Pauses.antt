@@ -1,7 +1,9 @@
 pub mod Rows
 pub mod Others
+pub mod Within
 pub mod Chosen
 pub mod Highest
+pub mod Young
 pub mod Refined
 pub mod Ready
 pub mod CopiedNames

@@ -8,6 +8,7 @@ pub mod Making
 pub mod Measures
 pub mod Reclaimed
 pub mod Refining
+pub mod Within
 pub mod Pause
 pub mod Cycle
 pub mod Cleaning

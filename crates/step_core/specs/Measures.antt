@@ -1,5 +1,5 @@
 -- What a policy of collection steers by.
-use Rattle.std.specs.Prelude.{◌≡◌, ℕ, zero, suc, ◌+◌, ◌*◌, true, length}
+use Rattle.std.specs.Prelude.{◌≡◌, ◌≢◌, ◌⊎◌, ℕ, zero, suc, ◌+◌, ◌*◌, true, [], length, IsSome}
 use Rattle.regions.specs.Table.{kind_of, used_of, stored_size}
 use Rattle.regions.specs.declared.row.Kind.{Kind}
 use Rattle.regions.specs.declared.row.Kind.TheVariants as kinds
@@ -31,8 +31,15 @@ live_in c k = live_by_kind (kind_of c.table k) c k
 abbrev pub live_words : CoreState → ℕ
 live_words c = sum_below (live_in c) (length c.table.regions)
 
--- marking runs, and some marked object isn't scanned
+-- some marked object isn't scanned
+abbrev pub HasUnscanned : CoreState → Type 0
+HasUnscanned c = (address : ℕ) × (is_grey c.marker.bitmaps.next c.marker.grey address ≡ true)
+
+-- marking runs, and something is left to be marked: a root waits, or some marked object isn't scanned
 pub record HasGrey (c : CoreState) : Type 0 where
   pub running : c.marker.running ≡ true
-  pub address : ℕ
-  pub grey : is_grey c.marker.bitmaps.next c.marker.grey address ≡ true
+  pub left : (c.marker.waiting.addresses ≢ []) ⊎ HasUnscanned c
+
+-- weak slots that show nil wait to be cleared
+abbrev pub HasSlotsLeft : CoreState → Type 0
+HasSlotsLeft c = IsSome c.clearing

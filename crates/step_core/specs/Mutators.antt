@@ -1,5 +1,6 @@
 -- What each step of a mutator does to a core, exactly.
 use Rattle.std.specs.Prelude.{◌≡◌, ℕ, ◌+◌, ◌-◌, ◌/◌, ◌==◌, Option, Some, None, if◌then◌else◌, length, slice_index_or, slice_set, unwrap_or}
+use Rattle.std.specs.Prelude.{List, is_some, map}
 use Rattle.heap_words.specs.Sizes.{size_of}
 use Rattle.heap_words.specs.Configs.{card_words}
 use Rattle.regions.specs.Table.{pointers_at, weaks_at, set_pointer, set_weak, set_value, new_object}
@@ -8,13 +9,15 @@ use Rattle.marker.specs.Steps.{Overwrites}
 use Rattle.marker.specs.declared.marker.Marker.{Marker}
 use Rattle.cards.specs.Cards.{Cards, dirtied}
 use Rattle.refinement.specs.Remembering.{field_word}
+use Rattle.region_choice.specs.Ages.{Ages, with_taken}
 use Rattle.heap_words.specs.Configs.{registers_of}
+use Rattle.heap_model.specs.Clearing.{kept_word}
 use Rattle.heap_model.specs.Graph.{with_nils}
 use Rattle.graph_runs.specs.State.{register_place, root_counts_of}
 use Rattle.step_core.specs.Steps.{Action, Counts, Register, Reply}
 use Rattle.heap_steps.specs.declared.step.Action.TheVariants as actions
 use Rattle.heap_steps.specs.declared.step.Reply.TheVariants as replies
-use Rattle.step_core.specs.Stands.{CoreState}
+use Rattle.step_core.specs.Stands.{CoreState, kept_of}
 
 -- what a root place holds, what a mutator's register holds, and where the object starts that it names
 abbrev pub root_of : CoreState → ℕ → Option ℕ
@@ -30,9 +33,13 @@ object_of c m r = unwrap_or (register_of c m r) 0
 abbrev pub pointer_of : CoreState → ℕ → ℕ → Option ℕ
 pointer_of c a i = slice_index_or (pointers_at c.table a) i None
 
--- what an object's weak slot holds
+-- what an object's weak slot shows: what it holds, but nil where nothing is kept there
 abbrev pub weak_of : CoreState → ℕ → ℕ → Option ℕ
-weak_of c a i = slice_index_or (weaks_at c.table a) i None
+weak_of c a i = kept_word (kept_of c) (slice_index_or (weaks_at c.table a) i None)
+
+-- what the weak slots of an object show: a kept one's are nil where nothing is kept, any other's are what they hold
+abbrev pub weaks_shown : CoreState → ℕ → List (Option ℕ)
+weaks_shown c a = if is_some (kept_of c a) then map (kept_word (kept_of c)) (weaks_at c.table a) else weaks_at c.table a
 
 -- the field as which a weak slot counts: behind the object's pointers
 abbrev pub weak_field : CoreState → ℕ → ℕ → ℕ
@@ -65,6 +72,12 @@ with_pointer c m a i w = record c { table = set_pointer c.table a i w; cards = n
 abbrev pub with_weak : CoreState → ℕ → ℕ → ℕ → Option ℕ → CoreState
 with_weak c m a i w = record c { table = set_weak c.table a i w; cards = noted c m (field_word a (weak_field c a i)) w }
 
+-- the ages once a region is the current one: it is taken, unless it was current before
+abbrev pub with_current : Ages → Option ℕ → Option ℕ → Ages
+with_current ages was None = ages
+with_current ages None (Some k) = with_taken ages k
+with_current ages (Some j) (Some k) = if j == k then ages else with_taken ages k
+
 -- the core with a new object in its place, which a root place names
 abbrev pub with_made : CoreState → ℕ → Counts → ℕ → Option Placement → CoreState
 with_made c place counts weaks None = c
@@ -73,6 +86,7 @@ with_made c place counts weaks (Some x) = record c {
   buffers = x.buffers;
   roots = slice_set c.roots place (Some (address_of x.table x.place));
   next = c.next + 1;
+  ages = with_current c.ages c.buffers.current x.buffers.current;
 }
 
 -- the core once an object is made

@@ -14,14 +14,17 @@ use Rattle.mark_bitmap.specs.Tops.{Tops}
 use Rattle.mark_bitmap.specs.Live.{live_bound_of}
 use Rattle.marker.specs.Live.{LiveCounts}
 use Rattle.cards.specs.Cards.{clean_cards, flushed}
+use Rattle.remembered_sets.specs.Sets.{Sets}
 use Rattle.region_choice.specs.declared.LiveRow.{LiveRow}
 use Rattle.region_choice.specs.Choice.{copy_limit, live_sum, row_cmp, ComeFirst, IsBestWithin}
+use Rattle.region_choice.specs.Ages.{Ages, AgesAfter, IsYoung, age_cmp}
 use Rattle.evacuation.specs.Evacuates.{Layers, HasEvacuated, is_chosen, set_in}
 use Rattle.step_core.specs.declared.candidates.Choice.{Choice}
 use Rattle.step_core.specs.declared.candidates.Choice.TheVariants as choices
 use Rattle.step_core.specs.Stands.{CoreState, heap_of, ShowsGraph}
 use Rattle.step_core.specs.Reclaimed.{IsReclaimed}
 use Rattle.step_core.specs.Refining.{GainsCards}
+use Rattle.step_core.specs.Within.{AreWithin}
 
 -- the row of an ordinary region, with its live bound
 pub record IsRowOf (t : Table) (tops : List ℕ) (marks : List Bool) (row : LiveRow) : Type 0 where
@@ -72,6 +75,14 @@ pub record IsChosen (t : Table) (tams : Tops) (previous : List Bool) (running : 
       (drop (length chosen) rows)
   pub best : IsBestWithin t.words_per_region (copy_limit t.words_per_region budget (count_by is_free t.regions)) rows chosen
 
+-- the rows of the regions that a pause within so many cards chooses: of those that a pause chooses, in its order, the ones that few cards
+-- may lead into, as long as at most so many may lead into them together
+pub record IsWithin (t : Table) (tams : Tops) (previous : List Bool) (running : Bool) (s : Sets) (budget cards : ℕ)
+    (chosen : List LiveRow) : Type 0 where
+  pub best : List LiveRow
+  pub by_pause : IsChosen t tams previous running budget best
+  pub within : AreWithin s cards best chosen
+
 -- how many free regions lie below a region
 abbrev pub free_below : Table → ℕ → ℕ
 free_below t k = count_by is_free (take k t.regions)
@@ -96,10 +107,47 @@ pub record IsCompacted (t : Table) (tams : Tops) (previous : List Bool) (running
   pub next : running ≡ false → (row : LiveRow) → AreHighest t tams.previous previous (chosen ++ row ∷ [])
       → GoesDown t (copy_limit t.words_per_region budget (count_by is_free t.regions)) (chosen ++ row ∷ []) → ⊥
 
--- the rows of the collection set: of a pause, or of a compaction
-abbrev pub IsSetOf : Choice → Table → Tops → List Bool → Bool → ℕ → List LiveRow → Type 0
-IsSetOf choices.Best t tams previous running budget chosen = IsChosen t tams previous running budget chosen
-IsSetOf choices.Highest t tams previous running budget chosen = IsCompacted t tams previous running budget chosen
+-- A young pause can reclaim the region: it is an ordinary one, and it was taken for new objects since marking last began; while marking
+-- runs, all of it was made since then
+pub record IsYoungCandidate (t : Table) (tams : Tops) (running : Bool) (ages : Ages) (k : ℕ) : Type 0 where
+  pub ordinary : kind_of t k ≡ kinds.Ordinary
+  pub young : IsYoung ages k
+  pub all_new : running ≡ true → slice_index tams.next k ≡ k * t.words_per_region
+
+-- the rows are those of the young candidates, a row each
+pub record AreYoung (t : Table) (tams : Tops) (previous : List Bool) (running : Bool) (ages : Ages) (rows : List LiveRow) : Type 0 where
+  pub are_rows : AreRowsOf t tams.previous previous rows
+  pub each : All (λ row. IsYoungCandidate t tams running ages row.region) rows
+  pub all : (k : ℕ) → IsYoungCandidate t tams running ages k → is_chosen rows k ≡ true
+
+-- The rows that come first by age: of the young candidates, full ones too, in the order in which they were taken, as many as the copy limit
+-- allows, so that the next one wouldn't fit
+pub record IsByAge (t : Table) (tams : Tops) (previous : List Bool) (running : Bool) (ages : Ages) (budget : ℕ)
+    (taken : List LiveRow) : Type 0 where
+  pub rows : List LiveRow
+  pub candidates : AreYoung t tams previous running ages rows
+  pub sorted : IsSorted (age_cmp ages) rows
+  pub front : taken ≡ take (length taken) rows
+  pub within : live_sum taken ≤ copy_limit t.words_per_region budget (count_by is_free t.regions)
+  pub next : (row : LiveRow) → slice_get rows (length taken) ≡ Some row
+      → copy_limit t.words_per_region budget (count_by is_free t.regions) < live_sum taken + row.live_bound
+
+-- the rows of the regions that a young pause chooses: of those that come first by age, the ones that few cards may lead into, as long as at
+-- most so many may lead into them together
+pub record IsYoungest (t : Table) (tams : Tops) (previous : List Bool) (running : Bool) (s : Sets) (ages : Ages) (budget cards : ℕ)
+    (chosen : List LiveRow) : Type 0 where
+  pub front : List LiveRow
+  pub by_age : IsByAge t tams previous running ages budget front
+  pub within : AreWithin s cards front chosen
+
+-- the rows of the collection set, where the sets tell which cards may lead where, and the ages which regions are young: of a pause, of one
+-- within so many cards, of a compaction, or of a young pause
+abbrev pub IsSetOf : Choice → Table → Tops → List Bool → Bool → Sets → Ages → ℕ → List LiveRow → Type 0
+IsSetOf choices.Best t tams previous running s ages budget chosen = IsChosen t tams previous running budget chosen
+IsSetOf (choices.Within cards) t tams previous running s ages budget chosen = IsWithin t tams previous running s budget cards chosen
+IsSetOf choices.Highest t tams previous running s ages budget chosen = IsCompacted t tams previous running budget chosen
+IsSetOf (choices.Youngest cards) t tams previous running s ages budget chosen =
+    IsYoungest t tams previous running s ages budget cards chosen
 
 -- No buffer is open and no region current. Every listed card is refined: no card is dirty, and the sets gained what these cards lead into.
 -- Nothing else changed
@@ -156,17 +204,26 @@ layers_of c = record {
 }
 
 -- The chosen regions, n of them, are those of the collection set, and are reclaimed, and no others. What is reached in them, w words, at
--- most the budget, is evacuated from the core that was made ready, and nothing else of it changes
+-- most the budget, is evacuated from the core that was made ready, their ages are forgotten, and nothing else of it changes. Cards count by
+-- the sets of that core
 pub record EvacuatesSet (which : Choice) (budget n w : ℕ) (c ready c' : CoreState) : Type 0 where
   pub chosen : List LiveRow
-  pub choice : IsSetOf which c.table c.marker.tams c.marker.bitmaps.previous c.marker.running budget chosen
+  pub choice : IsSetOf which c.table c.marker.tams c.marker.bitmaps.previous c.marker.running ready.sets c.ages budget chosen
   pub regions : n ≡ length chosen
   pub within : w ≤ budget
   pub names : (g : Graph) → ShowsGraph g c → AreCopiedNames g (set_in c.table.words_per_region chosen) (heap_of c) w
   pub reclaimed : (k : ℕ) → IsReclaimed c.table c'.table k ↔ (is_chosen chosen k ≡ true)
-  pub same : c' ≡ record ready { table = c'.table; marker = c'.marker; cards = c'.cards; sets = c'.sets; roots = c'.roots }
+  pub same : c' ≡ record ready {
+    table = c'.table;
+    marker = c'.marker;
+    cards = c'.cards;
+    sets = c'.sets;
+    roots = c'.roots;
+    ages = c'.ages;
+  }
   pub marker : c'.marker ≡ record ready.marker { tams = c'.marker.tams; bitmaps = c'.marker.bitmaps; live = c'.marker.live }
   pub counts : AreForgotten chosen ready.marker.live c'.marker.live
+  pub ages : AgesAfter (is_chosen chosen) ready.ages c'.ages
   pub evacuated : HasEvacuated chosen (card_words c.config) w (layers_of ready) (layers_of c')
 
 -- all is made ready, then the regions of the collection set are evacuated
@@ -175,9 +232,16 @@ pub record HasMoved (which : Choice) (budget n w : ℕ) (c c' : CoreState) : Typ
   pub is_ready : IsReady c ready
   pub evacuates : EvacuatesSet which budget n w c ready c'
 
--- a pause moves the best regions, a compaction the highest
+-- a pause moves the best regions, one within so many cards those of them that few cards lead into, a compaction the highest, a young pause
+-- those that were taken for new objects first
 abbrev pub HasPaused : ℕ → ℕ → ℕ → CoreState → CoreState → Type 0
 HasPaused budget n w c c' = HasMoved choices.Best budget n w c c'
 
+abbrev pub HasPausedWithin : ℕ → ℕ → ℕ → ℕ → CoreState → CoreState → Type 0
+HasPausedWithin budget cards n w c c' = HasMoved (choices.Within cards) budget n w c c'
+
 abbrev pub HasCompacted : ℕ → ℕ → ℕ → CoreState → CoreState → Type 0
 HasCompacted budget n w c c' = HasMoved choices.Highest budget n w c c'
+
+abbrev pub HasPausedYoung : ℕ → ℕ → ℕ → ℕ → CoreState → CoreState → Type 0
+HasPausedYoung budget cards n w c c' = HasMoved (choices.Youngest cards) budget n w c c'

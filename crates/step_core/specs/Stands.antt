@@ -5,7 +5,8 @@ use Rattle.std.specs.List.{AllZip}
 use Rattle.heap_words.specs.declared.config.Config.{Config}
 use Rattle.heap_words.specs.Configs.{Suits, card_words, object_limit}
 use Rattle.heap_model.specs.Graph.{Graph, Object, RootCounts, next_name, object_named, IsReachable, IsSound}
-use Rattle.heap_model.specs.Heap.{Heap, Stored, Shows, IsShown, IsRoot, StandsOnce}
+use Rattle.heap_model.specs.Heap.{Heap, Stored, IsShown, IsRoot}
+use Rattle.heap_model.specs.Clearing.{WillShow, IsWeakShown, StandsOnce, IsClearedTo}
 use Rattle.heap_model.specs.Marking.{Marking, KeepsSnapshot}
 use Rattle.heap_model.specs.Weak.{KeepsUnreached}
 use Rattle.regions.specs.Tiles as tiles
@@ -19,7 +20,9 @@ use Rattle.satb_log.specs.Logs.{log_of}
 use Rattle.marker.specs.declared.marker.Marker.{Marker}
 use Rattle.marker.specs.Stands.{MarkerStands}
 use Rattle.marker.specs.Views as views
+use Rattle.marker.specs.Clears.{LeadIntoTable}
 use Rattle.cards.specs.Cards.{Cards, is_dirty}
+use Rattle.region_choice.specs.Ages.{Ages}
 use Rattle.remembered_sets.specs.Sets.{Sets, card_count, may_lead}
 use Rattle.refinement.specs.Remembering.{Remembers}
 use Rattle.evacuation.specs.Rooms.{RoomSizes}
@@ -39,11 +42,15 @@ pub record CoreState : Type 0 where
   pub room : RoomSizes
   -- for how many candidates of a pause there is room
   pub row_room : ℕ
+  -- how old the regions are
+  pub ages : Ages
   -- how many globals and registers there are, and what they hold
   pub places : RootCounts
   pub roots : List (Option ℕ)
   -- the name of the next object
   pub next : ℕ
+  -- while weak slots are still to be cleared, the address from which on objects are to be looked at
+  pub clearing : Option ℕ
 
 -- what is kept: the objects that start at or above their region's previous top at mark start, or are marked
 unfoldable pub kept_of : CoreState → ℕ → Option Stored
@@ -63,12 +70,12 @@ marking_of c = views.marking_of c.table c.marker
 abbrev pub RemembersFields : CoreState → Type 0
 RemembersFields c = Remembers c.table.words_per_region (kept_of c) (card_words c.config) (is_dirty c.cards) (may_lead c.sets)
 
--- the heap shows the graph, whose next name is the core's
+-- The heap shows the graph, whose next name is the core's; but as long as nothing is kept where a weak slot leads, the slot shows nil
 pub record ShowsGraph (g : Graph) (c : CoreState) : Type 0 where
   pub room : g.room ≡ object_limit c.config
   pub places : g.places ≡ root_counts_of c.config
   pub next : next_name g ≡ c.next
-  pub shows : Shows g (heap_of c)
+  pub shows : WillShow g (heap_of c)
 
 -- the snapshot is no later than the core, and while marking runs, what was reachable in it will be marked
 pub record KeepsFrom (s : Graph) (c : CoreState) : Type 0 where
@@ -112,7 +119,8 @@ AreWide t = (a : ℕ) (object : Stored) → object_at t a ≡ Some object → ki
     → t.words_per_region < 2 * tile_size (tiles.Object object)
 
 -- The layers below fit one another: they have the sizes of the configuration, open buffers are fillers of the table,
--- nothing has moved, what is still to be handed out lies at or above both tops at mark start, and no deletion log is full. Objects
+-- nothing has moved, what is still to be handed out lies at or above both tops at mark start, no deletion log is full, and in the third
+-- format there is room for all roots to wait. Objects
 -- of ordinary regions have at most half a region's words, and those of runs more
 pub record LayersFit (config : Config) (t : Table) (b : Buffers) (m : Marker) : Type 0 where
   pub region_size : t.words_per_region ≡ config.words
@@ -120,6 +128,7 @@ pub record LayersFit (config : Config) (t : Table) (b : Buffers) (m : Marker) : 
   pub buffer_size : b.words ≡ config.buffer
   pub open_buffers : length b.open_buffers ≡ config.mutators
   pub logs : length m.logs ≡ config.mutators
+  pub waits : m.waiting.room ≡ views.waiting_room config
   pub buffers : BuffersStand t b
   pub unmoved : HasNoForwarded t
   pub marker : MarkerStands t m
@@ -141,6 +150,12 @@ pub record IsRoomFor (config : Config) (room : RoomSizes) : Type 0 where
   pub regions : room.regions ≡ config.regions
   pub cards : room.cards ≡ config.regions * (config.words / card_words config)
 
+-- Each weak slot of a kept object leads to an object of the table; and those of the objects that clearing has passed, all where it isn't
+-- going on, lead to kept ones
+pub record IsClearing (c : CoreState) : Type 0 where
+  pub cleared : IsClearedTo c.clearing (heap_of c)
+  pub lead : LeadIntoTable c.table (heap_of c)
+
 -- What every core keeps. There are a graph and a snapshot on which it rests: so each root is the start of an object, and what a weak slot
 -- holds may be saved
 pub record IsCore (c : CoreState) : Type 0 where
@@ -150,9 +165,11 @@ pub record IsCore (c : CoreState) : Type 0 where
   pub remembers : RemembersFields c
   pub room : IsRoomFor c.config c.room
   pub rows : c.config.regions ≤ c.row_room
+  pub ages : length c.ages.stamps ≡ c.config.regions
   pub placed : c.places ≡ root_counts_of c.config
   pub places : length c.roots ≡ root_places (root_counts_of c.config)
   pub names : c.next < 2 ^ 64
+  pub slots : IsClearing c
   pub footing : Footing
   pub rests : RestsOn footing c
 
@@ -175,7 +192,7 @@ pub record RootNames (g : Graph) (c : CoreState) (place a : ℕ) : Type 0 where
   pub named : object_named g stored.name ≡ Some object
   pub found : slice_get g.objects (stored.name - g.first_name) ≡ Some object
   pub pointers : AllZip (IsShown (heap_of c)) stored.pointers object.pointers
-  pub weaks : AllZip (IsShown (heap_of c)) stored.weaks object.weaks
+  pub weaks : AllZip (IsWeakShown (heap_of c)) stored.weaks object.weaks
   pub values : stored.values ≡ object.values
 
 -- where a register or global leads

@@ -11,21 +11,29 @@ ghost use Rattle.std.specs.Prelude.{◌≡◌, ◌<◌, ◌≤◌, ◌+◌, ℕ}
 ghost use Rattle.std.specs.Prelude.{All, IfNone, IfSome, drop, length, take, IsPermutation, IsSorted};
 ghost use Rattle.std.specs.Vec.{vec_capacity};
 ghost use Rattle.mark_bitmap.specs.Live.{live_bound_of};
+ghost use Rattle.remembered_sets.specs.Sets.{card_count};
 ghost use Rattle.marker.specs.Stands.{MarkerStands};
 ghost use Rattle.region_choice.specs.Choice.{copy_limit, live_sum, row_cmp, ComeFirst, IsBestWithin};
 ghost use Rattle.step_core.specs.Pause.{IsCandidate, AreCandidatesWithin, IsChosen, IsSetOf};
 
 use crate::highest::choose_highest;
+use crate::within::choose_within;
+use crate::youngest::choose_youngest;
+use evacuation::PauseRoom;
 use heap_words::addr::RegionNo;
 use marker::Marker;
-use region_choice::{LiveRow, choose, limit_of};
+use region_choice::{LiveRow, RegionAges, choose, limit_of};
 use regions::{Kind, RegionTable};
+use remembered_sets::RememberedSets;
 
-/// Which regions are evacuated: those that free the most, by a pause, or the highest, by a compaction.
+/// Which regions are evacuated: those that free the most, by a pause; of these the ones that few cards lead into, by a pause within so many
+/// cards; the highest, by a compaction; or young ones that few cards lead into, by a young pause.
 #[derive(Clone, Copy, Debug, PartialEq, Eq)]
 pub enum Choice {
     Best,
+    Within(u32),
     Highest,
+    Youngest(u32),
 }
 
 /// The live bound of a region that is a candidate, where it is at most so many words, fewer than a region has. It is looked up, and
@@ -154,19 +162,29 @@ pub(crate) fn choose_set(
     choice: Choice,
     table: &RegionTable,
     marker: &Marker,
+    sets: &RememberedSets,
+    ages: &RegionAges,
+    room: &mut PauseRoom,
     rows: &mut Vec<LiveRow>,
     budget: u32,
 ) -> usize
     requires stands { MarkerStands table.now marker.now }
+    requires each_region { length sets.now.sets ≡ length table.now.regions }
+    requires each_card { room.old.cards ≡ card_count sets.now }
     requires room { length table.now.regions ≤ vec_capacity rows.old }
     ensures count { result ≤ length rows.new.items }
     ensures few { result ≤ length table.now.regions }
-    ensures chosen { IsSetOf choice table.now marker.now.tams marker.now.bitmaps.previous marker.now.running budget
+    ensures chosen { IsSetOf choice table.now marker.now.tams marker.now.bitmaps.previous marker.now.running sets.now ages.now budget
         (take result rows.new.items) }
     ensures room { vec_capacity rows.new ≡ vec_capacity rows.old }
+    ensures pause_room { room.new ≡ room.old }
 {
     match choice {
         Choice::Best => choose_regions(table, marker, rows, budget),
+        Choice::Within(cards) => choose_within(table, marker, sets, room, rows, budget, cards),
         Choice::Highest => choose_highest(table, marker, rows, budget),
+        Choice::Youngest(cards) => {
+            choose_youngest(table, marker, sets, ages, room, rows, budget, cards)
+        }
     }
 }

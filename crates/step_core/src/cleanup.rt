@@ -8,14 +8,16 @@
 //!   after cleanup    as it was  free       as it was   free     free
 //! ```
 //!
-//! A region that is released has no marks, both its tops at mark start are its bottom, and its remembered set is empty, as in
-//! a new heap; so has each region of a run. Its cards stay as they are.
+//! A region that is released has no marks, both its tops at mark start are its bottom, its remembered set is empty, and it isn't young,
+//! as in a new heap; so has each region of a run. Its cards stay as they are.
 
 ghost use Rattle.std.specs.Prelude.{◌≡◌, ◌↔◌, ◌<◌, ◌≤◌, ◌+◌, ◌*◌, false, None, IsTrue, length};
 ghost use Rattle.heap_model.specs.Graph.{Graph};
 ghost use Rattle.regions.specs.Table.{kind_of, run_length};
 ghost use Rattle.regions.specs.declared.row.Kind.TheVariants as kinds;
 ghost use Rattle.marker.specs.Stands.{MarkerStands};
+ghost use Rattle.bit_sets.specs.Bits.{is_between};
+ghost use Rattle.region_choice.specs.Ages.{AgesAfter};
 ghost use Rattle.step_core.specs.Stands.{ShowsGraph, KeepsFrom, kept_of};
 ghost use Rattle.step_core.specs.Cycle.{IsDeadRegion, HasCleaned};
 ghost use Rattle.step_core.specs.Cleaning.{IsDeadHead, HasForgotten, HasEmptied, HasReleased};
@@ -23,14 +25,16 @@ ghost use Rattle.step_core.specs.Cleaning.{IsDeadHead, HasForgotten, HasEmptied,
 use crate::heap::Core;
 use heap_words::addr::{Addr, RegionNo};
 use marker::Marker;
+use region_choice::RegionAges;
 use regions::{Kind, RegionTable};
 use remembered_sets::RememberedSets;
 
-/// Forgets the marks, the tops at mark start and the remembered sets of so many regions from one on.
+/// Forgets the marks, the tops at mark start, the remembered sets and the ages of so many regions from one on.
 fn forget(
     table: &RegionTable,
     marker: &mut Marker,
     sets: &mut RememberedSets,
+    ages: &mut RegionAges,
     first: RegionNo,
     count: u32,
 )
@@ -38,15 +42,18 @@ fn forget(
     requires idle { marker.old.running ≡ false }
     requires within { first + count ≤ length table.now.regions }
     requires each { length sets.old.sets ≡ length table.now.regions }
+    requires each_age { length ages.old.stamps ≡ length table.now.regions }
     ensures stands { MarkerStands table.now marker.new }
     ensures forgotten { HasForgotten table.now.words_per_region first count marker.old marker.new }
     ensures cleared { HasEmptied first count sets.old sets.new }
+    ensures aged { AgesAfter (is_between first (first + count)) ages.old ages.new }
 {
     table.law();
     for i in 0..count {
         let region = RegionNo::new(first.number() + i);
         marker.forget(table, region);
         sets.clear(region);
+        ages.forget(region);
     }
 }
 
@@ -94,6 +101,7 @@ impl Core {
     fn release(&mut self, region: RegionNo, count: u32)
         requires known { region < length self.old.table.regions }
         requires idle { self.old.marker.running ≡ false }
+        requires settled { self.old.clearing ≡ None }
         requires dead { IsDeadHead self.old region }
         requires together { count ≡ run_length self.old.table region }
         ensures shows { (g : Graph) → ShowsGraph g self.old → ShowsGraph g self.new }
@@ -101,13 +109,21 @@ impl Core {
         ensures released { HasReleased region count self.old self.new }
     {
         self.table.law();
-        forget(&self.table, &mut self.marker, &mut self.sets, region, count);
+        forget(
+            &self.table,
+            &mut self.marker,
+            &mut self.sets,
+            &mut self.ages,
+            region,
+            count,
+        );
         self.table.release(region);
     }
 
     /// Releases the dead regions and runs, while marking doesn't run. The result is how many regions.
     pub(crate) fn cleanup(&mut self) -> u32
-        requires { self.old.marker.running ≡ false }
+        requires idle { self.old.marker.running ≡ false }
+        requires settled { self.old.clearing ≡ None }
         ensures shows { (g : Graph) → ShowsGraph g self.old → ShowsGraph g self.new }
         ensures keeps { (s : Graph) → KeepsFrom s self.old → KeepsFrom s self.new }
         ensures cleaned { HasCleaned result self.old self.new }

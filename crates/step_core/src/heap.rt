@@ -25,7 +25,7 @@ use heap_steps::{GlobalRoot, Register};
 use heap_words::addr::Ptr;
 use heap_words::config::{Config, NewFault};
 use marker::Marker;
-use region_choice::LiveRow;
+use region_choice::{LiveRow, RegionAges};
 use regions::RegionTable;
 use remembered_sets::RememberedSets;
 use root_table::Roots;
@@ -33,7 +33,7 @@ use std::alloc::Global;
 use std::marker::Model;
 
 /// A heap: its table of regions, its allocation buffers, its marker, its dirty cards and remembered sets, the room that a pause
-/// uses, its roots and the name of its next object.
+/// uses, its roots, the name of its next object, and how old its regions are.
 pub struct Core {
     pub(crate) config: Config,
     pub(crate) table: RegionTable,
@@ -45,6 +45,9 @@ pub struct Core {
     pub(crate) rows: Vec<LiveRow>,
     pub(crate) roots: Roots,
     pub(crate) next: u64,
+    pub(crate) ages: RegionAges,
+    /// While weak slots are still to be cleared, the address from which on objects are to be looked at.
+    pub(crate) clearing: Ptr,
 }
 
 impl Model for Core {
@@ -62,9 +65,11 @@ impl Model for Core {
       sets = c.sets;
       room = c.room;
       row_room = vec_capacity c.rows;
+      ages = c.ages;
       places = c.roots.places;
       roots = c.roots.words;
       next = c.next;
+      clearing = c.clearing;
     } };
 
     ghost invariant = { λ c. IsCore (record {
@@ -76,9 +81,11 @@ impl Model for Core {
       sets = c.sets;
       room = c.room;
       row_room = vec_capacity c.rows;
+      ages = c.ages;
       places = c.roots.places;
       roots = c.roots.words;
       next = c.next;
+      clearing = c.clearing;
     }) };
 }
 
@@ -96,6 +103,8 @@ impl Drop for Core {
             rows: _,
             roots: _,
             next: _,
+            ages: _,
+            clearing: _,
         } = self;
     }
 }
@@ -137,7 +146,7 @@ impl Core {
             pausing,
         } = collecting;
         let Remembering { cards, sets } = remembering;
-        let Pausing { room, rows } = pausing;
+        let Pausing { room, rows, ages } = pausing;
         Ok(Core {
             config: *config,
             table,
@@ -149,6 +158,8 @@ impl Core {
             rows,
             roots,
             next,
+            ages,
+            clearing: None,
         })
     }
 

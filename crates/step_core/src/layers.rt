@@ -3,14 +3,16 @@
 //! Making one may be refused for memory, and then those that were made before it are dropped. Each function here makes two or three, and
 //! `Core::new` three: the proof of one that makes all eight grows with each way out, past any useful time.
 
-ghost use Rattle.std.specs.Prelude.{◌≡◌, ◌<◌, ◌≤◌, ◌*◌, ◌/◌, ◌%◌, ◌^◌, length, None, [], false, replicate, IfOk, vec_capacity};
+ghost use Rattle.std.specs.Prelude.{◌≡◌, ◌==◌, ◌<◌, ◌≤◌, ◌*◌, ◌/◌, ◌%◌, ◌^◌, if◌then◌else◌, length, not, None, [], false, replicate, IfOk};
+ghost use Rattle.std.specs.Vec.{vec_capacity};
 ghost use Rattle.heap_words.specs.Configs.{Suits, card_words, heap_limit};
 ghost use Rattle.regions.specs.Table.{Table};
 ghost use Rattle.alloc_buffers.specs.Placement.{BuffersStand, closed};
 ghost use Rattle.marker.specs.Stands.{MarkerStands};
-ghost use Rattle.marker.specs.Views.{fresh_marker};
+ghost use Rattle.marker.specs.Views.{fresh_marker, waiting_room};
 ghost use Rattle.cards.specs.Cards.{clean_cards};
 ghost use Rattle.remembered_sets.specs.Sets.{empty_sets};
+ghost use Rattle.region_choice.specs.Ages.{fresh_ages};
 ghost use Rattle.graph_runs.specs.State.{root_places};
 ghost use Rattle.step_core.specs.Stands.{root_counts_of};
 ghost use Rattle.step_core.specs.Fresh.{filter_rows};
@@ -18,9 +20,9 @@ ghost use Rattle.step_core.specs.Fresh.{filter_rows};
 use alloc_buffers::AllocBuffers;
 use cards::CardTable;
 use evacuation::PauseRoom;
-use heap_words::config::Config;
+use heap_words::config::{Config, Format};
 use marker::Marker;
-use region_choice::LiveRow;
+use region_choice::{LiveRow, RegionAges};
 use remembered_sets::RememberedSets;
 use root_table::{RootCounts, Roots};
 use std::alloc::{AllocError, Global};
@@ -45,6 +47,7 @@ pub(crate) struct Remembering {
 pub(crate) struct Pausing {
     pub(crate) room: PauseRoom,
     pub(crate) rows: Vec<LiveRow>,
+    pub(crate) ages: RegionAges,
 }
 
 /// What the collector works on, beside the table of regions.
@@ -82,9 +85,21 @@ pub(crate) fn new_mutating(alloc: Global, config: &Config) -> Result<Mutating, A
     })
 }
 
-/// How many rows of the second kind a remembered set's filter has: none where a filter would gain little, in a heap no larger than the
-/// first two formats can have, or with few cards a region. Else a filter takes 21 bits for 32 words of its region, 1 percent of the
-/// heap's words: a pause of one region then passes over most cards that lead into others.
+/// 21 rows for 32 words of a card, if a region's cards are whole groups of 64, else none.
+fn rows_of_cards(card_words: u32, cards_per_region: u32) -> u32
+    requires { card_words ≤ 512 }
+    ensures rows { result ≡ (if not (cards_per_region % 64 == 0) then 0 else 21 * card_words / 32) }
+    ensures whole { 0 < result → cards_per_region % 64 ≡ 0 }
+{
+    if cards_per_region % 64 != 0 {
+        return 0;
+    }
+    21 * card_words / 32
+}
+
+/// How many rows of the second kind a remembered set's filter has: none where a filter would gain little, in the first two formats, whose
+/// heaps are small, or with few cards a region. Else a filter takes 63 bits for 32 words of its region, 3 percent of the heap's words: a
+/// pause of some regions then passes over nearly all cards that lead into others alone.
 fn rows_of_filter(config: &Config, cards_per_region: u32) -> u32
     requires suits { Suits config.now }
     requires cards { cards_per_region ≡ config.now.words / card_words config.now }
@@ -92,10 +107,10 @@ fn rows_of_filter(config: &Config, cards_per_region: u32) -> u32
     ensures whole { 0 < result → cards_per_region % 64 ≡ 0 }
     ensures formats { heap_limit config.now.format ≤ 2 ^ 24 → result ≡ 0 }
 {
-    if config.regions * config.words <= 1 << 24 || cards_per_region % 64 != 0 {
-        return 0;
+    match config.format {
+        Format::V1 | Format::V2 { .. } => 0,
+        Format::V3 { .. } => rows_of_cards(config.card_words(), cards_per_region),
     }
-    7 * config.card_words() / 32
 }
 
 /// Each card clean, and each remembered set empty.
@@ -113,20 +128,22 @@ fn new_remembering(alloc: Global, config: &Config) -> Result<Remembering, AllocE
     Ok(Remembering { cards, sets })
 }
 
-/// Room for a pause over every region and every card.
+/// Room for a pause over every region and every card, and no region young.
 fn new_pausing(alloc: Global, config: &Config) -> Result<Pausing, AllocError>
     requires { Suits config.now }
     ensures room { IfOk result (λ p. p.room
         ≡ record { regions = config.now.regions; cards = config.now.regions * (config.now.words / card_words config.now) }) }
     ensures rows { IfOk result (λ p. vec_capacity p.rows ≡ config.now.regions) }
+    ensures ages { IfOk result (λ p. p.ages ≡ fresh_ages config.now.regions) }
 {
     let cards_per_region = config.words / config.card_words();
     let room = PauseRoom::new(alloc, config.regions, config.regions * cards_per_region)?;
     let rows = Vec::with_capacity(alloc, config.regions as usize)?;
-    Ok(Pausing { room, rows })
+    let ages = RegionAges::new(alloc, config.regions)?;
+    Ok(Pausing { room, rows, ages })
 }
 
-/// Marking doesn't run and nothing is marked, nothing is remembered, and a pause has room.
+/// Marking doesn't run and nothing is marked, nothing is remembered, a pause has room, and no region is young.
 pub(crate) fn new_collecting(alloc: Global, config: &Config) -> Result<Collecting, AllocError>
     requires { Suits config.now }
     ensures marker { IfOk result (λ c. c.marker ≡ fresh_marker config.now) }
@@ -134,6 +151,7 @@ pub(crate) fn new_collecting(alloc: Global, config: &Config) -> Result<Collectin
         → MarkerStands t c.marker) }
     ensures idle { IfOk result (λ c. c.marker.running ≡ false) }
     ensures logs { IfOk result (λ c. c.marker.logs ≡ replicate config.now.mutators []) }
+    ensures spare { IfOk result (λ c. c.marker.waiting.room ≡ waiting_room config.now) }
     ensures cards { IfOk result (λ c. c.remembering.cards
         ≡ clean_cards (config.now.regions * (config.now.words / card_words config.now)) config.now.mutators) }
     ensures sets { IfOk result (λ c. c.remembering.sets ≡ empty_sets config.now.regions (config.now.words / card_words config.now)
@@ -141,6 +159,7 @@ pub(crate) fn new_collecting(alloc: Global, config: &Config) -> Result<Collectin
     ensures room { IfOk result (λ c. c.pausing.room
         ≡ record { regions = config.now.regions; cards = config.now.regions * (config.now.words / card_words config.now) }) }
     ensures rows { IfOk result (λ c. vec_capacity c.pausing.rows ≡ config.now.regions) }
+    ensures ages { IfOk result (λ c. c.pausing.ages ≡ fresh_ages config.now.regions) }
 {
     let marker = Marker::new(alloc, config)?;
     let remembering = new_remembering(alloc, config)?;

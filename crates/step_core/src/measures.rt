@@ -18,7 +18,7 @@ ghost use Rattle.graph_runs.specs.State.{register_place, root_at};
 ghost use Rattle.heap_steps.specs.Roots.{IsRegister};
 ghost use Rattle.step_core.specs.Stands.{root_counts_of, kept_of, name_in, ShowsGraph};
 ghost use Rattle.step_core.specs.Mutators.{register_of};
-ghost use Rattle.step_core.specs.Measures.{used_words, live_in, live_words, HasGrey};
+ghost use Rattle.step_core.specs.Measures.{used_words, live_in, live_words, HasGrey, HasSlotsLeft};
 
 use crate::heap::Core;
 use heap_steps::Register;
@@ -119,7 +119,7 @@ impl Core {
         sum
     }
 
-    /// Whether marking runs and a marked object isn't scanned yet.
+    /// Whether marking runs and something is left to be marked: a root waits, or a marked object isn't scanned yet.
     ///
     /// ```rust
     /// core.step(new);
@@ -132,7 +132,21 @@ impl Core {
         if !self.marker.running {
             return false;
         }
+        if !self.marker.waiting.is_empty() {
+            return true;
+        }
         self.marker.grey.any(&self.marker.bitmaps.next).is_some()
+    }
+
+    /// Whether weak slots that read nil wait to be cleared.
+    ///
+    /// ```rust
+    /// assert!(rt; !core.clearing());
+    /// ```
+    pub fn clearing(&self) -> bool
+        ensures { IsTrue result ↔ HasSlotsLeft self.now }
+    {
+        self.clearing.is_some()
     }
 
     /// How many globals there are.

@@ -4,18 +4,19 @@ ghost use Rattle.std.specs.Prelude.{◌≡◌, ◌<◌, ◌≤◌, ◌*◌, ◌�
 ghost use Rattle.heap_words.specs.Configs.{max_object_words, object_limit};
 ghost use Rattle.heap_words.specs.Sizes.{size_of};
 ghost use Rattle.heap_model.specs.Graph.{Graph};
+ghost use Rattle.heap_model.specs.Heap.{IsRoot};
 ghost use Rattle.heap_model.specs.Weak.{KeepsUnreached};
 ghost use Rattle.graph_runs.specs.State.{State, ForSnapshot, root_counts_of};
 ghost use Rattle.heap_steps.specs.Roots.{IsRegister, IsGlobal, IsValue, IsOpAt};
 ghost use Rattle.graph_runs.specs.Run.{snapshot_after};
 ghost use Rattle.heap_steps.specs.declared.step.Reply.TheVariants as replies;
 ghost use Rattle.heap_steps.specs.declared.step.Refusal.TheVariants as refusals;
-ghost use Rattle.regions.specs.Table.{new_object, fields_at, pointers_at, values_at, set_pointer, set_value};
+ghost use Rattle.regions.specs.Table.{new_object, fields_at, pointers_at, weaks_at, values_at, set_pointer, set_value};
 ghost use Rattle.alloc_buffers.specs.Placement.{address_of, allocation_of, CanHold, IsMadeAt, Placement, made_at};
-ghost use Rattle.step_core.specs.Stands.{ShowsGraph, KeepsFrom};
+ghost use Rattle.step_core.specs.Stands.{ShowsGraph, KeepsFrom, heap_of};
 ghost use Rattle.step_core.specs.Answers.{Acts, IsWithin, new_reply};
 ghost use Rattle.step_core.specs.Making.{CanMake, HasMade, MakesNew, MakesObject};
-ghost use Rattle.step_core.specs.Mutators.{ActsOn, value_of, weaks_made};
+ghost use Rattle.step_core.specs.Mutators.{ActsOn, value_of, weak_of, weaks_made, with_current};
 ghost use Rattle.step_core.specs.Cycle.{LeavesRegions};
 ghost use Rattle.step_core.specs.Parts.{DoesAction, HoldsValue, NamesAt};
 ghost use Rattle.step_core.specs.Words.{Takes};
@@ -23,8 +24,9 @@ ghost use Rattle.step_core.specs.Words.{Takes};
 use crate::heap::Core;
 use alloc_buffers::{AllocBuffers, Allocation, Full};
 use heap_steps::{Action, Counts, GlobalRoot, Op, Refusal, Register, Reply};
-use heap_words::addr::{Addr, Ptr};
+use heap_words::addr::{Addr, Ptr, RegionNo};
 use heap_words::header::{Count, FillerSize, HeaderCounts};
+use region_choice::RegionAges;
 use regions::RegionTable;
 
 /// Makes a new object in its place, and answers its address.
@@ -79,6 +81,7 @@ fn make_inside(
     requires half { 2 * size ≤ table.old.words_per_region }
     ensures made { IfSome result (λ a. (p : Placement) × IsMadeAt table.old table.new buffers.old buffers.new mutator size
         (new_object name counts.pointers weaks counts.values) a p) }
+    ensures current { buffers.new.current ≡ buffers.old.current }
     ensures table_same { IfNone result (table.new ≡ table.old) }
     ensures buffers_same { IfNone result (buffers.new ≡ buffers.old) }
 {
@@ -94,27 +97,49 @@ fn make_inside(
     Some(at)
 }
 
-/// Makes an object in its place.
+/// A region that is the current one now is taken, unless it was current before.
+fn take_current(ages: &mut RegionAges, was: Option<u32>, now: Option<u32>)
+    requires known { IfSome now (λ k. k < length ages.old.stamps) }
+    ensures { ages.new ≡ with_current ages.old was now }
+{
+    let Some(number) = now else {
+        return;
+    };
+    if let Some(before) = was {
+        if before == number {
+            return;
+        }
+    }
+    ages.take(RegionNo::new(number));
+}
+
+/// Makes an object in its place. A region that is taken for it is the youngest then.
 #[inline(always)]
 fn make_in_place(
     table: &mut RegionTable,
     buffers: &mut AllocBuffers,
+    ages: &mut RegionAges,
     mutator: u32,
     size: u32,
     name: u64,
     counts: Counts,
     weaks: u8,
 ) -> Result<Addr, Full>
-    requires { CanMake table.old buffers.old mutator size counts weaks }
+    requires can { CanMake table.old buffers.old mutator size counts weaks }
+    requires each { length ages.old.stamps ≡ length table.old.regions }
     ensures made { IfOk result (λ a. (p : Placement) × IsMadeAt table.old table.new buffers.old buffers.new mutator size
         (new_object name counts.pointers weaks counts.values) a p) }
     ensures full { IsErr result ↔ (allocation_of table.old buffers.old mutator size ≡ None) }
     ensures table_same { OnErr result (table.new ≡ table.old) }
     ensures buffers_same { OnErr result (buffers.new ≡ buffers.old) }
+    ensures aged { IfOk result (λ a. ages.new ≡ with_current ages.old buffers.old.current buffers.new.current) }
+    ensures ages_same { OnErr result (ages.new ≡ ages.old) }
 {
+    let was = buffers.current();
     let Ok(place) = buffers.allocate(table, mutator, size) else {
         return Err(Full);
     };
+    take_current(ages, was, buffers.current());
     table.law();
     Ok(make(table, place, name, header_counts(counts, weaks)))
 }
@@ -124,6 +149,7 @@ fn make_in_place(
 fn create(
     table: &mut RegionTable,
     buffers: &mut AllocBuffers,
+    ages: &mut RegionAges,
     mutator: u32,
     size: u32,
     humongous: bool,
@@ -133,18 +159,21 @@ fn create(
 ) -> Result<Addr, Full>
     requires can { CanMake table.old buffers.old mutator size counts weaks }
     requires half { humongous ≡ false → 2 * size ≤ table.old.words_per_region }
+    requires each { length ages.old.stamps ≡ length table.old.regions }
     ensures made { IfOk result (λ a. (p : Placement) × IsMadeAt table.old table.new buffers.old buffers.new mutator size
         (new_object name counts.pointers weaks counts.values) a p) }
     ensures full { IsErr result ↔ (allocation_of table.old buffers.old mutator size ≡ None) }
     ensures table_same { OnErr result (table.new ≡ table.old) }
     ensures buffers_same { OnErr result (buffers.new ≡ buffers.old) }
+    ensures aged { IfOk result (λ a. ages.new ≡ with_current ages.old buffers.old.current buffers.new.current) }
+    ensures ages_same { OnErr result (ages.new ≡ ages.old) }
 {
     if !humongous {
         if let Some(at) = make_inside(table, buffers, mutator, size, name, counts, weaks) {
             return Ok(at);
         }
     }
-    make_in_place(table, buffers, mutator, size, name, counts, weaks)
+    make_in_place(table, buffers, ages, mutator, size, name, counts, weaks)
 }
 
 /// How many weak slots the object that an action makes has. `act` asks it, so that `new_object` stands there once.
@@ -411,6 +440,20 @@ impl Core {
         }
     }
 
+    /// What a weak slot of an object that a root names shows: what it holds, or nil while it is still to be cleared.
+    #[inline(always)]
+    fn weak_word(&self, object: Addr, slot: u32) -> Ptr
+        requires rooted { IsRoot (heap_of self.now) object }
+        requires slot { slot < length (weaks_at self.now.table object) }
+        ensures { result ≡ weak_of self.now object slot }
+    {
+        let word = self.table.get_weak(object, slot);
+        if self.clearing.is_none() {
+            return word;
+        }
+        self.marker.lasting(&self.table, word)
+    }
+
     fn get_weak(&mut self, mutator: u32, to: Register, object: Register, slot: u32) -> Reply
         requires mutator { mutator < self.old.config.mutators }
         requires to { IsRegister (root_counts_of self.old.config) to }
@@ -428,7 +471,7 @@ impl Core {
         if slot >= self.table.weak_count(at) {
             return Reply::Refused(Refusal::NoField);
         }
-        let value = self.table.get_weak(at, slot);
+        let value = self.weak_word(at, slot);
         let name = self.name_of(&value);
         self.touch(mutator, to, &value);
         Reply::Named(name)
@@ -601,6 +644,7 @@ impl Core {
         let Ok(at) = create(
             table,
             &mut self.buffers,
+            &mut self.ages,
             mutator,
             size,
             humongous,

@@ -1,25 +1,30 @@
-//! A pause and a compaction: the regions of a collection set are evacuated and reclaimed, within a budget of words.
+//! A pause, a compaction and a young pause: the regions of a collection set are evacuated and reclaimed, within a budget of words.
 //!
 //! ```text
 //!   close          no buffer is open, and no region is current
 //!   refine all     every dirty card is refined: what leads into a region is covered by its set
 //!   choose         within the budget and the free regions, a pause the candidates with the least live words,
-//!                  a compaction the highest ordinary regions, if all copies go down
+//!                  one within so many cards those of them that few cards lead into,
+//!                  a compaction the highest ordinary regions, if all copies go down,
+//!                  a young pause the young regions that were taken first, of which few cards lead into each
 //!   evacuate       what is reached in them is copied into free regions, and they are released
 //! ```
 
-ghost use Rattle.std.specs.Prelude.{◌≡◌, ℕ, ◌<◌, ◌^◌, false, length, All};
+ghost use Rattle.std.specs.Prelude.{◌≡◌, ℕ, ◌<◌, ◌^◌, false, None, length, All};
 ghost use Rattle.heap_model.specs.Graph.{Graph};
 ghost use Rattle.alloc_buffers.specs.Placement.{closed};
 ghost use Rattle.cards.specs.Cards.{is_dirty};
 ghost use Rattle.step_core.specs.Stands.{ShowsGraph, KeepsFrom};
-ghost use Rattle.step_core.specs.Pause.{AreForgotten, IsReady, EvacuatesSet, HasCompacted, HasMoved, HasPaused};
+ghost use Rattle.region_choice.specs.Ages.{AgesAfter};
+ghost use Rattle.evacuation.specs.Evacuates.{is_chosen};
+ghost use Rattle.step_core.specs.Pause.{AreForgotten, IsReady, EvacuatesSet, HasCompacted, HasMoved, HasPaused, HasPausedWithin};
+ghost use Rattle.step_core.specs.Pause.{HasPausedYoung};
 
 use crate::candidates::{Choice, choose_set};
 use crate::heap::Core;
 use evacuation::{Moved, evacuate};
 use marker::live::LiveWords;
-use region_choice::LiveRow;
+use region_choice::{LiveRow, RegionAges};
 
 /// Nothing is counted any more of the regions of the collection set: their marks go with the evacuation.
 fn forget_counts(live: &mut LiveWords, rows: &[LiveRow])
@@ -29,6 +34,16 @@ fn forget_counts(live: &mut LiveWords, rows: &[LiveRow])
 {
     for row in rows {
         live.forget(row.region);
+    }
+}
+
+/// Nor are their ages known any more.
+fn forget_ages(ages: &mut RegionAges, rows: &[LiveRow])
+    requires { All (λ row. row.region < length ages.old.stamps) rows.now }
+    ensures { AgesAfter (is_chosen rows.now) ages.old ages.new }
+{
+    for row in rows {
+        ages.forget(row.region);
     }
 }
 
@@ -48,6 +63,7 @@ impl Core {
 
     /// The regions of the collection set are evacuated, where nothing is dirty.
     fn evacuate_set(&mut self, choice: Choice, budget: u32) -> Moved
+        requires settled { self.old.clearing ≡ None }
         requires clean { (card : ℕ) → is_dirty self.old.cards card ≡ false }
         requires closed { self.old.buffers ≡ closed self.old.buffers.words (length self.old.buffers.open_buffers) }
         ensures shows { (g : Graph) → ShowsGraph g self.old → ShowsGraph g self.new }
@@ -56,8 +72,18 @@ impl Core {
         ensures few { result.regions < 2 ^ 32 }
     {
         self.table.law();
-        let count = choose_set(choice, &self.table, &self.marker, &mut self.rows, budget);
+        let count = choose_set(
+            choice,
+            &self.table,
+            &self.marker,
+            &self.sets,
+            &self.ages,
+            &mut self.room,
+            &mut self.rows,
+            budget,
+        );
         forget_counts(&mut self.marker.live, &self.rows[..count]);
+        forget_ages(&mut self.ages, &self.rows[..count]);
         evacuate(
             &mut self.table,
             &mut self.marker.tams,
@@ -73,6 +99,7 @@ impl Core {
 
     /// All is made ready, and the regions of the collection set are evacuated.
     fn move_set(&mut self, choice: Choice, budget: u32) -> Moved
+        requires settled { self.old.clearing ≡ None }
         ensures shows { (g : Graph) → ShowsGraph g self.old → ShowsGraph g self.new }
         ensures keeps { (s : Graph) → KeepsFrom s self.old → KeepsFrom s self.new }
         ensures moved { HasMoved choice budget result.regions result.words self.old self.new }
@@ -82,8 +109,9 @@ impl Core {
         self.evacuate_set(choice, budget)
     }
 
-    /// A pause.
+    /// A pause, where no weak slot is still to be cleared.
     pub(crate) fn pause(&mut self, budget: u32) -> Moved
+        requires settled { self.old.clearing ≡ None }
         ensures shows { (g : Graph) → ShowsGraph g self.old → ShowsGraph g self.new }
         ensures keeps { (s : Graph) → KeepsFrom s self.old → KeepsFrom s self.new }
         ensures paused { HasPaused budget result.regions result.words self.old self.new }
@@ -92,13 +120,36 @@ impl Core {
         self.move_set(Choice::Best, budget)
     }
 
-    /// A compaction.
+    /// A pause within so many cards, where none is either.
+    pub(crate) fn pause_within(&mut self, budget: u32, cards: u32) -> Moved
+        requires settled { self.old.clearing ≡ None }
+        ensures shows { (g : Graph) → ShowsGraph g self.old → ShowsGraph g self.new }
+        ensures keeps { (s : Graph) → KeepsFrom s self.old → KeepsFrom s self.new }
+        ensures paused { HasPausedWithin budget cards result.regions result.words self.old self.new }
+        ensures few { result.regions < 2 ^ 32 }
+    {
+        self.move_set(Choice::Within(cards), budget)
+    }
+
+    /// A compaction, where none is either.
     pub(crate) fn compact(&mut self, budget: u32) -> Moved
+        requires settled { self.old.clearing ≡ None }
         ensures shows { (g : Graph) → ShowsGraph g self.old → ShowsGraph g self.new }
         ensures keeps { (s : Graph) → KeepsFrom s self.old → KeepsFrom s self.new }
         ensures compacted { HasCompacted budget result.regions result.words self.old self.new }
         ensures few { result.regions < 2 ^ 32 }
     {
         self.move_set(Choice::Highest, budget)
+    }
+
+    /// A young pause within so many cards, where none is either.
+    pub(crate) fn young(&mut self, budget: u32, cards: u32) -> Moved
+        requires settled { self.old.clearing ≡ None }
+        ensures shows { (g : Graph) → ShowsGraph g self.old → ShowsGraph g self.new }
+        ensures keeps { (s : Graph) → KeepsFrom s self.old → KeepsFrom s self.new }
+        ensures paused { HasPausedYoung budget cards result.regions result.words self.old self.new }
+        ensures few { result.regions < 2 ^ 32 }
+    {
+        self.move_set(Choice::Youngest(cards), budget)
     }
 }

@@ -26,6 +26,7 @@ impl Core {
                 if self.marker.running {
                     return Reply::Refused(Refusal::MarkRunning);
                 }
+                self.settle();
                 self.begin();
                 Reply::Done
             }
@@ -40,16 +41,20 @@ impl Core {
                 if !self.marker.running {
                     return Reply::Refused(Refusal::NotMarking);
                 }
-                Reply::Marked(self.remark())
+                let marked = self.remark();
+                self.clear_by_format();
+                Reply::Marked(marked)
             }
             CollectorStep::Cleanup => {
                 if self.marker.running {
                     return Reply::Refused(Refusal::MarkRunning);
                 }
+                self.settle();
                 Reply::Reclaimed(self.cleanup())
             }
             CollectorStep::Refine(cards) => Reply::Refined(self.refine(cards)),
             CollectorStep::Pause(budget) => {
+                self.settle();
                 let moved = self.pause(budget);
                 Reply::Moved {
                     regions: moved.regions as u32,
@@ -57,7 +62,28 @@ impl Core {
                 }
             }
             CollectorStep::Compact(budget) => {
+                self.settle();
                 let moved = self.compact(budget);
+                Reply::Moved {
+                    regions: moved.regions as u32,
+                    words: moved.words,
+                }
+            }
+            CollectorStep::Clear(objects) => {
+                self.clear(objects);
+                Reply::Done
+            }
+            CollectorStep::PauseWithin(limits) => {
+                self.settle();
+                let moved = self.pause_within(limits.words, limits.cards);
+                Reply::Moved {
+                    regions: moved.regions as u32,
+                    words: moved.words,
+                }
+            }
+            CollectorStep::Young(limits) => {
+                self.settle();
+                let moved = self.young(limits.words, limits.cards);
                 Reply::Moved {
                     regions: moved.regions as u32,
                     words: moved.words,

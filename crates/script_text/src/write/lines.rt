@@ -303,6 +303,7 @@ fn put_action(buffer: &mut [u8], at: usize, action: Action) -> usize
     }
 }
 
+#[inline(never)]
 fn put_collection(buffer: &mut [u8], at: usize, collection: CollectorStep) -> usize
     requires { at + 52 ≤ length buffer.old }
     ensures put { take result buffer.new ≡ take at buffer.old ++ spaced (collection_words collection) }
@@ -313,7 +314,12 @@ fn put_collection(buffer: &mut [u8], at: usize, collection: CollectorStep) -> us
     if row.operands.is_empty() {
         return at;
     }
-    put_count(buffer, at, b" ", collection.number())
+    let (first, second) = collection.numbers();
+    let end = put_count(buffer, at, b" ", first);
+    if row.operands.len() < 2 {
+        return end;
+    }
+    put_count(buffer, end, b" ", second)
 }
 
 fn refusal_text(refusal: Refusal) -> &'static [u8]

@@ -88,6 +88,9 @@ fn collection_fits(step: CollectorStep)
         CollectorStep::Refine(cards) => read_all!(cards),
         CollectorStep::Pause(budget) => read_all!(budget),
         CollectorStep::Compact(budget) => read_all!(budget),
+        CollectorStep::PauseWithin(limits) => read_all!(limits.words, limits.cards),
+        CollectorStep::Young(limits) => read_all!(limits.words, limits.cards),
+        CollectorStep::Clear(objects) => read_all!(objects),
         _ => {}
     }
 }

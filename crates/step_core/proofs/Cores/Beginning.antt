@@ -16,11 +16,13 @@ use Rattle.heap_words.specs.Configs.{Suits}
 use Rattle.alloc_buffers.specs.declared.buffers.Buffer.{Buffer}
 use Rattle.alloc_buffers.specs.Placement.{BuffersStand, AreAbove, closed}
 use Rattle.satb_log.specs.Logs.{log_of}
+use Rattle.marker.specs.Views as views
 use Rattle.marker.specs.Stands.{MarkerStands}
 use Rattle.marker.specs.declared.marker.Marker.{Marker}
 use Rattle.cards.specs.Cards.{clean_cards, is_dirty}
 use Rattle.remembered_sets.specs.Sets.{empty_sets, empty_set, may_lead}
 use Rattle.step_core.specs.Fresh.{filter_rows}
+use Rattle.region_choice.specs.Ages.{fresh_ages}
 use Rattle.refinement.proofs.Remembered.{remembers_none}
 use Rattle.evacuation.specs.Rooms.{RoomSizes}
 use Rattle.heap_words.specs.Configs.{card_words}
@@ -55,9 +57,11 @@ first_core g m d r = record {
   sets = empty_sets g.regions (g.words / card_words g) (filter_rows g);
   room = d;
   row_room = r;
+  ages = fresh_ages g.regions;
   places = root_counts_of g;
   roots = replicate (root_places (root_counts_of g)) None;
   next = g.first_name;
+  clearing = None;
 }
 
 none_kept : (g : Config) (m : Marker) (d : RoomSizes) (r : ℕ) (a : ℕ) (x : Stored) → kept_of (first_core g m d r) a ≡ Some x → ⊥
@@ -121,8 +125,9 @@ first_cards g suits = record {
 
 pub first_is : (g : Config) (m : Marker) (d : RoomSizes) (r : ℕ) → ((t : Table) → BuffersStand t (closed g.buffer g.mutators)) → Suits g
     → IsRoomFor g d → g.regions ≤ r → g.first_name < 2 ^ 64 → m.running ≡ false → m.logs ≡ replicate g.mutators []
+    → m.waiting.room ≡ views.waiting_room g
     → ((t : Table) → length t.regions ≡ g.regions → t.words_per_region ≡ g.words → MarkerStands t m) → IsCore (first_core g m d r)
-first_is g m d r stand suits to rows names idle logs stands =
+first_is g m d r stand suits to rows names idle logs spare stands =
     let t : Table = free_table g.regions g.words in
     let st : MarkerStands t m = stands t (count_is g.regions g.words) (size_is g.regions g.words) in
     record {
@@ -133,6 +138,7 @@ first_is g m d r stand suits to rows names idle logs stands =
         buffer_size = refl;
         open_buffers = length-replicate g.mutators None;
         logs = ap (λ (ls : List (List ℕ)). length ls) logs ∙ length-replicate g.mutators [];
+        waits = spare;
         buffers = stand t;
         unmoved = free_table-unmoved g.regions g.words;
         marker = st;
@@ -149,9 +155,14 @@ first_is g m d r stand suits to rows names idle logs stands =
           (is_dirty (first_core g m d r).cards) (may_lead (first_core g m d r).sets) (first_none g m d r);
       room = to;
       rows = rows;
+      ages = length-replicate g.regions 0;
       placed = refl;
       places = length-replicate (root_places (root_counts_of g)) None;
       names = names;
+      slots = record {
+        cleared = λ a b p w. absurd (none_kept g m d r a w.object w.at);
+        lead = λ a b w. absurd (none_kept g m d r a w.object w.at);
+      };
       footing = record { graph = first_graph g; snapshot = first_graph g };
       rests = record {
         shows = first_shows g m d r;

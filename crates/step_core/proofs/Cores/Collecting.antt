@@ -54,4 +54,10 @@ module _ (which : Choice) (budget n w : ℕ) (c c' : CoreState) (h : HasMoved wh
   moved_running = ap (λ (m : Marker). m.running) h.evacuates.marker ∙ ap (λ (d : CoreState). d.marker.running) h.is_ready.same
 
   pub moved_reclaims : (i : ℕ) → IsReclaimed c.table c'.table i → IsInSet which budget c i
-  moved_reclaims i x = record { chosen = h.evacuates.chosen; choice = h.evacuates.choice; inside = (h.evacuates.reclaimed i).0 x }
+  moved_reclaims i x = record {
+    ready = h.ready;
+    is_ready = h.is_ready;
+    chosen = h.evacuates.chosen;
+    choice = h.evacuates.choice;
+    inside = (h.evacuates.reclaimed i).0 x;
+  }

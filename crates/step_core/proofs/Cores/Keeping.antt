@@ -1,5 +1,5 @@
 -- What each part of a step keeps: k is the core by its fields, c the same by its value.
-use Rattle.std.proofs.Common.{◌≡◌, ℕ, ◌+◌, ◌<◌, Option, Some, None, List, length, get_or, inl, refl, sym, ◌∙◌, ap, subst, arith}
+use Rattle.std.proofs.Common.{◌≡◌, ℕ, ◌+◌, ◌<◌, ◌⊎◌, Option, Some, None, List, length, get_or, inl, refl, sym, ◌∙◌, ap, subst, arith}
 use Rattle.std.specs.Prelude.{slice_get, slice_set, unwrap_or, IsSome, IfSome}
 use Rattle.std.proofs.lemmas.List.{length-set}
 use Rattle.heap_words.specs.declared.config.Config.{Config}
@@ -24,8 +24,11 @@ use Rattle.step_core.specs.Mutators.{with_root_word}
 use Rattle.step_core.specs.Parts.{DoesAction, HoldsRegister, HoldsRoot, NamesAt}
 use Rattle.step_core.specs.Answers.{Acts}
 use Rattle.step_core.proofs.Cores.Sizes.{some_words}
+use Rattle.step_core.proofs.Cores.Slots.{slots_same, slots_set, object_stays}
+use Rattle.heap_model.specs.Clearing.{IsWeakShown, KeepsAt, kept_word}
+use Rattle.step_core.specs.Stands.{IsClearing}
 use Rattle.step_core.proofs.Cores.Resting.{core_over, root_rests, object_rests}
-use Rattle.step_core.proofs.Cores.Layers.{layers_writes, follows_of}
+use Rattle.step_core.proofs.Cores.Layers.{layers_writes, follows_of, still_there}
 use Rattle.step_core.proofs.Mutating.Written.{object_written, write_keeps, root_keeps}
 use Rattle.step_core.proofs.Cores.Remembering.{remembers_on, written_fields}
 use Rattle.step_core.proofs.Mutating.Reading.{root_shown, leads, root_word, root_rooted, object_kept}
@@ -122,6 +125,10 @@ module _ (k c : CoreState) (place : ℕ) (w : Option ℕ) (e : k ≡ c) where
     unfolding kept_of
     root_remembers = core.remembers
 
+    root_slots : IsClearing (with_root_word k place w)
+    unfolding kept_of
+    root_slots = slots_same k (with_root_word k place w) core.slots refl (λ a. refl) (λ b h. h)
+
     pub root_leaves : LeavesRegions c (with_root_word k place w)
     root_leaves = subst (λ (d : CoreState). LeavesRegions d (with_root_word k place w)) e (record { config = refl; in_use = λ n h. h })
 
@@ -129,7 +136,7 @@ module _ (k c : CoreState) (place : ℕ) (w : Option ℕ) (e : k ≡ c) where
     root_kept word =
         let word' : IsWordOf (heap_of k) w = subst (λ (d : CoreState). IsWordOf (heap_of d) w) (sym e) word in
         core_over k core k.table k.buffers k.marker k.cards k.sets (slice_set k.roots place w) (length-set k.roots place w)
-        core.layers core.cards root_remembers
+        core.layers core.cards root_remembers root_slots
         (record { graph = with_root core.footing.graph place word'.name; snapshot = core.footing.snapshot }) (record {
           shows = root_shows core.footing.graph k place w word'.name core.rests.shows word'.shown;
           keeps = root_keeps core.footing.graph core.footing.snapshot k place w _ core.rests.shows held' refl core.rests.keeps;
@@ -157,14 +164,18 @@ object_led k c place a e core l =
 pub written_kept : (k : CoreState) (core : IsCore k) (a : ℕ) (x y : Stored) (o p : Object) (t : Table) → kept_of k a ≡ Some x
     → WritesObject k.table t a x y → y.name ≡ x.name → y.pointers ≡ x.pointers → tiles.tile_size (tiles.Object y) ≡ tiles.tile_size
     (tiles.Object x) → object_named core.footing.graph x.name ≡ Some o → p.pointers ≡ o.pointers
-    → AllZip (IsShown (heap_of k)) y.pointers p.pointers → AllZip (IsShown (heap_of k)) y.weaks p.weaks
+    → AllZip (IsShown (heap_of k)) y.pointers p.pointers → AllZip (IsWeakShown (heap_of k)) y.weaks p.weaks
     → ShowsGraph (with_changed core.footing.graph x.name p) (record k { table = t }) → RemembersFields (record k { table = t })
+    → ((i b : ℕ) → slice_get y.weaks i ≡ Some (Some b) → (slice_get x.weaks i ≡ Some (Some b)) ⊎ KeepsAt (heap_of k) b)
     → IsCore (record k { table = t })
-written_kept k core a x y o p t at writes name same long named stay pointers weaks shows remembers =
+written_kept k core a x y o p t at writes name same long named stay pointers weaks shows remembers slots =
+    let set = object_written k (record k { table = t }) a x y writes name at (record { tams = refl; previous = refl; roots = refl }) in
+    let lead = slots_set k (record k { table = t }) a x y set core.slots refl slots
+    (object_stays k (record k { table = t }) (λ b z e. still_there k.table t a b x y z writes e)) in
     let keeps = write_keeps core.footing.snapshot k t a x y writes name at same core.rests.keeps in
     core_over k core t k.buffers k.marker k.cards k.sets k.roots refl
     (layers_writes k.config k.table t k.buffers k.marker a x y writes core.layers
-    (follows_of (record k { table = t }) _ core.footing.snapshot shows keeps) long) core.cards remembers
+    (follows_of (record k { table = t }) _ core.footing.snapshot shows keeps) long) core.cards remembers lead
     (record { graph = with_changed core.footing.graph x.name p; snapshot = core.footing.snapshot }) (record {
       shows = shows;
       keeps = keeps;
@@ -222,7 +233,7 @@ module _ (k c : CoreState) (e : k ≡ c) (core : IsCore k) (m : ℕ) (object : R
       (object_shows core.footing.graph k d a h.stored (with_value h.stored i v) h.object p core.rests.shows
       (record { config = refl; next = refl }) write_set h.named h.pointers h.weaks (ap (λ (vs : List ℕ). slice_set vs i v) h.values))
       (remembers_on k d refl writes.size refl refl (written_fields (heap_of k) (heap_of d) a h.stored (with_value h.stored i v) write_set
-      refl) core.remembers)
+      refl) core.remembers) (λ n b q. inl q)
 
 -- the pointers and the data words of the object at an address, by the core's value
 pub pointers_of : (k c : CoreState) (a : ℕ) → k ≡ c → pointers_at k.table a ≡ pointers_at c.table a
@@ -235,7 +246,7 @@ pub weaks_of : (k c : CoreState) (a : ℕ) → k ≡ c → weaks_at k.table a �
 weaks_of k c a e = ap (λ (d : CoreState). weaks_at d.table a) e
 
 pub slot_of : (k c : CoreState) (place a i : ℕ) (w : Option ℕ) → k ≡ c → IsCore k → Leads c place (Some a)
-    → slice_get (weaks_at k.table a) i ≡ Some w → IsWordOf (heap_of c) w
+    → slice_get (weaks_at k.table a) i ≡ Some w → IsWordOf (heap_of c) (kept_word (kept_of c) w)
 slot_of k c place a i w e core l is =
     slot_word c place a i w (core_of k c e core) l (ap (λ (ps : List (Option ℕ)). slice_get ps i) (sym (weaks_of k c a e)) ∙ is)
 

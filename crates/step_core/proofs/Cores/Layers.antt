@@ -36,7 +36,7 @@ stands_over t t' m st count size low high stays words follows =
     (λ a h. let o = st.previous.object a h in words a o.0 o.1) (λ a h. let o = st.next.object a h in words a o.0 o.1) follows
 
 -- an object is written over: there still is one
-still_there : (t t' : Table) (a b : ℕ) (x y z : Stored) → WritesObject t t' a x y → object_at t b ≡ Some z
+pub still_there : (t t' : Table) (a b : ℕ) (x y z : Stored) → WritesObject t t' a x y → object_at t b ≡ Some z
     → (u : Stored) × (object_at t' b ≡ Some u)
 still_there t t' a b x y z w e =
     elim (cases_eq b a) [ inl q ↦ (y, ap (object_at t') q ∙ w.is) | inr n ↦ (z, object_same t t' b (w.others b n) ∙ e) ]
@@ -53,14 +53,15 @@ marker_writes t t' b m a x y w previous next st follows long =
 
 -- an object is written, and marking may have gone on: tops stay, and no log is full
 pub layers_changed : (config : Config) (t t' : Table) (b : Buffers) (m m' : Marker) (a : ℕ) (x y : Stored) → WritesObject t t' a x y
-    → LayersFit config t b m → MarkerStands t' m' → m'.tams ≡ m.tams → length m'.logs ≡ length m.logs
+    → LayersFit config t b m → MarkerStands t' m' → m'.tams ≡ m.tams → m'.waiting.room ≡ m.waiting.room → length m'.logs ≡ length m.logs
     → ((mutator : ℕ) → length (log_of m'.logs mutator) < 8) → tile_size (Object y) ≡ tile_size (Object x) → LayersFit config t' b m'
-layers_changed config t t' b m m' a x y w l st tams logs room long = record {
+layers_changed config t t' b m m' a x y w l st tams spare logs room long = record {
   region_size = w.size ∙ l.region_size;
   region_count = w.count ∙ l.region_count;
   buffer_size = l.buffer_size;
   open_buffers = l.open_buffers;
   logs = logs ∙ l.logs;
+  waits = spare ∙ l.waits;
   buffers = stand_writes w l.buffers;
   unmoved = w.unmoved l.unmoved;
   marker = st;
@@ -77,17 +78,19 @@ pub layers_writes : (config : Config) (t t' : Table) (b : Buffers) (m : Marker) 
     → tile_size (Object y) ≡ tile_size (Object x) → LayersFit config t' b m
 layers_writes config t t' b m a x y w l follows long =
     layers_changed config t t' b m m a x y w l
-    (marker_writes t t' b m a x y w l.above_previous l.above_next l.marker follows long) refl refl l.room long
+    (marker_writes t t' b m a x y w l.above_previous l.above_next l.marker follows long) refl refl refl l.room long
 
 -- marking goes on: tops stay, and no log is full
 pub layers_marked : (config : Config) (t : Table) (b : Buffers) (m m' : Marker) → LayersFit config t b m → MarkerStands t m'
-    → m'.tams ≡ m.tams → length m'.logs ≡ length m.logs → ((mutator : ℕ) → length (log_of m'.logs mutator) < 8) → LayersFit config t b m'
-layers_marked config t b m m' l st tams logs room = record {
+    → m'.tams ≡ m.tams → m'.waiting.room ≡ m.waiting.room → length m'.logs ≡ length m.logs
+    → ((mutator : ℕ) → length (log_of m'.logs mutator) < 8) → LayersFit config t b m'
+layers_marked config t b m m' l st tams spare logs room = record {
   region_size = l.region_size;
   region_count = l.region_count;
   buffer_size = l.buffer_size;
   open_buffers = l.open_buffers;
   logs = logs ∙ l.logs;
+  waits = spare ∙ l.waits;
   buffers = l.buffers;
   unmoved = l.unmoved;
   marker = st;

@@ -14,6 +14,7 @@ use Rattle.mark_bitmap.specs.Marks.{is_marked}
 use Rattle.mark_bitmap.specs.Tops.{is_below, is_in_region}
 use Rattle.marker.specs.declared.marker.Marker.{Marker}
 use Rattle.remembered_sets.specs.Sets.{emptied}
+use Rattle.region_choice.specs.Ages.{Ages}
 use Rattle.step_core.specs.Stands.{CoreState, kept_of}
 use Rattle.step_core.specs.Reclaimed.{IsReclaimed}
 use Rattle.step_core.specs.Cycle.{IsDeadRegion, IsDead, IsAsNew, IsAsBefore, ChangesRegions, HasCleaned}
@@ -105,7 +106,8 @@ dead_head c i k shaped head low high (inr d) = elim (cases_eq d.first i) [
 -- changes one after another
 changes_twice : (c0 c c' : CoreState) → ChangesRegions c0 c → ChangesRegions c c' → ChangesRegions c0 c'
 changes_twice c0 c c' p r = record {
-  same = r.same ∙ ap (λ (d : CoreState). record d { table = c'.table; marker = c'.marker; sets = c'.sets }) p.same;
+  same = r.same ∙ ap (λ (d : CoreState). record d { table = c'.table; marker = c'.marker; sets = c'.sets; ages = c'.ages }) p.same;
+  ages = r.ages ∙ ap (λ (x : Ages). record x { stamps = c'.ages.stamps }) p.ages;
   marker = r.marker ∙ ap (λ (x : Marker). record x { tams = c'.marker.tams; bitmaps = c'.marker.bitmaps; live = c'.marker.live }) p.marker;
   size = r.size ∙ p.size;
   kept = λ a. r.kept a ∙ p.kept a;
@@ -122,6 +124,7 @@ before_twice c0 c c' k size p r = record {
   next_top = r.next_top ∙ p.next_top;
   previous_marks = λ a i. r.previous_marks a (subst (λ (w : ℕ). is_in_region w k a ≡ true) (sym size) i) ∙ p.previous_marks a i;
   next_marks = λ a i. r.next_marks a (subst (λ (w : ℕ). is_in_region w k a ≡ true) (sym size) i) ∙ p.next_marks a i;
+  age = r.age ∙ p.age;
 }
 
 new_still : (c c' : CoreState) (k : ℕ) → c'.table.words_per_region ≡ c.table.words_per_region → IsAsNew c k → IsAsBefore c c' k
@@ -135,6 +138,7 @@ new_still c c' k size p r = record {
   previous_marks = λ a i. let inside = subst (λ (w : ℕ). is_in_region w k a ≡ true) size i in
       r.previous_marks a inside ∙ p.previous_marks a inside;
   next_marks = λ a i. let inside = subst (λ (w : ℕ). is_in_region w k a ≡ true) size i in r.next_marks a inside ∙ p.next_marks a inside;
+  age = r.age ∙ p.age;
 }
 
 before_self : (c : CoreState) (k : ℕ) → IsAsBefore c c k
@@ -147,6 +151,7 @@ before_self c k = record {
   next_top = refl;
   previous_marks = λ a i. refl;
   next_marks = λ a i. refl;
+  age = refl;
 }
 
 -- the dead ones among the first i regions
@@ -229,7 +234,7 @@ pub record Cleans (i n : ℕ) (c0 c : CoreState) : Type 0 where
 
 pub none_cleaned : (c : CoreState) → IsShaped c.table → c.marker.running ≡ false → Cleans 0 0 c c
 none_cleaned c shaped idle = record {
-  changes = record { same = refl; marker = refl; size = refl; kept = λ a. refl };
+  changes = record { same = refl; marker = refl; ages = refl; size = refl; kept = λ a. refl };
   idle = idle;
   size = refl;
   each_set = refl;

@@ -16,18 +16,18 @@ use Rattle.step_core.specs.Cleaning.{HasForgotten, HasEmptied}
 
 -- a marker is the one before with other tops and marks, if the rest is the same
 pub marker_is : (m0 m : Marker) → m.grey ≡ m0.grey → m.logs ≡ m0.logs → m.running ≡ m0.running → m.scans ≡ m0.scans
-    → m ≡ record m0 { tams = m.tams; bitmaps = m.bitmaps; live = m.live }
-marker_is m0 m grey logs running scans = rw (sym grey, sym logs, sym running, sym scans) refl
+    → m.waiting ≡ m0.waiting → m ≡ record m0 { tams = m.tams; bitmaps = m.bitmaps; live = m.live }
+marker_is m0 m grey logs running scans waiting = rw (sym grey, sym logs, sym running, sym scans, sym waiting) refl
 
 -- none of no regions
-none_between : (k j : ℕ) → is_between k (k + 0) j ≡ false
+pub none_between : (k j : ℕ) → is_between k (k + 0) j ≡ false
 none_between k j = elim (cases_lt j k) [
   | inl less ↦ between_no_below k (k + 0) j less
   | inr more ↦ between_no_above k (k + 0) j (omega arith)
 ]
 
 -- one region more
-one_between : (k i q : ℕ) → q ≡ k + i → (j : ℕ) → is_between k (k + (i + 1)) j ≡ (is_between k (k + i) j || (q == j))
+pub one_between : (k i q : ℕ) → q ≡ k + i → (j : ℕ) → is_between k (k + (i + 1)) j ≡ (is_between k (k + i) j || (q == j))
 one_between k i q at j = elim (eqb_tells q j) [
   | inl e ↦ between_yes k (k + (i + 1)) j (omega (arith, at, e.1)) (omega (arith, at, e.1))
       ∙ sym (ap (λ (b : Bool). is_between k (k + i) j || b) e.0 ∙ or-true (is_between k (k + i) j))

@@ -5,7 +5,8 @@ use Rattle.std.proofs.lemmas.Bool.{cases_eq}
 use Rattle.heap_model.specs.Graph.{Graph}
 use Rattle.heap_model.specs.Heap.{Stored, fields}
 use Rattle.heap_model.proofs.Changed.{same_shows}
-use Rattle.heap_model.proofs.Shown.{closed}
+use Rattle.heap_model.proofs.Waiting.{will_same}
+use Rattle.step_core.proofs.Cores.Slots.{shows_now, all_closed, slots_now}
 use Rattle.heap_words.specs.Configs.{card_words}
 use Rattle.regions.specs.Tiles.{Filler, Object}
 use Rattle.regions.specs.Table.{Table, Free, First, nth_region, kind_of, object_at, object_words, tile_in, run_length, released, top_of}
@@ -30,6 +31,7 @@ use Rattle.marker.specs.declared.marker.Marker.{Marker}
 use Rattle.marker.proofs.Forgotten.{table_stands}
 use Rattle.cards.specs.Cards.{is_dirty}
 use Rattle.bit_sets.specs.Bits.{has, is_between}
+use Rattle.region_choice.specs.Ages.{Ages, AgesAfter, stamp_of}
 use Rattle.remembered_sets.specs.Sets.{Sets, may_lead, set_of, emptied}
 use Rattle.remembered_sets.proofs.Laws.{leads_alike}
 use Rattle.remembered_sets.proofs.Covered.{emptied_twice}
@@ -40,8 +42,8 @@ use Rattle.regions.proofs.Tiles.Holders.{holder_start}
 use Rattle.regions.proofs.Tiles.Laws.{object_tile}
 use Rattle.evacuation.proofs.Lists.{get_below}
 use Rattle.step_core.proofs.Mutating.Small.{IsHalf, IsOver, sizes_left, words_by}
-use Rattle.step_core.specs.Stands.{CoreState, kept_of, heap_of, RemembersFields, ShowsGraph, KeepsFrom, IsCore}
-use Rattle.step_core.proofs.Cores.Resting.{core_stays}
+use Rattle.step_core.specs.Stands.{CoreState, kept_of, heap_of, RemembersFields, ShowsGraph, KeepsFrom, IsCore, IsClearing}
+use Rattle.step_core.proofs.Cores.Resting.{aged_stays}
 use Rattle.step_core.specs.Cycle.{IsDeadRegion, IsDeadRun, IsDead, IsAsNew, IsAsBefore}
 use Rattle.step_core.specs.Cleaning.{IsDeadHead, HasForgotten, HasEmptied, HasReleased}
 
@@ -79,9 +81,9 @@ below_near w w' tops tops' a e h = ap (λ (n : ℕ). nat_lt a (slice_index tops'
 module _ (k : CoreState) (core : IsCore k) (shaped : IsShaped k.table) (n m : ℕ) (known : n < length k.table.regions)
     (dead : IsDeadHead k n) (together : m ≡ run_length k.table n)
     (mk : Marker) (idle : mk.running ≡ false) (st : MarkerStands k.table mk) (f : HasForgotten k.table.words_per_region n m k.marker mk)
-    (ss : Sets) (empty : HasEmptied n m k.sets ss) where
+    (ss : Sets) (empty : HasEmptied n m k.sets ss) (ages : Ages) (aged : AgesAfter (is_between n (n + m)) k.ages ages) where
   abbrev after : CoreState
-  after = record k { table = released k.table n; marker = mk; sets = ss }
+  after = record k { table = released k.table n; marker = mk; sets = ss; ages = ages }
 
   abbrev size : ℕ
   size = k.table.words_per_region
@@ -153,7 +155,7 @@ module _ (k : CoreState) (core : IsCore k) (shaped : IsShaped k.table) (n m : �
     room = s.room;
     places = s.places;
     next = s.next;
-    shows = same_shows g (heap_of k) (heap_of after) s.shows (record { kept = kept_same; roots = refl });
+    shows = will_same g (heap_of k) (heap_of after) s.shows (record { kept = kept_same; roots = refl });
   }
 
   pub release_keeps : (s : Graph) → KeepsFrom s k → KeepsFrom s after
@@ -298,15 +300,14 @@ module _ (k : CoreState) (core : IsCore k) (shaped : IsShaped k.table) (n m : �
       others_entered (field_card (card_words k.config) at index)
       (subst (λ (q : ℕ). IsOutside n m q) (sym own) (field_stays at index x v kept_is field_is))
 
-  remembers_after : RemembersFields after
-  remembers_after =
-      let shows = release_shows core.footing.graph core.rests.shows in
-      let field = closed core.footing.graph (heap_of after) shows.shows in
+  remembers_after : k.clearing ≡ None → RemembersFields after
+  remembers_after none =
+      let field = all_closed k core none in
       subst (λ (w : ℕ). Remembers w (kept_of after) (card_words k.config) (is_dirty k.cards) (may_lead ss)) (sym frees.size) (record {
         each = λ at index target x.
             let old = core.remembers.each at index target
             (record { object = x.object; kept_is = sym (kept_same at) ∙ x.kept_is; field_is = x.field_is; leaves = x.leaves }) in
-            let there = field.field at index target x.object x.kept_is x.field_is in
+            let there = field.field at index target x.object (sym (kept_same at) ∙ x.kept_is) x.field_is in
             elim old [
               | inl dirty ↦ inl dirty
               | inr covered ↦ elim (block_cases n m (target / size)) [
@@ -314,7 +315,7 @@ module _ (k : CoreState) (core : IsCore k) (shaped : IsShaped k.table) (n m : �
                     let card : ℕ = field_card (card_words k.config) at index in
                     inr (leads_alike k.sets ss (target / size) card empty.cards (empty.others (target / size) (outside (target / size) out))
                     (field_entered at index x.object (Some target) x.kept_is x.field_is) ∙ covered)
-                | inr q ↦ absurd (let none = none_there target q.0 q.1 in let kept = there.1 in cc)
+                | inr q ↦ absurd (let gone = none_kept target q.0 q.1 in let kept = there.1 in cc)
               ]
             ];
       })
@@ -335,13 +336,19 @@ module _ (k : CoreState) (core : IsCore k) (shaped : IsShaped k.table) (n m : �
         words_by k.table (released k.table n) a (object_near k.table (released k.table n) a frees.size (frees.others (a / size) at)),
       )
 
-  pub release_kept : IsCore after
-  release_kept = core_stays k core (released k.table n) k.buffers mk k.cards ss k.roots refl (record {
+  release_slots : k.clearing ≡ None → IsClearing after
+  release_slots none = slots_now after core.footing.graph
+      (same_shows core.footing.graph (heap_of k) (heap_of after) (shows_now k core none core.footing.graph core.rests.shows)
+      (record { kept = kept_same; roots = refl }))
+
+  pub release_kept : k.clearing ≡ None → IsCore after
+  release_kept none = aged_stays k core (released k.table n) k.buffers mk k.cards ss k.roots ages refl aged.count (record {
     region_size = frees.size ∙ core.layers.region_size;
     region_count = frees.count ∙ core.layers.region_count;
     buffer_size = core.layers.buffer_size;
     open_buffers = core.layers.open_buffers;
     logs = ap (λ (x : Marker). length x.logs) f.same ∙ core.layers.logs;
+    waits = ap (λ (x : Marker). x.waiting.room) f.same ∙ core.layers.waits;
     buffers = buffers_after;
     unmoved = frees.unmoved core.layers.unmoved;
     marker = release_stands;
@@ -360,7 +367,7 @@ module _ (k : CoreState) (core : IsCore k) (shaped : IsShaped k.table) (n m : �
     each_card = core.cards.each_card ∙ ap (λ (c : ℕ). c * k.sets.cards_per_region) (sym empty.count)
         ∙ ap (λ (c : ℕ). length ss.sets * c) (sym empty.cards);
     each_mutator = core.cards.each_mutator;
-  }) remembers_after release_shows release_keeps
+  }) (remembers_after none) (release_slots none) release_shows release_keeps
 
   -- the live bounds of the other regions
   bound_other : (j : ℕ) → IsOutside n m j → live_bound_of (released k.table n) mk.tams.previous mk.bitmaps.previous j
@@ -433,6 +440,7 @@ module _ (k : CoreState) (core : IsCore k) (shaped : IsShaped k.table) (n m : �
     next_top = low_next j low high ∙ sym (bottom_same j);
     previous_marks = λ a i. mark_gone f.previous a (region_gone a i);
     next_marks = λ a i. mark_gone f.next a (region_gone a i);
+    age = aged.each j ∙ ap (λ (b : Bool). if b then 0 else stamp_of k.ages j) (inside j low high);
   }
     where
       emptied_now : set_of ss j ≡ emptied (set_of k.sets j)
@@ -453,11 +461,12 @@ module _ (k : CoreState) (core : IsCore k) (shaped : IsShaped k.table) (n m : �
     next_top = top_left f.next j (outside j out);
     previous_marks = λ a i. mark_left f.previous a (near j a out i);
     next_marks = λ a i. mark_left f.next a (near j a out i);
+    age = aged.each j ∙ ap (λ (b : Bool). if b then 0 else stamp_of k.ages j) (outside j out);
   }
 
   pub released_from : (c : CoreState) → k ≡ c → HasReleased n m c after
   released_from c e = subst (λ (d : CoreState). HasReleased n m d after) e (record {
-    changes = record { same = refl; marker = f.same; size = frees.size; kept = kept_same };
+    changes = record { same = refl; marker = f.same; ages = aged.same; size = frees.size; kept = kept_same };
     count = frees.count;
     each_set = empty.count;
     within = frees.known;

@@ -7,7 +7,8 @@ use Rattle.heap_model.specs.Heap.{Stored, IsShown, ObjectSet}
 use Rattle.heap_words.specs.Configs.{object_limit}
 use Rattle.std.proofs.lemmas.List.{length-set}
 use Rattle.std.proofs.lemmas.Option.{slice_get-get_or}
-use Rattle.heap_model.proofs.Changed.{root_set_shows, object_set_shows}
+use Rattle.heap_model.specs.Clearing.{IsWeakShown, kept_word}
+use Rattle.heap_model.proofs.Waiting.{will_root_set, will_object_set}
 use Rattle.regions.specs.Table.{Table, pointers_at, weaks_at, values_at, object_values, set_value}
 use Rattle.regions.proofs.Tiles.Changes.{WritesObject, value_put}
 use Rattle.regions.proofs.Words.Values.{with_value}
@@ -71,7 +72,7 @@ root_shows g c place w v s shown = record {
   places = s.places;
   next = s.next;
   shows =
-      root_set_shows g (heap_of c) (heap_of (with_root_word c place w)) s.shows place w v shown (record { kept = λ a. refl; roots = refl });
+      will_root_set g (heap_of c) (heap_of (with_root_word c place w)) s.shows place w v shown (record { kept = λ a. refl; roots = refl });
 }
 
 pub values_there : (c : CoreState) (a : ℕ) (x : Stored) → kept_of c a ≡ Some x → values_at c.table a ≡ x.values
@@ -87,7 +88,7 @@ field_word c place a i w k l e =
     record { name = f.name; shown = f.shown }
 
 pub slot_word : (c : CoreState) (place a i : ℕ) (w : Option ℕ) → IsCore c → Leads c place (Some a)
-    → slice_get (weaks_at c.table a) i ≡ Some w → IsWordOf (heap_of c) w
+    → slice_get (weaks_at c.table a) i ≡ Some w → IsWordOf (heap_of c) (kept_word (kept_of c) w)
 slot_word c place a i w k l e =
     let h = l k.footing.graph k.rests.shows in
     let f =
@@ -97,20 +98,20 @@ slot_word c place a i w k l e =
 -- the core with another object of the same name at an address
 pub object_shows : (g : Graph) (c c' : CoreState) (a : ℕ) (x y : Stored) (o p : Object) → ShowsGraph g c → SamePlaces c c'
     → ObjectSet (heap_of c) (heap_of c') a x y → object_named g x.name ≡ Some o → AllZip (IsShown (heap_of c)) y.pointers p.pointers
-    → AllZip (IsShown (heap_of c)) y.weaks p.weaks → y.values ≡ p.values
+    → AllZip (IsWeakShown (heap_of c)) y.weaks p.weaks → y.values ≡ p.values
     → ShowsGraph (with_changed g x.name p) c'
 object_shows g c c' a x y o p s same set named pointers weaks values = record {
   room = s.room ∙ sym (ap object_limit same.config);
   places = s.places ∙ sym (ap root_counts_of same.config);
   next = ap (λ n. g.first_name + n) (length-set g.objects (x.name - g.first_name) p) ∙ s.next ∙ sym same.next;
-  shows = object_set_shows g (heap_of c) (heap_of c') s.shows a x y o p set named pointers weaks values;
+  shows = will_object_set g (heap_of c) (heap_of c') s.shows a x y o p set named pointers weaks values;
 }
 
 -- the same of an object that is known by its name: by what was shown of it the other one is shown
 pub named_shows : (g : Graph) (c c' : CoreState) (a : ℕ) (x y z : Stored) (o p : Object) → ShowsGraph g c → SamePlaces c c'
     → ObjectSet (heap_of c) (heap_of c') a x y → kept_of c a ≡ Some z → object_named g z.name ≡ Some o
     → (AllZip (IsShown (heap_of c)) x.pointers o.pointers → AllZip (IsShown (heap_of c)) y.pointers p.pointers)
-    → (AllZip (IsShown (heap_of c)) x.weaks o.weaks → AllZip (IsShown (heap_of c)) y.weaks p.weaks)
+    → (AllZip (IsWeakShown (heap_of c)) x.weaks o.weaks → AllZip (IsWeakShown (heap_of c)) y.weaks p.weaks)
     → (x.values ≡ o.values → y.values ≡ p.values) → ShowsGraph (with_changed g z.name p) c'
 named_shows g c c' a x y z o p s same set at named pointers weaks values =
     let was : kept_of c a ≡ Some x = set.was in
@@ -121,7 +122,7 @@ named_shows g c c' a x y z o p s same set at named pointers weaks values =
     subst (λ (u : Stored). ShowsGraph (with_changed g u.name p) c') (sym here)
     (object_shows g c c' a x y o p s same set named'
     (pointers (subst (λ (q : Object). AllZip (IsShown (heap_of c)) x.pointers q.pointers) is shown.pointers))
-    (weaks (subst (λ (q : Object). AllZip (IsShown (heap_of c)) x.weaks q.weaks) is shown.weaks))
+    (weaks (subst (λ (q : Object). AllZip (IsWeakShown (heap_of c)) x.weaks q.weaks) is shown.weaks))
     (values (shown.values ∙ ap (λ (q : Object). q.values) is)))
 
 module _ (g : Graph) (c : CoreState) (s : ShowsGraph g c) (m : ℕ) (object : Register) where
@@ -178,8 +179,8 @@ module _ (g : Graph) (c : CoreState) (s : ShowsGraph g c) (m : ℕ) (object : Re
 
     -- the same of a weak slot
     pub get_weak_done : (to : Register) (i : ℕ) (w : Option ℕ) (n : Option ℕ) (c' : CoreState)
-        → slice_get (weaks_at c.table a) i ≡ Some w → n ≡ name_in c.table w
-        → ((g : Graph) (v : Option ℕ) → ShowsGraph g c → IsShown (heap_of c) w v
+        → slice_get (weaks_at c.table a) i ≡ Some w → n ≡ name_in c.table (kept_word (kept_of c) w)
+        → ((g : Graph) (v : Option ℕ) → ShowsGraph g c → IsShown (heap_of c) (kept_word (kept_of c) w) v
         → ShowsGraph (with_root g (register_place g.places m to.number) v) c')
         → Acts g m (actions.GetWeak to object i) (replies.Named n) c'
     get_weak_done to i w n c' e name after =
@@ -188,22 +189,24 @@ module _ (g : Graph) (c : CoreState) (s : ShowsGraph g c) (m : ℕ) (object : Re
         let there = f.there in
         acts_by g m (actions.GetWeak to object i) (replies.Named n) c'
         (replies.Named f.name, with_root g (register_place g.places m to.number) f.name)
-        (on_found g c s m a object _ h ∙ rw there refl) (ap replies.Named (name ∙ shown_name c w f.name f.shown)) (after g f.name s f.shown)
+        (on_found g c s m a object _ h ∙ rw there refl) (ap replies.Named (name
+        ∙ shown_name c (kept_word (kept_of c) w) f.name f.shown)) (after g f.name s f.shown)
 
     -- what the reply names is what the slot shows
-    pub slot_named : (i : ℕ) (w n v : Option ℕ) → slice_get (weaks_at c.table a) i ≡ Some w → n ≡ name_in c.table w
-        → replies.Named n ≡ replies.Named v → IsShown (heap_of c) w v
+    pub slot_named : (i : ℕ) (w n v : Option ℕ) → slice_get (weaks_at c.table a) i ≡ Some w → n ≡ name_in c.table (kept_word (kept_of c) w)
+        → replies.Named n ≡ replies.Named v → IsShown (heap_of c) (kept_word (kept_of c) w) v
     slot_named i w n v e name reply =
         let h = l g s in
         let f = slot_shown g c _ a i w h (ap (λ (ps : List (Option ℕ)). slice_get ps i) (sym (weaks_there c a h.stored h.at)) ∙ e) in
         let same : n ≡ v = let q = reply in cc in
-        subst (IsShown (heap_of c) w) (sym (shown_name c w f.name f.shown) ∙ sym name ∙ same) f.shown
+        subst (IsShown (heap_of c) (kept_word (kept_of c) w)) (sym (shown_name c (kept_word (kept_of c) w) f.name f.shown) ∙ sym name
+        ∙ same) f.shown
 
     pub weaks_done : (n : ℕ) → n ≡ length (weaks_at c.table a) → Acts g m (actions.Weaks object) (replies.Word n) c
     weaks_done n e =
         let h = l g s in
         let count : n ≡ length h.object.weaks = e ∙ ap (λ (ps : List (Option ℕ)). length ps) (weaks_there c a h.stored h.at)
-        ∙ AllZip-length (IsShown (heap_of c)) h.stored.weaks h.object.weaks h.weaks in
+        ∙ AllZip-length (IsWeakShown (heap_of c)) h.stored.weaks h.object.weaks h.weaks in
         acts_by g m (actions.Weaks object) (replies.Word n) c (replies.Word (length h.object.weaks), g)
         (on_found g c s m a object _ h) (ap replies.Word count) s
 

@@ -1,7 +1,8 @@
 -- A new object.
 use Rattle.std.proofs.Common.{◌≡◌, ◌≢◌, ◌+◌, ◌-◌, ◌/◌, ◌^◌, ◌<◌, ◌≤◌, ◌∷◌, ◌∙◌, ℕ, zero, suc, false, Some, None, List, [], replicate, refl}
-use Rattle.std.proofs.Common.{sym, ap, subst, arith, inl, inr, ◌==◌, slice_set, slice_index, nat_lt}
-use Rattle.std.proofs.lemmas.Bool.{cases_eq}
+use Rattle.std.proofs.Common.{sym, ap, subst, arith, inl, inr, ◌==◌, slice_set, slice_index, nat_lt, Bool, true, Option, length}
+use Rattle.std.proofs.Common.{if◌then◌else◌}
+use Rattle.std.proofs.lemmas.Bool.{cases_eq, eq-eqb}
 use Rattle.std.specs.List.{AllZip}
 use Rattle.std.proofs.lemmas.Grind.{common_steps}
 use Rattle.std.proofs.lemmas.Bool.Decides.{nat_tests}
@@ -12,7 +13,7 @@ use Rattle.heap_model.specs.Heap.{Heap, Stored, IsShown, ObjectAdded}
 use Rattle.heap_model.specs.Kept.{kept_by}
 use Rattle.heap_model.specs.Marking.{Marking, KeepsSnapshot}
 use Rattle.heap_model.proofs.Mutate.{object_added}
-use Rattle.heap_model.proofs.Changed.{object_added_shows}
+use Rattle.heap_model.proofs.Waiting.{will_object_added}
 use Rattle.heap_model.proofs.Unreached.{object_sound, unreached_object}
 use Rattle.regions.specs.Table.{Table, new_object, object_at, object_words}
 use Rattle.graph_runs.specs.State.{register_place, root_counts_of}
@@ -25,6 +26,8 @@ use Rattle.regions.specs.declared.row.Kind.TheVariants as kinds
 use Rattle.mark_bitmap.specs.Marks.{is_marked}
 use Rattle.mark_bitmap.specs.Tops.{is_below}
 use Rattle.step_core.specs.Stands.{CoreState, kept_of, heap_of, marking_of, ShowsGraph, KeepsFrom, IsCore}
+use Rattle.region_choice.specs.Ages.{Ages, next_stamp, with_taken}
+use Rattle.step_core.specs.Mutators.{with_current}
 use Rattle.step_core.specs.Cycle.{LeavesRegions}
 use Rattle.step_core.specs.Answers.{Acts}
 use Rattle.step_core.proofs.Mutating.Acting.{acts_by}
@@ -35,6 +38,7 @@ use Rattle.step_core.proofs.Cores.Sizes.{some_words}
 use Rattle.step_core.proofs.Mutating.Written.{kept_is, kept_above, kept_same, marking_same}
 use Rattle.step_core.proofs.Cores.Remembering.{remembers_new}
 use Rattle.step_core.proofs.Cores.Layers.{follows_of, stands_over}
+use Rattle.step_core.proofs.Cores.Slots.{slots_added, leads_elsewhere, object_stays}
 
 abbrev fresh : ℕ → ℕ → ℕ → Object
 fresh p weak d = record { pointers = replicate p None; weaks = replicate weak None; values = replicate d 0 }
@@ -59,7 +63,28 @@ nil_shown h (suc p) = (tt, nil_shown h p)
 
 -- the core with a new object
 abbrev pub with_new : CoreState → Table → Buffers → ℕ → ℕ → CoreState
-with_new c t b place a = record c { table = t; buffers = b; roots = slice_set c.roots place (Some a); next = c.next + 1 }
+with_new c t b place a = record c {
+  table = t;
+  buffers = b;
+  roots = slice_set c.roots place (Some a);
+  next = c.next + 1;
+  ages = with_current c.ages c.buffers.current b.current;
+}
+
+-- there are as many ages
+count_current : (ages : Ages) (was now : Option ℕ) → length (with_current ages was now).stamps ≡ length ages.stamps
+count_current ages was None = refl
+count_current ages None (Some k) = length-set ages.stamps k (next_stamp ages)
+count_current ages (Some j) (Some k) = by_test (j == k)
+  where
+    by_test : (b : Bool) → length (if b then ages else with_taken ages k).stamps ≡ length ages.stamps
+    by_test true = refl
+    by_test false = length-set ages.stamps k (next_stamp ages)
+
+-- the region that was current before isn't taken
+pub current_same : (ages : Ages) (was : Option ℕ) → with_current ages was was ≡ ages
+current_same ages None = refl
+current_same ages (Some k) = ap (λ (b : Bool). if b then ages else with_taken ages k) (eq-eqb k k refl)
 
 -- what lies above the tops of a region isn't below them
 above_below : (words : ℕ) (tops : List ℕ) (a : ℕ) → 0 < words → IsAbove words (slice_index tops) a → is_below words tops a ≡ false
@@ -111,9 +136,9 @@ module _ (k : CoreState) (m : ℕ) (to : Register) (t2 : Table) (b1 : Buffers) (
     room = s.room;
     places = s.places;
     next = (let next = s.next in let len = length-append g.objects (fresh p weak d ∷ []) in omega arith);
-    shows = object_added_shows g (heap_of k) (heap_of (with_new k t2 b1 (register_place (root_counts_of k.config) m to.number) a)) s.shows a
+    shows = will_object_added g (heap_of k) (heap_of (with_new k t2 b1 (register_place (root_counts_of k.config) m to.number) a)) s.shows a
         (new_object k.next p weak d) (fresh p weak d) (register_place (root_counts_of k.config) m to.number)
-        (added (register_place (root_counts_of k.config) m to.number)) (sym s.next)
+        (added (register_place (root_counts_of k.config) m to.number)) (leads_elsewhere k a core.slots makes.was) (sym s.next)
         (nil_shown (heap_of k) p) (nil_shown (heap_of k) weak) refl;
   }
 
@@ -170,6 +195,7 @@ module _ (k : CoreState) (m : ℕ) (to : Register) (t2 : Table) (b1 : Buffers) (
           buffer_size = makes.words ∙ core.layers.buffer_size;
           open_buffers = makes.open_count ∙ core.layers.open_buffers;
           logs = core.layers.logs;
+          waits = core.layers.waits;
           buffers = makes.stand;
           unmoved = makes.unmoved;
           marker = stands_over k.table t2 k.marker core.layers.marker makes.region_count words
@@ -190,8 +216,13 @@ module _ (k : CoreState) (m : ℕ) (to : Register) (t2 : Table) (b1 : Buffers) (
             (λ i b e. nil_fields k.next p weak d i b e) core.remembers;
         room = core.room;
         rows = core.rows;
+        ages = count_current k.ages k.buffers.current b1.current ∙ core.ages;
         places = length-set k.roots (register_place (root_counts_of k.config) m to.number) (Some a) ∙ core.places;
         names = (let old = core.names in omega arith);
+        slots = slots_added k (new (register_place (root_counts_of k.config) m to.number)) a (new_object k.next p weak d)
+            (register_place (root_counts_of k.config) m to.number) (added (register_place (root_counts_of k.config) m to.number))
+            core.slots refl (λ i b e. nil_get weak i b e)
+            (object_stays k (new (register_place (root_counts_of k.config) m to.number)) still);
         footing = record {
           graph = with_object g (fresh p weak d) (register_place (root_counts_of k.config) m to.number);
           snapshot = core.footing.snapshot;

@@ -1,7 +1,7 @@
 -- What a step of a mutator does to the core.
 use Rattle.std.proofs.Common.{◌≡◌, ℕ, Option, Some, None, refl, sym, ◌∙◌, ap, subst, slice_get, slice_index_or, unwrap_or}
 use Rattle.heap_words.specs.Sizes.{size_of}
-use Rattle.regions.specs.Table.{Table, pointers_at, weaks_at, new_object}
+use Rattle.regions.specs.Table.{Table, pointers_at, new_object}
 use Rattle.alloc_buffers.specs.Placement.{Buffers, Placement, allocation_of, made_at, address_of}
 use Rattle.alloc_buffers.specs.declared.placement.Allocation.{Allocation}
 use Rattle.marker.specs.Steps.{Overwrites}
@@ -32,13 +32,12 @@ got c c' m to object i a w there held after =
 
 -- and what a weak slot holds, which may be saved
 pub got_weak : (c c' : CoreState) (m : ℕ) (to object : Register) (i a : ℕ) (w : Option ℕ) → register_of c m object ≡ Some a
-    → slice_get (weaks_at c.table a) i ≡ Some w
+    → w ≡ weak_of c a i
     → c' ≡ record (with_root_word c (register_place (root_counts_of c.config) m to.number) w) { marker = c'.marker }
     → Overwrites c.marker.running c.table m w c.marker c'.marker → HasActed m (actions.GetWeak to object i) c c'
 got_weak c c' m to object i a w there held core marker =
     let is : w ≡ weak_of c (object_of c m object) i
-    = sym (get_or-get (weaks_at c.table a) i None w held)
-    ∙ ap (λ (o : Option ℕ). slice_index_or (weaks_at c.table (unwrap_or o 0)) i None) (sym there) in
+    = held ∙ ap (λ (o : Option ℕ). weak_of c (unwrap_or o 0) i) (sym there) in
     record {
       core = core
           ∙ ap (λ (v : Option ℕ). record (with_root_word c (register_place (root_counts_of c.config) m to.number) v) {

@@ -40,15 +40,20 @@ saves a b c d e f g = record { after = a; saved = b; same = c; stands = d; mutat
 
 pub takes_log : {t : Table} {mutator : ℕ} {m m' : Marker} → m'.logs ≡ slice_set m.logs mutator []
     → MarksWanted t (Contains (log_of m.logs mutator)) m m' → SameRoles m m' → m'.grey.scanned ≡ m.grey.scanned → m'.scans ≡ m.scans
-    → KeepsSnapshots t m m' → MarkerStands t m' → TakesLog t mutator m m'
-takes_log a b c d e f g =
-    record { took = record { emptied = a; marks = b; same = c; scanned = d; scans = e }; snapshots = f; stands = g }
+    → m'.waiting ≡ m.waiting → KeepsSnapshots t m m' → MarkerStands t m' → TakesLog t mutator m m'
+takes_log a b c d e w f g =
+    record { took = record { emptied = a; marks = b; same = c; scanned = d; scans = e; waiting = w }; snapshots = f; stands = g }
 
 pub same_roles : (m : Marker) → SameRoles m m
-same_roles m = record { previous = refl; tams = refl; running = refl }
+same_roles m = record { previous = refl; tams = refl; running = refl; room = refl }
 
 pub roles_trans : (m m' m'' : Marker) → SameRoles m m' → SameRoles m' m'' → SameRoles m m''
-roles_trans m m' m'' p q = record { previous = q.previous ∙ p.previous; tams = q.tams ∙ p.tams; running = q.running ∙ p.running }
+roles_trans m m' m'' p q = record {
+  previous = q.previous ∙ p.previous;
+  tams = q.tams ∙ p.tams;
+  running = q.running ∙ p.running;
+  room = q.room ∙ p.room;
+}
 
 -- ---- each log has room for one more
 pub record HaveRoom (before after : Marker) : Type 0 where
@@ -147,4 +152,5 @@ log_taken t t' a i w mutator m m' is took = record {
   same = took.same;
   scanned = took.scanned;
   scans = took.scans;
+  waiting = took.waiting;
 }

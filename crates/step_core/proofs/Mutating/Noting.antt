@@ -20,6 +20,7 @@ use Rattle.std.proofs.Math.Nat.{mul_assoc, mul-div_cancel, div-lt_iff_lt-mul}
 use Rattle.step_core.specs.Stands.{CoreState, kept_of, heap_of, ShowsGraph, KeepsFrom, IsCore, IsWordOf}
 use Rattle.step_core.specs.Storing.{CanStore}
 use Rattle.step_core.proofs.Mutating.Reading.{object_kept, fields_there}
+use Rattle.step_core.proofs.Cores.Slots.{slots_same}
 use Rattle.step_core.proofs.Cores.Resting.{core_stays}
 use Rattle.step_core.proofs.Mutating.Storing.{rooted}
 
@@ -108,6 +109,7 @@ module _ (k : CoreState) (core : IsCore k) (m card : ℕ) (cs : Cards)
     each_mutator = mutators ∙ core.cards.each_mutator;
   }) (remembered.remembers_on k.table.words_per_region (card_words k.config) (kept_of k) (kept_of k) (is_dirty k.cards)
       (is_dirty cs) (may_lead k.sets) (may_lead k.sets) (λ a i v x. inl x) stays (λ a i v c x e. e) core.remembers)
+      (slots_same k (record k { cards = cs }) core.slots refl (λ a. refl) (λ b h. h))
       (shows_with k cs) (keeps_with k cs)
 
 -- the core with other cards shows and keeps the same

@@ -6,7 +6,9 @@ use Rattle.std.proofs.lemmas.Option.{slice_get-get_or}
 use Rattle.heap_model.specs.Graph.{Graph}
 use Rattle.heap_model.specs.Heap.{Heap, Stored, IsShown, IsRoot, IsHeld, fields}
 use Rattle.heap_model.proofs.Lists.{AllZip-get}
-use Rattle.heap_model.proofs.Changed.{root_read, at_least, named_at}
+use Rattle.heap_model.proofs.Changed.{at_least, named_at}
+use Rattle.heap_model.proofs.Waiting.{slot_read}
+use Rattle.heap_model.specs.Clearing.{IsWeakShown, kept_word}
 use Rattle.regions.specs.Table.{object_at, pointers_at, weaks_at, fields_at, object_pointers, object_weaks, object_fields}
 use Rattle.heap_model.proofs.Shown.{stands_once}
 use Rattle.regions.specs.Shaped.{IsShaped}
@@ -30,7 +32,7 @@ pub root_shown : (g : Graph) (c : CoreState) (place : ℕ) (w : Option ℕ) → 
     → w ≡ get_or c.roots place None → RootRead g c place w
 root_shown g c place w s k e =
     let here : slice_get c.roots place ≡ Some w = slice_get-get_or c.roots place None k ∙ ap Some (sym e) in
-    let (v, is, shown) = root_read g (heap_of c) (heap_of c) s.shows place w here in
+    let (v, is, shown) = AllZip-get (IsShown (heap_of c)) c.roots g.roots s.shows.roots place w here in
     record { here = here; shown = subst (IsShown (heap_of c) w) (sym (get_or-get g.roots place None v is)) shown }
 
 shown_nil : (h : Heap) (v : Option ℕ) → IsShown h None v → v ≡ None
@@ -113,10 +115,10 @@ field_shown g c place a i w h e =
     record { name = v; there = is; shown = shown }
 
 pub slot_shown : (g : Graph) (c : CoreState) (place a i : ℕ) (w : Option ℕ) (h : RootNames g c place a)
-    → slice_get h.stored.weaks i ≡ Some w → FieldRead c h.object.weaks i w
+    → slice_get h.stored.weaks i ≡ Some w → FieldRead c h.object.weaks i (kept_word (kept_of c) w)
 slot_shown g c place a i w h e =
-    let (v, is, shown) = AllZip-get (IsShown (heap_of c)) h.stored.weaks h.object.weaks h.weaks i w e in
-    record { name = v; there = is; shown = shown }
+    let (v, is, shown) = AllZip-get (IsWeakShown (heap_of c)) h.stored.weaks h.object.weaks h.weaks i w e in
+    record { name = v; there = is; shown = slot_read (heap_of c) w v shown }
 
 past_end : {A : Type 0} (xs : List A) (i : ℕ) → length xs ≤ i → slice_get xs i ≡ None
 past_end [] i k = refl
@@ -138,7 +140,7 @@ no_field g c place a i h k =
 pub no_slot : (g : Graph) (c : CoreState) (place a i : ℕ) (h : RootNames g c place a)
     → length h.stored.weaks ≤ i → slice_get h.object.weaks i ≡ None
 no_slot g c place a i h k =
-    let e = AllZip-length (IsShown (heap_of c)) h.stored.weaks h.object.weaks h.weaks in
+    let e = AllZip-length (IsWeakShown (heap_of c)) h.stored.weaks h.object.weaks h.weaks in
     past_end h.object.weaks i (omega arith)
 
 pub no_value : (g : Graph) (c : CoreState) (place a i : ℕ) (h : RootNames g c place a)

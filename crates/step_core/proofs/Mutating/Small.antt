@@ -6,7 +6,7 @@ use Rattle.std.proofs.lemmas.List.{get_or_past}
 use Rattle.std.proofs.lemmas.Bool.{cases_lt}
 use Rattle.heap_model.specs.Heap.{Stored}
 use Rattle.regions.specs.Tiles.{Object, tile_size}
-use Rattle.regions.specs.Table.{Table, Region, Free, Ordinary, region_kind, nth_region, region_at, region_tile, tile_in}
+use Rattle.regions.specs.Table.{Table, Region, Free, region_kind, nth_region, region_at, region_tile, tile_in}
 use Rattle.regions.specs.Table.{tile_object, kind_of, object_at, object_words, stored_size}
 use Rattle.regions.specs.declared.row.Kind.{Kind}
 use Rattle.regions.specs.declared.row.Kind.TheVariants as kinds

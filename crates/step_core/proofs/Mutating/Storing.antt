@@ -6,9 +6,9 @@ use Rattle.heap_model.specs.Graph.{Graph, Object, IsReachable, IsSound, next_nam
 use Rattle.heap_model.specs.Heap.{Stored, IsRoot, IsHeld, IsShown, ObjectSet}
 use Rattle.heap_model.specs.Marking.{Marking, KeepsSnapshot, IsSaved}
 use Rattle.heap_model.specs.Weak.{KeepsUnreached}
-use Rattle.heap_model.proofs.Lists.{AllZip-set, get-append_left}
+use Rattle.heap_model.proofs.Lists.{AllZip-set}
 use Rattle.heap_model.proofs.Unreached.{unreached_begins, unreached_changed}
-use Rattle.heap_model.proofs.Shown.{closed}
+use Rattle.heap_model.proofs.Shown.{followed}
 use Rattle.heap_model.proofs.Mutate.{object_set}
 use Rattle.regions.specs.Tiles as tiles
 use Rattle.regions.specs.Table.{Table, pointers_at, set_pointer}
@@ -20,10 +20,11 @@ use Rattle.marker.specs.Views as views
 use Rattle.marker.specs.Stands.{MarkerStands, CanFollow, IsKept}
 use Rattle.marker.specs.Steps.{SameRoles, KeepsSnapshots}
 use Rattle.marker.specs.declared.marker.Marker.{Marker}
-use Rattle.step_core.specs.Stands.{CoreState, kept_of, heap_of, marking_of, RemembersFields, ShowsGraph, KeepsFrom, IsCore}
+use Rattle.step_core.specs.Stands.{CoreState, kept_of, heap_of, marking_of, RemembersFields, ShowsGraph, KeepsFrom, IsClearing, IsCore}
 use Rattle.step_core.specs.Cycle.{LeavesRegions}
 use Rattle.step_core.specs.Storing.{CanStore, HasNoted}
 use Rattle.step_core.proofs.Cores.Sizes.{some_words}
+use Rattle.step_core.proofs.Cores.Slots.{slots_set, object_stays}
 use Rattle.step_core.proofs.Cores.Resting.{core_over, object_rests, rooted_known}
 use Rattle.step_core.proofs.Mutating.Fields.{pointer_fields}
 use Rattle.step_core.proofs.Cores.Remembering.{remembers_stored}
@@ -32,7 +33,7 @@ use Rattle.step_core.proofs.Mutating.Logging.{roles_trans, same_roles}
 use Rattle.step_core.proofs.Mutating.Reading.{object_kept, pointers_there}
 use Rattle.step_core.proofs.Mutating.Written.{SameKeeping, object_written, marking_same}
 use Rattle.step_core.proofs.Mutating.Acting.{named_shows}
-use Rattle.step_core.proofs.Cores.Layers.{follows_of, layers_writes, layers_changed, marker_writes}
+use Rattle.step_core.proofs.Cores.Layers.{follows_of, layers_writes, layers_changed, marker_writes, still_there}
 
 -- the object that a root names
 pub record Rooted (c : CoreState) (a : ℕ) : Type 0 where
@@ -41,7 +42,7 @@ pub record Rooted (c : CoreState) (a : ℕ) : Type 0 where
 
 pub rooted : (c : CoreState) (a : ℕ) → IsCore c → IsRoot (heap_of c) a → Rooted c a
 rooted c a core r =
-    let (x, at) = (closed core.footing.graph (heap_of c) core.rests.shows.shows).root r.place a r.is in
+    let (x, at) = (followed core.footing.graph (heap_of c) core.rests.shows.shows).root r.place a r.is in
     record { stored = x; at = at }
 
 pub is_kept : (c : CoreState) (a : ℕ) (x : Stored) → kept_of c a ≡ Some x → IsKept c.table c.marker a
@@ -52,10 +53,10 @@ is_kept c a x e = record { object = x; is = e }
 pub overwritten_kept : (c : CoreState) (a i b : ℕ) (w : Option ℕ) → IsCore c → Rooted c a → slice_get (pointers_at c.table a) i ≡ Some w
     → w ≡ Some b → IsKept c.table c.marker b
 overwritten_kept c a i b w core r is e =
-    let all = closed core.footing.graph (heap_of c) core.rests.shows.shows in
+    let all = followed core.footing.graph (heap_of c) core.rests.shows.shows in
     let there : slice_get r.stored.pointers i ≡ Some (Some b) =
     ap (λ (ps : List (Option ℕ)). slice_get ps i) (sym (pointers_there c a r.stored r.at)) ∙ is ∙ ap Some e in
-    let (x, at) = all.field a i b r.stored r.at (get-append_left r.stored.pointers r.stored.weaks i (Some b) there) in
+    let (x, at) = all.pointer a i b r.stored r.at there in
     is_kept c b x at
 
 -- the core with the table and the marker changed
@@ -120,6 +121,11 @@ module _ (k : CoreState) (core : IsCore k) (a i : ℕ) (w : Option ℕ) (t : Tab
   store_remembers m same = remembers_stored k (with_store k t m) a i w x (with_pointer x i w) refl writes.size refl refl (set_in m same)
       (pointer_fields x i w inside) noted core.remembers
 
+  -- weak slots are as they were
+  store_slots : (m : Marker) (same : SameRoles k.marker m) → IsClearing (with_store k t m)
+  store_slots m same = slots_set k (with_store k t m) a x (with_pointer x i w) (set_in m same) core.slots refl (λ j b e. inl e)
+      (object_stays k (with_store k t m) (λ b z e. still_there k.table t a b x (with_pointer x i w) z writes e))
+
   -- while marking doesn't run there is nothing to save
   pub idle_keeps : k.marker.running ≡ false → (s : Graph) → KeepsFrom s k → KeepsFrom s (with_store k t k.marker)
   idle_keeps idle s f = record { earlier = f.earlier; marking = λ run. absurd cc }
@@ -135,8 +141,7 @@ module _ (k : CoreState) (core : IsCore k) (a i : ℕ) (w : Option ℕ) (t : Tab
       name None h = (None, tt)
       name (Some b) (inl r) = let o = rooted k b core r in all b o.stored o.at
       name (Some b) (inr p) =
-          let (z, e) = (closed core.footing.graph (heap_of k) core.rests.shows.shows).field p.0 p.2.field b p.2.object p.2.at
-          (get-append_left p.2.object.pointers p.2.object.weaks p.2.field (Some b) p.2.is) in
+          let (z, e) = (followed core.footing.graph (heap_of k) core.rests.shows.shows).pointer p.0 p.2.field b p.2.object p.2.at p.2.is in
           all b z e
 
   -- the graph that the invariant knows, with the field changed
@@ -161,7 +166,11 @@ module _ (k : CoreState) (core : IsCore k) (a i : ℕ) (w : Option ℕ) (t : Tab
   pub idle_kept : k.marker.running ≡ false → IsCore (with_store k t k.marker)
   idle_kept idle = core_over k core t k.buffers k.marker k.cards k.sets k.roots refl
       (layers_writes k.config k.table t k.buffers k.marker a x (with_pointer x i w) writes core.layers (λ run. absurd cc) long)
-      core.cards (store_remembers k.marker (same_roles k.marker)) (record { graph = graph_after; snapshot = graph_after })
+      core.cards (store_remembers k.marker (same_roles k.marker)) (store_slots k.marker (same_roles k.marker)) (record {
+        graph =
+            graph_after;
+        snapshot = graph_after;
+      })
       (let shows = shows_after k.marker (same_roles k.marker) in let next = shows.next in record {
         shows = shows;
         keeps = record { earlier = omega (arith, next); marking = λ run. absurd cc };
@@ -213,9 +222,13 @@ module _ (k : CoreState) (core : IsCore k) (a i : ℕ) (w : Option ℕ) (t : Tab
       last_kept run =
           let keeps = last_keeps run core.footing.snapshot core.rests.keeps in
           core_over k core t k.buffers m2 k.cards k.sets k.roots refl
-          (layers_changed k.config k.table t k.buffers k.marker m2 a x (with_pointer x i w) writes core.layers st2 same2.tams logs room
-          long)
-          core.cards (store_remembers m2 same2) (record { graph = graph_after; snapshot = core.footing.snapshot }) (record {
+          (layers_changed k.config k.table t k.buffers k.marker m2 a x (with_pointer x i w) writes core.layers st2 same2.tams
+          same2.room logs room long)
+          core.cards (store_remembers m2 same2) (store_slots m2 same2) (record {
+            graph = graph_after;
+            snapshot =
+                core.footing.snapshot;
+          }) (record {
             shows = shows_after m2 same2;
             keeps = keeps;
             sound = sound_after;

@@ -5,7 +5,7 @@ use Rattle.heap_model.specs.Graph.{Graph, next_name, with_root}
 use Rattle.heap_model.specs.Heap.{Heap, IsShown, RootSet}
 use Rattle.heap_model.specs.Marking.{IsSaved}
 use Rattle.heap_model.specs.Weak.{touched, KeepsUnreached}
-use Rattle.heap_model.proofs.Changed.{root_set_shows}
+use Rattle.heap_model.proofs.Waiting.{will_root_set}
 use Rattle.heap_model.proofs.Touched.{touched_invariant}
 use Rattle.heap_model.proofs.Unreached.{touched_next, unreached_root, unreached_touched}
 use Rattle.satb_log.specs.Logs.{log_of}
@@ -24,6 +24,7 @@ use Rattle.step_core.specs.Parts.{Touches}
 use Rattle.step_core.proofs.Cores.Keeping.{register_at, register_shows}
 use Rattle.step_core.proofs.Cores.Layers.{layers_marked}
 use Rattle.step_core.proofs.Cores.Remembering.{remembers_on, same_fields}
+use Rattle.step_core.proofs.Cores.Slots.{slots_same}
 use Rattle.step_core.proofs.Cores.Resting.{core_over, root_rests}
 use Rattle.step_core.proofs.Mutating.Logging.{HaveRoom, Saves, TakesLog, idle_overwrites, overwrites_full, overwrites_room}
 use Rattle.step_core.proofs.Mutating.Logging.{roles_trans, same_roles, saved_room, taken_room}
@@ -50,7 +51,7 @@ module _ (k : CoreState) (core : IsCore k) (place : ℕ) (w : Option ℕ) (m : M
     room = s.room;
     places = s.places;
     next = s.next;
-    shows = root_set_shows g (heap_of k) (heap_of (with_touch k place w m)) s.shows place w v shown set_in;
+    shows = will_root_set g (heap_of k) (heap_of (with_touch k place w m)) s.shows place w v shown set_in;
   }
 
   remembers_by : RemembersFields (with_touch k place w m)
@@ -62,8 +63,8 @@ module _ (k : CoreState) (core : IsCore k) (place : ℕ) (w : Option ℕ) (m : M
       → MarkerStands k.table m → length m.logs ≡ length k.marker.logs
       → ((mutator : ℕ) → length (log_of m.logs mutator) < 8) → IsCore (with_touch k place w m)
   kept_by_touch v shown keeps st logs room = core_over k core k.table k.buffers m k.cards k.sets (slice_set k.roots place w)
-      (length-set k.roots place w) (layers_marked k.config k.table k.buffers k.marker m core.layers st same.tams logs room)
-      core.cards remembers_by
+      (length-set k.roots place w) (layers_marked k.config k.table k.buffers k.marker m core.layers st same.tams same.room logs room)
+      core.cards remembers_by (slots_same k (with_touch k place w m) core.slots refl kept_same (λ b h. h))
       (record { graph = with_root core.footing.graph place v; snapshot = touched core.footing.snapshot v }) (record {
         shows = shows_by core.footing.graph v core.rests.shows shown;
         keeps = keeps;

@@ -1,9 +1,12 @@
 -- A store into a weak slot of an object that a root names: the field's card is noted, and marking isn't concerned.
-use Rattle.std.proofs.Common.{◌≡◌, ℕ, ◌+◌, ◌<◌, List, ◌++◌, Option, Some, length, refl, sym, ◌∙◌, ap, subst, arith, slice_set, IsSome}
+use Rattle.std.proofs.Common.{◌≡◌, ℕ, ◌+◌, ◌<◌, List, ◌++◌, Option, Some, length, refl, sym, ◌∙◌, ap, subst, arith, inl, inr, ◌⊎◌}
+use Rattle.std.proofs.Common.{slice_set, slice_get, IsSome}
 use Rattle.std.proofs.lemmas.List.{length-set}
 use Rattle.heap_model.specs.Graph.{Graph, Object, object_named, with_changed}
 use Rattle.heap_model.specs.Heap.{Stored, IsRoot, IsShown, ObjectSet}
-use Rattle.heap_model.proofs.Lists.{AllZip-set}
+use Rattle.heap_model.proofs.Lists.{AllZip-set, get-set_cases}
+use Rattle.heap_model.proofs.Shown.{weak_shown}
+use Rattle.heap_model.specs.Clearing.{IsWeakShown, KeepsAt}
 use Rattle.regions.specs.Table.{Table, object_at, weaks_at, fields_at, set_weak}
 use Rattle.regions.proofs.Tiles.Changes.{WritesObject, weak_put}
 use Rattle.regions.proofs.Words.Fields.{with_weak}
@@ -17,7 +20,7 @@ use Rattle.step_core.proofs.Cores.Sizes.{some_words}
 use Rattle.step_core.proofs.Cores.Keeping.{written_kept}
 use Rattle.step_core.proofs.Cores.Remembering.{remembers_stored}
 use Rattle.step_core.proofs.Mutating.Fields.{weak_fields, fields_count}
-use Rattle.step_core.proofs.Mutating.Reading.{object_kept, pointers_there}
+use Rattle.step_core.proofs.Mutating.Reading.{shown_there, object_kept, pointers_there}
 use Rattle.step_core.proofs.Mutating.Written.{object_written, write_keeps}
 use Rattle.step_core.proofs.Mutating.Acting.{named_shows}
 use Rattle.step_core.proofs.Mutating.Noting.{keeps_noted, kept_noted, shown_noted, shows_noted}
@@ -58,7 +61,7 @@ module _ (k : CoreState) (core : IsCore k) (a i : ℕ) (w : Option ℕ) (t : Tab
       → ShowsGraph (with_changed g y.name (record o { weaks = slice_set o.weaks i v })) after
   shows_by g y o v s aty named shown = named_shows g k after a x (with_weak x i w) y o (record o { weaks = slice_set o.weaks i v }) s
       (record { config = refl; next = refl }) set_in aty named (λ ps. ps)
-      (λ ws. AllZip-set (IsShown (heap_of k)) x.weaks o.weaks ws i w v shown) (λ vs. vs)
+      (λ ws. AllZip-set (IsWeakShown (heap_of k)) x.weaks o.weaks ws i w v (weak_shown (heap_of k) w v shown)) (λ vs. vs)
 
   keeps_by : (s : Graph) → KeepsFrom s k → KeepsFrom s after
   keeps_by s f = write_keeps s k t a x (with_weak x i w) writes refl r.at refl f
@@ -72,13 +75,22 @@ module _ (k : CoreState) (core : IsCore k) (a i : ℕ) (w : Option ℕ) (t : Tab
       remembers_stored k after a (weak_field k a i) w x (with_weak x i w) refl writes.size refl refl set_in
       (weak_fields x i w ∙ ap (λ (n : ℕ). slice_set (x.pointers ++ x.weaks) n w) (sym field)) noted core.remembers
 
+  -- the slot leads to a kept object, and the others are as they were
+  slots_by : (j b : ℕ) → slice_get (slice_set x.weaks i w) j ≡ Some (Some b) → (slice_get x.weaks j ≡ Some (Some b)) ⊎ KeepsAt (heap_of k) b
+  slots_by j b e = elim (get-set_cases x.weaks i j w (Some b) e) [
+    | inl q ↦ inr (let s = shown_there (heap_of k) b word.name (subst (λ (u : Option ℕ). IsShown (heap_of k) u word.name)
+        (sym q) word.shown) in
+        record { object = s.0; at = s.1 })
+    | inr q ↦ inl q
+  ]
+
   kept_by_store : IsCore after
   kept_by_store =
       let o = core.rests.shows.shows.objects a x r.at in
       written_kept k core a x (with_weak x i w) o.object (record o.object { weaks = slice_set o.object.weaks i word.name }) t r.at writes
       refl refl (ap (λ (n : ℕ). 2 + length x.pointers + n + length x.values) (length-set x.weaks i w)) o.named refl o.pointers
-      (AllZip-set (IsShown (heap_of k)) x.weaks o.object.weaks o.weaks i w word.name word.shown)
-      (shows_by core.footing.graph x o.object word.name core.rests.shows r.at o.named word.shown) remembers_by
+      (AllZip-set (IsWeakShown (heap_of k)) x.weaks o.object.weaks o.weaks i w word.name (weak_shown (heap_of k) w word.name word.shown))
+      (shows_by core.footing.graph x o.object word.name core.rests.shows r.at o.named word.shown) remembers_by slots_by
 
 -- the same by the core's value c: k is the core by its fields
 module _ (k c : CoreState) (e : k ≡ c) (core : IsCore k) (a i : ℕ) (w : Option ℕ) (root : IsRoot (heap_of c) a)

@@ -1,10 +1,12 @@
 -- What is known of the chosen regions.
 use Rattle.std.proofs.Common.{◌≡◌, ◌*◌, ◌+◌, ◌<◌, ◌≤◌, ◌∷◌, ◌++◌, ◌∙◌, ℕ, zero, suc, Bool, true, false, cond, eqb, List, [], Some, length}
-use Rattle.std.proofs.Common.{get_or, set, take, refl, sym, ap, subst, arith, inl, inr, get_or-set_same, get_or-set_other, length-set, All}
+use Rattle.std.proofs.Common.{get_or, set, take, refl, sym, ap, subst, arith, inl, inr, get_or-set_same, get_or-set_other}
+use Rattle.std.proofs.Common.{length-set, All}
 use Rattle.std.proofs.Common.{count_by, ◌==◌, ◌||◌, if◌then◌else◌, slice_get, slice_index}
 use Rattle.std.proofs.lemmas.Bool.{cases_eq, eq-eqb, eqb-true, ne_eqb}
 use Rattle.std.proofs.lemmas.List.{get_or_append_left, length-append}
-use Rattle.std.proofs.lemmas.List.Sums.{sum_by-cons, sum_by-append}
+use Rattle.std.proofs.lemmas.List.Elements.{All-take}
+use Rattle.std.proofs.lemmas.List.Sums.{sum_by-cons, sum_by-append, sum_by-take-le}
 use Rattle.std.proofs.lemmas.List.Sorted.{All-permutation, sum_by-IsPermutation}
 use Rattle.std.proofs.lemmas.List.Folds.{Any-from_list_any}
 use Rattle.regions.specs.Table.{Table, is_free, kind_of}
@@ -13,11 +15,15 @@ use Rattle.mark_bitmap.specs.Tops.{Tops}
 use Rattle.region_choice.specs.declared.LiveRow.{LiveRow}
 use Rattle.region_choice.specs.Choice.{copy_limit, live_sum}
 use Rattle.marker.specs.Live.{LiveCounts, with_none}
+use Rattle.remembered_sets.specs.Sets.{Sets}
 use Rattle.evacuation.specs.Evacuates.{is_chosen, AreDistinct}
 use Rattle.evacuation.proofs.WholePause.ChosenReleased.{chosen_more}
 use Rattle.step_core.specs.declared.candidates.Choice.{Choice}
 use Rattle.step_core.specs.declared.candidates.Choice.TheVariants as choices
-use Rattle.step_core.specs.Pause.{IsRowOf, AreRowsOf, IsCandidateRow, IsChosen, IsCompacted, IsSetOf, AreForgotten}
+use Rattle.region_choice.specs.Ages.{Ages}
+use Rattle.step_core.specs.Within.{AreWithin}
+use Rattle.step_core.proofs.Pauses.Within.{within_all, within_sum}
+use Rattle.step_core.specs.Pause.{IsRowOf, AreRowsOf, IsCandidateRow, IsChosen, IsCompacted, IsByAge, IsSetOf, AreForgotten}
 
 -- the first of two lists
 All_left : (P : LiveRow → Type 0) (xs ys : List LiveRow) → All P (xs ++ ys) → All P xs
@@ -92,7 +98,7 @@ module _ (t : Table) (tams : Tops) (previous : List Bool) (running : Bool) (budg
       omega (arith, whole, parts, choice.candidates.are_rows.once k)
 
   -- what a pause chooses may be moved
-  best_moves : MayMove t tams previous running budget chosen
+  pub best_moves : MayMove t tams previous running budget chosen
   best_moves = record {
     rows = record { each = best_rows; once = best_once };
     all_new = λ run i d lt. (best_candidates i d lt).candidate.all_new run;
@@ -109,11 +115,49 @@ highest_moves t tams previous running budget chosen h = record {
   within = h.down.within;
 }
 
--- so may what either chooses
-pub set_moves : (which : Choice) (t : Table) (tams : Tops) (previous : List Bool) (running : Bool) (budget : ℕ) (chosen : List LiveRow)
-    → IsSetOf which t tams previous running budget chosen → MayMove t tams previous running budget chosen
-set_moves choices.Best t tams previous running budget chosen h = best_moves t tams previous running budget chosen h
-set_moves choices.Highest t tams previous running budget chosen h = highest_moves t tams previous running budget chosen h
+-- so may a front of young regions, and what all have the front has
+All_front : (P : LiveRow → Type 0) (n : ℕ) (rows chosen : List LiveRow) → chosen ≡ take n rows → All P rows → All P chosen
+All_front P n rows chosen e a = subst (λ (xs : List LiveRow). All P xs) (sym e) (All-take P n rows a)
+
+pub young_moves : (t : Table) (tams : Tops) (previous : List Bool) (running : Bool) (ages : Ages) (budget : ℕ) (chosen : List LiveRow)
+    → IsByAge t tams previous running ages budget chosen → MayMove t tams previous running budget chosen
+young_moves t tams previous running ages budget chosen h = record {
+  rows = record {
+    each = All_front (IsRowOf t tams.previous previous) (length chosen) h.rows chosen h.front h.candidates.are_rows.each;
+    once = λ k.
+        let same = ap (λ (xs : List LiveRow). count_by (λ row. row.region == k) xs) h.front in
+        omega (arith, same, sum_by-take-le (bit k) h.rows (length chosen), h.candidates.are_rows.once k);
+  };
+  all_new = λ run. All_front (λ row. slice_index tams.next row.region ≡ row.region * t.words_per_region) (length chosen) h.rows chosen
+      h.front (λ i d lt. (h.candidates.each i d lt).all_new run);
+  within = h.within;
+}
+
+-- and so may those of regions that few cards lead into
+within_moves : (t : Table) (tams : Tops) (previous : List Bool) (running : Bool) (s : Sets) (budget cards : ℕ) (rows chosen : List LiveRow)
+    → MayMove t tams previous running budget rows → AreWithin s cards rows chosen → MayMove t tams previous running budget chosen
+within_moves t tams previous running s budget cards rows chosen may w = record {
+  rows = record {
+    each = within_all s cards rows chosen w (IsRowOf t tams.previous previous) may.rows.each;
+    once = λ k. omega (arith, within_sum s cards rows chosen w (bit k), may.rows.once k);
+  };
+  all_new = λ run. within_all s cards rows chosen w (λ row. slice_index tams.next row.region ≡ row.region * t.words_per_region)
+      (may.all_new run);
+  within = (let most = may.within in
+      let less = within_sum s cards rows chosen w (λ (row : LiveRow). row.live_bound) in
+      omega (arith, most, less));
+}
+
+-- so may what any of them chooses
+pub set_moves : (which : Choice) (t : Table) (tams : Tops) (previous : List Bool) (running : Bool) (s : Sets) (ages : Ages) (budget : ℕ)
+    (chosen : List LiveRow) → IsSetOf which t tams previous running s ages budget chosen → MayMove t tams previous running budget chosen
+set_moves choices.Best t tams previous running s ages budget chosen h = best_moves t tams previous running budget chosen h
+set_moves (choices.Within cards) t tams previous running s ages budget chosen h =
+    within_moves t tams previous running s budget cards h.best chosen (best_moves t tams previous running budget h.best h.by_pause) h.within
+set_moves choices.Highest t tams previous running s ages budget chosen h = highest_moves t tams previous running budget chosen h
+set_moves (choices.Youngest cards) t tams previous running s ages budget chosen h =
+    within_moves t tams previous running s budget cards h.front chosen (young_moves t tams previous running ages budget h.front h.by_age)
+    h.within
 
 module _ (t : Table) (tams : Tops) (previous : List Bool) (running : Bool) (budget : ℕ) (chosen : List LiveRow)
     (may : MayMove t tams previous running budget chosen) where

@@ -2,20 +2,20 @@
 use Rattle.std.proofs.Common.{◌≡◌, ℕ, zero, suc, ◌+◌, Bool, List, [], ◌∷◌, Option, Some, None, length, refl, sym, ◌∙◌, ap, arith}
 use Rattle.std.specs.Prelude.{slice_get}
 use Rattle.heap_model.specs.Graph.{Graph, object_named}
-use Rattle.heap_model.specs.Heap.{Heap, Stored, Shows, IsShown}
+use Rattle.heap_model.specs.Heap.{Heap, Stored, IsClosed, IsShown}
+use Rattle.heap_model.specs.Clearing.{WillShow, IsWeakShown}
 use Rattle.heap_model.specs.Evacuation.{IsReached, ByRootWord, ByOutside, ByInside}
-use Rattle.heap_model.proofs.Shown.{closed}
 use Rattle.regions.specs.Tiles.{Object, tile_size}
 use Rattle.evacuation.specs.Evacuates.{AreReachedWords, stored_words, words_at}
 use Rattle.step_core.specs.Pause.{AreCopiedNames, named_words, words_of}
 use Rattle.step_core.proofs.Mutating.Reading.{AllZip-length}
 
-module _ (g : Graph) (h : Heap) (shows : Shows g h) (set : ℕ → Bool) where
+module _ (g : Graph) (h : Heap) (shows : WillShow g h) (set : ℕ → Bool) where
   -- what is reached is kept
-  reached_kept : (a : ℕ) → IsReached set h a → (x : Stored) × (h.kept a ≡ Some x)
-  reached_kept a (ByRootWord b r i) = (closed g h shows).root r.place b r.is
-  reached_kept a (ByOutside b c o f i) = (closed g h shows).field b f.field c f.object f.at f.is
-  reached_kept a (ByInside b c r f i) = (closed g h shows).field b f.field c f.object f.at f.is
+  reached_kept : IsClosed h → (a : ℕ) → IsReached set h a → (x : Stored) × (h.kept a ≡ Some x)
+  reached_kept all a (ByRootWord b r i) = all.root r.place b r.is
+  reached_kept all a (ByOutside b c o f i) = all.field b f.field c f.object f.at f.is
+  reached_kept all a (ByInside b c r f i) = all.field b f.field c f.object f.at f.is
 
   pub name_at : Option Stored → ℕ
   name_at None = 0
@@ -52,7 +52,7 @@ module _ (g : Graph) (h : Heap) (shows : Shows g h) (set : ℕ → Bool) where
   same_words a x e =
       let o = shows.objects a x e in
       let count = AllZip-length (IsShown h) x.pointers o.object.pointers o.pointers in
-      let slots = AllZip-length (IsShown h) x.weaks o.object.weaks o.weaks in
+      let slots = AllZip-length (IsWeakShown h) x.weaks o.object.weaks o.weaks in
       let values = ap (λ (vs : List ℕ). length vs) o.values in
       let in_graph : named_words (object_named g (name_at (h.kept a)))
       ≡ 2 + length o.object.pointers + length o.object.weaks + length o.object.values =
@@ -68,10 +68,10 @@ module _ (g : Graph) (h : Heap) (shows : Shows g h) (set : ℕ → Bool) where
       let here = kept 0 a refl in
       omega (arith, same_words a here.0 here.1, words_same rest (λ i b e. kept (suc i) b e))
 
-  pub copied_names : (w : ℕ) → AreReachedWords set h w → AreCopiedNames g set h w
-  copied_names w r =
+  pub copied_names : IsClosed h → (w : ℕ) → AreReachedWords set h w → AreCopiedNames g set h w
+  copied_names all w r =
       let kept : (i a : ℕ) → slice_get r.addresses i ≡ Some a → (x : Stored) × (h.kept a ≡ Some x) =
-      λ i a e. reached_kept a (r.reached i a e) in
+      λ i a e. reached_kept all a (r.reached i a e) in
       record {
         names = names_of r.addresses;
         distinct = λ i j n ei ej.

@@ -1,14 +1,16 @@
 -- The chosen regions are evacuated in a core: k is the core by its fields before that.
-use Rattle.std.proofs.Common.{◌≡◌, ◌+◌, ◌*◌, ◌/◌, ◌<◌, ◌≤◌, ◌&&◌, ◌∙◌, ℕ, Bool, true, false, not, List, Option, Some, length, refl, sym}
+use Rattle.std.proofs.Common.{None, ◌≡◌, ◌+◌, ◌*◌, ◌/◌, ◌<◌, ◌≤◌, ◌&&◌, ◌∙◌, ℕ, Bool, true, false, not, List, Option, Some, length, refl}
+use Rattle.std.proofs.Common.{sym}
 use Rattle.std.proofs.Common.{ap, subst, arith, inl, inr, All, ◌↔◌, slice_index, nat_lt, if◌then◌else◌}
 use Rattle.std.proofs.lemmas.Bool.{cases_Bool, ltb-true}
 use Rattle.std.proofs.lemmas.List.Elements.{All-weaker}
 use Rattle.heap_model.specs.Graph.{Graph, IsReachable, next_name}
-use Rattle.heap_model.specs.Heap.{Stored}
+use Rattle.heap_model.specs.Heap.{Stored, Shows}
 use Rattle.heap_model.specs.Marking.{SameMarking}
 use Rattle.heap_model.specs.Relocation.{KeepsOld}
 use Rattle.heap_model.specs.Evacuation.{place_after}
-use Rattle.heap_model.proofs.Shown.{closed}
+use Rattle.heap_model.proofs.Shown.{will_show}
+use Rattle.step_core.proofs.Cores.Slots.{shows_now, all_closed, slots_now}
 use Rattle.heap_model.proofs.Relocated.{relocated_shows, relocated_invariant}
 use Rattle.heap_model.proofs.Same.{same_invariant}
 use Rattle.regions.specs.Tiles.{Object, tile_size}
@@ -30,6 +32,7 @@ use Rattle.marker.specs.Live.{LiveCounts, CountsWords}
 use Rattle.marker.proofs.LiveCounts.{marked_words_same}
 use Rattle.marker.specs.declared.marker.Marker.{Marker}
 use Rattle.region_choice.specs.declared.LiveRow.{LiveRow}
+use Rattle.region_choice.specs.Ages.{Ages, AgesAfter}
 use Rattle.evacuation.proofs.WholePause.ChosenReleased.{mark_gone, mark_left, top_gone, top_left}
 use Rattle.evacuation.specs.Evacuates.{CanEvacuate, HasEvacuated, IsLiveRow, IsNewSet, IsSameBut, MarksAfter, is_chosen, set_in}
 use Rattle.heap_words.specs.Configs.{card_words, object_limit}
@@ -41,9 +44,9 @@ use Rattle.step_core.specs.Pause.{IsSetOf, IsRowOf, IsReady, AreForgotten, Evacu
 use Rattle.heap_words.specs.declared.config.Config.{Config}
 use Rattle.step_core.proofs.Pauses.CopiedNames.{copied_names}
 use Rattle.step_core.proofs.Cores.Layers.{follows_of}
-use Rattle.step_core.proofs.Pauses.Ready.{ready_config, ready_table, ready_marker, ready_roots, ready_next}
+use Rattle.step_core.proofs.Pauses.Ready.{ready_config, ready_table, ready_marker, ready_roots, ready_next, ready_ages}
 use Rattle.step_core.proofs.Pauses.Refined.{can_scan}
-use Rattle.step_core.proofs.Cores.Resting.{core_stays}
+use Rattle.step_core.proofs.Cores.Resting.{aged_stays}
 use Rattle.step_core.proofs.Cores.Sizes.{some_words}
 use Rattle.step_core.proofs.Mutating.Small.{words_are, ordinary_known}
 use Rattle.step_core.proofs.Pauses.Wide.{wide_after}
@@ -57,10 +60,10 @@ cards_room k core =
     core.room.cards ∙ ap (λ (n : ℕ). k.config.regions * n) each ∙ ap (λ (n : ℕ). n * k.sets.cards_per_region) (sym core.cards.each_region)
 
 module _ (k : CoreState) (core : IsCore k) (which : Choice) (budget : ℕ) (chosen : List LiveRow)
-    (choice : IsSetOf which k.table k.marker.tams k.marker.bitmaps.previous k.marker.running budget chosen)
-    (clean : (card : ℕ) → is_dirty k.cards card ≡ false) where
+    (choice : IsSetOf which k.table k.marker.tams k.marker.bitmaps.previous k.marker.running k.sets k.ages budget chosen)
+    (clean : (card : ℕ) → is_dirty k.cards card ≡ false) (none : k.clearing ≡ None) where
   may : MayMove k.table k.marker.tams k.marker.bitmaps.previous k.marker.running budget chosen
-  may = set_moves which k.table k.marker.tams k.marker.bitmaps.previous k.marker.running budget chosen choice
+  may = set_moves which k.table k.marker.tams k.marker.bitmaps.previous k.marker.running k.sets k.ages budget chosen choice
 
   words : ℕ
   words = k.table.words_per_region
@@ -74,7 +77,7 @@ module _ (k : CoreState) (core : IsCore k) (which : Choice) (budget : ℕ) (chos
     unmoved = core.layers.unmoved;
     previous = core.layers.marker.previous;
     next = core.layers.marker.next;
-    closed = closed core.footing.graph (heap_of k) core.rests.shows.shows;
+    closed = all_closed k core none;
     halves = core.layers.halves;
     fit = (can_scan k core).fit;
     each_card = core.cards.each_card;
@@ -99,7 +102,7 @@ module _ (k : CoreState) (core : IsCore k) (which : Choice) (budget : ℕ) (chos
       (live : LiveCounts)
       (ev : HasEvacuated chosen (card_words k.config) w (layers_of k)
       (record { table = t; tams = tams; previous = bm.previous; next = bm.next; cards = cs; sets = ss; roots = roots }))
-      (forgets : AreForgotten chosen k.marker.live live) where
+      (forgets : AreForgotten chosen k.marker.live live) (ages : Ages) (aged : AgesAfter (is_chosen chosen) k.ages ages) where
     abbrev marker : Marker
     marker = record {
       bitmaps = bm;
@@ -109,13 +112,18 @@ module _ (k : CoreState) (core : IsCore k) (which : Choice) (budget : ℕ) (chos
       running = k.marker.running;
       scans = k.marker.scans;
       live = live;
+      waiting = k.marker.waiting;
     }
 
     abbrev after : CoreState
-    after = record k { table = t; marker = marker; cards = cs; sets = ss; roots = roots }
+    after = record k { table = t; marker = marker; cards = cs; sets = ss; roots = roots; ages = ages }
 
     abbrev place : ℕ → Option ℕ
     place = place_after (set_in k.table.words_per_region chosen) ev.forward
+
+    paused_exactly : (g : Graph) → ShowsGraph g k → Shows g (heap_of after)
+    unfolding kept_of
+    paused_exactly g s = relocated_shows place g (heap_of k) (heap_of after) (shows_now k core none g s) ev.relocates
 
     pub paused_shows : (g : Graph) → ShowsGraph g k → ShowsGraph g after
     unfolding kept_of
@@ -123,7 +131,7 @@ module _ (k : CoreState) (core : IsCore k) (which : Choice) (budget : ℕ) (chos
       room = s.room;
       places = s.places;
       next = s.next;
-      shows = relocated_shows place g (heap_of k) (heap_of after) s.shows ev.relocates;
+      shows = will_show g (heap_of after) (paused_exactly g s);
     }
 
     -- ---- tops at mark start and marks
@@ -187,7 +195,8 @@ module _ (k : CoreState) (core : IsCore k) (which : Choice) (budget : ℕ) (chos
       earlier = f.earlier;
       marking = λ run.
           let keeps : KeepsOld place (heap_of k) (marking_of k) = ev.keeps_old (all_new run) (marking_of k) (λ a. refl) in
-          let moved = relocated_invariant place core.footing.graph (heap_of k) (heap_of after) core.rests.shows.shows ev.relocates
+          let moved = relocated_invariant place core.footing.graph (heap_of k) (heap_of after)
+          (shows_now k core none core.footing.graph core.rests.shows) ev.relocates
           (IsReachable s) (next_name s) (marking_of k) (f.marking run) keeps in
           same_invariant (IsReachable s) (next_name s) (heap_of after) (heap_of after) (marking_of k) (marking_of after)
           (record { kept = λ a. refl; roots = refl }) (same_marking run) moved;
@@ -278,6 +287,7 @@ module _ (k : CoreState) (core : IsCore k) (which : Choice) (budget : ℕ) (chos
       follows = λ run. follows_of after core.footing.graph core.footing.snapshot (paused_shows core.footing.graph core.rests.shows)
           (paused_keeps core.footing.snapshot core.rests.keeps) run;
       idle = core.layers.marker.idle;
+      none_wait = core.layers.marker.none_wait;
       scanned_marked = λ run a e. marks_same run a ∙ core.layers.marker.scanned_marked run a e;
       counted = core.layers.marker.counted;
       live = counts_after k.marker.bitmaps.previous bm.previous k.marker.live.previous live.previous core.layers.marker.live
@@ -294,6 +304,7 @@ module _ (k : CoreState) (core : IsCore k) (which : Choice) (budget : ℕ) (chos
         buffer_size = core.layers.buffer_size;
         open_buffers = core.layers.open_buffers;
         logs = core.layers.logs;
+        waits = core.layers.waits;
         buffers =
             subst (λ (b : Buffers). BuffersStand t b) (sym closed_all) (closed_stand t k.buffers.words (length k.buffers.open_buffers));
         unmoved = ev.unmoved;
@@ -309,12 +320,12 @@ module _ (k : CoreState) (core : IsCore k) (which : Choice) (budget : ℕ) (chos
 
       pub paused_kept : length roots ≡ length k.roots → IsCore after
       unfolding kept_of
-      paused_kept places = core_stays k core t k.buffers marker cs ss roots places layers_after (record {
+      paused_kept places = aged_stays k core t k.buffers marker cs ss roots ages places aged.count layers_after (record {
         whole_cards = sym core.layers.region_size ∙ sym ev.regions.size ∙ ev.fit.whole_cards;
         each_region = ev.fit.each_region ∙ ev.regions.count ∙ core.layers.region_count;
         each_card = ev.each_card;
         each_mutator = ap (λ (ls : List (List ℕ)). length ls) ev.logs ∙ core.cards.each_mutator;
-      }) ev.remembers paused_shows paused_keeps
+      }) ev.remembers (slots_now after core.footing.graph (paused_exactly core.footing.graph core.rests.shows)) paused_shows paused_keeps
 
       -- exactly the chosen regions are reclaimed
       reclaimed : (j : ℕ) → IsReclaimed k.table t j ↔ (is_chosen chosen j ≡ true)
@@ -340,11 +351,12 @@ module _ (k : CoreState) (core : IsCore k) (which : Choice) (budget : ℕ) (chos
         within = (let most = ev.within in
             let le = chosen_within k.table k.marker.tams k.marker.bitmaps.previous k.marker.running budget chosen may in
             omega (arith, most, le));
-        names = λ g s. copied_names g (heap_of k) s.shows (set_in k.table.words_per_region chosen) w ev.words_are;
+        names = λ g s. copied_names g (heap_of k) s.shows (set_in k.table.words_per_region chosen) (all_closed k core none) w ev.words_are;
         reclaimed = reclaimed;
         same = refl;
         marker = refl;
         counts = forgets;
+        ages = aged;
         evacuated = ev;
       })
 
@@ -360,12 +372,14 @@ still_shows c k ready g s = record {
 
 -- the set of what was made ready is that of what was
 set_was : (which : Choice) (c k : CoreState) (budget : ℕ) (chosen : List LiveRow) → IsReady c k
-    → IsSetOf which k.table k.marker.tams k.marker.bitmaps.previous k.marker.running budget chosen
-    → IsSetOf which c.table c.marker.tams c.marker.bitmaps.previous c.marker.running budget chosen
+    → IsSetOf which k.table k.marker.tams k.marker.bitmaps.previous k.marker.running k.sets k.ages budget chosen
+    → IsSetOf which c.table c.marker.tams c.marker.bitmaps.previous c.marker.running k.sets c.ages budget chosen
 set_was which c k budget chosen ready h =
-    subst (λ (m : Marker). IsSetOf which c.table m.tams m.bitmaps.previous m.running budget chosen) (ready_marker c k ready)
-    (subst (λ (t : Table). IsSetOf which t k.marker.tams k.marker.bitmaps.previous k.marker.running budget chosen) (ready_table c k ready)
-    h)
+    subst (λ (m : Marker). IsSetOf which c.table m.tams m.bitmaps.previous m.running k.sets c.ages budget chosen) (ready_marker c k ready)
+    (subst (λ (t : Table). IsSetOf which t k.marker.tams k.marker.bitmaps.previous k.marker.running k.sets c.ages budget chosen)
+    (ready_table c k ready)
+    (subst (λ (a : Ages). IsSetOf which k.table k.marker.tams k.marker.bitmaps.previous k.marker.running k.sets a budget chosen)
+    (ready_ages c k ready) h))
 
 -- what is moved after all was made ready
 pub moved_ready : (which : Choice) (c k c' : CoreState) (budget n w : ℕ) → IsReady c k → EvacuatesSet which budget n w k k c'
@@ -384,6 +398,7 @@ moved_ready which c k c' budget n w ready p = record {
     same = p.same;
     marker = p.marker;
     counts = p.counts;
+    ages = p.ages;
     evacuated =
         subst (λ (g : Config). HasEvacuated p.chosen (card_words g) w (layers_of k) (layers_of c')) (ready_config c k ready) p.evacuated;
   };

@@ -15,6 +15,8 @@ use Rattle.refinement.specs.Remembering.{Remembers, LeadsInto}
 use Rattle.heap_words.specs.Configs.{card_words}
 use Rattle.step_core.proofs.Mutating.Noting.{cards_a_region}
 use Rattle.step_core.specs.Stands.{CoreState, kept_of, ShowsGraph, KeepsFrom, RemembersFields, IsCore}
+use Rattle.step_core.proofs.Cores.Slots.{slots_same}
+use Rattle.step_core.specs.Stands.{IsClearing}
 use Rattle.step_core.proofs.Cores.Resting.{core_stays}
 use Rattle.step_core.specs.Refining.{GainsCards, HasRefined}
 use Rattle.step_core.specs.Pause.{IsReady}
@@ -39,6 +41,10 @@ module _ (k : CoreState) (b : Buffers) (cs : Cards) where
     closed_remembers = subst (λ (x : Cards).
         Remembers k.table.words_per_region (kept_of k) (card_words k.config) (is_dirty x) (may_lead k.sets)) (sym flush) core.remembers
 
+    closed_slots : IsClearing (with_closed k b cs)
+    unfolding kept_of
+    closed_slots = slots_same k (with_closed k b cs) core.slots refl (λ a. refl) (λ a h. h)
+
     pub closed_kept : IsCore (with_closed k b cs)
     closed_kept = core_stays k core k.table b k.marker cs k.sets k.roots refl (record {
       region_size = core.layers.region_size;
@@ -47,6 +53,7 @@ module _ (k : CoreState) (b : Buffers) (cs : Cards) where
       open_buffers = ap (λ (x : Buffers). length x.open_buffers) is
           ∙ length-replicate {A = Option Buffer} (length k.buffers.open_buffers) None ∙ core.layers.open_buffers;
       logs = core.layers.logs;
+      waits = core.layers.waits;
       buffers = stand k.table;
       unmoved = core.layers.unmoved;
       marker = core.layers.marker;
@@ -61,7 +68,7 @@ module _ (k : CoreState) (b : Buffers) (cs : Cards) where
       each_card = ap (λ (x : Cards). length x.dirty) flush ∙ core.cards.each_card;
       each_mutator =
           ap (λ (x : Cards). length x.logs) flush ∙ length-replicate {A = List ℕ} (length k.cards.logs) [] ∙ core.cards.each_mutator;
-    }) closed_remembers closed_shows closed_keeps
+    }) closed_remembers closed_slots closed_shows closed_keeps
 
 -- where nothing is listed no card is dirty
 none_dirty : (t : Cards) (n card : ℕ) → ListsDirtyOnce t → t.queue ≡ [] → t.logs ≡ replicate n [] → is_dirty t card ≡ false
@@ -162,3 +169,6 @@ module _ (c k : CoreState) (ready : IsReady c k) where
 
   pub ready_next : k.next ≡ c.next
   ready_next = ap (λ (d : CoreState). d.next) ready.same
+
+  pub ready_ages : k.ages ≡ c.ages
+  ready_ages = ap (λ (d : CoreState). d.ages) ready.same

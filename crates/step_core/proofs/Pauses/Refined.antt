@@ -1,16 +1,22 @@
 -- Cards are refined in a core, one after another: k is the core by its fields.
-use Rattle.std.proofs.Common.{◌≡◌, ◌+◌, ◌/◌, ◌<◌, ◌≤◌, ◌⊎◌, ◌∷◌, ◌∙◌, ℕ, zero, suc, Bool, true, false, Some, List, [], length, take, drop}
+use Rattle.std.proofs.Common.{◌≡◌, ◌+◌, ◌/◌, ◌<◌, ◌≤◌, ◌⊎◌, ◌∷◌, ◌∙◌, ℕ, zero, suc, Bool, true, false, Option, Some, None, List, []}
+use Rattle.std.proofs.Common.{length, take, drop, IsSome}
 use Rattle.std.proofs.Common.{min, get_or, refl, sym, ap, subst, arith, inl, inr, Contains, slice_get}
 use Rattle.heap_model.specs.Graph.{Graph}
-use Rattle.heap_model.proofs.Shown.{closed}
+use Rattle.heap_model.specs.Heap.{Stored, fields}
+use Rattle.heap_model.proofs.Shown.{followed}
+use Rattle.heap_model.proofs.Lists.{get-append_cases}
+use Rattle.regions.specs.Table.{Table, object_at}
+use Rattle.step_core.proofs.Mutating.Reading.{object_kept}
+use Rattle.step_core.proofs.Cores.Slots.{slots_same}
 use Rattle.mark_bitmap.specs.Kept.{kept_in}
 use Rattle.cards.specs.Cards.{Cards, is_dirty}
 use Rattle.remembered_sets.specs.Sets.{Sets, covers, may_lead, card_count}
 use Rattle.refinement.specs.Remembering.{Remembers, LeadsInto, LeadsInside}
 use Rattle.refinement.specs.Refining.{CanScan, Refines, AddsCard}
+use Rattle.refinement.proofs.Holders.{object_known}
 use Rattle.refinement.proofs.Entered.{adds_gains}
 use Rattle.marker.proofs.Logs.{contained}
-use Rattle.refinement.proofs.Holders.{closed_inside}
 use Rattle.heap_words.specs.Configs.{card_words}
 use Rattle.std.proofs.Math.Nat.{mul-div_cancel}
 use Rattle.step_core.proofs.Mutating.Noting.{some_card, cards_a_region}
@@ -21,6 +27,26 @@ use Rattle.step_core.specs.Refining.{GainsCards, RefinesCard, HasRefined}
 abbrev pub with_cards : CoreState → Cards → Sets → CoreState
 with_cards c cs ss = record c { cards = cs; sets = ss }
 
+-- a field leads to an object of the table
+field_leads : (k : CoreState) → IsCore k → (a i b : ℕ) (x : Stored) → kept_of k a ≡ Some x → slice_get (fields x) i ≡ Some (Some b)
+    → (y : Stored) × (object_at k.table b ≡ Some y)
+field_leads k core a i b x at e = elim (get-append_cases x.pointers x.weaks i (Some b) e) [
+  | inl q ↦
+      let (y, here) = (followed core.footing.graph (heap_of k) core.rests.shows.shows).pointer a i b x at q in
+      (y, object_kept k b y here)
+  | inr q ↦ some_object k b (core.slots.lead a b (record { object = x; at = at; slot = q.0; is = q.1 }))
+]
+  where
+    some_object : (k : CoreState) (b : ℕ) → IsSome (object_at k.table b) → (y : Stored) × (object_at k.table b ≡ Some y)
+    some_object k b h = go (object_at k.table b) refl h
+      where
+        go : (o : Option Stored) → object_at k.table b ≡ o → IsSome (object_at k.table b) → (y : Stored) × (object_at k.table b ≡ Some y)
+        go None e h = absurd (let q = h in cc)
+        go (Some y) e h = (y, e)
+
+object_inside : (t : Table) (b : ℕ) → ((y : Stored) × (object_at t b ≡ Some y)) → b / t.words_per_region < length t.regions
+object_inside t b there = object_known t b there.0 there.1
+
 -- cards can be scanned
 pub can_scan : (k : CoreState) → IsCore k → CanScan k.table k.marker.tams k.marker.bitmaps.previous (card_words k.config) k.sets
 unfolding kept_of
@@ -30,8 +56,7 @@ can_scan k core = record {
     each_region = core.cards.each_region ∙ sym core.layers.region_count;
   };
   each_word = core.layers.marker.previous.each_word;
-  inside =
-      closed_inside k.table k.marker.tams k.marker.bitmaps.previous k.roots (closed core.footing.graph (heap_of k) core.rests.shows.shows);
+  inside = record { each = λ a i v s at e. let there = field_leads k core a i v s at e in object_inside k.table v there };
 }
 
 module _ (k : CoreState) (core : IsCore k) (result : Bool) (cs : Cards) (ss : Sets)
@@ -62,7 +87,7 @@ module _ (k : CoreState) (core : IsCore k) (result : Bool) (cs : Cards) (ss : Se
     each_region = scan.fit.each_region ∙ core.layers.region_count;
     each_card = count;
     each_mutator = ap (λ (ls : List (List ℕ)). length ls) (logs_stay result refines) ∙ core.cards.each_mutator;
-  }) (remembers core.remembers) cards_show cards_keep
+  }) (remembers core.remembers) (slots_same k (with_cards k cs ss) core.slots refl (λ a. refl) (λ b h. h)) cards_show cards_keep
 
   -- what sets cover once the card was added
   gains : (card : ℕ)

@@ -6,4 +6,4 @@ use Rattle.heap_dump.proofs.fields.put_links.Given as goal
 
 abbrev pub invariant-loop-index : goal.invariant-loop-index
 invariant-loop-index l =
-    Adds l.initial.text (flat_map (spaced_pointer l.spelling l.table) (take l.index (links_at l.weak l.table l.object))) l.text
+    Adds l.initial.text (flat_map (spaced_pointer l.spelling l.core.table) (take l.index (links_at l.weak l.core l.object))) l.text

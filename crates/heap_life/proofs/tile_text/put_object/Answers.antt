@@ -1,11 +1,9 @@
-use Rattle.std.proofs.Common.{◌≡◌, sym, subst}
+use Rattle.std.proofs.Common.{◌≡◌, subst}
 use Rattle.std.specs.Prelude.{IfSome}
 use Rattle.heap_model.specs.Heap.{Stored}
 use Rattle.regions.specs.Table.{Table, object_at}
-use Rattle.heap_dump.specs.Fields.{fields_text}
-use Rattle.heap_dump.specs.declared.fields.Spelling.TheVariants.{Page}
 use Rattle.heap_life.proofs.NamedRoots.{object_told}
-use Rattle.heap_dump.proofs.Putting.{adds_as, adds_at, then_adds}
+use Rattle.heap_dump.proofs.Putting.{adds_as, then_adds}
 use Rattle.heap_life.proofs.tile_text.put_object.Goals as goal
 
 pub returns : goal.returns
@@ -17,4 +15,4 @@ returns c =
     (c.put.ensures))
     (adds_as _ _ _ _ c.letter.ensures c.put-2.ensures))
     c.put_progress.ensures)
-    (adds_at (λ (t : Table). fields_text Page t c.args.object) _ _ _ _ (sym c.table-table.ensures) c.put_fields.ensures))
+    c.put_fields.ensures)

@@ -1,69 +1,88 @@
-use Rattle.std.proofs.Common.{◌∙◌, Some, ap, sym, subst}
-use Rattle.heap_model.specs.Heap.{Heap, Shows}
+use Rattle.std.proofs.Common.{◌∙◌, Bool, ap, arith, sym, subst}
+use Rattle.heap_model.specs.Heap.{Heap}
+use Rattle.heap_model.specs.Clearing.{WillShow}
 use Rattle.heap_model.proofs.Begin.{begins}
-use Rattle.satb_log.specs.Logs.{logged}
 use Rattle.marker.specs.Views.{heap_of, marking_of}
-use Rattle.marker.proofs.Views.{previous_heap, same_heap, kept_before, same_kept}
-use Rattle.marker.proofs.Reached.{among_next, named_word}
-use Rattle.marker.proofs.Passed.{named_below, among_passed}
-use Rattle.marker.proofs.Begun.{rest_begun}
+use Rattle.marker.specs.Waiting.{Waiting}
+use Rattle.marker.specs.Looks.{BeginsBy}
+use Rattle.marker.proofs.Views.{previous_heap, same_heap, kept_before}
+use Rattle.marker.proofs.Begun.{made_ready, all_begun, all_wait, waiting_stands, with_waiting}
 use Rattle.marker.proofs.marker.Marker.begin.Goals as goal
 
-pub names_marked-requires-clause-marks : goal.names_marked-requires-clause-marks
-names_marked-requires-clause-marks c =
+pub reach_roots-requires-clause-kept : goal.reach_roots-requires-clause-kept
+reach_roots-requires-clause-kept c = λ j a e.
     let s = c.start.ensures in
-    named_below c.args.table.now c.args.roots.now.words c.in-Some.place c.loop-place.self c.law.ensures c.loop-place.invariant.stands
-    (λ j a is. same_kept c.args.table.now c.start.new.self c.loop-place.self a c.loop-place.invariant.same
-    (kept_before c.args.table.now c.args.roots.now.words c.args.self.now c.start.new.self a s.previous_tops s.previous_marks
-    (c.requires.closed.root j a is)))
+    kept_before c.args.table.now c.args.roots.now.words c.args.self.now c.start.new.self a s.previous_tops s.previous_marks
+    (c.requires.closed.root j a e)
 
-pub reach-requires-clause-kept : goal.reach-requires-clause-kept
-reach-requires-clause-kept c = λ a e _.
+-- ---- in the first two formats
+pub returns-then-is_by_address-clause-begins : goal.returns-then-is_by_address-clause-begins
+returns-then-is_by_address-clause-begins c =
     let s = c.start.ensures in
-    let word = named_word c.args.roots.now.words c.loop-place.from c.in-Some.place c.get.result c.in-Some.ensures.lowest c.get.ensures in
-    same_kept c.args.table.now c.start.new.self c.loop-place.self a c.loop-place.invariant.same
-    (kept_before c.args.table.now c.args.roots.now.words c.args.self.now c.start.new.self a s.previous_tops s.previous_marks
-    (c.requires.closed.root c.in-Some.place a (word ∙ ap Some e)))
+    let r = c.reach_roots.ensures in
+    let ready = made_ready c.args.table.now c.args.roots.now.words c.args.self.now c.start.new.self c.law.ensures.positive
+    c.requires.stands c.requires.idle c.requires.closed s.tops s.unmarked s.unscanned s.previous_tops s.previous_marks s.logs s.waiting in
+    all_begun c.args.table.now c.args.roots.now.words c.start.new.self c.reach_roots.new.self ready r.marks r.same r.scanned r.logs
+    r.waiting
 
-pub loop-place-preserved-then-not-names_marked : goal.loop-place-preserved-then-not-names_marked
-loop-place-preserved-then-not-names_marked c =
-    let q = c.reach.ensures in
-    among_next c.args.table.now c.args.roots.now.words c.loop-place.from c.in-Some.place c.get.result
-    c.start.new.self c.loop-place.self c.reach.new.self
-    c.in-Some.ensures.lowest c.get.ensures c.loop-place.invariant
-    (record { stands = q.stands; marks = q.marks; same = q.same; scanned = q.scanned; scans = q.scans; logs = q.logs })
+pub returns-then-is_by_address-clause-roots : goal.returns-then-is_by_address-clause-roots
+returns-then-is_by_address-clause-roots c =
+    subst (λ (b : Bool). BeginsBy b c.reach_roots.new.self) (sym (sym c.is_by_address.ensures ∙ c.if-is_by_address.true))
+    (ap (λ (w : Waiting). w.addresses) (c.reach_roots.ensures.waiting ∙ c.start.ensures.waiting)
+    ∙ c.requires.stands.none_wait c.requires.idle)
 
-pub past_marked-from-requires : goal.past_marked-from-requires
-past_marked-from-requires c =
+pub returns-then-is_by_address-clause-snapshot : goal.returns-then-is_by_address-clause-snapshot
+returns-then-is_by_address-clause-snapshot c = λ g shows.
     let s = c.start.ensures in
-    named_below c.args.table.now c.args.roots.now.words c.in-Some.place c.loop-place.self c.law.ensures c.loop-place.invariant.stands
-    (λ j a is. same_kept c.args.table.now c.start.new.self c.loop-place.self a c.loop-place.invariant.same
-    (kept_before c.args.table.now c.args.roots.now.words c.args.self.now c.start.new.self a s.previous_tops s.previous_marks
-    (c.requires.closed.root j a is)))
+    let r = c.reach_roots.ensures in
+    let ready = made_ready c.args.table.now c.args.roots.now.words c.args.self.now c.start.new.self c.law.ensures.positive
+    c.requires.stands c.requires.idle c.requires.closed s.tops s.unmarked s.unscanned s.previous_tops s.previous_marks s.logs s.waiting in
+    let heap = same_heap c.args.table.now c.args.roots.now.words c.start.new.self c.reach_roots.new.self r.same
+    ∙ previous_heap c.args.table.now c.args.roots.now.words c.args.self.now c.start.new.self s.previous_tops s.previous_marks in
+    begins g (heap_of c.args.table.now c.args.roots.now.words c.reach_roots.new.self) (marking_of c.args.table.now c.reach_roots.new.self)
+    (subst (λ (h : Heap). WillShow g h) (sym heap) shows)
+    (all_begun c.args.table.now c.args.roots.now.words c.start.new.self c.reach_roots.new.self ready r.marks r.same r.scanned r.logs
+    r.waiting)
 
-pub loop-place-preserved : goal.loop-place-preserved
-loop-place-preserved c =
-    among_passed c.args.table.now c.args.roots.now.words c.loop-place.from c.in-Some.place c.past_marked-from.result
-    c.start.new.self c.loop-place.self c.in-Some.ensures.lowest c.past_marked-from.ensures c.loop-place.invariant
+-- ---- in the third
+pub copy-requires-clause-none : goal.copy-requires-clause-none
+copy-requires-clause-none c =
+    ap (λ (w : Waiting). w.addresses) c.start.ensures.waiting ∙ c.requires.stands.none_wait c.requires.idle
+
+pub copy-requires-clause-room : goal.copy-requires-clause-room
+copy-requires-clause-room c =
+    omega (
+      arith,
+      c.requires.room (sym c.is_by_address.ensures ∙ c.if-is_by_address.false),
+      ap (λ (w : Waiting). w.room) c.start.ensures.waiting,
+    )
+
+pub returns-clause-stands : goal.returns-clause-stands
+returns-clause-stands c =
+    let s = c.start.ensures in
+    let ready = made_ready c.args.table.now c.args.roots.now.words c.args.self.now c.start.new.self c.law.ensures.positive
+    c.requires.stands c.requires.idle c.requires.closed s.tops s.unmarked s.unscanned s.previous_tops s.previous_marks s.logs s.waiting in
+    waiting_stands c.args.table.now c.args.roots.now.words c.start.new.self c.copy.new.self ready s.stands s.running c.copy.ensures.held
 
 pub returns-clause-begins : goal.returns-clause-begins
 returns-clause-begins c =
     let s = c.start.ensures in
-    rest_begun c.args.table.now c.args.roots.now.words c.start.new.self c.loop-place.self c.loop-place.from c.law.ensures.positive
-    c.in_default.ensures.lowest s.running s.tops s.unmarked s.unscanned
-    (ap logged s.logs ∙ c.requires.stands.idle c.requires.idle)
-    (λ j a e. kept_before c.args.table.now c.args.roots.now.words c.args.self.now c.start.new.self a s.previous_tops
-    s.previous_marks (c.requires.closed.root j a e)) c.loop-place.invariant
+    let ready = made_ready c.args.table.now c.args.roots.now.words c.args.self.now c.start.new.self c.law.ensures.positive
+    c.requires.stands c.requires.idle c.requires.closed s.tops s.unmarked s.unscanned s.previous_tops s.previous_marks s.logs s.waiting in
+    all_wait c.args.table.now c.args.roots.now.words c.start.new.self c.copy.new.self ready c.copy.ensures.held
+
+pub returns-clause-roots : goal.returns-clause-roots
+returns-clause-roots c =
+    subst (λ (b : Bool). BeginsBy b (with_waiting c.start.new.self c.copy.new.self))
+    (sym (sym c.is_by_address.ensures ∙ c.if-is_by_address.false)) c.start.ensures.unmarked
 
 pub returns-clause-snapshot : goal.returns-clause-snapshot
 returns-clause-snapshot c = λ g shows.
     let s = c.start.ensures in
-    let begun = rest_begun c.args.table.now c.args.roots.now.words c.start.new.self c.loop-place.self c.loop-place.from
-    c.law.ensures.positive c.in_default.ensures.lowest s.running s.tops s.unmarked s.unscanned
-    (ap logged s.logs ∙ c.requires.stands.idle c.requires.idle)
-    (λ j a e. kept_before c.args.table.now c.args.roots.now.words c.args.self.now c.start.new.self a s.previous_tops
-    s.previous_marks (c.requires.closed.root j a e)) c.loop-place.invariant in
-    let heap = same_heap c.args.table.now c.args.roots.now.words c.start.new.self c.loop-place.self c.loop-place.invariant.same
-    ∙ previous_heap c.args.table.now c.args.roots.now.words c.args.self.now c.start.new.self s.previous_tops s.previous_marks in
-    begins g (heap_of c.args.table.now c.args.roots.now.words c.loop-place.self) (marking_of c.args.table.now c.loop-place.self)
-    (subst (λ (h : Heap). Shows g h) (sym heap) shows) begun
+    let ready = made_ready c.args.table.now c.args.roots.now.words c.args.self.now c.start.new.self c.law.ensures.positive
+    c.requires.stands c.requires.idle c.requires.closed s.tops s.unmarked s.unscanned s.previous_tops s.previous_marks s.logs s.waiting in
+    let now = with_waiting c.start.new.self c.copy.new.self in
+    let heap = previous_heap c.args.table.now c.args.roots.now.words c.args.self.now now s.previous_tops s.previous_marks in
+    begins g (heap_of c.args.table.now c.args.roots.now.words now) (marking_of c.args.table.now now)
+    (subst (λ (h : Heap). WillShow g h) (sym heap) shows)
+    (all_wait c.args.table.now c.args.roots.now.words c.start.new.self c.copy.new.self ready c.copy.ensures.held)

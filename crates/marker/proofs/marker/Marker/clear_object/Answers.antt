@@ -1,11 +1,11 @@
 use Rattle.std.proofs.Common.{◌∙◌, refl, ap, arith}
 use Rattle.heap_model.specs.Weak.{cleared_word}
-use Rattle.marker.specs.Views.{marking_of}
+use Rattle.marker.specs.Views.{ended_marking_of, with_roles_exchanged}
 use Rattle.marker.proofs.Slots.{partly_first, partly_room, partly_next, partly_last, partly_marks, same_marking}
 use Rattle.marker.proofs.marker.Marker.clear_object.Goals as goal
 
 pub loop-slot-init : goal.loop-slot-init
-loop-slot-init c = partly_first (marking_of c.args.table.now c.args.self.now) c.args.table.now c.args.object c.requires.object
+loop-slot-init c = partly_first (ended_marking_of c.args.table.now c.args.self.now) c.args.table.now c.args.object c.requires.object
 
 pub get_weak-requires : goal.get_weak-requires
 get_weak-requires c =
@@ -23,7 +23,7 @@ set_weak-requires c =
 pub loop-slot-preserved : goal.loop-slot-preserved
 loop-slot-preserved c =
     let p = c.loop-slot.invariant in
-    let same = same_marking c.args.table.now c.loop-slot.table c.args.self.now p.writes.size in
+    let same = same_marking c.args.table.now c.loop-slot.table (with_roles_exchanged c.args.self.now) p.writes.size in
     let value = c.lasting-target.ensures ∙ ap (λ m. cleared_word m c.get_weak.result) same in
     rw c.set_weak.ensures (partly_next _ _ _ _ _ _ _ _ refl c.law.ensures.positive p c.get_weak.ensures value)
 

@@ -1,57 +1,64 @@
-use Rattle.std.proofs.Common.{rules, ◌+◌, false, refl, sym, ap, ◌∙◌, subst, Bool, List}
-use Rattle.heap_model.specs.Marking.{Marking}
+use Rattle.std.proofs.Common.{rules, ◌≡◌, ◌+◌, ◌<◌, ℕ, false, refl, sym, ap, ◌∙◌, subst, Bool, List, [], length}
 use Rattle.mark_bitmap.specs.Marks.{is_marked, marked_count}
-use Rattle.marker.specs.Clears.{ClearsTable}
+use Rattle.satb_log.specs.Logs.{log_of}
 use Rattle.marker.specs.Counts.{ScanTotals, IsMore}
 use Rattle.marker.specs.declared.marker.Marker.{Marker}
-use Rattle.marker.proofs.Ended.{IsExchanged, over, done_count, exchanged_stands, exchanged_marking, ends_exactly}
+use Rattle.marker.proofs.Reached.{same_trans}
+use Rattle.marker.proofs.Marking.{snapshots_trans}
+use Rattle.marker.proofs.Ended.{IsExchanged, over, done_count, exchanged_stands, ends_exactly}
 use Rattle.marker.proofs.marker.Marker.finish.Goals as goal
-
-pub clear_weaks-requires : goal.clear_weaks-requires
-clear_weaks-requires c = c.mark.ensures.stands.next
 
 pub returns : goal.returns
 returns c =
-    let p = over c.args.table.now c.args.self.now c.take_logs.new.self c.mark.new.self c.mark.result c.law.ensures c.requires.running
-    c.take_logs.ensures.same c.take_logs.ensures.snapshots c.take_logs.ensures.emptied
-    c.mark.ensures.stands c.mark.ensures.same c.mark.ensures.snapshots c.mark.ensures.logs c.mark.ensures.count c.mark.ensures.none_left in
-    let count = done_count c.args.table.now c.mark.new.self p.stands p.running p.done in
+    let t = c.args.table.now in
+    let m = c.args.self.now in
+    let r = c.take_all_roots.ensures in
+    let s = c.scan_objects.ensures in
+    let p = over t m c.take_all_roots.new.self c.scan_objects.new.self c.scan_objects.result c.law.ensures c.requires.running
+    (same_trans m c.take_logs.new.self c.take_all_roots.new.self c.take_logs.ensures.same r.same)
+    (snapshots_trans t m c.take_logs.new.self c.take_all_roots.new.self c.take_logs.ensures.same c.take_logs.ensures.snapshots r.snapshots)
+    (subst (λ (ls : List (List ℕ)). (k : ℕ) → k < length ls → log_of ls k ≡ []) (sym r.logs) c.take_logs.ensures.emptied)
+    s.stands s.same s.snapshots s.logs r.none_left s.waiting s.count s.none_left in
+    let count = done_count c.args.table.now c.scan_objects.new.self p.stands p.running p.done in
     let last : Marker = record {
       bitmaps = c.swap_roles.new.self;
       tams = c.swap_roles-2.new.self;
-      grey = c.mark.new.self.grey;
-      logs = c.mark.new.self.logs;
+      grey = c.scan_objects.new.self.grey;
+      logs = c.scan_objects.new.self.logs;
       running = false;
-      scans = c.mark.new.self.scans;
+      scans = c.scan_objects.new.self.scans;
       live = c.swap_roles-3.new.self;
+      waiting = c.scan_objects.new.self.waiting;
     } in
-    let e : IsExchanged c.mark.new.self last = record {
+    let e : IsExchanged c.scan_objects.new.self last = record {
       previous = c.swap_roles.ensures.previous;
       next = c.swap_roles.ensures.next;
       tams = c.swap_roles-2.ensures;
       grey = refl;
       logs = refl;
       live = c.swap_roles-3.ensures;
+      waiting = refl;
       off = refl;
     } in
     record {
-      stands = exchanged_stands c.args.table.now c.clear_weaks.new.table _ c.mark.new.self last p.stands p.running p.done
-          c.clear_weaks.ensures e;
+      stands = exchanged_stands c.args.table.now c.scan_objects.new.self last p.stands p.done e;
       over = refl;
       exact = rw c.since-count.ensures
-          (ends_exactly c.args.table.now c.clear_weaks.new.table c.args.self.now c.mark.new.self last _ p c.clear_weaks.ensures e count);
-      cleared = subst (λ (m : Marking). ClearsTable m c.args.table.now c.clear_weaks.new.table)
-          (sym (exchanged_marking c.args.table.now c.mark.new.self last e)) c.clear_weaks.ensures;
+          (ends_exactly c.args.table.now c.args.self.now c.scan_objects.new.self last _ p e count);
       count = c.since-count.ensures ∙ count ∙ ap marked_count (sym c.swap_roles.ensures.previous);
       scans = search rules;
-      scanned = λ a k. c.mark.ensures.grows.scanned a (ap (λ (b : List Bool). is_marked b a) c.take_logs.ensures.scanned ∙ k);
-      counted = c.mark.ensures.stands.counted (c.mark.ensures.same.running ∙ c.take_logs.ensures.same.running ∙ c.requires.running);
+      scanned = λ a k. s.grows.scanned a (ap (λ (b : List Bool). is_marked b a) (r.scanned ∙ c.take_logs.ensures.scanned) ∙ k);
+      counted = c.scan_objects.ensures.stands.counted (s.same.running ∙ r.same.running ∙ c.take_logs.ensures.same.running ∙
+          c.requires.running);
       work = record {
-        count = c.mark.result;
-        scanned = c.mark.ensures.count ∙ ap (λ (b : List Bool). marked_count b + c.mark.result) c.take_logs.ensures.scanned;
-        scans = subst (λ (s : ScanTotals). IsMore s c.mark.new.self.scans c.mark.result) c.take_logs.ensures.scans c.mark.ensures.scans;
+        count = c.scan_objects.result;
+        scanned = s.count
+            ∙ ap (λ (b : List Bool). marked_count b + c.scan_objects.result) (r.scanned ∙ c.take_logs.ensures.scanned);
+        scans = subst (λ (x : ScanTotals). IsMore x c.scan_objects.new.self.scans c.scan_objects.result)
+            (r.scans ∙ c.take_logs.ensures.scans) s.scans;
       };
       tops = search rules;
       marks = search rules;
       mutators = search rules;
+      room = s.same.room ∙ r.same.room ∙ c.take_logs.ensures.same.room;
     }

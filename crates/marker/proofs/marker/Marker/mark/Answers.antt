@@ -1,14 +1,41 @@
-use Rattle.marker.proofs.Marking.{one_scanned}
+use Rattle.std.proofs.Common.{◌+◌, ◌-◌, ◌∙◌, ℕ, Bool, arith, sym, subst}
+use Rattle.marker.specs.Looks.{ScansUpTo, MarksUpTo}
+use Rattle.marker.proofs.Marking.{snapshots_trans}
+use Rattle.marker.proofs.Looked.{scans_up_to, looks_up_to}
 use Rattle.marker.proofs.marker.Marker.mark.Goals as goal
 
-pub loop-done-preserved : goal.loop-done-preserved
-loop-done-preserved c =
-    let q = c.scan.ensures in
-    one_scanned c.args.table.now c.args.self.now c.loop-done.self c.scan.new.self c.loop-done.done c.in-Some.object c.loop-done.invariant
-    c.in-Some.ensures.grey c.in-Some.ensures.within q.stands q.snapshots q.scanned q.counted q.same q.logs q.marks.stays
+pub returns-then-is_by_address-clause-counted : goal.returns-then-is_by_address-clause-counted
+returns-then-is_by_address-clause-counted c =
+    let r = c.take_all_roots.ensures in
+    let s = c.scan_objects.ensures in
+    subst (λ (b : Bool). MarksUpTo b c.args.table.now c.args.units c.from.result c.args.self.now c.scan_objects.new.self)
+    (sym (sym c.is_by_address.ensures ∙ c.if-is_by_address.true))
+    (subst (λ (n : ℕ). ScansUpTo c.args.units n c.args.self.now c.scan_objects.new.self) (sym c.from.ensures)
+    (scans_up_to c.args.units c.scan_objects.result c.args.self.now c.take_all_roots.new.self c.scan_objects.new.self r.scanned r.none_left
+    s.waiting s.most s.none_left s.count))
 
-pub returns-in_default-clause-grows : goal.returns-in_default-clause-grows
-returns-in_default-clause-grows c = c.loop-done.invariant.grows
+pub returns-then-is_by_address-clause-snapshots : goal.returns-then-is_by_address-clause-snapshots
+returns-then-is_by_address-clause-snapshots c =
+    let r = c.take_all_roots.ensures in
+    snapshots_trans c.args.table.now c.args.self.now c.take_all_roots.new.self c.scan_objects.new.self r.same r.snapshots
+    c.scan_objects.ensures.snapshots
 
-pub returns-clause-grows : goal.returns-clause-grows
-returns-clause-grows c = c.loop-done.invariant.grows
+pub overflow_add-result : goal.overflow_add-result
+overflow_add-result c = omega (arith, c.take_roots-roots.ensures.most, c.scan_words.ensures.fits, c.ranges.units)
+
+pub returns-clause-counted : goal.returns-clause-counted
+returns-clause-counted c =
+    let r = c.take_roots-roots.ensures in
+    let s = c.scan_words.ensures in
+    subst (λ (b : Bool). MarksUpTo b c.args.table.now c.args.units (c.take_roots-roots.result + c.scan_words.result) c.args.self.now
+    c.scan_words.new.self)
+    (sym (sym c.is_by_address.ensures ∙ c.if-is_by_address.false))
+    (looks_up_to c.args.table.now c.args.units (c.args.units - c.take_roots-roots.result) c.scan_words.result c.take_roots-roots.result
+    c.args.self.now c.take_roots-roots.new.self c.scan_words.new.self r.scanned (omega (arith, r.most)) r.count
+    r.none_left s.waiting s.count s.most s.none_left)
+
+pub returns-clause-snapshots : goal.returns-clause-snapshots
+returns-clause-snapshots c =
+    let r = c.take_roots-roots.ensures in
+    snapshots_trans c.args.table.now c.args.self.now c.take_roots-roots.new.self c.scan_words.new.self r.same r.snapshots
+    c.scan_words.ensures.snapshots

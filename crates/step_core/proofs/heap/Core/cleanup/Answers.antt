@@ -11,7 +11,7 @@ use Rattle.step_core.proofs.heap.Core.cleanup.Goals as goal
 pub loop-number-init : goal.loop-number-init
 loop-number-init c =
     let shaped : IsShaped c.args.self.now.table = subst (λ (d : CoreState). IsShaped d.table) c.self.view_is c.law.ensures in
-    record { shows = λ g s. s; keeps = λ s f. f; cleans = none_cleaned c.args.self.now shaped c.requires }
+    record { shows = λ g s. s; keeps = λ s f. f; cleans = none_cleaned c.args.self.now shaped c.requires.idle }
 
 pub overflow_add-number : goal.overflow_add-number
 overflow_add-number c =
@@ -75,3 +75,7 @@ returns-clause-cleaned c =
     let p = c.loop-number.invariant.cleans in
     all_cleaned c.loop-number.number c.loop-number.count c.args.self.now c.loop-number.self shaped p
     (omega (arith, c.loop-number-test.false, c.region_count.ensures, same, p.size))
+
+pub release-requires-clause-settled : goal.release-requires-clause-settled
+release-requires-clause-settled c =
+    ap (λ (d : CoreState). d.clearing) c.loop-number.invariant.cleans.changes.same ∙ c.requires.settled

@@ -18,4 +18,4 @@ returns-clause-keeps c = let b = c.mark.ensures in let run = to_fields _ _ c.sel
 pub returns-clause-marked : goal.returns-clause-marked
 returns-clause-marked c = let b = c.mark.ensures in let run = to_fields _ _ c.self.view_is (λ d. d.marker.running ≡ true) c.requires in
     marked_from _ c.self.invariant run _ b.stands b.same b.snapshots b.logs _ c.self.view_is c.args.units _
-    b.most b.none_left b.scans b.count b.grows
+    b.counted b.work b.grows

@@ -6,9 +6,10 @@ pub invariant_of-result : goal.invariant_of-result
 invariant_of-result c =
     let m = c.in-Ok-new_mutating.ensures in
     let k = c.in-Ok-new_collecting.ensures in
-    rw (c.in-Ok.ensures.made, m.closed, m.roots, m.next, k.cards, k.sets)
+    rw (c.in-Ok.ensures.made, m.closed, m.roots, m.next, k.cards, k.sets, k.ages)
     (first_is c.args.config.now c.in-Ok-new_collecting.collecting.marker _ _ (rw m.closed at m.stand) (c.in-Ok.ensures.suits refl)
-    (rw k.room (record { regions = refl; cards = refl })) (omega (arith, k.rows)) (omega (arith, m.next, m.names)) k.idle k.logs k.stands)
+    (rw k.room (record { regions = refl; cards = refl })) (omega (arith, k.rows)) (omega (arith, m.next, m.names)) k.idle k.logs k.spare
+    k.stands)
 
 pub returns : goal.returns
 returns c =
@@ -16,12 +17,12 @@ returns c =
     let k = c.in-Ok-new_collecting.ensures in
     let suits = c.in-Ok.ensures.suits refl in
     record {
-      fresh = rw (c.in-Ok.ensures.made, m.closed, m.roots, m.next, k.marker, k.cards, k.sets, k.room, k.rows) refl;
-      core = rw (c.in-Ok.ensures.made, m.closed, m.roots, m.next, k.cards, k.sets)
+      fresh = rw (c.in-Ok.ensures.made, m.closed, m.roots, m.next, k.marker, k.cards, k.sets, k.room, k.rows, k.ages) refl;
+      core = rw (c.in-Ok.ensures.made, m.closed, m.roots, m.next, k.cards, k.sets, k.ages)
           (first_is c.args.config.now c.in-Ok-new_collecting.collecting.marker _ _ (rw m.closed at m.stand) suits
           (rw k.room (record { regions = refl; cards = refl })) (omega (arith, k.rows)) (omega (arith, m.next, m.names)) k.idle k.logs
-          k.stands);
-      stands = rw (c.in-Ok.ensures.made, m.closed, m.roots, m.next, k.cards, k.sets)
+          k.spare k.stands);
+      stands = rw (c.in-Ok.ensures.made, m.closed, m.roots, m.next, k.cards, k.sets, k.ages)
           (first_stands c.args.config.now c.in-Ok-new_collecting.collecting.marker _ _ k.idle);
       config = refl;
       suits = suits;

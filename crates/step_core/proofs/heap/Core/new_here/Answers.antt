@@ -1,4 +1,4 @@
-use Rattle.std.proofs.Common.{◌≡◌, ◌<◌, arith, rules, subst, sym, ap, inl}
+use Rattle.std.proofs.Common.{◌≡◌, ◌<◌, ◌∙◌, arith, rules, subst, sym, ap, inl}
 use Rattle.heap_model.specs.Graph.{RootCounts}
 use Rattle.step_core.proofs.Cores.Keeping.{placed_in, register_there}
 use Rattle.step_core.specs.Stands.{CoreState, ShowsGraph, KeepsFrom}
@@ -18,7 +18,14 @@ invariant_of-self-2 c =
     let layers = c.self.invariant.layers in
     let w = creates _ _ _ _ _ _ c.self.inside.next c.args.counts.pointers c.args.weaks c.args.counts.values c.law.ensures
     m.positive m.fitting layers.unmoved layers.buffers m.placed (omega (arith, c.size-size.ensures)) in
-    rw (c.set_register.ensures, register_there _ c.self.invariant c.args.mutator c.args.to.number, m.at, m.made, m.buffers)
+    rw (
+      c.set_register.ensures,
+      register_there _ c.self.invariant c.args.mutator c.args.to.number,
+      m.at,
+      m.made,
+      c.in-Ok.ensures.aged,
+      m.buffers,
+    )
     (new_kept _ c.args.mutator c.args.to _ _ _ c.args.counts.pointers c.args.weaks c.args.counts.values c.self.invariant w
     (omega (arith, fits, same, c.size-size.ensures)) c.if-self.false)
 
@@ -31,7 +38,14 @@ returns c =
     let layers = c.self.invariant.layers in
     let w = creates _ _ _ _ _ _ c.self.inside.next c.args.counts.pointers c.args.weaks c.args.counts.values c.law.ensures
     m.positive m.fitting layers.unmoved layers.buffers m.placed (omega (arith, c.size-size.ensures)) in
-    rw (c.set_register.ensures, register_there _ c.self.invariant c.args.mutator c.args.to.number, m.at, m.made, m.buffers) (record {
+    rw (
+      c.set_register.ensures,
+      register_there _ c.self.invariant c.args.mutator c.args.to.number,
+      m.at,
+      m.made,
+      c.in-Ok.ensures.aged,
+      m.buffers,
+    ) (record {
       makes = record {
         acts = λ g s. inl (new_acts _ c.args.mutator c.args.to _ _ _ c.args.counts.pointers c.args.weaks c.args.counts.values
             c.self.invariant w (omega (arith, fits, same, c.size-size.ensures)) c.if-self.false g
@@ -56,6 +70,9 @@ returns c =
 
     inside : c.args.to.number < registers_of c.self.inside.config
     inside = subst (λ (d : CoreState). c.args.to.number < registers_of d.config) (sym c.self.view_is) c.requires.to
+
+pub create-requires-clause-each : goal.create-requires-clause-each
+create-requires-clause-each c = c.self.invariant.ages ∙ sym c.self.invariant.layers.region_count
 
 pub set_register-requires-clause-mutator : goal.set_register-requires-clause-mutator
 set_register-requires-clause-mutator c =

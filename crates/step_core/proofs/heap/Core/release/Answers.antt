@@ -1,4 +1,4 @@
-use Rattle.std.proofs.Common.{◌≡◌, ◌<◌, ◌∙◌, ap, false, length, arith}
+use Rattle.std.proofs.Common.{◌≡◌, ◌<◌, ◌∙◌, None, ap, sym, false, length, arith}
 use Rattle.marker.specs.declared.marker.Marker.{Marker}
 use Rattle.regions.proofs.Tiles.Released.{untargeted}
 use Rattle.regions.specs.Table.{run_length}
@@ -16,6 +16,9 @@ forget-requires-clause-within c =
     let fits = block_within c.self.inside.table c.args.region known in
     omega (arith, fits, together)
 
+pub forget-requires-clause-each_age : goal.forget-requires-clause-each_age
+forget-requires-clause-each_age c = c.self.invariant.ages ∙ sym c.self.invariant.layers.region_count
+
 pub release-requires-clause-untargeted : goal.release-requires-clause-untargeted
 release-requires-clause-untargeted c = untargeted c.self.inside.table c.args.region c.self.invariant.layers.unmoved
 
@@ -28,7 +31,8 @@ invariant_of-self c =
     let f = c.forget.ensures in
     rw c.release.ensures
     (release_kept _ c.self.invariant c.law.ensures c.args.region c.args.count known dead together _
-    (ap (λ (x : Marker). x.running) f.forgotten.same ∙ idle) f.stands f.forgotten _ f.cleared)
+    (ap (λ (x : Marker). x.running) f.forgotten.same ∙ idle) f.stands f.forgotten _ f.cleared _ f.aged
+    (to_fields _ _ c.self.view_is (λ d. d.clearing ≡ None) c.requires.settled))
 
 pub returns : goal.returns
 returns c =
@@ -40,9 +44,9 @@ returns c =
     let off = ap (λ (x : Marker). x.running) f.forgotten.same ∙ idle in
     record {
       shows = λ g s. rw c.release.ensures (release_shows _ c.self.invariant c.law.ensures c.args.region c.args.count known dead together _
-          off f.stands f.forgotten _ f.cleared g (to_fields _ _ c.self.view_is (λ d. ShowsGraph g d) s));
+          off f.stands f.forgotten _ f.cleared _ f.aged g (to_fields _ _ c.self.view_is (λ d. ShowsGraph g d) s));
       keeps = λ s k. rw c.release.ensures (release_keeps _ c.self.invariant c.law.ensures c.args.region c.args.count known dead together _
-          off f.stands f.forgotten _ f.cleared s (to_fields _ _ c.self.view_is (λ d. KeepsFrom s d) k));
+          off f.stands f.forgotten _ f.cleared _ f.aged s (to_fields _ _ c.self.view_is (λ d. KeepsFrom s d) k));
       released = rw c.release.ensures (released_from _ c.self.invariant c.law.ensures c.args.region c.args.count known dead together _
-          off f.stands f.forgotten _ f.cleared _ c.self.view_is);
+          off f.stands f.forgotten _ f.cleared _ f.aged _ c.self.view_is);
     }

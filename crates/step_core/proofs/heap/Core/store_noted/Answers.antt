@@ -31,7 +31,8 @@ invariant_of-self-then-full c =
     (taken_ends _ _ c.self.view_is c.self.invariant c.args.object c.args.field c.args.target c.requires.can c.requires.noted _
     c.set_ptr-2.ensures c.if-not-self.false c.args.mutator _ c.get_ptr-overwritten.ensures _
     (saves s.after s.saved s.same s.stands s.mutators s.most s.others)
-    c.requires.known (sym s.full ∙ c.if-full.true) _ (takes_log t.emptied t.marks t.same t.scanned t.scans t.snapshots t.stands)).core
+    c.requires.known (sym s.full ∙ c.if-full.true) _
+    (takes_log t.emptied t.marks t.same t.scanned t.scans t.waiting t.snapshots t.stands)).core
 
 pub returns-then-full : goal.returns-then-full
 returns-then-full c =
@@ -40,7 +41,8 @@ returns-then-full c =
     (taken_ends _ _ c.self.view_is c.self.invariant c.args.object c.args.field c.args.target c.requires.can c.requires.noted _
     c.set_ptr-2.ensures c.if-not-self.false c.args.mutator _ c.get_ptr-overwritten.ensures _
     (saves s.after s.saved s.same s.stands s.mutators s.most s.others)
-    c.requires.known (sym s.full ∙ c.if-full.true) _ (takes_log t.emptied t.marks t.same t.scanned t.scans t.snapshots t.stands)).does
+    c.requires.known (sym s.full ∙ c.if-full.true) _
+    (takes_log t.emptied t.marks t.same t.scanned t.scans t.waiting t.snapshots t.stands)).does
 
 -- ---- no log was full
 pub invariant_of-self-else-full : goal.invariant_of-self-else-full
