@@ -131,9 +131,10 @@ impl<'a> RecordEvents<'a> {
         if !has_feed(lines) {
             return None;
         }
-        let config = self.config;
         let Some(EventLine { event, length }) = usual_event::<USUAL_EVENT>(
-            self.count, &config, lines,
+            self.count,
+            &self.config,
+            lines,
         ) else {
             return None;
         };
@@ -174,8 +175,7 @@ impl<'a> RecordEvents<'a> {
                 kind: Kind::Cut,
             });
         }
-        let config = self.config;
-        let front = front_event::<NEXT_EVENT>(self.count, &config, lines);
+        let front = front_event::<NEXT_EVENT>(self.count, &self.config, lines);
         match front.event {
             Ok(event) => {
                 self.lines = &lines[front.length + 1..];

@@ -177,16 +177,29 @@ fn step_line(config: &Config, line: &[u8], words: &[&[u8]]) -> Result<Step, Kind
     step(config, words)
 }
 
-/// The step of the line at a text's front, or the line's fault. Most lines are of the usual steps; the words of others are parted first.
+/// The step of the line at a text's front, or the line's fault, by the line's words. The room for the words is made ready here, and not
+/// before each line.
 #[inline(always)]
-pub(crate) fn front_step<'a, const CALLER: usize>(
+fn parted_step(config: &Config, text: &[u8]) -> Result<StepLine, Kind>
+    requires ended { end_of text.now < length text.now }
+    ensures step { IfOk result (λ l. step_line_of config.now (line_of text.now) ≡ Ok l.step) }
+    ensures length { IfOk result (λ l. l.length ≡ end_of text.now) }
+    ensures known { IfOk result (λ l. IsStep config.now l.step) }
+    ensures fault { IfErr result (λ kind. step_line_of config.now (line_of text.now) ≡ Err kind) }
+{
+    let mut words: [&[u8]; 12] = [&text[..0]; 12];
+    let Front { length, count } = split_front(text, &mut words);
+    let step = step_line(config, &text[..length], &words[..count])?;
+    Ok(StepLine { step, length })
+}
+
+/// The same, where most lines are of the usual steps; the words of others are parted first. Each caller has a copy of its own (`callers`).
+#[inline(always)]
+pub(crate) fn front_step<const CALLER: usize>(
     config: &Config,
-    text: &'a [u8],
-    words: &mut [&'a [u8]],
+    text: &[u8],
 ) -> Result<StepLine, Kind>
     requires ended { end_of text.now < length text.now }
-    requires room { length words.old ≡ 12 }
-    ensures room { length words.new ≡ 12 }
     ensures step { IfOk result (λ l. step_line_of config.now (line_of text.now) ≡ Ok l.step) }
     ensures length { IfOk result (λ l. l.length ≡ end_of text.now) }
     ensures known { IfOk result (λ l. IsStep config.now l.step) }
@@ -195,9 +208,7 @@ pub(crate) fn front_step<'a, const CALLER: usize>(
     if let Some(line) = usual_step::<CALLER>(config, text) {
         return Ok(line);
     }
-    let Front { length, count } = split_front(text, words);
-    let step = step_line(config, &text[..length], &words[..count])?;
-    Ok(StepLine { step, length })
+    parted_step(config, text)
 }
 
 /// The plan that a script's text spells, or the first fault of the text. Where memory is refused, the line at which it was wanted: no
@@ -216,12 +227,11 @@ pub fn parse(alloc: Global, text: &[u8]) -> Result<Plan, LineFault>
         Ok(line) => line,
         Err(fault) => return Err(fault),
     };
-    let mut words: [&[u8]; 12] = [&text[..0]; 12];
     let mut plan = Plan::new(alloc, config);
     let mut rest = &text[length + 1..];
     let mut number = 2u64;
     'lines: while has_feed(rest) {
-        let StepLine { step, length } = match front_step::<PLAN>(&config, rest, &mut words) {
+        let StepLine { step, length } = match front_step::<PLAN>(&config, rest) {
             Ok(line) => line,
             Err(kind) => return Err(LineFault { line: number, kind }),
         };

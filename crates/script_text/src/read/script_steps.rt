@@ -27,13 +27,10 @@ fn check_lines(config: &Config, lines: &[u8]) -> Result<(), LineFault>
     ensures fault { IfErr result (λ f. steps_of 2 config.now (pieces_of lines.now) ≡ Err f) }
     ensures memory { IfErr result (λ f. f.kind ≢ Kind.NoMemory) }
 {
-    let mut words: [&[u8]; 12] = [&lines[..0]; 12];
     let mut rest = lines;
     let mut number = 2u64;
     'lines: while has_feed(rest) {
-        let StepLine { step: _, length } = match front_step::<CHECKED_STEPS>(
-            config, rest, &mut words,
-        ) {
+        let StepLine { step: _, length } = match front_step::<CHECKED_STEPS>(config, rest) {
             Ok(line) => line,
             Err(kind) => return Err(LineFault { line: number, kind }),
         };
@@ -62,8 +59,6 @@ pub struct ScriptLine<'a> {
 pub struct ScriptSteps<'a> {
     config: Config,
     lines: &'a [u8],
-    /// Room for the words of a line. What is there from the line before tells nothing.
-    words: [&'a [u8]; 12],
 }
 
 impl<'a> Model for ScriptSteps<'a> {
@@ -96,11 +91,7 @@ impl<'a> ScriptSteps<'a> {
         };
         let lines = &text[length + 1..];
         match check_lines(&config, lines) {
-            Ok(()) => Ok(ScriptSteps {
-                config,
-                lines,
-                words: [&text[..0]; 12],
-            }),
+            Ok(()) => Ok(ScriptSteps { config, lines }),
             Err(fault) => Err(fault),
         }
     }
@@ -137,12 +128,11 @@ impl<'a> ScriptSteps<'a> {
         ensures none { IfNone result (self.old.steps ≡ []) }
         ensures same { IfNone result (self.new ≡ self.old) }
     {
-        let config = self.config;
         let lines = self.lines;
         if !has_feed(lines) {
             return None;
         }
-        let Ok(line) = front_step::<NEXT_STEP>(&config, lines, &mut self.words) else {
+        let Ok(line) = front_step::<NEXT_STEP>(&self.config, lines) else {
             return None;
         };
         self.lines = &lines[line.length + 1..];

@@ -19,7 +19,6 @@ lines-init c =
     let k = c.in-Ok.line.length in
     let config = c.in-Ok.line.config in
     record {
-      room = refl;
       so_far = read_same (script_items config) _ (no_steps config) _ _ c.new-plan.ensures
           (script_begins text (take k text) (behind (k + 1) text) config (pieces_behind text k c.in-Ok.ensures.line)
           c.in-Ok.ensures.config);
@@ -50,7 +49,6 @@ lines-preserved c =
     let piece : pieces_of rest ≡ line_of rest ∷ pieces_of after = pieces_ended rest line.length ended c.in-Ok-front_step.ensures.length in
     let within : line.length < length rest = omega (arith, ended, c.in-Ok-front_step.ensures.length) in
     record {
-      room = c.front_step.ensures.room;
       so_far = read_same (script_items c.in-Ok.line.config) _ _ _ _ c.in-Ok-push.ensures.ok
           (goes_on (script_items c.in-Ok.line.config) c.lines.plan c.lines.number rest (line_of rest) after line.step _
           piece c.in-Ok-front_step.ensures.step c.lines.invariant.so_far);

@@ -5,7 +5,6 @@ use Rattle.script_text.proofs.read.script.parse.Given as goal
 
 abbrev pub invariant-lines : goal.invariant-lines
 invariant-lines l = record {
-  room : length l.words ≡ 12;
   so_far : read_on (script_items l.config) l.plan (steps_of l.number l.config (pieces_of l.rest)) ≡ script_of l.text;
   config : l.plan.config ≡ l.config;
   number : l.number + length l.rest ≤ 2 + length l.text;

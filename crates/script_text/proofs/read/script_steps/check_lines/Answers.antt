@@ -27,7 +27,6 @@ lines-preserved c =
     let piece : pieces_of rest ≡ line_of rest ∷ pieces_of after = pieces_ended rest line.length ended c.in-Ok.ensures.length in
     let within : line.length < length rest = omega (arith, ended, c.in-Ok.ensures.length) in
     record {
-      room = c.front_step.ensures.room;
       so_far = one_read c.args.config.now c.lines.number rest (line_of rest) after c.args.lines.now line.step piece
           c.in-Ok.ensures.step c.lines.invariant.so_far;
       number =

@@ -1,10 +1,9 @@
-use Rattle.std.proofs.Common.{◌≡◌, ◌+◌, ◌≤◌, length}
+use Rattle.std.proofs.Common.{◌+◌, ◌≤◌, length}
 use Rattle.script_text.proofs.Reading.LeftSteps.{IsReadTo}
 use Rattle.script_text.proofs.read.script_steps.check_lines.Given as goal
 
 abbrev pub invariant-lines : goal.invariant-lines
 invariant-lines l = record {
-  room : length l.words ≡ 12;
   so_far : IsReadTo l.config l.number l.rest l.lines;
   number : l.number + length l.rest ≤ 2 + length l.lines;
 }

@@ -21,8 +21,8 @@ returns-in_default-clause-none c =
     absurd (none_wrong c.self.inside.config rest (line_of rest) after c.in_default.field-0 piece c.in_default.ensures.fault
     c.self.invariant)
 
-pub invariant_of-self-2 : goal.invariant_of-self-2
-invariant_of-self-2 c =
+pub invariant_of-self : goal.invariant_of-self
+invariant_of-self c =
     let rest = c.self.inside.lines.now in
     let line = c.in-Ok.line in
     let after = behind (line.length + 1) rest in
