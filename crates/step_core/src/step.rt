@@ -92,6 +92,14 @@ impl Core {
         }
     }
 
+    /// The same, taken apart: so the room that its step and its reply take in memory is made ready here, and not before a mutator's steps.
+    #[inline(always)]
+    fn collect_apart(&mut self, step: CollectorStep) -> Reply
+        ensures { Takes self.old (steps.Collector step) result self.new }
+    {
+        self.collect(step)
+    }
+
     /// Does a step. The reply is one that the graph and its snapshot give, and the core stands for those after it. It is Full exactly
     /// where the graph would create an object and the heap has no place for it; a step of the collector is refused exactly
     /// where marking runs and it mustn't, or doesn't and it must. Regions are reclaimed by a cleanup, those that
@@ -115,7 +123,7 @@ impl Core {
     {
         match step {
             Step::Mutator(op) => self.act(op),
-            Step::Collector(step) => self.collect(step),
+            Step::Collector(step) => self.collect_apart(step),
         }
     }
 }
