@@ -1,6 +1,6 @@
 """The C library and its clients, beside other memories: tables for docs/GATE.md.
 
-    tools/measure clients [ARCHIVE [LIBRARY ..]] [--runs 9] [--only calls programs clients millions growth]
+    tools/measure clients [ARCHIVE [LIBRARY ..]] [--runs 9] [--only calls programs clients millions growth threads]
     tools/measure clients [ARCHIVE [LIBRARY ..]] --only live [--sizes 16 128 1024 4096] [--shares 20 50 75]
                           [--loads trees lists hash arrays weak] [--options runs=2 pause_words=0 ..]
 
@@ -13,7 +13,10 @@ the recorded library is one more memory, while nothing is recorded. `programs` c
 time of larger ones, the best of some runs in turns, and the peak memory; with a JDK also of GCBench and binary-trees on OpenJDK's G1, with
 as much heap, one thread for each of its tasks, and the time in which the virtual machine starts and compiles. `millions` runs a Scheme
 program of more than 10,000,000 objects in a heap of 2 MiB. `growth` counts the instructions of steps whose cost might grow with the heap, in
-a large one. It needs gcc, g++, valgrind and Debian's libgc-dev.
+a large one. `threads` has trees that 1, 2 and 4 threads build and drop, by tools/measuring/thread_trees.c, which says what the ways are: the
+seconds by the clock to those of heaps a thread, of the best of some runs in turns; those seconds, the processor seconds of the same run,
+and the least longest wait in milliseconds. It wants 4 processors that do nothing else, and goes over the archive alone, or where there is
+none, over the heap without proofs. All else needs gcc, g++, valgrind and Debian's libgc-dev.
 
 `live`, which takes long and is run only where it is asked for, prints how long looks of the collector take where a share of a heap lives, by
 tools/measuring/live_loads.c, which says what the loads and the columns are, and has the options. Beside that are the longest stop of
@@ -38,6 +41,8 @@ from measuring.counting import TOP
 ARCHIVE, INLINED, PLAIN, BOEHM = "g1heap", "inlined", "plain heap", "Boehm"
 # Megabytes of the heap in which a benchmark runs on OpenJDK's G1, and one thread for each of its tasks.
 JAVA = {"gcbench": 50, "binary_trees": 32}
+THREADS = (1, 2, 4)
+WAYS = ("call", "node", "tree", "turns", "heaps", "messages")
 JAVA_FLAGS = ["-XX:+UseG1GC", "-XX:ParallelGCThreads=1", "-XX:ConcGCThreads=1", "-XX:G1ConcRefinementThreads=1"]
 CALLS = ["get", "read", "write", "put", "put while marking", "move", "new 2 + 1", "new filled 2 + 1", "make 2 + 1", "make filled 2 + 1",
          "name", "scope", "no such register"]
@@ -252,16 +257,41 @@ def measure_live(libraries, chosen, folder):
         row(first, [*cells, live_on_java(load, size, share, folder), f"{other[3]}, {other[9]}, {other[0]}" if other else "-"])
 
 
+def measure_threads(linked, runs, folder):
+    """Prints the best run by the clock of each way, by numbers of threads, and the least longest wait."""
+    program = os.path.join(folder, "threads")
+    compile_c("tools/measuring/thread_trees.c", program, *linked, "-pthread")
+    seen = {it: [] for it in itertools.product(WAYS, THREADS)}
+    for _ in range(runs):
+        for (way, threads), figures in seen.items():
+            done = subprocess.run([program, way, str(threads)], check=True, stdout=subprocess.PIPE, text=True)
+            figures.append([float(word) for word in done.stdout.split()])
+    heading("Seconds", [f"{threads} thread{'s' * (threads > 1)}" for threads in THREADS])
+    for way in WAYS:
+        cells = []
+        for threads in THREADS:
+            seconds, spent_in_all, _ = min(seen[way, threads])
+            waited = min(it[2] for it in seen[way, threads])
+            cells.append(f"{seconds / min(seen['heaps', threads])[0]:.2f}: {seconds:.3f}, {spent_in_all:.3f}, {waited:.1f}")
+        row(way, cells)
+
+
+def plain_library(folder):
+    """The object of the heap without proofs, and the library that it needs."""
+    plain = os.path.join(folder, "plain.o")
+    subprocess.run(["g++", "-O2", "-std=c++17", "-c", path("plain/plain_library.cpp"), "-o", plain], check=True)
+    return plain, "-lstdc++"
+
+
 def memories_of(archive, folder):
     """Each memory with its compiler and what is linked: those behind g1heap.h, and all that clients can be on."""
-    plain, tuned, recorded = (os.path.join(folder, name) for name in ("plain.o", "tuned.o", "recorded.a"))
-    subprocess.run(["g++", "-O2", "-std=c++17", "-c", path("plain/plain_library.cpp"), "-o", plain], check=True)
+    tuned, recorded = (os.path.join(folder, name) for name in ("tuned.o", "recorded.a"))
     subprocess.run(["cc", "-O2", "-I" + path("include"), "-c", path("tools/measuring/tuned_heap.c"), "-o", tuned], check=True)
     subprocess.run([path("recorded_library/build"), archive[0], recorded], check=True)
     inlined, cc = inlining(archive[0]), ["cc"]
     module = [f"-Wl,{os.path.join(os.path.dirname(archive[0]), 'libg1heap.bc')}", *archive]
     first = {ARCHIVE: (cc, *archive), **({INLINED: (inlined, *module)} if inlined else {})}
-    last = {PLAIN: (cc, plain, "-lstdc++"), "tuned": (cc, tuned)}
+    last = {PLAIN: (cc, *plain_library(folder)), "tuned": (cc, tuned)}
     if inlined:
         last["tuned, inlined"] = (inlined, path("tools/measuring/tuned_heap.c"))
     between = {BOEHM: (cc, "-DMEMORY_BOEHM", "-lgc"), "malloc, never freed": (cc, "-DMEMORY_MALLOC")}
@@ -272,13 +302,18 @@ def main():
     parser = argparse.ArgumentParser(description=__doc__, formatter_class=argparse.RawDescriptionHelpFormatter)
     parser.add_argument("archive", nargs="*", default=[path("lib/libg1heap.a")])
     parser.add_argument("--runs", type=int, default=9)
-    parser.add_argument("--only", nargs="+", default=["calls", "programs", "clients", "millions", "growth"])
+    parser.add_argument("--only", nargs="+", default=["calls", "programs", "clients", "millions", "growth", "threads"])
     parser.add_argument("--sizes", nargs="+", type=int, default=[16, 128, 1024, 4096], metavar="MEBIBYTES")
     parser.add_argument("--shares", nargs="+", type=int, default=[20, 50, 75], metavar="PERCENT")
     parser.add_argument("--loads", nargs="+", default=["trees", "lists", "hash", "arrays", "weak"], metavar="LOAD")
     parser.add_argument("--options", nargs="+", default=[], metavar="NAME=NUMBER")
     chosen = parser.parse_args()
     with tempfile.TemporaryDirectory() as folder:
+        if "threads" in chosen.only:
+            there = os.path.exists(chosen.archive[0])
+            measure_threads((["cc"], *(chosen.archive if there else plain_library(folder))), chosen.runs, folder)
+        if chosen.only == ["threads"]:
+            return
         libraries, memories = memories_of(chosen.archive, folder)
         if "calls" in chosen.only:
             measure_calls(libraries, folder)

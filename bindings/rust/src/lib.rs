@@ -3,8 +3,6 @@
 
 mod base;
 mod bulk;
-#[macro_use]
-mod calls;
 mod filled;
 mod frame;
 mod heap;

@@ -1,9 +1,16 @@
-//! A heap as a type, by the calls of `g1heap.h`, which `calls.rs` declares. Nearly all `unsafe` of the crate is here: each number that a
+//! A heap as a type, by the calls of `g1heap.h`, which `g1heap-sys` declares. Nearly all `unsafe` of the crate is here: each number that a
 //! call may be given is answered, so what is left to its caller are the pointers, and those are in `Raw`.
-pub use crate::calls::*;
+use g1heap_sys::*;
+pub use g1heap_sys::{
+    g1_answer, g1_sizes, G1_BAD_BUFFER as BAD_BUFFER, G1_BAD_CARD as BAD_CARD, G1_BAD_GLOBALS as BAD_GLOBALS,
+    G1_BAD_MUTATORS as BAD_MUTATORS, G1_BAD_REGIONS as BAD_REGIONS, G1_BAD_REGISTERS as BAD_REGISTERS, G1_BAD_ROOTS as BAD_ROOTS,
+    G1_BAD_WORDS as BAD_WORDS, G1_DONE as DONE, G1_FULL as FULL, G1_NAME as NAME, G1_NAMES_SPENT as NAMES_SPENT, G1_NIL as NIL,
+    G1_NIL_REGISTER as NIL_REGISTER, G1_NIL_VALUE as NIL_VALUE, G1_NO_FIELD as NO_FIELD, G1_NO_MEMORY as NO_MEMORY, G1_NO_STEP as NO_STEP,
+    G1_TOO_BIG as TOO_BIG,
+};
 use std::cell::{Cell, UnsafeCell};
 
-pub const NIL_REGISTER: u32 = u32::MAX;
+const _: () = assert!(is_version(env!("CARGO_PKG_VERSION")), "g1heap-sys is of another version than the crate");
 
 /// A heap of the library with its policy, or none yet. It isn't `Sync`, so one call is made at a time; and none is made from within
 /// another, since the library calls nothing back but the writer of a record, which has no way to a heap that is in use.
@@ -37,27 +44,11 @@ macro_rules! steps {
 }
 each_call_of_numbers!(steps);
 
-/// The policy of a new heap. Panics where the library's has another size, which would be written beyond the crate's.
-fn new_policy(sizes: &g1_sizes) -> g1_policy {
-    const WORDS: usize = std::mem::size_of::<g1_policy>() / 8;
-    let started = |fill: u64| {
-        let mut words = [fill; WORDS + 64];
-        // SAFETY: there is room for more than a policy, and the numbers of the sizes may be any.
-        unsafe { g1_policy_start(words.as_mut_ptr().cast(), sizes) };
-        words
-    };
-    let (words, others) = (started(0), started(u64::MAX));
-    let written = words.iter().zip(others).rposition(|(word, other)| *word != 0 || other != u64::MAX).map_or(0, |last| last + 1);
-    assert!(written == WORDS, "the archive is of another version than the crate: its policy has {} words, and here {}", written, WORDS);
-    // SAFETY: the words begin with a policy, of plain numbers, and are aligned as one.
-    unsafe { *words.as_ptr().cast() }
-}
-
 impl Raw {
     /// No heap yet.
     pub fn none() -> Raw {
         Raw {
-            heap: UnsafeCell::new(g1_heap { live: false, at: std::ptr::null_mut() }),
+            heap: UnsafeCell::new(G1_HEAP_NONE),
             policy: UnsafeCell::default(),
             remarks: Cell::new(0),
             #[cfg(feature = "recorded")]
@@ -69,7 +60,7 @@ impl Raw {
         // SAFETY: the heap is none, or the call refuses; both pointers lead to what they should, and the numbers may be any.
         let code = unsafe { g1_new(self.heap.get(), sizes) };
         if code == DONE {
-            self.set_policy(new_policy(sizes));
+            self.set_policy(started_policy(sizes));
         }
         code
     }
@@ -152,17 +143,12 @@ pub fn is_writing() -> bool {
 pub use recorded::*;
 #[cfg(feature = "recorded")]
 mod recorded {
-    use super::{g1_heap, Raw, DONE};
+    use super::{g1_record, Raw, DONE};
     use std::cell::Cell;
     use std::mem::forget;
     use std::os::raw::{c_char, c_int, c_void};
     use std::panic::{catch_unwind, AssertUnwindSafe};
     use std::ptr::NonNull;
-
-    type Write = extern "C" fn(*mut c_void, *const c_char, usize) -> c_int;
-    extern "C" {
-        fn g1_record(heap: *mut g1_heap, write: Option<Write>, context: *mut c_void) -> u32;
-    }
 
     /// What takes the lines of a record.
     pub struct Writer(Box<Lines>);

@@ -1,8 +1,9 @@
 // Made of include/g1heap.h by tools/write_calls: change the header, and run that.
-#![allow(dead_code, non_camel_case_types)]
+#![allow(missing_docs, non_camel_case_types)]
 use std::os::raw::c_void;
 
 #[repr(C)]
+#[derive(Debug)]
 pub struct g1_heap {
     pub live: bool,
     pub at: *mut c_void,
@@ -62,36 +63,52 @@ pub struct g1_policy {
     pub compacted: u64,
 }
 
-pub const DONE: u32 = 0;
-pub const NIL_VALUE: u32 = 1;
-pub const NAME: u32 = 2;
-pub const WORD: u32 = 3;
-pub const SHAPE: u32 = 4;
-pub const MARKED: u32 = 5;
-pub const RECLAIMED: u32 = 6;
-pub const REFINED: u32 = 7;
-pub const MOVED: u32 = 8;
-pub const SCANNED: u32 = 9;
-pub const NUMBER: u32 = 10;
-pub const NIL: u32 = 16;
-pub const NO_FIELD: u32 = 17;
-pub const FULL: u32 = 18;
-pub const TOO_BIG: u32 = 19;
-pub const NAMES_SPENT: u32 = 20;
-pub const MARK_RUNNING: u32 = 21;
-pub const NOT_MARKING: u32 = 22;
-pub const NO_STEP: u32 = 32;
-pub const NO_HEAP: u32 = 33;
-pub const HEAP_LIVE: u32 = 34;
-pub const BAD_REGIONS: u32 = 41;
-pub const BAD_WORDS: u32 = 42;
-pub const BAD_BUFFER: u32 = 43;
-pub const BAD_MUTATORS: u32 = 44;
-pub const NO_MEMORY: u32 = 45;
-pub const BAD_CARD: u32 = 46;
-pub const BAD_GLOBALS: u32 = 47;
-pub const BAD_REGISTERS: u32 = 48;
-pub const BAD_ROOTS: u32 = 49;
+pub const G1_HEAP_NONE: g1_heap = g1_heap { live: false, at: std::ptr::null_mut() };
+pub const G1_MAX_REGIONS: u32 = 4096;
+pub const G1_MAX_REGION_WORDS: u32 = 4194304;
+pub const G1_MAX_WORDS: u32 = 2147483648;
+pub const G1_MAX_MUTATORS: u32 = 64;
+pub const G1_MAX_CARD: u32 = 512;
+pub const G1_MAX_GLOBALS: u32 = 65536;
+pub const G1_MAX_REGISTERS: u32 = 65536;
+pub const G1_MAX_ROOTS: u32 = 1048576;
+pub const G1_MAX_OBJECT_WORDS: u32 = 16777216;
+pub const G1_MAX_WEAKS: u32 = 255;
+pub const G1_VERSION: &str = "0.1.0";
+pub const G1_VERSION_MAJOR: u32 = 0;
+pub const G1_VERSION_MINOR: u32 = 1;
+pub const G1_VERSION_PATCH: u32 = 0;
+pub const G1_NIL_REGISTER: u32 = u32::MAX;
+pub const G1_DONE: u32 = 0;
+pub const G1_NIL_VALUE: u32 = 1;
+pub const G1_NAME: u32 = 2;
+pub const G1_WORD: u32 = 3;
+pub const G1_SHAPE: u32 = 4;
+pub const G1_MARKED: u32 = 5;
+pub const G1_RECLAIMED: u32 = 6;
+pub const G1_REFINED: u32 = 7;
+pub const G1_MOVED: u32 = 8;
+pub const G1_SCANNED: u32 = 9;
+pub const G1_NUMBER: u32 = 10;
+pub const G1_NIL: u32 = 16;
+pub const G1_NO_FIELD: u32 = 17;
+pub const G1_FULL: u32 = 18;
+pub const G1_TOO_BIG: u32 = 19;
+pub const G1_NAMES_SPENT: u32 = 20;
+pub const G1_MARK_RUNNING: u32 = 21;
+pub const G1_NOT_MARKING: u32 = 22;
+pub const G1_NO_STEP: u32 = 32;
+pub const G1_NO_HEAP: u32 = 33;
+pub const G1_HEAP_LIVE: u32 = 34;
+pub const G1_BAD_REGIONS: u32 = 41;
+pub const G1_BAD_WORDS: u32 = 42;
+pub const G1_BAD_BUFFER: u32 = 43;
+pub const G1_BAD_MUTATORS: u32 = 44;
+pub const G1_NO_MEMORY: u32 = 45;
+pub const G1_BAD_CARD: u32 = 46;
+pub const G1_BAD_GLOBALS: u32 = 47;
+pub const G1_BAD_REGISTERS: u32 = 48;
+pub const G1_BAD_ROOTS: u32 = 49;
 
 extern "C" {
     pub fn g1_new(heap: *mut g1_heap, sizes: *const g1_sizes) -> u32;
@@ -160,6 +177,8 @@ extern "C" {
 }
 
 /// Hands a macro each call that takes a heap and numbers alone: the name of a method, and the call.
+#[doc(hidden)]
+#[macro_export]
 macro_rules! each_call_of_numbers {
     ($take:ident) => {
         $take! {

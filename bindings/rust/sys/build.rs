@@ -1,5 +1,5 @@
 //! Finds the archive: in the folder that G1HEAP_LIB_DIR names; else in one that pkg-config names; else in vendor/TARGET of this package,
-//! which bindings/rust/package makes; else in lib/ of the checkout that this crate is in. Its version has to be this crate's, where
+//! which bindings/rust/package fills; else in lib/ of the checkout that this crate is in. Its version has to be this crate's, where
 //! pkg-config or a g1heap.pc beside the archive tells it: both lay out the structs that they share. Where docs.rs builds the documents, no archive
 //! is looked for: nothing is linked there.
 use std::path::{Path, PathBuf};
@@ -47,7 +47,7 @@ fn places() -> Vec<(PathBuf, Option<String>)> {
     if vendor.is_dir() {
         all.push(beside(vendor.join(env::var_os("TARGET").unwrap_or_default())));
     }
-    all.push(beside(here.join("../../lib")));
+    all.push(beside(here.join("../../../lib")));
     all
 }
 
@@ -63,8 +63,8 @@ fn main() {
     for (folder, version) in places() {
         let archive = folder.join(format!("lib{name}.a"));
         match version {
-            _ if !archive.is_file() => eprintln!("g1heap: {} isn't there", archive.display()),
-            Some(it) if it != own => eprintln!("g1heap: {} is of version {it}, and the crate of {own}", archive.display()),
+            _ if !archive.is_file() => eprintln!("g1heap-sys: {} isn't there", archive.display()),
+            Some(it) if it != own => eprintln!("g1heap-sys: {} is of version {it}, and the crate of {own}", archive.display()),
             _ => {
                 println!("cargo:rerun-if-changed={}", archive.display());
                 println!("cargo:rustc-link-search=native={}", folder.display());
@@ -74,6 +74,6 @@ fn main() {
             }
         }
     }
-    eprintln!("g1heap: ./library in a checkout of g1heap builds it; then let G1HEAP_LIB_DIR name the folder lib of that checkout");
+    eprintln!("g1heap-sys: ./library in a checkout of g1heap builds it; then let G1HEAP_LIB_DIR name the folder lib of that checkout");
     process::exit(1);
 }
