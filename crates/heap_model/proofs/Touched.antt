@@ -3,8 +3,8 @@ use Rattle.std.proofs.Common.{◌≡◌, ℕ, ◌<◌, ◌≤◌, ◌⊎◌, tru
 use Rattle.heap_model.specs.Graph.{Graph, Object, object_named, next_name, IsReachable, FromRoot, FromObject}
 use Rattle.heap_model.specs.Heap.{Heap, Stored, Points, IsShown, RootSet}
 use Rattle.heap_model.specs.Clearing.{WillShow}
-use Rattle.heap_model.specs.Marking.{Marking, LeadsOn, Pending, FromGrey, FromLogged, Through, WillBeMarked, IsOldLive, IsFound, ByRoot, ByLive}
-use Rattle.heap_model.specs.Marking.{ByNew, KeepsSnapshot, IsSaved}
+use Rattle.heap_model.specs.Marking.{Marking, LeadsOn, Pending, FromGrey, FromLogged, Through, WillBeMarked, IsOldLive, IsFound}
+use Rattle.heap_model.specs.Marking.{ByRoot, ByLive, ByNew, KeepsSnapshot, IsSaved}
 use Rattle.heap_model.specs.Weak.{touched, KeepsUnreached}
 use Rattle.heap_model.proofs.Names.{bool_cases}
 use Rattle.heap_model.proofs.Lists.{get-set_cases, AllZip-get}

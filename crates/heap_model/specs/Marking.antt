@@ -89,7 +89,8 @@ pub record MarksMore (h : Heap) (m m' : Marking) : Type 0 where
   pub old : (a : ℕ) → m'.old a ≡ m.old a
   pub marked : (a : ℕ) → m.marked a ≡ true → m'.marked a ≡ true
   pub newly_marked : (a : ℕ) → m'.marked a ≡ true → (m.marked a ≡ true) ⊎ Contains m.logged a ⊎ IsTarget h m a
-  pub newly_scanned : (a : ℕ) → m'.scanned a ≡ true → (m.scanned a ≡ true) ⊎ ((b : ℕ) → LeadsOn h m a b → m.old b ≡ true → m'.marked b ≡ true)
+  pub newly_scanned : (a : ℕ) → m'.scanned a ≡ true → (m.scanned a ≡ true)
+      ⊎ ((b : ℕ) → LeadsOn h m a b → m.old b ≡ true → m'.marked b ≡ true)
   pub newly_done : (a b : ℕ) (p : LeadsOn h m a b) → p.points.field < m'.done a → m.old b ≡ true → m'.marked b ≡ true
   pub taken : (a : ℕ) → Contains m.logged a → (m'.marked a ≡ true) ⊎ Contains m'.logged a
   pub logged : (a : ℕ) → Contains m'.logged a → Contains m.logged a

@@ -1,13 +1,15 @@
 -- The held object, the stack and the fingers: what they tell of grey objects as one more is grey, as one is scanned, and with fewer marks.
 use Rattle.regions.proofs.Common.{◌≡◌, ◌≢◌, ◌<◌, ◌≤◌, ◌+◌, ◌/◌, ◌∙◌, ◌⊎◌, ◌∷◌, inl, inr, ℕ, Bool, true, false, List, [], length, set, sym}
-use Rattle.regions.proofs.Common.{ap, arith, refl, Option, Some, None, min, max, get_or-set_same, get_or-set_other, get_or, subst, if◌then◌else◌}
+use Rattle.regions.proofs.Common.{ap, arith, refl, Option, Some, None, min, max, get_or-set_same, get_or-set_other, get_or}
+use Rattle.regions.proofs.Common.{subst, if◌then◌else◌}
 use Rattle.regions.proofs.Common.{length-append, not, ◌&&◌, MatchOption, and_parts, cases_eq, cases_lt, cases_Bool, has}
 use Rattle.std.proofs.Math.ListN.{get_or-append}
 use Rattle.std.proofs.Math.Seq.{get_or-append_seam}
 use Rattle.std.proofs.lemmas.Bool.{and_from, and_right, ltb-true}
 use Rattle.mark_bitmap.specs.Marks.{is_marked, HasNone, IsLowest}
 use Rattle.mark_bitmap.specs.Stack.{Stack, AreApart, IsOn, has_room, with_object}
-use Rattle.mark_bitmap.specs.Grey.{Scans, HasFingers, HasNoFinger, HoldsNext, IsLowestBeside, OfStack, OfFingers, finger_of, is_grey, put_aside}
+use Rattle.mark_bitmap.specs.Grey.{Scans, HasFingers, HasNoFinger, HoldsNext, IsLowestBeside, OfStack, OfFingers}
+use Rattle.mark_bitmap.specs.Grey.{finger_of, is_grey, put_aside}
 use Rattle.mark_bitmap.specs.Summary.{HasNoMember}
 use Rattle.mark_bitmap.proofs.Summaries.{has_set_here, has_set_there}
 

@@ -20,8 +20,8 @@ pub record Scans : Type 0 where
   pub looked : ℕ
   pub stack : Stack
 
--- there is a finger for each 64 addresses, objects that are held or on the stack start at an address, only of a held object words were looked
--- at, and the stack has room for its own
+-- there is a finger for each 64 addresses, objects that are held or on the stack start at an address, words were looked at of a held object
+-- alone, and the stack has room for its own
 pub record HasPlaces (scanned fingers : List Bool) (held : Option ℕ) (looked : ℕ) (stack : Stack) : Type 0 where
   pub count : length fingers ≡ div_ceil (length scanned) 64
   pub within : (a : ℕ) → held ≡ Some a → a < length scanned
@@ -56,9 +56,9 @@ pub record KeepsPlace (old new : Scans) : Type 0 where
   pub looked : new.looked ≡ old.looked
   pub held : old.looked ≢ 0 → new.held ≡ old.held
 
--- the held object is grey, and the lowest grey one if the stack has no room and its scan hasn't begun; nothing is held if and only if none is grey; what is on the
--- stack is grey, each object once, and none of it is held; and no grey object starts at an address whose finger isn't set, but the held one
--- and those on the stack
+-- the held object is grey, and the lowest grey one if the stack has no room and its scan hasn't begun; nothing is held if and only if none
+-- is grey; what is on the stack is grey, each object once, and none of it is held; and no grey object starts at an address whose finger
+-- isn't set, but the held one and those on the stack
 pub record HasFingers (marks : List Bool) (scans : Scans) : Type 0 where
   pub each : (a : ℕ) → has scans.fingers (finger_of a) ≡ false
       → (scans.held ≡ Some a) ⊎ (IsOn scans.stack a ⊎ (is_grey marks scans a ≡ false))

@@ -1,7 +1,7 @@
 -- How many pointers of an object are done while it is scanned in part.
 use Rattle.std.proofs.Common.{inl, inr, ◌≡◌, ◌≢◌, ◌-◌, ◌<◌, ◌≤◌, ◌==◌, ◌∙◌, ℕ, Bool, true, false, Option, Some, None, length, refl, sym, ap}
 use Rattle.std.proofs.Common.{arith, if◌then◌else◌}
-use Rattle.std.proofs.lemmas.Bool.{cases_eq, cases_Bool}
+use Rattle.std.proofs.lemmas.Bool.{cases_eq}
 use Rattle.heap_model.specs.Heap.{Heap}
 use Rattle.heap_model.specs.Marking.{Marking, LeadsOn}
 use Rattle.regions.specs.Table.{Table, pointers_at}

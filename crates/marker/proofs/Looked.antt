@@ -1,8 +1,8 @@
 -- The words that are looked at where objects are scanned.
-use Rattle.std.proofs.Common.{inl, inr, ◌≡◌, ◌+◌, ◌<◌, ◌≤◌, ◌∙◌, ℕ, zero, suc, Bool, true, false, List, [], length, set, refl, sym, ap}
+use Rattle.std.proofs.Common.{inl, inr, ◌≡◌, ◌+◌, ◌<◌, ◌≤◌, ◌∙◌, ℕ, zero, suc, Bool, true, false, List, [], length, set, refl, ap}
 use Rattle.std.proofs.Common.{subst, arith, if◌then◌else◌, length-set, get_or-set_same, get_or-set_other}
-use Rattle.std.proofs.lemmas.Bool.{cases_Bool, cases_eq}
-use Rattle.regions.specs.Table.{Table, pointers_at}
+use Rattle.std.proofs.lemmas.Bool.{cases_eq}
+use Rattle.regions.specs.Table.{Table}
 use Rattle.mark_bitmap.specs.Marks.{is_marked, marked_count, HasNone}
 use Rattle.mark_bitmap.specs.Grey.{is_grey}
 use Rattle.marker.specs.Counts.{ScanTotals, IsMore, added}

@@ -238,8 +238,9 @@ span_split words from n a w e i =
       | inr other ↦ inl (record { place = i.place; from_on = i.from_on; before = omega (arith, i.before, other); is = i.is })
     ]
 
-pub span_more : (t : Table) (words : List (Option ℕ)) (from n : ℕ) (w : Option ℕ) (m m' m'' : Marker) → from ≤ n → slice_get words n ≡ Some w
-    → Reached t (IsInSpan words from n) m m' → Reached t (λ a. w ≡ Some a) m' m'' → Reached t (IsInSpan words from (n + 1)) m m''
+pub span_more : (t : Table) (words : List (Option ℕ)) (from n : ℕ) (w : Option ℕ) (m m' m'' : Marker) → from ≤ n
+    → slice_get words n ≡ Some w → Reached t (IsInSpan words from n) m m' → Reached t (λ a. w ≡ Some a) m' m''
+    → Reached t (IsInSpan words from (n + 1)) m m''
 span_more t words from n w m m' m'' low e p q =
     more_reached t (IsInSpan words from n) (λ a. w ≡ Some a) (IsInSpan words from (n + 1)) m m' m''
     (λ a i. span_split words from n a w e i)

@@ -132,7 +132,8 @@ module _ (t : Table) (m : Marker) (w : Waiting) (at : ℕ) (st : MarkerStands t 
   popped_below = (st.follows run).logged_below at last_before
 
   module _ (m' : Marker) (same : SameRoles (with_waiting m w) m') (scanned : m'.grey.scanned ≡ m.grey.scanned)
-      (place : KeepsPlace m.grey m'.grey) (logs : m'.logs ≡ m.logs) (waiting : m'.waiting ≡ w) (marks : MarksWanted t (λ a. at ≡ a) (with_waiting m w) m') where
+      (place : KeepsPlace m.grey m'.grey) (logs : m'.logs ≡ m.logs) (waiting : m'.waiting ≡ w)
+      (marks : MarksWanted t (λ a. at ≡ a) (with_waiting m w) m') where
     taken_roles : SameRoles m m'
     taken_roles = same_trans m (with_waiting m w) m' popped_roles same
 

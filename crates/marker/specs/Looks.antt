@@ -34,8 +34,8 @@ pub record ScansUpTo (k n : ℕ) (m m' : Marker) : Type 0 where
   pub most : n ≤ k
   pub enough : n < k → HasNoneLeft m'
 
--- n words were looked at, one for each root that was taken, and those of the objects that were scanned, of which the held one may be scanned
--- in part: k, or fewer if nothing is left
+-- n words were looked at, one for each root that was taken, and those of the objects that were scanned, the held one perhaps in part: k, or
+-- fewer if nothing is left
 pub record LooksUpTo (t : Table) (k n : ℕ) (m m' : Marker) : Type 0 where
   pub taken : ℕ
   pub roots : length m.waiting.addresses ≡ length m'.waiting.addresses + taken

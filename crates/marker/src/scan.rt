@@ -5,8 +5,8 @@
 //!   scanned  marked, and so are its old targets as they were at the scan
 //! ```
 //!
-//! In the third format words are counted, and an object may be scanned in part: it stays grey and held, and how many of its words were looked
-//! at is kept. So one call looks at no more words than it is asked to, however large an object is.
+//! In the third format words are counted, and an object may be scanned in part: it stays grey and held, and how many of its words were
+//! looked at is kept. So one call looks at no more words than it is asked to, however large an object is.
 //!
 //! ```text
 //!   mark 7, in the third format      roots that wait     a grey object, 2 pointers    a grey object, 3 pointers
@@ -149,8 +149,8 @@ impl Marker {
         self.reach_pointers(table, object, done, count);
     }
 
-    /// Looks at so many words more of the grey object that is held, and not at all that are left: the targets among them are marked. It stays
-    /// held and grey.
+    /// Looks at so many words more of the grey object that is held, and not at all that are left: the targets among them are marked. It
+    /// stays held and grey.
     #[inline(never)]
     fn look(&mut self, table: &RegionTable, object: Addr, words: u32)
         requires stands { MarkerStands table.now self.old }

@@ -199,7 +199,8 @@ module _ (k : CoreState) (m : ℕ) (to : Register) (t2 : Table) (b1 : Buffers) (
           buffers = makes.stand;
           unmoved = makes.unmoved;
           marker = stands_over k.table t2 k.marker core.layers.marker makes.region_count words
-              (λ j lt. previous.tops j (rw makes.region_count lt)) (λ j lt. next.tops j (rw makes.region_count lt)) still still_words still_pointers
+              (λ j lt. previous.tops j (rw makes.region_count lt)) (λ j lt. next.tops j (rw makes.region_count lt)) still still_words
+              still_pointers
               (follows_of (new (register_place (root_counts_of k.config) m to.number)) _ core.footing.snapshot shows keeps);
           above_previous = previous;
           above_next = next;

@@ -185,7 +185,13 @@ module _ (k : CoreState) (core : IsCore k) (which : Choice) (budget : ℕ) (chos
         ]
 
     same_marking : k.marker.running ≡ true → SameMarking (marking_of k) (marking_of after)
-    same_marking run = record { old = old_same run; marked = marks_same run; scanned = λ a. refl; done = λ a. refl; logged = λ a. (λ x. x, λ x. x) }
+    same_marking run = record {
+      old = old_same run;
+      marked = marks_same run;
+      scanned = λ a. refl;
+      done = λ a. refl;
+      logged = λ a. (λ x. x, λ x. x);
+    }
 
     all_new : k.marker.running ≡ true → IsNewSet (layers_of k) chosen
     all_new run = may.all_new run

@@ -1,4 +1,4 @@
-use Rattle.std.proofs.Common.{◌+◌, ◌-◌, ◌∙◌, ℕ, Bool, arith, sym, subst}
+use Rattle.std.proofs.Common.{◌+◌, ◌-◌, ◌∙◌, Bool, arith, sym, subst}
 use Rattle.marker.specs.Looks.{MarksUpTo}
 use Rattle.marker.proofs.Marking.{snapshots_trans}
 use Rattle.marker.proofs.Looked.{scans_up_to, looks_up_to}

@@ -1,4 +1,4 @@
-use Rattle.std.proofs.Common.{◌≡◌, ◌-◌, ◌∙◌, ℕ, arith, subst}
+use Rattle.std.proofs.Common.{◌≡◌, ◌-◌, ℕ, arith, subst}
 use Rattle.regions.specs.Table.{pointers_at}
 use Rattle.marker.specs.Roots.{IsInSpan}
 use Rattle.marker.specs.Steps.{MarksWanted}
