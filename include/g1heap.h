@@ -97,7 +97,7 @@ enum {
     G1_RECLAIMED = 6,  /* g1_cleanup: `first` regions are free again */
     G1_REFINED = 7,    /* g1_refine: `first` cards were refined */
     G1_MOVED = 8,      /* pauses and g1_compact: `first` words were copied, `second` regions are free again */
-    G1_SCANNED = 9,    /* g1_mark: `first` objects were scanned */
+    G1_SCANNED = 9,    /* g1_mark: the scans of `first` objects ended */
     G1_NUMBER = 10,    /* what a reader tells: `first` */
 
     G1_NIL = 16,          /* the register that should name an object is nil */
