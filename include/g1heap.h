@@ -97,7 +97,7 @@ enum {
     G1_RECLAIMED = 6,  /* g1_cleanup: `first` regions are free again */
     G1_REFINED = 7,    /* g1_refine: `first` cards were refined */
     G1_MOVED = 8,      /* pauses and g1_compact: `first` words were copied, `second` regions are free again */
-    G1_SCANNED = 9,    /* g1_mark: `first` objects were scanned */
+    G1_SCANNED = 9,    /* g1_mark: the scans of `first` objects ended */
     G1_NUMBER = 10,    /* what a reader tells: `first` */
 
     G1_NIL = 16,          /* the register that should name an object is nil */
@@ -206,7 +206,7 @@ g1_answer g1_new_filled(g1_heap *heap, uint32_t mutator, uint32_t to, const uint
 
    Call             Step of a script   What it does                                                             Done         Refused
    g1_begin         gc begin           marking begins, with the present graph as its snapshot                   DONE         MARK_RUNNING
-   g1_mark          gc mark            so many words are looked at, and those of the last object all            SCANNED      NOT_MARKING
+   g1_mark          gc mark            so many words are looked at, of the last object in part if it has more   SCANNED      NOT_MARKING
    g1_remark        gc remark          marking ends: a weak slot that leads to what it didn't reach reads nil   MARKED       NOT_MARKING
    g1_cleanup       gc cleanup         regions with nothing live are free again, but the one that objects are   RECLAIMED    MARK_RUNNING
                                        cut from now
@@ -293,7 +293,7 @@ g1_answer g1_name(const g1_heap *heap, uint32_t mutator, uint32_t of);
 typedef struct g1_policy {
     uint32_t reserve;      /* regions: a cycle of marking ends before fewer are free */
     uint32_t pause_words;  /* words: the budget of a pause, but for those of a whole collection */
-    uint32_t mark_words;   /* words: as many are looked at by marking at a look, at most, and those of one object more */
+    uint32_t mark_words;   /* words: as many are looked at by marking at a look, at most */
     uint32_t cycle_words;  /* words: where so many were asked for since the last cycle began, another one begins */
     uint32_t young_words;  /* words: new regions of so many are evacuated first, and no fewer later */
     uint32_t cards_left;   /* cards: where more are queued at a look, it refines as many at most */

@@ -623,56 +623,72 @@ protected:
     }
 
     // The object that is scanned next is held. In the third format it is the one that was found last, and those that were held before are
-    // on a stack while there is room. Else it is the lower of the two.
+    // on a stack while there is room. Else it is the lower of the two. Where its scan has begun, it stays held, and the other one is put on
+    // the stack, or where there is no room waits among the grey ones.
     void hold(Address at) {
         if (held_ == nowhere) held_ = at;
-        else if (stacked_ < stack_room_) stack_[stacked_++] = std::exchange(held_, at);
+        else if (looked_ != 0) {
+            if (stacked_ < stack_room_) stack_[stacked_++] = at;
+        } else if (stacked_ < stack_room_) stack_[stacked_++] = std::exchange(held_, at);
         else held_ = std::min(held_, at);
     }
 
     // The held object isn't grey any more. The last one of the stack is held, or else the lowest grey one. None starts below the finger.
-    Address take_held() {
-        Address at = std::exchange(held_, nowhere);
-        if (at == nowhere) return at;
-        grey_.remove(at);
+    void drop_held() {
+        grey_.remove(held_);
+        looked_ = 0;
         if (stacked_ > 0) {
             held_ = stack_[--stacked_];
         } else {
             held_ = grey_.lowest(finger_);
             finger_ = held_ == nowhere ? heap_words_ : held_;
         }
-        return at;
     }
 
     // Scans so many grey objects, or all there are; of none it looks at the weak slots.
     Number scan(Number units) {
         for (Number scanned = 0; scanned != units; ++scanned) {
-            Address at = take_held();
-            if (at == nowhere) return scanned;
-            scan_object(at);
+            if (held_ == nowhere) return scanned;
+            scan_held();
         }
         return units;
     }
 
-    // Scans an object that isn't grey any more, and says how many pointers it has.
-    Number scan_object(Address at) {
-        Number count = pointer_count(words_[at]);
-        Address end = at + 2 + count;
-        for (Address field = at + 2; field < end; ++field)
+    // Where the pointers of the held object begin that were not looked at.
+    Address first_left() const { return held_ + 2 + (looked_ == 0 ? 0 : looked_ - 1); }
+
+    // Scans what is left of the held object, which isn't grey any more before what it names is.
+    void scan_held() {
+        Address field = first_left(), end = held_ + 2 + pointer_count(words_[held_]);
+        drop_held();
+        mark_targets(field, end);
+    }
+
+    // Looks at so many words more of the held object, and not at all that are left: it is the first one, and then its pointers are.
+    void look_at_held(Number words) {
+        Address field = first_left();
+        looked_ += words;
+        mark_targets(field, held_ + 1 + looked_);
+    }
+
+    void mark_targets(Address field, Address end) {
+        for (; field < end; ++field)
             if (words_[field] != 0) mark_object(Address(words_[field] - 1));
-        return count;
     }
 
     // In the third format: takes roots that wait, and then scans grey objects, until so many words are looked at. A root is one, an object
-    // is one, and each of its pointers is. How many objects were scanned.
+    // is one, and each of its pointers is. An object of more words than are left is scanned in part. How many objects were scanned.
     Number scan_words(Number words) {
         Number scanned = 0;
-        Word looked = 0;
-        for (; looked < words && !waiting_.empty(); ++looked) take_root();
-        while (looked < words) {
-            Address at = take_held();
-            if (at == nowhere) break;
-            looked += 1 + scan_object(at);
+        for (; words != 0 && !waiting_.empty(); --words) take_root();
+        while (words != 0 && held_ != nowhere) {
+            Word left = Word(1) + pointer_count(words_[held_]) - looked_;
+            if (left > words) {
+                look_at_held(words);
+                break;
+            }
+            words -= Number(left);
+            scan_held();
             ++scanned;
         }
         return scanned;
@@ -895,6 +911,8 @@ protected:
     GreySet grey_;
     Address finger_, held_ = nowhere, stack_[64];
     Number stack_room_, stacked_ = 0;
+    // How many words of the held object were looked at, where its scan has begun.
+    Number looked_ = 0;
     bool marking_ = false;
     Number marked_ = 0;
     // What roots named when marking began, and is still to be marked: in the third format.

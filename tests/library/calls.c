@@ -211,7 +211,10 @@ static void collect(g1_heap *h, uint64_t name)
     is("grey", g1_grey(h), G1_NUMBER, 1, 0);
     is("mark", g1_mark(h, 1), G1_SCANNED, 0, 0); /* a root that waits is a word */
     is("grey", g1_grey(h), G1_NUMBER, 1, 0);
-    is("mark", g1_mark(h, 99), G1_SCANNED, 2, 0);
+    is("mark", g1_mark(h, 2), G1_SCANNED, 0, 0); /* another root, and an object of one pointer, which is scanned in part */
+    is("mark", g1_mark(h, 2), G1_SCANNED, 1, 0); /* its pointer, and the other object of one in part */
+    is("grey", g1_grey(h), G1_NUMBER, 1, 0);
+    is("mark", g1_mark(h, 99), G1_SCANNED, 1, 0);
     is("grey", g1_grey(h), G1_NUMBER, 0, 0);
     is("remark", g1_remark(h), G1_MARKED, 2, 0);
     is("marking", g1_marking(h), G1_NUMBER, 0, 0);

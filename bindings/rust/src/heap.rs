@@ -232,7 +232,7 @@ pub struct Pace {
     pub reserve: u32,
     /// Words: the budget of a pause, but for those of a whole collection.
     pub pause_words: u32,
-    /// Words: as many are looked at by marking at a look, at most, and those of one object more.
+    /// Words: as many are looked at by marking at a look, at most.
     pub mark_words: u32,
     /// Words: where so many were asked for since the last cycle began, another one begins.
     pub cycle_words: u32,

@@ -68,8 +68,8 @@ impl<'a> Steps<'a> {
     pub fn begin(&self) -> bool {
         taken(self.raw.begin()).is_some()
     }
-    /// Marks, looking at so many words and at those of the last object all, and answers how many objects it scanned; `None` where
-    /// marking isn't running.
+    /// Marks, looking at so many words, of the last object in part if it has more, and answers how many objects' scans ended; `None`
+    /// where marking isn't running.
     pub fn mark(&self, words: u32) -> Option<u64> {
         taken(self.raw.mark(words))
     }

@@ -38,7 +38,8 @@ module _ (g : Graph) (h : Heap) (m : Marking) (shows : WillShow g h) (b : Begins
         at = t.at;
         named = t.named;
         pending = Through before.address t.address before.pending (b.old before.address before.object before.at)
-            (b.scanned before.address) t.points;
+            (b.scanned before.address)
+            (record { points = t.points; left = let none = b.done before.address in omega (arith, none) });
       }
 
   root_live : (a : ℕ) → IsRoot h a → IsOldLive (IsReachable g) h m a

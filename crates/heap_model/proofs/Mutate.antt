@@ -5,7 +5,7 @@ use Rattle.std.proofs.lemmas.Bool.{cases_eq}
 use Rattle.heap_model.specs.Graph.{Graph}
 use Rattle.heap_model.specs.Heap.{Heap, Stored, Points, IsRoot, IsHeld, RootSet, ObjectSet, ObjectAdded}
 use Rattle.heap_model.specs.Clearing.{WillShow}
-use Rattle.heap_model.specs.Marking.{Marking, IsOldLive, IsFound, ByRoot, ByLive, ByNew, MarkingInvariant, IsSaved}
+use Rattle.heap_model.specs.Marking.{Marking, LeadsOn, IsOldLive, IsFound, ByRoot, ByLive, ByNew, MarkingInvariant, IsSaved}
 use Rattle.heap_model.proofs.Names.{bool_cases}
 use Rattle.heap_model.proofs.Lists.{get-set_cases, get_kept-set}
 use Rattle.heap_model.proofs.Shown.{target_reachable}
@@ -37,6 +37,19 @@ set_points h h' d x y v same a b p =
       | inr n ↦ (record { object = p.object; at = v.others a n ∙ p.at; field = p.field; is = p.is }, refl)
     ]
 
+-- so those that aren't done still lead on
+set_leads : (h h' : Heap) (m : Marking) (d : ℕ) (x y : Stored) → ObjectSet h h' d x y → y.pointers ≡ x.pointers → (a b : ℕ)
+    → LeadsOn h m a b → LeadsOn h' m a b
+set_leads h h' m d x y v same a b l =
+    let p = l.points in
+    elim (cases_eq a d) [
+      | inl q ↦
+          let here : p.object ≡ x = let e1 = p.at in let e2 = v.was in let e3 = ap h.kept q in cc in
+          let is = ap (λ l. slice_get l p.field) (same ∙ ap (λ (z : Stored). z.pointers) (sym here)) ∙ p.is in
+          record { points = record { object = y; at = ap h'.kept q ∙ v.is; field = p.field; is = is }; left = l.left }
+      | inr n ↦ record { points = record { object = p.object; at = v.others a n ∙ p.at; field = p.field; is = p.is }; left = l.left }
+    ]
+
 -- the same change the other way round
 set_back : (h h' : Heap) (d : ℕ) (x y : Stored) → ObjectSet h h' d x y → ObjectSet h' h d y x
 set_back h h' d x y v = record { was = v.is; is = v.was; name = sym v.name; others = λ a n. sym (v.others a n); roots = sym v.roots }
@@ -60,7 +73,7 @@ module _ (live : ℕ → Type 0) (limit : ℕ) (h h' : Heap) (m : Marking) (i : 
     old = λ a. refl;
     marked = λ a k. k;
     logged = λ a e. inr e;
-    edges = λ a b _ _ un p _. inl (un, (set_points h h' d x y v same a b p).0);
+    edges = λ a b _ _ un l _. inl (un, set_leads h h' m d x y v same a b l);
     stays = λ a z at o. set_stays h h' d x y v a z at;
     came = λ a z at o. set_came h h' d x y v a z at;
     newly_marked = λ a k. inl k;
@@ -98,8 +111,8 @@ module _ (live : ℕ → Type 0) (limit : ℕ) (h : Heap) (m : Marking) (i : Mar
       old = λ b. refl;
       marked = λ b k. k;
       logged = λ b e. inr e;
-      edges = λ b c _ _ un p _. let at = added_kept h h' a x place v b p.object p.at in
-          inl (un, record { object = p.object; at = at; field = p.field; is = p.is });
+      edges = λ b c _ _ un l _. let p = l.points in let at = added_kept h h' a x place v b p.object p.at in
+          inl (un, record { points = record { object = p.object; at = at; field = p.field; is = p.is }; left = l.left });
       stays = λ b y at o. record { object = y; at = added_kept h h' a x place v b y at; named = refl };
       came = λ b y at o. elim (added_before h h' a x place v b y at) [
         | inl q ↦ absurd (let here = ap m.old q.0 in cc)
@@ -154,7 +167,13 @@ module _ (live : ℕ → Type 0) (limit : ℕ) (g : Graph) (h : Heap) (m : Marki
       old = λ a. refl;
       marked = λ a k. k;
       logged = λ a e. inr e;
-      edges = λ a b _ _ un p _. inl (un, record { object = p.object; at = v.kept a ∙ p.at; field = p.field; is = p.is });
+      edges = λ a b _ _ un l _. let p = l.points in inl (
+        un,
+        record {
+          points = record { object = p.object; at = v.kept a ∙ p.at; field = p.field; is = p.is };
+          left = l.left;
+        },
+      );
       stays = λ a x at o. record { object = x; at = v.kept a ∙ at; named = refl };
       came = λ a x at o. record { object = x; at = sym (v.kept a) ∙ at; named = refl };
       newly_marked = λ a k. inl k;
@@ -169,9 +188,11 @@ module _ (live : ℕ → Type 0) (limit : ℕ) (g : Graph) (h : Heap) (m : Marki
     put_logged : (a : ℕ) → was ≡ Some a → m.old a ≡ true → IsOldLive live h m a
     put_logged a e o = old_value d a root (record { object = x; at = v.was; field = field; is = there ∙ ap Some e }) o
 
-    put_edge : (a b : ℕ) → m.scanned a ≡ false → Points h a b → m.old b ≡ true
-        → ((m'.scanned a ≡ false) × Points h' a b) ⊎ ((m'.marked b ≡ true) ⊎ Contains m'.logged b)
-    put_edge a b un p o =
+    put_edge : (a b : ℕ) → m.scanned a ≡ false → LeadsOn h m a b → m.old b ≡ true
+        → ((m'.scanned a ≡ false) × LeadsOn h' m' a b) ⊎ ((m'.marked b ≡ true) ⊎ Contains m'.logged b)
+    put_edge a b un l o =
+        let p = l.points in
+        let left : m'.done a ≤ p.field = subst (λ (k : ℕ). k ≤ p.field) (sym (saved.done a)) l.left in
         elim (cases_eq a d) [
           | inl q ↦
               let same : p.object ≡ x = let e1 = p.at in let e2 = v.was in let e3 = ap h.kept q in cc in
@@ -182,10 +203,19 @@ module _ (live : ℕ → Type 0) (limit : ℕ) (g : Graph) (h : Heap) (m : Marki
                 | inr k ↦ inl (
                   saved.scanned a
                       ∙ un,
-                  record { object = y; at = ap h'.kept q ∙ v.is; field = p.field; is = ap (λ l. slice_get l p.field) set ∙ k },
+                  record {
+                    points = record { object = y; at = ap h'.kept q ∙ v.is; field = p.field; is = ap (λ l. slice_get l p.field) set ∙ k };
+                    left = left;
+                  },
                 )
               ]
-          | inr n ↦ inl (saved.scanned a ∙ un, record { object = p.object; at = v.others a n ∙ p.at; field = p.field; is = p.is })
+          | inr n ↦ inl (
+            saved.scanned a ∙ un,
+            record {
+              points = record { object = p.object; at = v.others a n ∙ p.at; field = p.field; is = p.is };
+              left = left;
+            },
+          )
         ]
 
     put_back : (a b : ℕ) (p : Points h' a b) → IsHeld h (Some b) ⊎ ((q : Points h a b) × (q.object.name ≡ p.object.name))

@@ -3,7 +3,7 @@ use Rattle.std.proofs.Common.{◌≡◌, ℕ, true, false, Option, Some, None, r
 use Rattle.std.specs.List.{AllZip}
 use Rattle.heap_model.specs.Graph.{Graph, object_named}
 use Rattle.heap_model.specs.Heap.{Heap, Stored, Points, IsRoot, IsShown, Shows}
-use Rattle.heap_model.specs.Marking.{Marking, IsFound, ByRoot, ByLive, ByNew, MarkingInvariant}
+use Rattle.heap_model.specs.Marking.{Marking, LeadsOn, IsFound, ByRoot, ByLive, ByNew, MarkingInvariant}
 use Rattle.heap_model.specs.Relocation.{IsMoved, Relocates, KeepsOld}
 use Rattle.heap_model.proofs.Names.{bool_cases}
 use Rattle.heap_model.proofs.Lists.{AllZip-get, AllZip-get_right, AllZip_through}
@@ -78,15 +78,16 @@ module _ (place : ℕ → Option ℕ) (g : Graph) (h h' : Heap) (shows : Shows g
   }
 
   module _ (live : ℕ → Type 0) (limit : ℕ) (m : Marking) (i : MarkingInvariant live limit h m) (keeps : KeepsOld place h m) where
-    edge : (a b : ℕ) → m.old a ≡ true → (p : Points h a b) → m.old b ≡ true → Points h' a b
-    edge a b oa p ob =
+    edge : (a b : ℕ) → m.old a ≡ true → (l : LeadsOn h m a b) → m.old b ≡ true → LeadsOn h' m a b
+    edge a b oa l ob =
+        let p = l.points in
         let k = r.kept a a p.object p.at (keeps.stays a p.object p.at oa) in
         let (w, is, t) = AllZip-get (IsMoved place) p.object.pointers k.copy.pointers k.pointers p.field (Some b) p.is in
         let (c, e, placed) = moved_to place b w t in
         let (y, at, _) = target_reachable g h (will_show g h shows) g a b p in
         let stays = keeps.stays b y at ob in
         let same : c ≡ b = cc in
-        record { object = k.copy; at = k.at; field = p.field; is = is ∙ ap Some (e ∙ ap Some same) }
+        record { points = record { object = k.copy; at = k.at; field = p.field; is = is ∙ ap Some (e ∙ ap Some same) }; left = l.left }
 
     root_back : (c : ℕ) → m.old c ≡ true → IsRoot h' c → IsRoot h c
     root_back c o root =

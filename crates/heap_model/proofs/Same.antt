@@ -1,5 +1,5 @@
 -- The invariant reads heaps and marking at each address alone.
-use Rattle.std.proofs.Common.{ℕ, refl, sym, ap, ◌∙◌, inl, inr, slice_get}
+use Rattle.std.proofs.Common.{ℕ, ◌≤◌, refl, sym, ap, ◌∙◌, subst, inl, inr, slice_get}
 use Rattle.heap_model.specs.Heap.{Heap, Points, SameHeap}
 use Rattle.heap_model.specs.Marking.{Marking, MarkingInvariant, IsFound, ByRoot, ByLive, ByNew, SameMarking}
 use Rattle.heap_model.proofs.Advance.{invariant_after}
@@ -20,7 +20,13 @@ module _ (live : ℕ → Type 0) (limit : ℕ) (h h' : Heap) (m m' : Marking) (h
     old = marks.old;
     marked = λ a k. marks.marked a ∙ k;
     logged = λ a e. inr ((marks.logged a).0 e);
-    edges = λ a b _ _ un p _. inl (marks.scanned a ∙ un, record { object = p.object; at = heap.kept a ∙ p.at; field = p.field; is = p.is });
+    edges = λ a b _ _ un p _. inl (
+      marks.scanned a ∙ un,
+      record {
+        points = record { object = p.points.object; at = heap.kept a ∙ p.points.at; field = p.points.field; is = p.points.is };
+        left = subst (λ (k : ℕ). k ≤ p.points.field) (sym (marks.done a)) p.left;
+      },
+    );
     stays = λ a x at _. record { object = x; at = heap.kept a ∙ at; named = refl };
     came = λ a x at _. record { object = x; at = sym (heap.kept a) ∙ at; named = refl };
     newly_marked = λ a k. inl (sym (marks.marked a) ∙ k);

@@ -1,10 +1,10 @@
 -- What a mutator reads from a weak slot while marking runs: its target is saved, its name touched.
-use Rattle.std.proofs.Common.{◌≡◌, ℕ, ◌<◌, ◌≤◌, ◌⊎◌, true, Option, Some, None, refl, sym, ap, ◌∙◌, subst, inl, inr, arith, slice_get}
+use Rattle.std.proofs.Common.{◌≡◌, ℕ, ◌<◌, ◌≤◌, ◌⊎◌, true, false, Option, Some, None, refl, sym, ap, ◌∙◌, subst, inl, inr, arith, slice_get}
 use Rattle.heap_model.specs.Graph.{Graph, Object, object_named, next_name, IsReachable, FromRoot, FromObject}
 use Rattle.heap_model.specs.Heap.{Heap, Stored, Points, IsShown, RootSet}
 use Rattle.heap_model.specs.Clearing.{WillShow}
-use Rattle.heap_model.specs.Marking.{Marking, Pending, FromGrey, FromLogged, Through, WillBeMarked, IsOldLive, IsFound, ByRoot, ByLive}
-use Rattle.heap_model.specs.Marking.{ByNew, KeepsSnapshot, IsSaved}
+use Rattle.heap_model.specs.Marking.{Marking, LeadsOn, Pending, FromGrey, FromLogged, Through, WillBeMarked, IsOldLive, IsFound}
+use Rattle.heap_model.specs.Marking.{ByRoot, ByLive, ByNew, KeepsSnapshot, IsSaved}
 use Rattle.heap_model.specs.Weak.{touched, KeepsUnreached}
 use Rattle.heap_model.proofs.Names.{bool_cases}
 use Rattle.heap_model.proofs.Lists.{get-set_cases, AllZip-get}
@@ -25,6 +25,9 @@ same_some m x y p q = cc
 
 apart : (k n : ℕ) → k < n → n ≤ k → ⊥
 apart k n p q = omega arith
+
+none_done : (k n : ℕ) → k ≡ 0 → k ≤ n
+none_done k n e = omega arith
 
 -- a name that was reachable in the snapshot, or is new
 abbrev pub IsKnown : Graph → ℕ → Type 0
@@ -77,16 +80,23 @@ module _ (s g : Graph) (h : Heap) (m : Marking) (shows : WillShow g h) (i : Keep
 
   -- a root place takes a word that shows a name; the target is saved, and the name touched
   module _ (u : KeepsUnreached s g) (scanned : (a : ℕ) → m.scanned a ≡ true → m.marked a ≡ true)
+      (undone : (a : ℕ) → m.marked a ≡ false → m.done a ≡ 0)
       (h' : Heap) (m' : Marking) (place : ℕ) (w v : Option ℕ) (shown : IsShown h w v) (step : RootSet h h' place w)
       (saved : IsSaved m m' w) where
     on : (n : ℕ) → IsReachable s n → IsReachable (touched s v) n
     on n r = touched_reaches s v n r
 
+    leads_on : (a b : ℕ) → LeadsOn h m a b → LeadsOn h' m' a b
+    leads_on a b l = record {
+      points = record { object = l.points.object; at = step.kept a ∙ l.points.at; field = l.points.field; is = l.points.is };
+      left = subst (λ (k : ℕ). k ≤ l.points.field) (sym (saved.done a)) l.left;
+    }
+
     pending_on : (a : ℕ) → Pending h m a → Pending h' m' a
     pending_on a (FromGrey b k sc) = FromGrey b (saved.marked b ∙ k) (saved.scanned b ∙ sc)
     pending_on a (FromLogged b e) = FromLogged b (saved.kept b e)
     pending_on a (Through b c p o sc e) = Through b c (pending_on b p) (saved.old b ∙ o) (saved.scanned b ∙ sc)
-        (record { object = e.object; at = step.kept b ∙ e.at; field = e.field; is = e.is })
+        (leads_on b c e)
 
     will_on : (n : ℕ) → WillBeMarked h m n → WillBeMarked h' m' n
     will_on n k = record {
@@ -139,22 +149,20 @@ module _ (s g : Graph) (h : Heap) (m : Marking) (shows : WillShow g h) (i : Keep
               let old = old_at b.address b.object at (subst (λ l. l < next_name s) (sym b.named) (below_s q r)) in
               elim b.why [
                 | inl k1 ↦ marked_on (sym (saved.marked b.address) ∙ k1)
-                | inr p ↦ elim (bool_cases (m.scanned b.address)) [
-                  | inl sc ↦ marked_on (scanned b.address sc)
-                  | inr un ↦ record {
-                    address = c.address;
-                    object = c.object;
-                    at = step.kept c.address ∙ c.at;
-                    named = c.named;
-                    why = inr (Through b.address c.address p (saved.old b.address ∙ old) (saved.scanned b.address ∙ un)
-                        (record {
-                          object = c.points.object;
-                          at = step.kept b.address
-                              ∙ c.points.at;
-                          field = c.points.field;
-                          is = c.points.is;
-                        }));
-                  }
+                | inr p ↦ elim (bool_cases (m.marked b.address)) [
+                  | inl marked ↦ marked_on marked
+                  | inr unmarked ↦ elim (bool_cases (m.scanned b.address)) [
+                    | inl sc ↦ marked_on (scanned b.address sc)
+                    | inr un ↦ record {
+                      address = c.address;
+                      object = c.object;
+                      at = step.kept c.address ∙ c.at;
+                      named = c.named;
+                      why = inr (Through b.address c.address p (saved.old b.address ∙ old) (saved.scanned b.address ∙ un)
+                          (leads_on b.address c.address
+                          (record { points = c.points; left = none_done (m.done b.address) c.points.field (undone b.address unmarked) })));
+                    }
+                  ]
                 ]
               ]
         ]

@@ -7,7 +7,7 @@ use Rattle.heap_model.specs.Graph.{Graph, Object, object_named, next_name, with_
 use Rattle.heap_model.specs.Heap.{Heap, Stored, Points, IsShown, Shows, RootSet, ObjectSet, ObjectAdded, SameHeap}
 use Rattle.heap_model.specs.Clearing.{IsWeakShown, WillShowObject, WillShow, HasWeak, KeepsAt, IsPassed, IsClearedTo, kept_word, where_kept}
 use Rattle.heap_model.specs.Clearing.{with_kept_weaks, ClearsWeaks}
-use Rattle.heap_model.specs.Marking.{Marking, MarkingInvariant, IsFound, ByRoot, ByLive, ByNew}
+use Rattle.heap_model.specs.Marking.{Marking, LeadsOn, MarkingInvariant, IsFound, ByRoot, ByLive, ByNew}
 use Rattle.heap_model.proofs.Names.{named_below}
 use Rattle.heap_model.proofs.Lists.{AllZip-get, AllZip-set, AllZip_map, AllZip_map_at}
 use Rattle.heap_model.proofs.Changed.{shown_in, changed_here, changed_other, added_here, added_other, rooted_same, added_kept, added_before}
@@ -378,16 +378,19 @@ module _ (live : ℕ → Type 0) (limit : ℕ) (h h' : Heap) (m : Marking) (clea
     }
   ]
 
-  points_on : (a b : ℕ) → Points h a b → Points h' a b
-  points_on a b p = elim (clears.each a) [
-    | inl q ↦ record { object = p.object; at = q ∙ p.at; field = p.field; is = p.is }
+  leads_on : (a b : ℕ) → LeadsOn h m a b → LeadsOn h' m a b
+  leads_on a b l = let p = l.points in elim (clears.each a) [
+    | inl q ↦ record { points = record { object = p.object; at = q ∙ p.at; field = p.field; is = p.is }; left = l.left }
     | inr q ↦
         let same : q.0 ≡ p.object = let e1 = q.1 in let e2 = p.at in cc in
         record {
-          object = with_kept_weaks h.kept q.0;
-          at = q.2;
-          field = p.field;
-          is = ap (λ (k : Stored). slice_get k.pointers p.field) same ∙ p.is;
+          points = record {
+            object = with_kept_weaks h.kept q.0;
+            at = q.2;
+            field = p.field;
+            is = ap (λ (k : Stored). slice_get k.pointers p.field) same ∙ p.is;
+          };
+          left = l.left;
         }
   ]
 
@@ -411,7 +414,7 @@ module _ (live : ℕ → Type 0) (limit : ℕ) (h h' : Heap) (m : Marking) (clea
     old = λ a. refl;
     marked = λ a k. k;
     logged = λ a e. inr e;
-    edges = λ a b _ _ un p _. inl (un, points_on a b p);
+    edges = λ a b _ _ un l _. inl (un, leads_on a b l);
     stays = λ a z at o. stood a z at;
     came = λ a z at o. came a z at;
     newly_marked = λ a k. inl k;

@@ -10,15 +10,22 @@ pub record Marking : Type 0 where
   pub old : ℕ → Bool
   pub marked : ℕ → Bool
   pub scanned : ℕ → Bool
+  -- how many pointers of the object at an address are done while it isn't scanned: its first ones, whose targets are marked
+  pub done : ℕ → ℕ
   -- what roots named when marking began, and old values of overwritten pointers, which marking has not taken yet
   pub logged : List ℕ
 
--- a path of present pointers leads to the address from a grey or logged object, and all objects of the path but
+-- a pointer of the object at a that isn't done holds b
+pub record LeadsOn (h : Heap) (m : Marking) (a b : ℕ) : Type 0 where
+  pub points : Points h a b
+  pub left : m.done a ≤ points.field
+
+-- a path of present pointers, none of which is done, leads to the address from a grey or logged object, and all objects of the path but
 -- the last are old and unscanned
 pub data Pending (h : Heap) (m : Marking) : ℕ → Type 0 where
   FromGrey : (a : ℕ) → m.marked a ≡ true → m.scanned a ≡ false → Pending h m a
   FromLogged : (a : ℕ) → Contains m.logged a → Pending h m a
-  Through : (a b : ℕ) → Pending h m a → m.old a ≡ true → m.scanned a ≡ false → Points h a b → Pending h m b
+  Through : (a b : ℕ) → Pending h m a → m.old a ≡ true → m.scanned a ≡ false → LeadsOn h m a b → Pending h m b
 
 -- a kept object of this name is marked, or will be
 pub record WillBeMarked (h : Heap) (m : Marking) (n : ℕ) : Type 0 where
@@ -57,14 +64,15 @@ pub record MarkingInvariant (live : ℕ → Type 0) (limit : ℕ) (h : Heap) (m 
 abbrev pub KeepsSnapshot : Graph → Heap → Marking → Type 0
 KeepsSnapshot s h m = MarkingInvariant (IsReachable s) (next_name s) h m
 
--- marking has just begun: all objects are old, what roots name is marked or logged, what is marked or logged is named by a root, and
--- nothing is scanned
+-- marking has just begun: all objects are old, what roots name is marked or logged, what is marked or logged is named by a root, nothing is
+-- scanned, and no pointer is done
 pub record Begins (h : Heap) (m : Marking) : Type 0 where
   pub old : (a : ℕ) (x : Stored) → h.kept a ≡ Some x → m.old a ≡ true
   pub roots : (a : ℕ) → IsRoot h a → (m.marked a ≡ true) ⊎ Contains m.logged a
   pub marked : (a : ℕ) → m.marked a ≡ true → IsRoot h a
   pub logged : (a : ℕ) → Contains m.logged a → IsRoot h a
   pub scanned : (a : ℕ) → m.scanned a ≡ false
+  pub done : (a : ℕ) → m.done a ≡ 0
 
 -- a grey object points to the old address b
 pub record IsTarget (h : Heap) (m : Marking) (b : ℕ) : Type 0 where
@@ -75,12 +83,15 @@ pub record IsTarget (h : Heap) (m : Marking) (b : ℕ) : Type 0 where
   pub old : m.old b ≡ true
 
 -- a part of marking, large or small: logged addresses and old targets of grey objects may be marked, logged
--- addresses that are marked may go, and what is newly scanned has marked old targets alone
+-- addresses that are marked may go; the pointers that weren't done of what is newly scanned, and those that are newly done, lead to marked
+-- objects alone, where they lead to old ones
 pub record MarksMore (h : Heap) (m m' : Marking) : Type 0 where
   pub old : (a : ℕ) → m'.old a ≡ m.old a
   pub marked : (a : ℕ) → m.marked a ≡ true → m'.marked a ≡ true
   pub newly_marked : (a : ℕ) → m'.marked a ≡ true → (m.marked a ≡ true) ⊎ Contains m.logged a ⊎ IsTarget h m a
-  pub newly_scanned : (a : ℕ) → m'.scanned a ≡ true → (m.scanned a ≡ true) ⊎ ((b : ℕ) → Points h a b → m.old b ≡ true → m'.marked b ≡ true)
+  pub newly_scanned : (a : ℕ) → m'.scanned a ≡ true → (m.scanned a ≡ true)
+      ⊎ ((b : ℕ) → LeadsOn h m a b → m.old b ≡ true → m'.marked b ≡ true)
+  pub newly_done : (a b : ℕ) (p : LeadsOn h m a b) → p.points.field < m'.done a → m.old b ≡ true → m'.marked b ≡ true
   pub taken : (a : ℕ) → Contains m.logged a → (m'.marked a ≡ true) ⊎ Contains m'.logged a
   pub logged : (a : ℕ) → Contains m'.logged a → Contains m.logged a
 
@@ -89,15 +100,17 @@ pub record IsSaved (m m' : Marking) (w : Option ℕ) : Type 0 where
   pub old : (a : ℕ) → m'.old a ≡ m.old a
   pub marked : (a : ℕ) → m'.marked a ≡ m.marked a
   pub scanned : (a : ℕ) → m'.scanned a ≡ m.scanned a
+  pub done : (a : ℕ) → m'.done a ≡ m.done a
   pub kept : (a : ℕ) → Contains m.logged a → Contains m'.logged a
   pub saved : (a : ℕ) → w ≡ Some a → m.old a ≡ true → Contains m'.logged a
   pub only : (a : ℕ) → Contains m'.logged a → Contains m.logged a ⊎ ((w ≡ Some a) × (m.old a ≡ true))
 
--- each address is old, marked, scanned or logged in both or in neither
+-- each address is old, marked, scanned or logged in both or in neither, and as many pointers are done
 pub record SameMarking (m m' : Marking) : Type 0 where
   pub old : (a : ℕ) → m'.old a ≡ m.old a
   pub marked : (a : ℕ) → m'.marked a ≡ m.marked a
   pub scanned : (a : ℕ) → m'.scanned a ≡ m.scanned a
+  pub done : (a : ℕ) → m'.done a ≡ m.done a
   pub logged : (a : ℕ) → Contains m.logged a ↔ Contains m'.logged a
 
 -- nothing is left to mark

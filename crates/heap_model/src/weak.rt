@@ -1,6 +1,6 @@
 //! Weak slots: what a mutator reads from one while marking runs, and their clearing when it ends.
 
-ghost use Rattle.std.specs.Prelude.{◌≡◌, ◌≢◌, ℕ, ◌<◌, ◌≤◌, ◌⊎◌, ◌↔◌, Bool, true, Option, Some, slice_get};
+ghost use Rattle.std.specs.Prelude.{◌≡◌, ◌≢◌, ℕ, ◌<◌, ◌≤◌, ◌⊎◌, ◌↔◌, Bool, true, false, Option, Some, slice_get};
 ghost use Rattle.heap_model.specs.Graph.{Graph, Object, IsReachable, IsSound, next_name, object_named, object_fields, with_root};
 ghost use Rattle.heap_model.specs.Graph.{with_object, with_changed};
 ghost use Rattle.heap_model.specs.Heap.{Heap, IsShown, Shows, RootSet};
@@ -46,6 +46,7 @@ pub fn reached_law()
 pub fn touch_law()
     ensures { (s g : Graph) (h h' : Heap) (m m' : Marking) (place : ℕ) (w v : Option ℕ)
         → WillShow g h → KeepsSnapshot s h m → KeepsUnreached s g → ((a : ℕ) → m.scanned a ≡ true → m.marked a ≡ true)
+        → ((a : ℕ) → m.marked a ≡ false → m.done a ≡ 0)
         → IsShown h w v → RootSet h h' place w → IsSaved m m' w → KeepsSnapshot (touched s v) h' m' }
 {}
 

@@ -1,13 +1,15 @@
 -- The held object, the stack and the fingers: what they tell of grey objects as one more is grey, as one is scanned, and with fewer marks.
 use Rattle.regions.proofs.Common.{◌≡◌, ◌≢◌, ◌<◌, ◌≤◌, ◌+◌, ◌/◌, ◌∙◌, ◌⊎◌, ◌∷◌, inl, inr, ℕ, Bool, true, false, List, [], length, set, sym}
-use Rattle.regions.proofs.Common.{ap, arith, refl, Option, Some, None, min, max, get_or-set_same, get_or-set_other, get_or, subst}
+use Rattle.regions.proofs.Common.{ap, arith, refl, Option, Some, None, min, max, get_or-set_same, get_or-set_other, get_or}
+use Rattle.regions.proofs.Common.{subst, if◌then◌else◌}
 use Rattle.regions.proofs.Common.{length-append, not, ◌&&◌, MatchOption, and_parts, cases_eq, cases_lt, cases_Bool, has}
 use Rattle.std.proofs.Math.ListN.{get_or-append}
 use Rattle.std.proofs.Math.Seq.{get_or-append_seam}
-use Rattle.std.proofs.lemmas.Bool.{and_from, and_right}
+use Rattle.std.proofs.lemmas.Bool.{and_from, and_right, ltb-true}
 use Rattle.mark_bitmap.specs.Marks.{is_marked, HasNone, IsLowest}
-use Rattle.mark_bitmap.specs.Stack.{Stack, AreApart, IsOn, with_object}
-use Rattle.mark_bitmap.specs.Grey.{Scans, HasFingers, HasNoFinger, HoldsNext, IsLowestBeside, OfStack, OfFingers, finger_of, is_grey}
+use Rattle.mark_bitmap.specs.Stack.{Stack, AreApart, IsOn, has_room, with_object}
+use Rattle.mark_bitmap.specs.Grey.{Scans, HasFingers, HasNoFinger, HoldsNext, IsLowestBeside, OfStack, OfFingers}
+use Rattle.mark_bitmap.specs.Grey.{finger_of, is_grey, put_aside}
 use Rattle.mark_bitmap.specs.Summary.{HasNoMember}
 use Rattle.mark_bitmap.proofs.Summaries.{has_set_here, has_set_there}
 
@@ -79,13 +81,13 @@ module _ (marks : List Bool) (scans : Scans) (f : HasFingers marks scans) where
   held_grey (Some found) is = f.held found is
 
   -- it is the lowest one where the stack has no room
-  pub held_lowest : scans.stack.room ≡ 0 → (held : Option ℕ) → scans.held ≡ held
+  pub held_lowest : scans.stack.room ≡ 0 → scans.looked ≡ 0 → (held : Option ℕ) → scans.held ≡ held
       → MatchOption held (HasNone (is_grey marks scans) 0) (IsLowest (is_grey marks scans) 0)
-  held_lowest by_address None is = λ a _. f.none a is
-  held_lowest by_address (Some found) is = record {
+  held_lowest by_address whole None is = λ a _. f.none a is
+  held_lowest by_address whole (Some found) is = record {
     at_least = omega arith;
     is_in = f.held found is;
-    lowest = λ a _ less. f.lowest by_address found a is less;
+    lowest = λ a _ less. f.lowest by_address whole found a is less;
   }
 
 module _ (marks marks' : List Bool) (scans : Scans) (fewer : (a : ℕ) → is_marked marks' a ≡ true → is_marked marks a ≡ true) where
@@ -111,7 +113,7 @@ module _ (marks marks' : List Bool) (scans : Scans) (fewer : (a : ℕ) → is_ma
         (and_parts (is_marked marks a) (not (is_marked scans.scanned a)) (f.stacked a on)).1;
     apart = f.apart;
     beside = f.beside;
-    lowest = λ by_address a b held less. black b (f.lowest by_address a b held less);
+    lowest = λ by_address whole a b held less. black b (f.lowest by_address whole a b held less);
     none = λ a held. black a (f.none a held);
   }
 
@@ -156,7 +158,7 @@ module _ (marks : List Bool) (scans : Scans) (a : ℕ) (known : a < length marks
         | inl was ↦ grey_other b (f.stacked b was) same
         | inr last ↦ grey_other b (ap (is_grey marks scans) last ∙ f.held h held) same
       ];
-      lowest = λ by_address b c is less. absurd (omega (arith, room, by_address));
+      lowest = λ by_address _ b c is less. absurd (omega (arith, room, by_address));
       none = λ b is. absurd (cc);
     }
 
@@ -191,10 +193,69 @@ module _ (marks : List Bool) (scans : Scans) (a : ℕ) (known : a < length marks
         | inl same ↦ f.beside b on (held ∙ ap Some (sym same))
         | inr other ↦ grey_other b (f.stacked b on) (omega (arith, lower, other))
       ];
-      lowest = λ by_address b c is less. let lower : min h a ≡ b = cc in
-          grey_there c (λ same. omega (arith, lower, less, same)) ∙ f.lowest by_address h c held (omega (arith, lower, less));
+      lowest = λ by_address whole b c is less. let lower : min h a ≡ b = cc in
+          grey_there c (λ same. omega (arith, lower, less, same)) ∙ f.lowest by_address whole h c held (omega (arith, lower, less));
       none = λ b is. absurd (cc);
     }
+
+    -- the scan of the held object has begun: it stays held, and the other one is put on the stack
+    pub aside_stacked : length scans.stack.objects < scans.stack.room
+        → HasFingers (set marks a true) (record scans { stack = with_object scans.stack a })
+    aside_stacked room = record {
+      each = λ b unset. elim (cases_eq b a) [
+        | inl same ↦ inr (inl (subst (λ (x : ℕ). IsOn (with_object scans.stack a) x) (sym same) (on_last scans.stack a)))
+        | inr other ↦ elim (f.each b unset) [
+          | inl is ↦ inl is
+          | inr (inl on) ↦ inr (inl (on_more scans.stack a b on))
+          | inr (inr none) ↦ inr (inr (grey_there b other ∙ none))
+        ]
+      ];
+      held = λ b is. grey_kept b (f.held b is);
+      stacked = λ b on. elim (on_split scans.stack a b on) [
+        | inl was ↦ grey_kept b (f.stacked b was)
+        | inr same ↦ grey_here b same
+      ];
+      apart = apart_more scans.stack a f.apart (λ on _. grey_other a (f.stacked a on) refl);
+      beside = λ b on is. elim (on_split scans.stack a b on) [
+        | inl was ↦ f.beside b was is
+        | inr last ↦ grey_other b (f.held b is) last
+      ];
+      lowest = λ by_address _ b c is less. absurd (omega (arith, room, by_address));
+      none = λ b is. absurd (let e = sym held ∙ is in cc);
+    }
+
+    -- or its finger is set
+    pub aside_fingered : finger_of a < length scans.fingers → scans.looked ≢ 0
+        → HasFingers (set marks a true) (record scans { fingers = set scans.fingers (finger_of a) true })
+    unfolding finger_of
+    aside_fingered room begun = record {
+      each = λ b unset. elim (cases_eq (finger_of b) (finger_of a)) [
+        | inl set ↦ absurd (let now = has_set_here scans.fingers (finger_of a) (finger_of b) true room set in cc)
+        | inr unmoved ↦
+            let was : has scans.fingers (finger_of b) ≡ false =
+            sym (has_set_there scans.fingers (finger_of a) (finger_of b) true unmoved) ∙ unset in
+            elim (f.each b was) [
+              | inl is ↦ inl is
+              | inr (inl on) ↦ inr (inl on)
+              | inr (inr none) ↦ inr (inr (grey_there b (λ same. unmoved (ap finger_of same)) ∙ none))
+            ]
+      ];
+      held = λ b is. grey_kept b (f.held b is);
+      stacked = λ b on. grey_kept b (f.stacked b on);
+      apart = f.apart;
+      beside = f.beside;
+      lowest = λ _ whole b c is less. absurd (begun whole);
+      none = λ b is. absurd (let e = sym held ∙ is in cc);
+    }
+
+    aside_as : finger_of a < length scans.fingers → scans.looked ≢ 0 → (room : Bool) → has_room scans.stack ≡ room
+        → HasFingers (set marks a true) (if room then record scans { stack = with_object scans.stack a }
+        else record scans { fingers = set scans.fingers (finger_of a) true })
+    aside_as known begun true is = aside_stacked (ltb-true (length scans.stack.objects) scans.stack.room is)
+    aside_as known begun false is = aside_fingered known begun
+
+    pub aside_grey : finger_of a < length scans.fingers → scans.looked ≢ 0 → HasFingers (set marks a true) (put_aside scans a)
+    aside_grey known begun = aside_as known begun (has_room scans.stack) refl
 
 module _ (marks : List Bool) (scans scans' : Scans) (object : ℕ) (scanned : scans'.scanned ≡ set scans.scanned object true)
     (known : object < length scans.scanned)
@@ -256,7 +317,7 @@ module _ (marks : List Bool) (scans scans' : Scans) (object : ℕ) (scanned : sc
           apart = apart_less scans'.stack found apart;
           beside = λ a on held. let same : a ≡ found = (let e = sym held ∙ is in cc) in
               last_apart scans'.stack found apart (subst (λ (x : ℕ). IsOn scans'.stack x) same on) refl;
-          lowest = λ by_address a b held less.
+          lowest = λ by_address _ a b held less.
               absurd (omega (
                 arith,
                 fits,
@@ -288,7 +349,7 @@ module _ (marks : List Bool) (scans scans' : Scans) (object : ℕ) (scanned : sc
         stacked = λ a on. absurd (none_left a on refl);
         apart = subst AreApart (sym same_stack) f.apart;
         beside = λ a on _. none_left a on refl;
-        lowest = λ _ a b held less. absurd (let e = sym is ∙ held in cc);
+        lowest = λ _ _ a b held less. absurd (let e = sym is ∙ held in cc);
         none = λ a _. elim (cases_Bool (has scans'.fingers (finger_of a))) [
           | inl set ↦ lowest a set
           | inr unset ↦ beside_it a unset
@@ -300,7 +361,7 @@ module _ (marks : List Bool) (scans scans' : Scans) (object : ℕ) (scanned : sc
         stacked = λ a on. absurd (none_left a on refl);
         apart = subst AreApart (sym same_stack) f.apart;
         beside = λ a on _. none_left a on refl;
-        lowest = λ _ a b held less. let same : found ≡ a = (let e = sym is ∙ held in cc) in
+        lowest = λ _ _ a b held less. let same : found ≡ a = (let e = sym is ∙ held in cc) in
             elim (cases_Bool (has scans'.fingers (finger_of b))) [
               | inl set ↦ lowest.1 b (omega (arith, less, same)) set
               | inr unset ↦ beside_it b unset
@@ -311,6 +372,19 @@ module _ (marks : List Bool) (scans scans' : Scans) (object : ℕ) (scanned : sc
     pub scanned_held : length scans.stack.objects ≤ scans.stack.room → HoldsNext marks scans scans' → HasFingers marks scans'
     scanned_held fits (OfStack found is popped) = of_stack found is popped fits
     scanned_held fits (OfFingers empty same next) = of_fingers empty same scans'.held refl next
+
+-- words of the held object are looked at
+pub begun_held : (marks : List Bool) (scans : Scans) (words : ℕ) → words ≢ 0 → HasFingers marks scans
+    → HasFingers marks (record scans { looked = words })
+begun_held marks scans words begun f = record {
+  each = f.each;
+  held = f.held;
+  stacked = f.stacked;
+  apart = f.apart;
+  beside = f.beside;
+  lowest = λ _ whole. absurd (begun whole);
+  none = f.none;
+}
 
 -- what is held next depends on the stack as it was, and on nothing else of before
 pub next_after : (marks : List Bool) (old mid new : Scans) → mid.stack ≡ old.stack → HoldsNext marks mid new → HoldsNext marks old new

@@ -6,7 +6,7 @@ use Rattle.heap_model.specs.Kept.{kept_by}
 use Rattle.regions.specs.Table.{Table, object_at, top_of}
 use Rattle.mark_bitmap.specs.Marks.{is_marked}
 use Rattle.mark_bitmap.specs.Tops.{Tops, is_below, below_previous, below_next}
-use Rattle.mark_bitmap.specs.Grey.{Scans}
+use Rattle.mark_bitmap.specs.Grey.{Scans, done_in}
 
 -- the objects that start at or above their region's previous top at mark start, or are marked
 abbrev pub kept_in : Table → Tops → List Bool → ℕ → Option Stored
@@ -22,6 +22,7 @@ marking_in t tops next scans logged = record {
   old = below_next t tops;
   marked = is_marked next;
   scanned = is_marked scans.scanned;
+  done = done_in scans;
   logged = logged;
 }
 

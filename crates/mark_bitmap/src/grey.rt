@@ -22,18 +22,25 @@
 //!   a list            add 5: held 5     remove 5: none held                 add 90: held 90 ..    in either order
 //! ```
 //!
+//! A large object is scanned in several turns. It stays held between them, and how many of its words were looked at is kept beside it: the
+//! object itself is the first one, and then come its pointers. What is found meanwhile is put aside.
+//!
+//! ```text
+//!   an object of 5 pointers at 90     look 3: itself and two pointers      add 5: held 90, on the stack 5      remove 90: held 5, looked 0
+//! ```
+//!
 //! Over a marking cycle: `begin` clears the scanned set and the fingers; each object that is marked is added; `any` and
 //! `remove` take one grey object after another, until none is left. Each of the three costs a few words, however many
 //! objects there are and wherever they lie. Nothing but the held object is scanned, so the stack needs no search.
 
 ghost use Rattle.std.specs.Prelude.{◌≡◌, ◌≢◌, ℕ, ◌<◌, List, Bool, true, false, Some, None, IfOk, IfSome, length, MatchOption, replicate};
-ghost use Rattle.std.specs.Prelude.{slice_set, []};
+ghost use Rattle.std.specs.Prelude.{slice_set, [], IsSome};
 ghost use Rattle.std.specs.Int.{div_ceil};
 ghost use Rattle.bit_sets.specs.Bits.{has};
 ghost use Rattle.mark_bitmap.specs.Marks.{is_marked, HasNone, IsLowest};
 ghost use Rattle.mark_bitmap.specs.Summary.{HasMember, HasNoMember};
-ghost use Rattle.mark_bitmap.specs.Grey.{finger_of, is_grey, nothing_scanned, with_grey};
-ghost use Rattle.mark_bitmap.specs.Grey.{HasFingers, HasNoFinger, HoldsNext, IsLowestBeside, Scans};
+ghost use Rattle.mark_bitmap.specs.Grey.{finger_of, is_grey, nothing_scanned, put_aside, with_grey};
+ghost use Rattle.mark_bitmap.specs.Grey.{HasFingers, HasNoFinger, HoldsNext, IsLowestBeside, KeepsPlace, Scans};
 ghost use Rattle.mark_bitmap.specs.Stack.{IsOn};
 
 use crate::finger_set::Fingers;
@@ -44,11 +51,13 @@ use heap_words::addr::{Addr, Ptr};
 use std::alloc::{AllocError, Global};
 use std::marker::Model;
 
-/// Which objects are scanned, the fingers, the object that is held beside them, and the stack. Clauses see the four.
+/// Which objects are scanned, the fingers, the object that is held beside them, how many of its words were looked at, and the stack.
+/// Clauses see the five.
 pub struct Grey {
     scanned: Bits,
     fingers: Fingers,
     held: Ptr,
+    looked: u32,
     stack: MarkStack,
 }
 
@@ -57,9 +66,9 @@ impl Model for Grey {
 
     ghost Value = { Scans };
 
-    ghost view = { λ g. record { scanned = g.scanned; fingers = g.fingers; held = g.held; stack = g.stack } };
+    ghost view = { λ g. record { scanned = g.scanned; fingers = g.fingers; held = g.held; looked = g.looked; stack = g.stack } };
 
-    ghost invariant = { λ g. HasPlaces g.scanned g.fingers g.held g.stack };
+    ghost invariant = { λ g. HasPlaces g.scanned g.fingers g.held g.looked g.stack };
 }
 
 /// Where it is let go there is one call, and not a drop for each of its parts.
@@ -69,6 +78,7 @@ impl Drop for Grey {
             scanned: _,
             fingers: _,
             held: _,
+            looked: _,
             stack: _,
         } = self;
     }
@@ -105,6 +115,7 @@ impl Grey {
             scanned: Bits::new(alloc, count)?,
             fingers: Fingers::new(alloc, count.div_ceil(64))?,
             held: None,
+            looked: 0,
             stack: MarkStack::new(by_address),
         })
     }
@@ -115,6 +126,7 @@ impl Grey {
           scanned = replicate (length self.old.scanned) false;
           fingers = replicate (length self.old.fingers) false;
           held = None;
+          looked = 0;
           stack = record { objects = []; room = self.old.stack.room };
         } }
         ensures fingers { (marks : List Bool) → ((a : ℕ) → is_marked marks a ≡ false) → HasFingers marks self.new }
@@ -123,10 +135,25 @@ impl Grey {
         self.fingers.clear();
         self.stack.clear();
         self.held = None;
+        self.looked = 0;
+    }
+
+    /// An object is put on the stack, or where that has no room, its finger is set.
+    #[inline(never)]
+    #[tactic(auto, unfolding(crate::specs::Grey::finger_of))]
+    fn put_aside(&mut self, object: Addr)
+        requires known { object < length self.old.scanned }
+        ensures { self.new ≡ put_aside self.old object }
+    {
+        if self.stack.push(object) {
+            return;
+        }
+        self.fingers.set(object.word() / 64);
     }
 
     /// An object is marked that was neither marked nor scanned, which makes it grey. It is held, and the one that was held is put on the
-    /// stack. Where that has no room, the lower of the two is held, and the finger of the other is set.
+    /// stack. Where that has no room, the lower of the two is held, and the finger of the other is set. Where the scan of the held object
+    /// has begun, it stays held, and the other one is put aside.
     #[inline(always)]
     #[tactic(auto, unfolding(crate::specs::Grey::finger_of))]
     pub fn add(&mut self, object: Addr)
@@ -134,6 +161,7 @@ impl Grey {
         requires unscanned { is_marked self.old.scanned object ≡ false }
         ensures added { self.new ≡ with_grey self.old.held self.old object }
         ensures scanned { self.new.scanned ≡ self.old.scanned }
+        ensures place { KeepsPlace self.old self.new }
         ensures fingers { (marks : List Bool) → length marks ≡ length self.old.scanned → is_marked marks object ≡ false
             → HasFingers marks self.old → HasFingers (slice_set marks object true) self.new }
     {
@@ -141,6 +169,10 @@ impl Grey {
             self.held = Some(object);
             return;
         };
+        if self.looked != 0 {
+            self.put_aside(object);
+            return;
+        }
         if self.stack.push(held) {
             self.held = Some(object);
             return;
@@ -149,18 +181,36 @@ impl Grey {
         self.fingers.set(held.word().max(object.word()) / 64);
     }
 
-    /// A grey object, if there is one: the lowest where objects are scanned by rising address, so that the stack has no room.
+    /// A grey object, if there is one: the lowest where objects are scanned by rising address, so that the stack has no room, and its scan
+    /// hasn't begun.
     #[inline(always)]
     pub fn any(&self, marks: &Marks) -> Option<Addr>
         requires even { length marks.now ≡ length self.now.scanned }
         requires fingers { HasFingers marks.now self.now }
         ensures held { result ≡ self.now.held }
         ensures grey { MatchOption result (HasNone (is_grey marks.now self.now) 0) (λ found. is_grey marks.now self.now found ≡ true) }
-        ensures lowest { self.now.stack.room ≡ 0
+        ensures lowest { self.now.stack.room ≡ 0 → self.now.looked ≡ 0
             → MatchOption result (HasNone (is_grey marks.now self.now) 0) (IsLowest (is_grey marks.now self.now) 0) }
         ensures within { IfSome result (λ found. found < length marks.now) }
     {
         self.held
+    }
+
+    /// How many words of the held object were looked at: 0 where its scan hasn't begun, then itself and its first pointers.
+    #[inline(always)]
+    pub fn looked(&self) -> u32
+        ensures { result ≡ self.now.looked }
+    {
+        self.looked
+    }
+
+    /// So many words of the held object are looked at now: it stays held until it is scanned.
+    pub fn look(&mut self, words: u32)
+        requires held { IsSome self.old.held }
+        ensures looked { self.new ≡ record self.old { looked = words } }
+        ensures fingers { (marks : List Bool) → words ≢ 0 → HasFingers marks self.old → HasFingers marks self.new }
+    {
+        self.looked = words;
     }
 
     /// The finger of an object that is scanned now falls, if no grey object is left at one of its addresses.
@@ -176,6 +226,7 @@ impl Grey {
             → HasNoMember (is_grey marks.now self.new) i }
         ensures scanned { self.new.scanned ≡ self.old.scanned }
         ensures held { self.new.held ≡ self.old.held }
+        ensures looked { self.new.looked ≡ self.old.looked }
         ensures stack { self.new.stack ≡ self.old.stack }
     {
         if self.fingers.is_empty() {
@@ -195,9 +246,11 @@ impl Grey {
     #[tactic(auto, unfolding(crate::specs::Grey::finger_of))]
     fn hold_next(&mut self, marks: &Marks)
         requires even { length marks.now ≡ length self.old.scanned }
+        requires unlooked { self.old.looked ≡ 0 }
         ensures next { HoldsNext marks.now self.old self.new }
         ensures scanned { self.new.scanned ≡ self.old.scanned }
         ensures fingers { self.new.fingers ≡ self.old.fingers }
+        ensures looked { self.new.looked ≡ 0 }
     {
         if let Some(found) = self.stack.pop() {
             self.held = Some(found);
@@ -217,9 +270,11 @@ impl Grey {
         ensures left { has self.new.fingers (finger_of object) ≡ true → HasMember (is_grey marks.now self.new) (finger_of object) }
         ensures others { (i : ℕ) → i ≢ finger_of object → has self.new.fingers i ≡ has self.old.fingers i }
         ensures next { HoldsNext marks.now self.old self.new }
+        ensures looked { self.new.looked ≡ 0 }
         ensures fingers { HasFingers marks.now self.old → HasFingers marks.now self.new }
     {
         self.scanned.set(object.word());
+        self.looked = 0;
         self.drop_finger(marks, object);
         self.hold_next(marks);
     }

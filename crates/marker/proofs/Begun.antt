@@ -16,7 +16,7 @@ use Rattle.regions.proofs.Words.Parse.{past}
 use Rattle.regions.proofs.Tiles.Laws.{object_tile, known_region}
 use Rattle.mark_bitmap.specs.Marks.{is_marked, marked_count}
 use Rattle.mark_bitmap.specs.Tops.{Tops, is_below, below_next}
-use Rattle.mark_bitmap.specs.Grey.{Scans, HasFingers}
+use Rattle.mark_bitmap.specs.Grey.{Scans, HasFingers, KeepsPlace}
 use Rattle.mark_bitmap.specs.Kept.{MarksObjects}
 use Rattle.mark_bitmap.proofs.ObjectLaws.{none_marked}
 use Rattle.satb_log.specs.Logs.{logged}
@@ -30,6 +30,7 @@ use Rattle.marker.specs.Steps.{SameRoles, MarksWanted}
 use Rattle.marker.specs.declared.marker.Marker.{Marker}
 use Rattle.marker.proofs.Views.{kept_object, kept_before, previous_heap, same_heap, same_untaken}
 use Rattle.marker.proofs.LiveCounts.{counts_none}
+use Rattle.marker.proofs.Done.{done_whole}
 
 none_in : (a : ℕ) → Contains [] a → ⊥
 none_in a (place, inside, is) = omega (arith, inside)
@@ -88,19 +89,21 @@ pub record IsReady (t : Table) (roots : List (Option ℕ)) (m : Marker) : Type 0
   pub tops : (k : ℕ) → k < length t.regions → get_or m.tams.next k 0 ≡ top_of t k
   pub unmarked : (a : ℕ) → is_marked m.bitmaps.next a ≡ false
   pub unscanned : (a : ℕ) → is_marked m.grey.scanned a ≡ false
+  pub whole : m.grey.looked ≡ 0
   pub nothing : untaken m ≡ []
   pub kept : (j a : ℕ) → slice_get roots j ≡ Some (Some a) → IsKept t m a
 
 pub made_ready : (t : Table) (roots : List (Option ℕ)) (m m' : Marker) → 0 < t.words_per_region → MarkerStands t m → m.running ≡ false
     → CanBeFollowed (heap_of t roots m) → ((k : ℕ) → k < length t.regions → get_or m'.tams.next k 0 ≡ top_of t k)
     → ((a : ℕ) → is_marked m'.bitmaps.next a ≡ false) → ((a : ℕ) → is_marked m'.grey.scanned a ≡ false)
-    → m'.tams.previous ≡ m.tams.previous → m'.bitmaps.previous ≡ m.bitmaps.previous → m'.logs ≡ m.logs → m'.waiting ≡ m.waiting
-    → IsReady t roots m'
-made_ready t roots m m' z st off closed tops unmarked unscanned low marks logs waiting = record {
+    → m'.grey.looked ≡ 0 → m'.tams.previous ≡ m.tams.previous → m'.bitmaps.previous ≡ m.bitmaps.previous → m'.logs ≡ m.logs
+    → m'.waiting ≡ m.waiting → IsReady t roots m'
+made_ready t roots m m' z st off closed tops unmarked unscanned whole low marks logs waiting = record {
   positive = z;
   tops = tops;
   unmarked = unmarked;
   unscanned = unscanned;
+  whole = whole;
   nothing = same_untaken m m' waiting logs ∙ idle_untaken t m st off;
   kept = λ j a e. kept_before t roots m m' a low marks (closed.root j a e);
 }
@@ -112,9 +115,9 @@ ready_old t roots m r a k =
 
 -- all roots were reached since
 pub all_begun : (t : Table) (roots : List (Option ℕ)) (m m' : Marker) → IsReady t roots m
-    → MarksWanted t (IsInFirst roots (length roots)) m m' → SameRoles m m' → m'.grey.scanned ≡ m.grey.scanned → m'.logs ≡ m.logs
-    → m'.waiting ≡ m.waiting → Begins (heap_of t roots m') (marking_of t m')
-all_begun t roots m m' r marks same scanned logs waiting =
+    → MarksWanted t (IsInFirst roots (length roots)) m m' → SameRoles m m' → m'.grey.scanned ≡ m.grey.scanned
+    → KeepsPlace m.grey m'.grey → m'.logs ≡ m.logs → m'.waiting ≡ m.waiting → Begins (heap_of t roots m') (marking_of t m')
+all_begun t roots m m' r marks same scanned place logs waiting =
     let left : untaken m' ≡ [] = same_untaken m m' waiting logs ∙ r.nothing in
     record {
       old = λ a x e.
@@ -128,6 +131,7 @@ all_begun t roots m m' r marks same scanned logs waiting =
       ];
       logged = λ a l. absurd (none_in a (subst (λ (xs : List ℕ). Contains xs a) left l));
       scanned = λ a. ap (λ (b : List Bool). is_marked b a) scanned ∙ r.unscanned a;
+      done = λ a. done_whole m'.grey a (place.looked ∙ r.whole);
     }
 
 -- all roots wait since: what is untaken is named by a root
@@ -149,6 +153,7 @@ all_wait t roots m w r held =
       marked = λ a k. absurd (let e = r.unmarked a in cc);
       logged = λ a l. let i = waits_in t roots m w r held a l in record { place = i.place; is = i.is };
       scanned = r.unscanned;
+      done = λ a. done_whole m.grey a r.whole;
     }
 
 -- and the marker stands
@@ -174,6 +179,7 @@ waiting_stands t roots m w r st run held =
       none_wait = λ off. absurd (let g = run in cc);
       scanned_marked = st.scanned_marked;
       counted = st.counted;
+      part = st.part;
       live = st.live;
       live_next = st.live_next;
     }
@@ -187,6 +193,7 @@ pub started_stands : (t : Table) (m m' : Marker) → MarkerStands t m → m.runn
       scanned = replicate (length m.grey.scanned) false;
       fingers = replicate (length m.grey.fingers) false;
       held = None;
+      looked = 0;
       stack = record { objects = []; room = m.grey.stack.room };
     }
     → ((marks : List Bool) → ((a : ℕ) → is_marked marks a ≡ false) → HasFingers marks m'.grey)
@@ -231,6 +238,7 @@ started_stands t m m' st off closed on previous next low len high grey fingers l
       scanned_marked = λ _ a h. absurd (let e = unscanned a in cc);
       counted = λ _. ap (λ (s : ScanTotals). s.since) scans
           ∙ sym (ap (λ (g : Scans). marked_count g.scanned) grey ∙ none_counted (length m.grey.scanned));
+      part = λ _ a held. absurd (let none = ap (λ (g : Scans). g.held) grey in cc);
       live = subst (λ (b : List Bool). CountsWords t b m'.live.previous) (sym previous)
           (subst (λ (l : List ℕ). CountsWords t m.bitmaps.previous l) (sym live) st.live);
       live_next = counts_none t m'.bitmaps.next m'.live.next (length m.live.next) live_next st.live_next.each_region unmarked;

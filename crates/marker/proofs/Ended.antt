@@ -16,7 +16,7 @@ use Rattle.heap_model.proofs.Touched.{reached_known}
 use Rattle.heap_model.proofs.Counted.{counted}
 use Rattle.heap_model.proofs.Names.{bool_cases}
 use Rattle.heap_model.proofs.Waiting.{will_same, cleared_target}
-use Rattle.regions.specs.Table.{Table, object_at, stored_size, object_words}
+use Rattle.regions.specs.Table.{Table, object_at, object_pointers, pointers_at, stored_size, object_words}
 use Rattle.regions.specs.Shaped.{IsShaped}
 use Rattle.mark_bitmap.specs.Marks.{is_marked, marked_count, HasNone}
 use Rattle.mark_bitmap.specs.Tops.{Tops, exchanged, is_below, below_next, below_previous, AreNewer}
@@ -39,6 +39,7 @@ use Rattle.marker.proofs.Forgotten.{role_stays}
 use Rattle.marker.proofs.LiveCounts.{counts_same}
 use Rattle.marker.proofs.Reached.{same_trans}
 use Rattle.marker.proofs.Marking.{snapshots_trans}
+use Rattle.marker.proofs.Scanned.{grey_is}
 
 -- no more objects are scanned than there are addresses
 pub few_scans : (t : Table) (m m' : Marker) (n : ℕ) → IsShaped t → MarkerStands t m'
@@ -146,6 +147,16 @@ module _ (t t' : Table) (k : Marking) (d : ℕ → Type 0) (c : ClearsSome k t t
       size = ap (λ (o : Option Stored). stored_size (cleared_object k o)) at
           ∙ ap (λ (n : ℕ). 2 + length x.pointers + n + length x.values) (length-map x.weaks (cleared_word k)) ∙ sym (ap stored_size at)
 
+  -- and as many pointers
+  cleared_pointers : (a : ℕ) (x : Stored) → object_at t a ≡ Some x → length (pointers_at t' a) ≡ length (pointers_at t a)
+  unfolding pointers_at
+  cleared_pointers a x at = elim (c.each a) [
+    | inl same ↦ ap (λ (o : Option Stored). length (object_pointers o)) same
+    | inr y ↦ ap (λ (o : Option Stored). length (object_pointers o)) y.1
+        ∙ ap (λ (o : Option Stored). length (object_pointers (cleared_object k o))) at
+        ∙ sym (ap (λ (o : Option Stored). length (object_pointers o)) at)
+  ]
+
   -- what is counted of marked objects holds of the cleared table too
   cleared_counts : (tops : List ℕ) (marks : List Bool) (counts : List ℕ) → MarksObjects t tops marks → CountsWords t marks counts
       → CountsWords t' marks counts
@@ -165,6 +176,10 @@ module _ (t t' : Table) (k : Marking) (d : ℕ → Type 0) (c : ClearsSome k t t
     none_wait = st.none_wait;
     scanned_marked = st.scanned_marked;
     counted = st.counted;
+    part = λ run a held.
+        let marked = (grey_is m.bitmaps.next m.grey a ((st.finger run).held a held)).0 in
+        let x = st.next.object a marked in
+        omega (arith, st.part run a held, cleared_pointers a x.0 x.1);
     live = cleared_counts m.tams.previous m.bitmaps.previous m.live.previous st.previous st.live;
     live_next = cleared_counts m.tams.next m.bitmaps.next m.live.next st.next st.live_next;
   }
@@ -289,6 +304,7 @@ exchanged_stands t m m' st done e = record {
   none_wait = λ _. ap (λ (w : Waiting). w.addresses) e.waiting ∙ (both_empty m.waiting.addresses (logged m.logs) done.logged).0;
   scanned_marked = λ on. absurd (let f = e.off in cc);
   counted = λ on. absurd (let f = e.off in cc);
+  part = λ on. absurd (let f = e.off in cc);
   live = subst (λ (l : LiveCounts). CountsWords t m'.bitmaps.previous l.previous) (sym e.live)
       (subst (λ (b : List Bool). CountsWords t b m.live.next) (sym e.previous) st.live_next);
   live_next = subst (λ (l : LiveCounts). CountsWords t m'.bitmaps.next l.next) (sym e.live)

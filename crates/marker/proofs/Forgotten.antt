@@ -4,7 +4,7 @@ use Rattle.std.proofs.Common.{refl, sym, ap, subst, arith, get_or-set_other, len
 use Rattle.std.proofs.lemmas.Bool.{cases_eq, cases_Bool}
 use Rattle.heap_model.specs.Heap.{Stored}
 use Rattle.regions.specs.Table.{Table, Region, Free, Ordinary, First, Rest, nth_region, region_kind, kind_of, region_at, tile_in, object_at}
-use Rattle.regions.specs.Table.{stored_size, object_words, used_of, top_of, with_region, released_as, released}
+use Rattle.regions.specs.Table.{stored_size, object_words, pointers_at, used_of, top_of, with_region, released_as, released}
 use Rattle.regions.specs.declared.row.Kind.TheVariants as kinds
 use Rattle.mark_bitmap.specs.Marks.{is_between, is_marked}
 use Rattle.mark_bitmap.specs.Tops.{Tops, is_in_region, with_bottom}
@@ -16,6 +16,7 @@ use Rattle.marker.specs.Stands.{MarkerStands, CanFollow}
 use Rattle.marker.specs.Live.{LiveCounts, CountsWords, with_none}
 use Rattle.marker.specs.declared.marker.Marker.{Marker}
 use Rattle.marker.proofs.LiveCounts.{counts_same, counts_forgotten}
+use Rattle.marker.proofs.Scanned.{grey_is}
 
 was_marked : (inside was now : Bool) → now ≡ (if inside then false else was) → now ≡ true → was ≡ true
 was_marked true was now e h = cc
@@ -78,6 +79,7 @@ forgotten_stands t m k from to previous next tops live z st off known low high l
       none_wait = λ _. st.none_wait off;
       scanned_marked = λ on. absurd (let e = off in cc);
       counted = λ on. absurd (let e = off in cc);
+      part = λ on. absurd (let e = off in cc);
       live = subst (λ (l : LiveCounts). CountsWords t previous l.previous) (sym none)
           (counts_forgotten t m.bitmaps.previous previous m.live.previous k st.live known z (rw (low, high) at cleared));
       live_next = subst (λ (l : LiveCounts). CountsWords t next l.next) (sym none)
@@ -97,7 +99,7 @@ role_stays t t' tops marks m count size tops_are stays = record {
   below = λ a h. rw size (m.below a h);
 }
 
--- no top falls below one at mark start, and marked objects stay, with as many words
+-- no top falls below one at mark start, and marked objects stay, with as many words and pointers
 pub table_stands : (t t' : Table) (m : Marker) → MarkerStands t m → length t'.regions ≡ length t.regions
     → t'.words_per_region ≡ t.words_per_region → ((k : ℕ) → k < length t.regions → get_or m.tams.previous k 0 ≤ top_of t' k)
     → ((k : ℕ) → k < length t.regions → get_or m.tams.next k 0 ≤ top_of t' k)
@@ -105,8 +107,9 @@ pub table_stands : (t t' : Table) (m : Marker) → MarkerStands t m → length t
     → ((a : ℕ) (x : Stored) → is_marked m.bitmaps.next a ≡ true → object_at t a ≡ Some x → (y : Stored) × (object_at t' a ≡ Some y))
     → ((a : ℕ) → is_marked m.bitmaps.previous a ≡ true → object_words t' a ≡ object_words t a)
     → ((a : ℕ) → is_marked m.bitmaps.next a ≡ true → object_words t' a ≡ object_words t a)
+    → (m.running ≡ true → (a : ℕ) → is_marked m.bitmaps.next a ≡ true → length (pointers_at t' a) ≡ length (pointers_at t a))
     → (m.running ≡ true → CanFollow t' m) → MarkerStands t' m
-table_stands t t' m st count size low high stays stays' words words' follows = record {
+table_stands t t' m st count size low high stays stays' words words' pointers follows = record {
   previous = role_stays t t' m.tams.previous m.bitmaps.previous st.previous count size low stays;
   next = role_stays t t' m.tams.next m.bitmaps.next st.next count size high stays';
   scanned = st.scanned;
@@ -117,6 +120,9 @@ table_stands t t' m st count size low high stays stays' words words' follows = r
   none_wait = st.none_wait;
   scanned_marked = st.scanned_marked;
   counted = st.counted;
+  part = λ run a held.
+      let marked = (grey_is m.bitmaps.next m.grey a ((st.finger run).held a held)).0 in
+      omega (arith, st.part run a held, pointers run a marked);
   live = counts_same t t' m.bitmaps.previous m.bitmaps.previous m.live.previous st.live count size (λ a. refl) words;
   live_next = counts_same t t' m.bitmaps.next m.bitmaps.next m.live.next st.live_next count size (λ a. refl) words';
 }
@@ -175,7 +181,7 @@ released_stands t m k z st off ordinary none none' low low' =
     (table_stands t (with_region t k Free) m st (length-set t.regions k Free) refl
     (low_tops t m.tams.previous m.bitmaps.previous k st.previous low) (low_tops t m.tams.next m.bitmaps.next k st.next low')
     (stays_marked t m.bitmaps.previous k z none) (stays_marked t m.bitmaps.next k z none') (words_marked t m.bitmaps.previous k z none)
-    (words_marked t m.bitmaps.next k z none') (λ on. absurd (let e = off in cc)))
+    (words_marked t m.bitmaps.next k z none') (λ on. absurd (let e = off in cc)) (λ on. absurd (let e = off in cc)))
 
 -- where no word of a region is counted none of its addresses is marked
 pub none_counted : (t : Table) (tops : List ℕ) (marks : List Bool) (counts : List ℕ) (k from to : ℕ) → MarksObjects t tops marks

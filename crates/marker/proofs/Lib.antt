@@ -4,6 +4,7 @@ pub mod Follow
 pub mod Reached
 pub mod Passed
 pub mod Scanned
+pub mod Done
 pub mod Entered
 pub mod Marking
 pub mod Looked

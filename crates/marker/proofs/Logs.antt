@@ -8,6 +8,7 @@ use Rattle.heap_model.specs.Marking.{MarksMore, IsSaved}
 use Rattle.regions.specs.Table.{Table}
 use Rattle.mark_bitmap.specs.Marks.{is_marked}
 use Rattle.mark_bitmap.specs.Tops.{Tops, below_next}
+use Rattle.mark_bitmap.specs.Grey.{KeepsPlace, done_in}
 use Rattle.satb_log.specs.Logs.{logged, log_of}
 use Rattle.satb_log.proofs.Logged.{of_one, stays, only_rest, stays_logged, new_logged, only_logged}
 use Rattle.marker.specs.Views.{heap_of, marking_of, untaken}
@@ -18,6 +19,7 @@ use Rattle.marker.specs.declared.marker.Marker.{Marker}
 use Rattle.marker.proofs.Views.{same_kept}
 use Rattle.marker.proofs.Reached.{Reached, more_reached, stands_step, same_trans}
 use Rattle.marker.proofs.Scanned.{same_snapshots}
+use Rattle.marker.proofs.Done.{done_same, none_newly, place_same}
 use Rattle.marker.proofs.Marking.{snapshots_trans}
 
 -- one of the first n addresses
@@ -79,6 +81,7 @@ early_marked t log n b m m' e marked p =
       };
       same = record { previous = refl; tams = refl; running = refl; room = refl };
       scanned = refl;
+      place = place_same m'.grey;
       scans = refl;
       logs = refl;
       waiting = refl;
@@ -128,7 +131,7 @@ drained_stands t m k ls st run e =
     stands_step t m (with_logs m ls) st run (record { previous = refl; tams = refl; running = refl; room = refl })
     refl (ap length e ∙ length-set m.logs k [])
     (λ a l. only_rest (all_logs m m.logs) (suc k) a (subst (λ (x : List (List ℕ)). Contains (logged (all_logs m x)) a) e l))
-    st.next (st.finger run) (λ a marked. inl marked) (st.scanned_marked run) (st.counted run) refl st.live_next
+    st.next (st.finger run) (λ a marked. inl marked) (st.scanned_marked run) (st.counted run) refl st.live_next (st.part run)
 
 pub drained_kept : (t : Table) (m : Marker) (k : ℕ) (ls : List (List ℕ)) (log : List ℕ) (a : ℕ) → MarkerStands t m → m.running ≡ true
     → log ≡ log_of m.logs k → Contains log a → IsKept t (with_logs m ls) a
@@ -138,9 +141,9 @@ drained_kept t m k ls log a st run e l =
 
 -- a log is taken
 taken_more : (t : Table) (m m' : Marker) (k : ℕ) (roots : List (Option ℕ)) → MarkerStands t m → m.running ≡ true → SameRoles m m'
-    → m'.grey.scanned ≡ m.grey.scanned → m'.logs ≡ set m.logs k [] → m'.waiting ≡ m.waiting
+    → m'.grey.scanned ≡ m.grey.scanned → KeepsPlace m.grey m'.grey → m'.logs ≡ set m.logs k [] → m'.waiting ≡ m.waiting
     → MarksWanted t (Contains (log_of m.logs k)) m m' → MarksMore (heap_of t roots m) (marking_of t m) (marking_of t m')
-taken_more t m m' k roots st run same scanned logs waiting marks =
+taken_more t m m' k roots st run same scanned place logs waiting marks =
     let left : untaken m' ≡ logged (set (all_logs m m.logs) (suc k) []) =
     ap (λ (w : Waiting). w.addresses ++ logged m'.logs) waiting ∙ ap (λ (ls : List (List ℕ)). logged (all_logs m ls)) logs in
     record {
@@ -151,6 +154,8 @@ taken_more t m m' k roots st run same scanned logs waiting marks =
         | inr w ↦ inr (inl (of_one (all_logs m m.logs) (suc k) a w))
       ];
       newly_scanned = λ a now. inl (ap (λ (b : List Bool). is_marked b a) (sym scanned) ∙ now);
+      newly_done = λ a b p now _. absurd (none_newly (heap_of t roots m) (marking_of t m) (done_in m'.grey)
+          (done_same m.grey m'.grey place) a b p now);
       taken = λ a l. elim (stays (all_logs m m.logs) (suc k) [] a l) [
         | inl rest ↦ inr (subst (λ (x : List ℕ). Contains x a) (sym left) rest)
         | inr own ↦ inl (marks.each a own ((st.follows run).logged_below a l))
@@ -159,10 +164,10 @@ taken_more t m m' k roots st run same scanned logs waiting marks =
     }
 
 pub taken_keeps : (t : Table) (m m' : Marker) (k : ℕ) → MarkerStands t m → m.running ≡ true → SameRoles m m'
-    → m'.grey.scanned ≡ m.grey.scanned → m'.logs ≡ set m.logs k [] → m'.waiting ≡ m.waiting
+    → m'.grey.scanned ≡ m.grey.scanned → KeepsPlace m.grey m'.grey → m'.logs ≡ set m.logs k [] → m'.waiting ≡ m.waiting
     → MarksWanted t (Contains (log_of m.logs k)) m m' → KeepsSnapshots t m m'
-taken_keeps t m m' k st run same scanned logs waiting marks =
-    same_snapshots t m m' same (λ roots. taken_more t m m' k roots st run same scanned logs waiting marks)
+taken_keeps t m m' k st run same scanned place logs waiting marks =
+    same_snapshots t m m' same (λ roots. taken_more t m m' k roots st run same scanned place logs waiting marks)
 
 pub one_taken : (t : Table) (m m' m'' : Marker) (n : ℕ) → HasTaken t m m' n → n < length m'.logs
     → MarkerStands t m'' → KeepsSnapshots t m' m'' → m''.logs ≡ set m'.logs n [] → m''.scans ≡ m'.scans → m''.waiting ≡ m'.waiting
@@ -200,11 +205,12 @@ none_taken t m m' n p none = record {
 }
 
 pub drained_keeps : (t : Table) (m m' : Marker) (k : ℕ) (ls : List (List ℕ)) (log : List ℕ) → MarkerStands t m → m.running ≡ true
-    → ls ≡ set m.logs k [] → log ≡ log_of m.logs k → SameRoles (with_logs m ls) m' → m'.grey.scanned ≡ m.grey.scanned → m'.logs ≡ ls
-    → m'.waiting ≡ m.waiting → MarksWanted t (Contains log) (with_logs m ls) m' → KeepsSnapshots t m m'
-drained_keeps t m m' k ls log st run drained own same scanned logs waiting marks =
+    → ls ≡ set m.logs k [] → log ≡ log_of m.logs k → SameRoles (with_logs m ls) m' → m'.grey.scanned ≡ m.grey.scanned
+    → KeepsPlace m.grey m'.grey → m'.logs ≡ ls → m'.waiting ≡ m.waiting → MarksWanted t (Contains log) (with_logs m ls) m'
+    → KeepsSnapshots t m m'
+drained_keeps t m m' k ls log st run drained own same scanned place logs waiting marks =
     taken_keeps t m m' k st run (record { previous = same.previous; tams = same.tams; running = same.running; room = same.room }) scanned
-    (logs ∙ drained) waiting
+    place (logs ∙ drained) waiting
     (subst (λ (x : List ℕ). MarksWanted t (Contains x) m m') own (record { stays = marks.stays; only = marks.only; each = marks.each }))
 
 -- an old address enters a log
@@ -235,6 +241,7 @@ saved_stands t m k at ls st run below kept e =
       none_wait = λ off. absurd (let g = run in cc);
       scanned_marked = st.scanned_marked;
       counted = st.counted;
+      part = st.part;
       live = st.live;
       live_next = st.live_next;
     }
@@ -246,6 +253,7 @@ is_saved t m k at w ls known is below e = record {
   old = λ a. refl;
   marked = λ a. refl;
   scanned = λ a. refl;
+  done = λ a. refl;
   kept = λ a l. subst (λ (x : List (List ℕ)). Contains (logged (all_logs m x)) a) (sym e)
       (stays_logged (all_logs m m.logs) (suc k) at a (omega (arith, known)) l);
   saved = λ a h _. let same : at ≡ a = cc in

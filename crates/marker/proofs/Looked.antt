@@ -1,15 +1,15 @@
 -- The words that are looked at where objects are scanned.
-use Rattle.std.proofs.Common.{inl, inr, ◌≡◌, ◌+◌, ◌<◌, ◌≤◌, ◌∙◌, ℕ, zero, suc, Bool, true, false, List, [], length, set, refl, sym, ap}
+use Rattle.std.proofs.Common.{inl, inr, ◌≡◌, ◌+◌, ◌<◌, ◌≤◌, ◌∙◌, ℕ, zero, suc, Bool, true, false, List, [], length, set, refl, ap}
 use Rattle.std.proofs.Common.{subst, arith, if◌then◌else◌, length-set, get_or-set_same, get_or-set_other}
-use Rattle.std.proofs.lemmas.Bool.{cases_Bool, cases_eq}
-use Rattle.regions.specs.Table.{Table, pointers_at}
+use Rattle.std.proofs.lemmas.Bool.{cases_eq}
+use Rattle.regions.specs.Table.{Table}
 use Rattle.mark_bitmap.specs.Marks.{is_marked, marked_count, HasNone}
 use Rattle.mark_bitmap.specs.Grey.{is_grey}
 use Rattle.marker.specs.Counts.{ScanTotals, IsMore, added}
 use Rattle.marker.specs.Waiting.{Waiting}
 use Rattle.marker.specs.Stands.{MarkerStands}
 use Rattle.marker.specs.Steps.{KeepsSnapshots, SameRoles, Grows, ScansMore}
-use Rattle.marker.specs.Looks.{IsNearly, LooksUpTo, ScansUpTo, words_of_scan, words_looked, words_scanned}
+use Rattle.marker.specs.Looks.{LooksUpTo, ScansUpTo, words_of_scan, words_looked, words_scanned}
 use Rattle.marker.specs.declared.marker.Marker.{Marker}
 use Rattle.marker.proofs.Marking.{HasScanned, one_scanned}
 use Rattle.marker.proofs.Scanned.{grey_is}
@@ -48,21 +48,20 @@ looked_more t s object (suc n) a inside un low high = elim (cases_eq a object) [
       )
 ]
 
--- so many words more were looked at, for as many objects as were scanned
-pub record LooksOn (t : Table) (most n : ℕ) (m m' : Marker) : Type 0 where
+-- so many words more were looked at
+pub record LooksOn (t : Table) (n : ℕ) (m m' : Marker) : Type 0 where
   pub objects : ℕ
   pub scans : HasScanned t m m' objects
   pub count : words_scanned t m' ≡ words_scanned t m + n
-  pub nearly : IsNearly t most n m m'
 
--- one object more, while fewer words were looked at than may be
-pub one_looked : (t : Table) (m m' m'' : Marker) (most n pointers object : ℕ) → LooksOn t most n m m' → n < most
+-- with all that were left of one object
+pub one_looked : (t : Table) (m m' m'' : Marker) (n left object : ℕ) → LooksOn t n m m'
     → is_grey m'.bitmaps.next m'.grey object ≡ true → object < length m'.bitmaps.next
-    → MarkerStands t m'' → KeepsSnapshots t m' m'' → m''.grey.scanned ≡ set m'.grey.scanned object true
+    → MarkerStands t m'' → KeepsSnapshots t m' m'' → m''.grey.scanned ≡ set m'.grey.scanned object true → m''.grey.looked ≡ 0
     → m''.scans ≡ added m'.scans → SameRoles m' m'' → m''.logs ≡ m'.logs → m''.waiting ≡ m'.waiting
     → ((a : ℕ) → is_marked m'.bitmaps.next a ≡ true → is_marked m''.bitmaps.next a ≡ true)
-    → pointers ≡ length (pointers_at t object) → LooksOn t most (n + (1 + pointers)) m m''
-one_looked t m m' m'' most n pointers object p less grey inside st keeps scanned counted same logs waiting marked is =
+    → left + m'.grey.looked ≡ words_of_scan t object → LooksOn t (n + left) m m''
+one_looked t m m' m'' n left object p grey inside st keeps scanned whole counted same logs waiting marked is =
     let un = (grey_is m'.bitmaps.next m'.grey object grey).1 in
     let known : object < length m'.grey.scanned = omega (arith, inside, p.scans.stands.scanned) in
     record {
@@ -74,17 +73,9 @@ one_looked t m m' m'' most n pointers object p less grey inside st keeps scanned
         ap (λ (k : ℕ). words_looked t (set m'.grey.scanned object true) 0 k) (length-set m'.grey.scanned object true),
         looked_more t m'.grey.scanned object (length m'.grey.scanned) 0 known un (omega arith) (omega (arith, known)),
         p.count,
+        whole,
         is,
       );
-      nearly = inr (record {
-        last = object;
-        unscanned = elim (cases_Bool (is_marked m.grey.scanned object)) [
-          | inl was ↦ absurd (let still = p.scans.grows.scanned object was in cc)
-          | inr not ↦ not
-        ];
-        scanned = ap (λ (s : List Bool). is_marked s object) scanned ∙ get_or-set_same m'.grey.scanned object true false known;
-        most = omega (arith, less, is);
-      });
     }
 
 -- ---- one call
@@ -116,25 +107,16 @@ scans_up_to k n m m' m'' scanned taken waiting most none count = record {
   enough = λ less. record { waiting = ap (λ (w : Waiting). w.addresses) waiting ∙ taken; grey = none less };
 }
 
-nearly_after : (t : Table) (k left n taken : ℕ) (m m' m'' : Marker) → m'.grey.scanned ≡ m.grey.scanned → left + taken ≡ k
-    → IsNearly t left n m' m'' → IsNearly t k (taken + n) m m''
-nearly_after t k left n taken m m' m'' scanned e (inl le) = inl (omega (arith, le, e))
-nearly_after t k left n taken m m' m'' scanned e (inr over) = inr (record {
-  last = over.last;
-  unscanned = ap (λ (b : List Bool). is_marked b over.last) (sym scanned) ∙ over.unscanned;
-  scanned = over.scanned;
-  most = omega (arith, over.most, e);
-})
-
-pub looks_up_to : (t : Table) (k left n taken : ℕ) (m m' m'' : Marker) → m'.grey.scanned ≡ m.grey.scanned → left + taken ≡ k
+pub looks_up_to : (t : Table) (k left n taken : ℕ) (m m' m'' : Marker) → m'.grey.scanned ≡ m.grey.scanned
+    → m'.grey.looked ≡ m.grey.looked → left + taken ≡ k
     → length m.waiting.addresses ≡ length m'.waiting.addresses + taken → (taken < k → m'.waiting.addresses ≡ [])
-    → m''.waiting ≡ m'.waiting → words_scanned t m'' ≡ words_scanned t m' + n → IsNearly t left n m' m''
+    → m''.waiting ≡ m'.waiting → words_scanned t m'' ≡ words_scanned t m' + n → n ≤ left
     → (n < left → HasNone (is_grey m''.bitmaps.next m''.grey) 0) → LooksUpTo t k (taken + n) m m''
-looks_up_to t k left n taken m m' m'' scanned e roots none waiting count nearly grey = record {
+looks_up_to t k left n taken m m' m'' scanned looked e roots none waiting count most grey = record {
   taken = taken;
   roots = omega (arith, roots, ap (λ (w : Waiting). length w.addresses) waiting);
-  count = omega (arith, count, ap (λ (s : List Bool). words_looked t s 0 (length s)) scanned);
-  most = nearly_after t k left n taken m m' m'' scanned e nearly;
+  count = omega (arith, count, looked, ap (λ (s : List Bool). words_looked t s 0 (length s)) scanned);
+  most = omega (arith, most, e);
   enough = λ less. record {
     waiting = ap (λ (w : Waiting). w.addresses) waiting ∙ none (omega (arith, less));
     grey = grey (omega (arith, less, e));

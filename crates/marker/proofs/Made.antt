@@ -60,6 +60,7 @@ new_stands regions words mutators m off previous next low high scanned logs none
       none_wait = λ _. waiting;
       scanned_marked = λ on. absurd (let e = off in cc);
       counted = λ on. absurd (let e = off in cc);
+      part = λ on. absurd (let e = off in cc);
       live = counts_none t m.bitmaps.previous m.live.previous regions (ap (λ (l : LiveCounts). l.previous) none) (sym count)
           (λ a. ap (λ (b : List Bool). get_or b a false) previous ∙ none_marked (regions * words) a);
       live_next = counts_none t m.bitmaps.next m.live.next regions (ap (λ (l : LiveCounts). l.next) none) (sym count)

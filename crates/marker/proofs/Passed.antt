@@ -35,6 +35,7 @@ passed t words place end m m' first r = record {
   };
   same = r.same;
   scanned = r.scanned;
+  place = r.place;
   scans = r.scans;
   logs = r.logs;
   waiting = r.waiting;

@@ -6,22 +6,23 @@ use Rattle.std.proofs.lemmas.List.{get_or_past}
 use Rattle.std.proofs.lemmas.Option.{get_or_from_slice_get, slice_get-get_or, slice_get_within}
 use Rattle.root_table.specs.Roots.{AreNil, IsNextNamed}
 use Rattle.heap_model.specs.Clearing.{CanBeFollowed}
-use Rattle.regions.specs.Table.{Table, object_words}
+use Rattle.regions.specs.Table.{Table, object_words, pointers_at}
 use Rattle.regions.specs.Shaped.{IsShaped}
 use Rattle.mark_bitmap.specs.Marks.{is_marked, marked_count}
 use Rattle.mark_bitmap.specs.Tops.{Tops, below_next, AreNewer}
-use Rattle.mark_bitmap.specs.Grey.{Scans, HasFingers}
+use Rattle.mark_bitmap.specs.Grey.{Scans, HasFingers, KeepsPlace}
 use Rattle.mark_bitmap.specs.Kept.{MarksObjects}
 use Rattle.mark_bitmap.proofs.ObjectLaws.{set_objects, within}
 use Rattle.mark_bitmap.proofs.Ranges.{div_is, lies_below}
 use Rattle.marker.specs.Views.{untaken}
 use Rattle.marker.specs.Stands.{MarkerStands, IsKept}
 use Rattle.marker.specs.Live.{LiveCounts, CountsWords, with_more}
-use Rattle.marker.specs.Roots.{IsInFirst}
+use Rattle.marker.specs.Roots.{IsInFirst, IsInSpan}
 use Rattle.marker.specs.Steps.{SameRoles, MarksWanted}
 use Rattle.marker.specs.declared.marker.Marker.{Marker}
 use Rattle.marker.proofs.Views.{same_heap, kept_object, same_kept}
 use Rattle.marker.proofs.LiveCounts.{counts_added, region_small}
+use Rattle.marker.proofs.Done.{part_same, place_trans}
 
 -- more is marked, and logs and the roots that wait may lose addresses: marks stand, if what came is kept
 pub stands_step : (t : Table) (m m' : Marker) → MarkerStands t m → m.running ≡ true → SameRoles m m'
@@ -30,8 +31,9 @@ pub stands_step : (t : Table) (m m' : Marker) → MarkerStands t m → m.running
     → MarksObjects t m.tams.next m'.bitmaps.next → HasFingers m'.bitmaps.next m'.grey
     → ((a : ℕ) → is_marked m'.bitmaps.next a ≡ true → (is_marked m.bitmaps.next a ≡ true) ⊎ IsKept t m a)
     → ((a : ℕ) → is_marked m'.grey.scanned a ≡ true → is_marked m'.bitmaps.next a ≡ true) → m'.scans.since ≡ marked_count m'.grey.scanned
-    → m'.live.previous ≡ m.live.previous → CountsWords t m'.bitmaps.next m'.live.next → MarkerStands t m'
-stands_step t m m' st run same scanned len logs next finger came scanned_marked counted before now =
+    → m'.live.previous ≡ m.live.previous → CountsWords t m'.bitmaps.next m'.live.next
+    → ((a : ℕ) → m'.grey.held ≡ Some a → m'.grey.looked ≤ length (pointers_at t a)) → MarkerStands t m'
+stands_step t m m' st run same scanned len logs next finger came scanned_marked counted before now part =
     let f = st.follows run in
     let tams : m.tams ≡ m'.tams = sym same.tams in
     let kept : (a : ℕ) → IsKept t m a → IsKept t m' a = λ a. same_kept t m m' a same in
@@ -52,6 +54,7 @@ stands_step t m m' st run same scanned len logs next finger came scanned_marked 
       none_wait = λ off. absurd (let e = same.running in cc);
       scanned_marked = λ _. scanned_marked;
       counted = λ _. counted;
+      part = λ _. part;
       live = subst (λ (b : List Bool). CountsWords t b m'.live.previous) (sym same.previous)
           (subst (λ (l : List ℕ). CountsWords t m.bitmaps.previous l) (sym before) st.live);
       live_next = now;
@@ -67,7 +70,7 @@ set_stays marks a b h k = elim (cases_eq b a) [
 ]
 
 -- a mark more takes none away
-set_more : (marks : List Bool) (a b : ℕ) → is_marked marks b ≡ true → is_marked (set marks a true) b ≡ true
+pub set_more : (marks : List Bool) (a b : ℕ) → is_marked marks b ≡ true → is_marked (set marks a true) b ≡ true
 set_more marks a b k = elim (cases_lt a (length marks)) [
   | inl inside ↦ set_stays marks a b inside k
   | inr past ↦ elim (cases_eq b a) [
@@ -123,9 +126,9 @@ mark_fits t m a k size shape st below unmarked own words =
 
 pub set_stands : (t : Table) (m : Marker) (a : ℕ) (n : List Bool) (g : Scans) (l : LiveCounts) (k size : ℕ) → 0 < t.words_per_region
     → MarkerStands t m → m.running ≡ true → below_next t m.tams a ≡ true → IsKept t m a → is_marked m.bitmaps.next a ≡ false
-    → n ≡ set m.bitmaps.next a true → g.scanned ≡ m.grey.scanned → HasFingers n g → l ≡ with_more m.live k size
+    → n ≡ set m.bitmaps.next a true → g.scanned ≡ m.grey.scanned → KeepsPlace m.grey g → HasFingers n g → l ≡ with_more m.live k size
     → k ≡ a / t.words_per_region → size ≡ object_words t a → MarkerStands t (with_next m n g l)
-set_stands t m a n g l k size z st run below kept unmarked e scanned finger more own words =
+set_stands t m a n g l k size z st run below kept unmarked e scanned place finger more own words =
     let object = kept_object t m.tams m.bitmaps.previous a kept.object kept.is in
     stands_step t m (with_next m n g l) st run (record { previous = refl; tams = refl; running = refl; room = refl })
     (ap length scanned) refl (λ b l. l)
@@ -141,6 +144,7 @@ set_stands t m a n g l k size z st run below kept unmarked e scanned finger more
     (st.counted run ∙ ap marked_count (sym scanned))
     (ap (λ (x : LiveCounts). x.previous) more)
     (subst (λ (x : LiveCounts). CountsWords t n x.next) (sym more) (counts_marked t m a n k size z st below unmarked e own words))
+    (part_same t m (with_next m n g l) place (st.part run))
 
 pub set_marks_at : (t : Table) (m : Marker) (a : ℕ) (n : List Bool) (g : Scans) (l : LiveCounts)
     → a < length m.bitmaps.next → n ≡ set m.bitmaps.next a true → MarksWanted t (λ b. a ≡ b) m (with_next m n g l)
@@ -167,6 +171,7 @@ pub record Reached (t : Table) (wanted : ℕ → Type 0) (m m' : Marker) : Type 
   pub marks : MarksWanted t wanted m m'
   pub same : SameRoles m m'
   pub scanned : m'.grey.scanned ≡ m.grey.scanned
+  pub place : KeepsPlace m.grey m'.grey
   pub scans : m'.scans ≡ m.scans
   pub logs : m'.logs ≡ m.logs
   pub waiting : m'.waiting ≡ m.waiting
@@ -197,6 +202,7 @@ more_reached t first then both m m' m'' split left right p q = record {
   };
   same = same_trans m m' m'' p.same q.same;
   scanned = q.scanned ∙ p.scanned;
+  place = place_trans m.grey m'.grey m''.grey p.place q.place;
   scans = q.scans ∙ p.scans;
   logs = q.logs ∙ p.logs;
   waiting = q.waiting ∙ p.waiting;
@@ -223,6 +229,24 @@ among_more t words n w m m' m'' e p q =
     more_reached t (IsInFirst words n) (λ a. w ≡ Some a) (IsInFirst words (n + 1)) m m' m''
     (λ a i. among_split words n a w e i) (λ a i. among_left words n a i) (λ a f. among_right words n a w e f) p q
 
+-- of the words from one on
+span_split : (words : List (Option ℕ)) (from n a : ℕ) (w : Option ℕ) → slice_get words n ≡ Some w
+    → IsInSpan words from (n + 1) a → IsInSpan words from n a ⊎ (w ≡ Some a)
+span_split words from n a w e i =
+    elim (cases_eq i.place n) [
+      | inl same ↦ inr (let f : slice_get words n ≡ Some (Some a) = ap (slice_get words) (sym same) ∙ i.is in cc)
+      | inr other ↦ inl (record { place = i.place; from_on = i.from_on; before = omega (arith, i.before, other); is = i.is })
+    ]
+
+pub span_more : (t : Table) (words : List (Option ℕ)) (from n : ℕ) (w : Option ℕ) (m m' m'' : Marker) → from ≤ n
+    → slice_get words n ≡ Some w → Reached t (IsInSpan words from n) m m' → Reached t (λ a. w ≡ Some a) m' m''
+    → Reached t (IsInSpan words from (n + 1)) m m''
+span_more t words from n w m m' m'' low e p q =
+    more_reached t (IsInSpan words from n) (λ a. w ≡ Some a) (IsInSpan words from (n + 1)) m m' m''
+    (λ a i. span_split words from n a w e i)
+    (λ a i. record { place = i.place; from_on = i.from_on; before = omega (arith, i.before); is = i.is })
+    (λ a f. record { place = n; from_on = low; before = omega arith; is = e ∙ ap Some f }) p q
+
 -- ---- roots, of which those that hold nil are passed over
 -- what is wanted may be said otherwise
 pub reached_as : (t : Table) (wanted other : ℕ → Type 0) (m m' : Marker) → ((a : ℕ) → wanted a → other a) → ((a : ℕ) → other a → wanted a)
@@ -236,6 +260,7 @@ reached_as t wanted other m m' to from r = record {
   };
   same = r.same;
   scanned = r.scanned;
+  place = r.place;
   scans = r.scans;
   logs = r.logs;
   waiting = r.waiting;

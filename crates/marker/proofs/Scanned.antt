@@ -11,7 +11,6 @@ use Rattle.mark_bitmap.proofs.ObjectLaws.{only_within}
 use Rattle.marker.specs.Views.{heap_of, marking_of}
 use Rattle.marker.specs.Counts.{added}
 use Rattle.marker.specs.Stands.{MarkerStands, CanFollow, IsKept}
-use Rattle.marker.specs.Roots.{IsInFirst}
 use Rattle.marker.specs.Steps.{KeepsSnapshots, SameRoles}
 use Rattle.marker.specs.declared.marker.Marker.{Marker}
 use Rattle.marker.proofs.Views.{same_heap, kept_object, object_pointers_at}
@@ -52,9 +51,6 @@ target_kept t m object place a f marked e =
     let pointers = object_pointers_at t object k.object (kept_object t m.tams m.bitmaps.previous object k.object k.is) in
     let found = f.closed.pointer object place a k.object k.is (rw pointers at e) in
     record { object = found.0; is = found.1 }
-
-abbrev pub all_pointers : Table → ℕ → ℕ → Type 0
-all_pointers t object = IsInFirst (pointers_at t object) (length (pointers_at t object))
 
 -- what is grey was not scanned, and lies in the heap
 pub grey_within : (t : Table) (m : Marker) (object : ℕ) → MarkerStands t m

@@ -10,6 +10,7 @@ use Rattle.regions.proofs.Tiles.Changes.{WritesObject, weak_put, object_same}
 use Rattle.mark_bitmap.specs.Tops.{is_below}
 use Rattle.mark_bitmap.specs.Kept.{MarksObjects}
 use Rattle.mark_bitmap.specs.Marks.{is_marked}
+use Rattle.mark_bitmap.specs.Grey.{done_in}
 use Rattle.marker.specs.Views.{marking_of, untaken}
 use Rattle.marker.specs.Clears.{HasCleared}
 use Rattle.marker.specs.declared.marker.Marker.{Marker}
@@ -50,6 +51,7 @@ same_marking t u m e = ap (λ (w : ℕ). record {
   old = λ a. is_below w m.tams.next a;
   marked = is_marked m.bitmaps.next;
   scanned = is_marked m.grey.scanned;
+  done = done_in m.grey;
   logged = untaken m;
 }) e
 

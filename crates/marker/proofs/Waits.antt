@@ -10,6 +10,7 @@ use Rattle.root_table.specs.Roots.{AreNil, IsNextNamed}
 use Rattle.regions.specs.Table.{Table}
 use Rattle.mark_bitmap.specs.Marks.{is_marked}
 use Rattle.mark_bitmap.specs.Tops.{Tops, below_next}
+use Rattle.mark_bitmap.specs.Grey.{KeepsPlace, done_in}
 use Rattle.satb_log.specs.Logs.{logged}
 use Rattle.marker.specs.Views.{heap_of, marking_of, untaken}
 use Rattle.marker.specs.Waiting.{Waiting, with_root}
@@ -21,6 +22,7 @@ use Rattle.marker.proofs.Views.{same_untaken}
 use Rattle.marker.proofs.Begun.{with_waiting, waiting_kept}
 use Rattle.marker.proofs.Reached.{stands_step, same_trans, among_split, among_right, among_wider, among_same, named_word}
 use Rattle.marker.proofs.Scanned.{same_snapshots}
+use Rattle.marker.proofs.Done.{done_same, none_newly, place_same, place_trans}
 use Rattle.marker.proofs.Marking.{snapshots_trans}
 
 -- ---- roots are copied
@@ -80,6 +82,7 @@ pub record HasTakenRoots (t : Table) (m m' : Marker) (n : ℕ) : Type 0 where
   pub count : length m.waiting.addresses ≡ length m'.waiting.addresses + n
   pub marked : (a : ℕ) → is_marked m.bitmaps.next a ≡ true → is_marked m'.bitmaps.next a ≡ true
   pub scanned : m'.grey.scanned ≡ m.grey.scanned
+  pub place : KeepsPlace m.grey m'.grey
   pub scans : m'.scans ≡ m.scans
   pub same : SameRoles m m'
   pub logs : m'.logs ≡ m.logs
@@ -92,6 +95,7 @@ no_root_taken t m st run = record {
   count = omega arith;
   marked = λ a k. k;
   scanned = refl;
+  place = place_same m.grey;
   scans = refl;
   same = record { previous = refl; tams = refl; running = refl; room = refl };
   logs = refl;
@@ -119,7 +123,7 @@ module _ (t : Table) (m : Marker) (w : Waiting) (at : ℕ) (st : MarkerStands t 
 
   pub popped_stands : MarkerStands t (with_waiting m w)
   popped_stands = stands_step t m (with_waiting m w) st run popped_roles refl refl left_before
-      st.next (st.finger run) (λ a marked. inl marked) (st.scanned_marked run) (st.counted run) refl st.live_next
+      st.next (st.finger run) (λ a marked. inl marked) (st.scanned_marked run) (st.counted run) refl st.live_next (st.part run)
 
   pub popped_kept : IsKept t (with_waiting m w) at
   popped_kept = waiting_kept t m w at ((st.follows run).logged_kept at last_before)
@@ -127,8 +131,9 @@ module _ (t : Table) (m : Marker) (w : Waiting) (at : ℕ) (st : MarkerStands t 
   pub popped_below : below_next t m.tams at ≡ true
   popped_below = (st.follows run).logged_below at last_before
 
-  module _ (m' : Marker) (same : SameRoles (with_waiting m w) m') (scanned : m'.grey.scanned ≡ m.grey.scanned) (logs : m'.logs ≡ m.logs)
-      (waiting : m'.waiting ≡ w) (marks : MarksWanted t (λ a. at ≡ a) (with_waiting m w) m') where
+  module _ (m' : Marker) (same : SameRoles (with_waiting m w) m') (scanned : m'.grey.scanned ≡ m.grey.scanned)
+      (place : KeepsPlace m.grey m'.grey) (logs : m'.logs ≡ m.logs) (waiting : m'.waiting ≡ w)
+      (marks : MarksWanted t (λ a. at ≡ a) (with_waiting m w) m') where
     taken_roles : SameRoles m m'
     taken_roles = same_trans m (with_waiting m w) m' popped_roles same
 
@@ -144,6 +149,8 @@ module _ (t : Table) (m : Marker) (w : Waiting) (at : ℕ) (st : MarkerStands t 
         | inr w ↦ inr (inl (subst (λ (x : ℕ). Contains (untaken m) x) w last_before))
       ];
       newly_scanned = λ a now. inl (ap (λ (b : List Bool). is_marked b a) (sym scanned) ∙ now);
+      newly_done = λ a b p now _. absurd (none_newly (heap_of t roots m) (marking_of t m) (done_in m'.grey)
+          (done_same m.grey m'.grey place) a b p now);
       taken = λ a l. elim (Contains-append_cases m.waiting.addresses (logged m.logs) a l) [
         | inl waits ↦ elim (Contains-push_cases w.addresses at a (subst (λ (xs : List ℕ). Contains xs a) came waits)) [
           | inl still ↦ inr (subst (λ (xs : List ℕ). Contains xs a) (sym left) (Contains-append_left w.addresses (logged m.logs) a still))
@@ -174,6 +181,7 @@ module _ (t : Table) (m : Marker) (w : Waiting) (at : ℕ) (st : MarkerStands t 
       );
       marked = λ a k. marks.stays a (p.marked a k);
       scanned = scanned ∙ p.scanned;
+      place = place_trans m0.grey m.grey m'.grey p.place place;
       scans = scans ∙ p.scans;
       same = same_trans m0 m m' p.same taken_roles;
       logs = logs ∙ p.logs;

@@ -1,5 +1,5 @@
 -- How much one call of marking does: objects are counted in the first two formats, words in the third.
-use Rattle.std.specs.Prelude.{◌≡◌, ◌+◌, ◌<◌, ◌≤◌, ◌⊎◌, ℕ, zero, suc, Bool, true, false, List, [], length, if◌then◌else◌}
+use Rattle.std.specs.Prelude.{◌≡◌, ◌+◌, ◌<◌, ◌≤◌, ℕ, zero, suc, Bool, true, false, List, [], length, if◌then◌else◌}
 use Rattle.regions.specs.Table.{Table, pointers_at}
 use Rattle.mark_bitmap.specs.Marks.{is_marked, marked_count, HasNone}
 use Rattle.mark_bitmap.specs.Grey.{is_grey}
@@ -10,7 +10,7 @@ abbrev pub BeginsBy : Bool → Marker → Type 0
 BeginsBy true m = m.waiting.addresses ≡ []
 BeginsBy false m = (a : ℕ) → is_marked m.bitmaps.next a ≡ false
 
--- how many words are looked at where an object is scanned: one for itself, and one for each of its pointers
+-- how many words are looked at where an object is scanned whole: one for itself, and one for each of its pointers
 abbrev pub words_of_scan : Table → ℕ → ℕ
 words_of_scan t a = 1 + length (pointers_at t a)
 
@@ -19,9 +19,9 @@ abbrev pub words_looked : Table → List Bool → ℕ → ℕ → ℕ
 words_looked t scanned a zero = 0
 words_looked t scanned a (suc n) = (if is_marked scanned a then words_of_scan t a else 0) + words_looked t scanned (suc a) n
 
--- and since marking began
+-- and since marking began, with those of the held object that were looked at
 abbrev pub words_scanned : Table → Marker → ℕ
-words_scanned t m = words_looked t m.grey.scanned 0 (length m.grey.scanned)
+words_scanned t m = words_looked t m.grey.scanned 0 (length m.grey.scanned) + m.grey.looked
 
 -- nothing is left to be marked: no root waits, and no object is grey
 pub record HasNoneLeft (m : Marker) : Type 0 where
@@ -34,23 +34,13 @@ pub record ScansUpTo (k n : ℕ) (m m' : Marker) : Type 0 where
   pub most : n ≤ k
   pub enough : n < k → HasNoneLeft m'
 
--- n words are no more than k but for the pointers of an object that was scanned: the last one may go over
-pub record IsOverByOne (t : Table) (k n : ℕ) (m m' : Marker) : Type 0 where
-  pub last : ℕ
-  pub unscanned : is_marked m.grey.scanned last ≡ false
-  pub scanned : is_marked m'.grey.scanned last ≡ true
-  pub most : n ≤ k + length (pointers_at t last)
-
-abbrev pub IsNearly : Table → ℕ → ℕ → Marker → Marker → Type 0
-IsNearly t k n m m' = (n ≤ k) ⊎ IsOverByOne t k n m m'
-
--- n words were looked at, one for each root that was taken, and those of the objects that were scanned: k or a little more, or fewer if
--- nothing is left
+-- n words were looked at, one for each root that was taken, and those of the objects that were scanned, the held one perhaps in part: k, or
+-- fewer if nothing is left
 pub record LooksUpTo (t : Table) (k n : ℕ) (m m' : Marker) : Type 0 where
   pub taken : ℕ
   pub roots : length m.waiting.addresses ≡ length m'.waiting.addresses + taken
   pub count : words_scanned t m' + taken ≡ words_scanned t m + n
-  pub most : IsNearly t k n m m'
+  pub most : n ≤ k
   pub enough : n < k → HasNoneLeft m'
 
 -- the one or the other, by whether grey objects are scanned by rising address

@@ -8,6 +8,13 @@ pub record IsInFirst (words : List (Option ℕ)) (n a : ℕ) : Type 0 where
   pub front : place < n
   pub is : slice_get words place ≡ Some (Some a)
 
+-- one of the words from one on up to another one, which is not one of them, holds the address
+pub record IsInSpan (words : List (Option ℕ)) (from to a : ℕ) : Type 0 where
+  pub place : ℕ
+  pub from_on : from ≤ place
+  pub before : place < to
+  pub is : slice_get words place ≡ Some (Some a)
+
 -- the addresses are those that the first n words hold
 pub record AreHeldBy (words : List (Option ℕ)) (n : ℕ) (addresses : List ℕ) : Type 0 where
   pub each : (a : ℕ) → IsInFirst words n a → Contains addresses a

@@ -1,8 +1,8 @@
 -- What a marker has to do with the table that it marks.
-use Rattle.std.specs.Prelude.{◌≡◌, ℕ, true, false, [], length, Some, Contains}
+use Rattle.std.specs.Prelude.{◌≡◌, ◌≤◌, ℕ, true, false, [], length, Some, Contains}
 use Rattle.heap_model.specs.Clearing.{CanBeFollowed}
 use Rattle.heap_model.specs.Heap.{Stored}
-use Rattle.regions.specs.Table.{Table}
+use Rattle.regions.specs.Table.{Table, pointers_at}
 use Rattle.mark_bitmap.specs.Marks.{is_marked, marked_count}
 use Rattle.mark_bitmap.specs.Tops.{below_next, AreNewer}
 use Rattle.mark_bitmap.specs.Grey.{HasFingers}
@@ -39,6 +39,8 @@ pub record MarkerStands (t : Table) (m : Marker) : Type 0 where
   -- scanned objects are marked, and counted
   pub scanned_marked : m.running ≡ true → (a : ℕ) → is_marked m.grey.scanned a ≡ true → is_marked m.bitmaps.next a ≡ true
   pub counted : m.running ≡ true → m.scans.since ≡ marked_count m.grey.scanned
+  -- of the held object some word was not looked at yet
+  pub part : m.running ≡ true → (a : ℕ) → m.grey.held ≡ Some a → m.grey.looked ≤ length (pointers_at t a)
   -- the words of what is marked are counted by regions
   pub live : CountsWords t m.bitmaps.previous m.live.previous
   pub live_next : CountsWords t m.bitmaps.next m.live.next

@@ -8,6 +8,7 @@ ghost use Rattle.heap_model.specs.Marking.{KeepsSnapshot, Begins, IsSaved};
 ghost use Rattle.regions.specs.Table.{top_of};
 ghost use Rattle.mark_bitmap.specs.Marks.{is_between, is_marked, marked_count};
 ghost use Rattle.mark_bitmap.specs.Tops.{exchanged, is_in_region, with_bottom};
+ghost use Rattle.mark_bitmap.specs.Grey.{KeepsPlace};
 ghost use Rattle.satb_log.specs.Logs.{log_of};
 ghost use Rattle.marker.specs.Views.{heap_of, is_by_address, marking_of};
 ghost use Rattle.marker.specs.Stands.{MarkerStands, IsKept};
@@ -89,6 +90,7 @@ impl Marker {
         ensures running { self.new.running ≡ true }
         ensures unmarked { (a : ℕ) → is_marked self.new.bitmaps.next a ≡ false }
         ensures unscanned { (a : ℕ) → is_marked self.new.grey.scanned a ≡ false }
+        ensures whole { self.new.grey.looked ≡ 0 }
         ensures tops { (k : ℕ) → k < length table.now.regions → slice_index self.new.tams.next k ≡ top_of table.now k }
         ensures previous_tops { self.new.tams.previous ≡ self.old.tams.previous }
         ensures previous_marks { self.new.bitmaps.previous ≡ self.old.bitmaps.previous }
@@ -113,6 +115,7 @@ impl Marker {
         ensures marks { MarksWanted table.now (IsInFirst roots.now.words (length roots.now.words)) self.old self.new }
         ensures same { SameRoles self.old self.new }
         ensures scanned { self.new.grey.scanned ≡ self.old.grey.scanned }
+        ensures place { KeepsPlace self.old.grey self.new.grey }
         ensures scans { self.new.scans ≡ self.old.scans }
         ensures logs { self.new.logs ≡ self.old.logs }
         ensures waiting { self.new.waiting ≡ self.old.waiting }
@@ -167,6 +170,7 @@ impl Marker {
         ensures marks { MarksWanted table.now (Contains log.now) self.old self.new }
         ensures same { SameRoles self.old self.new }
         ensures scanned { self.new.grey.scanned ≡ self.old.grey.scanned }
+        ensures place { KeepsPlace self.old.grey self.new.grey }
         ensures scans { self.new.scans ≡ self.old.scans }
         ensures logs { self.new.logs ≡ self.old.logs }
         ensures waiting { self.new.waiting ≡ self.old.waiting }

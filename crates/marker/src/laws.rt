@@ -6,7 +6,7 @@ ghost use Rattle.heap_model.specs.Graph.{Graph};
 ghost use Rattle.heap_model.specs.Clearing.{WillShow};
 ghost use Rattle.heap_model.specs.Heap.{Stored};
 ghost use Rattle.heap_model.specs.Marking.{KeepsSnapshot};
-ghost use Rattle.regions.specs.Table.{Table, kind_of, object_at, object_words, top_of, released};
+ghost use Rattle.regions.specs.Table.{Table, kind_of, object_at, object_words, pointers_at, top_of, released};
 ghost use Rattle.regions.specs.Shaped.{IsShaped};
 ghost use Rattle.regions.specs.declared.row.Kind.TheVariants as kinds;
 ghost use Rattle.mark_bitmap.specs.Marks.{is_marked};
@@ -23,7 +23,7 @@ pub fn follow_law()
 {}
 
 /// The table changes beneath the marker: no top falls below one at mark start, and where an object was there still is
-/// one, of as many words.
+/// one, of as many words and pointers.
 pub fn table_law()
     ensures { (t t' : Table) (m : Marker)
         → MarkerStands t m → length t'.regions ≡ length t.regions → t'.words_per_region ≡ t.words_per_region
@@ -31,6 +31,7 @@ pub fn table_law()
         → ((k : ℕ) → k < length t.regions → slice_index m.tams.next k ≤ top_of t' k)
         → ((a : ℕ) (x : Stored) → object_at t a ≡ Some x → (y : Stored) × (object_at t' a ≡ Some y))
         → ((a : ℕ) (x : Stored) → object_at t a ≡ Some x → object_words t' a ≡ object_words t a)
+        → ((a : ℕ) (x : Stored) → object_at t a ≡ Some x → length (pointers_at t' a) ≡ length (pointers_at t a))
         → (m.running ≡ true → CanFollow t' m) → MarkerStands t' m }
 {}
 

@@ -31,9 +31,9 @@
 //! (`live`), and a pause walks no marks.
 //!
 //! A scan costs the object's pointers, and `begin` the bitmap, the regions and the roots in use. In the first two formats `begin` marks
-//! what roots name and `mark` counts objects; in the third `begin` copies the roots alone, and `mark` counts the words that it looks at, so
-//! that one call never looks at many more than it is asked to. `clear` looks at the objects that have weak slots alone, and no call walks
-//! a region. No call takes memory but `Marker::new`.
+//! what roots name and `mark` counts objects; in the third `begin` copies the roots alone, and `mark` counts the words that it looks at. It
+//! scans an object of more words than are left in part, so no call looks at more than it is asked to. `clear` looks at the objects that
+//! have weak slots alone, and no call walks a region. No call takes memory but `Marker::new`.
 #![tactic(auto)]
 
 pub mod clearing;

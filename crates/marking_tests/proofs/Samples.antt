@@ -5,6 +5,7 @@ use Rattle.regions.proofs.Common.{length-set, slice_get, cases_eq, length-replic
 use Rattle.regions.proofs.Common.{get_or_from_slice_get, Stored, fields, with_field, Object, Filler, Region, Free, Table, region_tile}
 use Rattle.regions.proofs.Common.{region_at, tile_in, tile_object, object_at, stored_size, object_words, free_table, taken, first_free}
 use Rattle.regions.proofs.Common.{set_field, push_tile, replace_tile, new_object, remainder, used_of, top_of, kind_of, HasObject, IsShaped}
+use Rattle.regions.specs.Table.{object_pointers, pointers_at}
 use Rattle.heap_model.specs.Clearing.{CanBeFollowed}
 use Rattle.heap_model.proofs.Fields.{field_set}
 use Rattle.heap_model.proofs.Lists.{get-set_cases, get_kept-append}
@@ -32,7 +33,15 @@ unfolding free_table
 free_size t count size e = (ap (λ (u : Table). length u.regions) e ∙ length-replicate count Free, ap (λ (u : Table). u.words_per_region) e)
 
 pub keeps_refl : (t : Table) → KeepsTable t t
-keeps_refl t = record { count = refl; size = refl; linked = λ l. l; tops = λ k. omega arith; stays = λ a o. o; words = λ a o. refl }
+keeps_refl t = record {
+  count = refl;
+  size = refl;
+  linked = λ l. l;
+  tops = λ k. omega arith;
+  stays = λ a o. o;
+  words = λ a o. refl;
+  pointers = λ a o. refl;
+}
 
 pub keeps_trans : (t u v : Table) → KeepsTable t u → KeepsTable u v → KeepsTable t v
 keeps_trans t u v p q = record {
@@ -42,6 +51,7 @@ keeps_trans t u v p q = record {
   tops = λ k. omega (arith, p.tops k, q.tops k);
   stays = λ a h. q.stays a (p.stays a h);
   words = λ a h. q.words a (p.stays a h) ∙ p.words a h;
+  pointers = λ a h. q.pointers a (p.stays a h) ∙ p.pointers a h;
 }
 
 -- where a region's words handed out are as many as before, or more, its top doesn't fall
@@ -54,6 +64,14 @@ same_size : (t t' : Table) (a b : ℕ) → object_at t' b ≡ object_at t a → 
 unfolding object_words
 same_size t t' a b e = ap stored_size e
 
+same_shape : (t t' : Table) (a b : ℕ) → object_at t' b ≡ object_at t a → length (pointers_at t' b) ≡ length (pointers_at t a)
+unfolding pointers_at
+same_shape t t' a b e = ap (λ (o : Option Stored). length (object_pointers o)) e
+
+pointers_are : (t : Table) (a : ℕ) (x : Stored) → object_at t a ≡ Some x → length (pointers_at t a) ≡ length x.pointers
+unfolding pointers_at
+pointers_are t a x e = ap (λ (o : Option Stored). length (object_pointers o)) e
+
 same_objects : (t t' : Table) → length t'.regions ≡ length t.regions → t'.words_per_region ≡ t.words_per_region
     → ((k : ℕ) → used_of t' k ≡ used_of t k) → ((a : ℕ) → object_at t' a ≡ object_at t a) → KeepsTable t t'
 same_objects t t' count size used same = record {
@@ -63,6 +81,7 @@ same_objects t t' count size used same = record {
   linked = λ l a i b x o f. let h = l a i b x (sym (same a) ∙ o) f in record { object = h.object; is = same b ∙ h.is };
   stays = λ a h. record { object = h.object; is = same a ∙ h.is };
   words = λ a h. same_size t t' a a (same a);
+  pointers = λ a h. same_shape t t' a a (same a);
 }
 
 pub take_keeps : (t t' : Table) (o : Option ℕ) → first_free t ≡ o → t' ≡ taken t o → KeepsTable t t'
@@ -96,6 +115,13 @@ module _ (t : Table) (x i b : ℕ) (z : 0 < t.words_per_region) (from : HasObjec
     | inr other ↦ ap stored_size (object_same t u a (w.others a other))
   ]
 
+  link_pointers : (a : ℕ) → HasObject t a → length (pointers_at u a) ≡ length (pointers_at t a)
+  link_pointers a h = elim (cases_eq a x) [
+    | inl same ↦ ap (λ (c : ℕ). length (pointers_at u c)) same ∙ pointers_are u x (with_field s i (Some b)) w.is
+        ∙ (field_set s i (Some b)).shape ∙ sym (pointers_are t x s from.is) ∙ sym (ap (λ (c : ℕ). length (pointers_at t c)) same)
+    | inr other ↦ same_shape t u a a (object_same t u a (w.others a other))
+  ]
+
   linked : IsLinked t → IsLinked u
   linked l a j c y o f = elim (cases_eq a x) [
     | inl same ↦
@@ -118,6 +144,7 @@ module _ (t : Table) (x i b : ℕ) (z : 0 < t.words_per_region) (from : HasObjec
         tops = λ k. top_stays t u k w.size (omega (arith, w.used k));
         stays = link_stays;
         words = link_words;
+        pointers = link_pointers;
       })
 
 pub set_leads : (t : Table) (words : List (Option ℕ)) (k a : ℕ) → LeadToObjects t words → HasObject t a
@@ -178,6 +205,10 @@ module _ (t t' t'' : Table) (k a n p weak name : ℕ) (shape : IsShaped t) (shap
       | inl same ↦ absurd (let o = sym (ap (object_at t) same) ∙ h.is in let none = made.was in cc)
       | inr apart ↦ same_size t t'' y y (made.others y apart)
     ];
+    pointers = λ y h. elim (cases_eq y a) [
+      | inl same ↦ absurd (let o = sym (ap (object_at t) same) ∙ h.is in let none = made.was in cc)
+      | inr apart ↦ same_shape t t'' y y (made.others y apart)
+    ];
   }
 
   pub add_made : HasObject t'' a
@@ -220,13 +251,16 @@ grown_stands t t' m st linked none k =
     table_stands t t' m st k.count k.size (λ j h. let top = st.previous.top j h in omega (arith, top, k.tops j))
     (λ j h. let top = st.next.top j h in omega (arith, top, k.tops j))
     (λ a x _ o. stays a x o) (λ a x _ o. stays a x o) (λ a h. let o = st.previous.object a h in words a o.0 o.1)
-    (λ a h. let o = st.next.object a h in words a o.0 o.1) follows
+    (λ a h. let o = st.next.object a h in words a o.0 o.1) (λ _ a h. let o = st.next.object a h in pointers a o.0 o.1) follows
   where
     stays : (a : ℕ) (x : Stored) → object_at t a ≡ Some x → (y : Stored) × (object_at t' a ≡ Some y)
     stays a x o = let h = k.stays a (record { object = x; is = o }) in (h.object, h.is)
 
     words : (a : ℕ) (x : Stored) → object_at t a ≡ Some x → object_words t' a ≡ object_words t a
     words a x o = k.words a (record { object = x; is = o })
+
+    pointers : (a : ℕ) (x : Stored) → object_at t a ≡ Some x → length (pointers_at t' a) ≡ length (pointers_at t a)
+    pointers a x o = k.pointers a (record { object = x; is = o })
 
     none' : (a : ℕ) → below_previous t' m.tams a ≡ false
     none' a = ap (λ (n : ℕ). is_below n m.tams.previous a) k.size ∙ none a

@@ -273,7 +273,7 @@ fn marks_a_ring(rt: HostRuntime) -> Result<(), Fail> {
 }
 
 /// Goes on with marking in the third format, and answers how many words were looked at.
-fn mark_third(marker: &mut Marker, table: &RegionTable, words: u32) -> u64
+fn mark_third(marker: &mut Marker, table: &RegionTable, words: u32) -> u32
     requires stands { MarkerStands table.now marker.old }
     requires running { marker.old.running ≡ true }
     ensures stands { MarkerStands table.now marker.new }
@@ -282,58 +282,62 @@ fn mark_third(marker: &mut Marker, table: &RegionTable, words: u32) -> u64
     marker.mark(table, third_sizes().format, words)
 }
 
-/// In the third format two roots that name one object wait, and each is a word; then the object of two pointers is scanned, which goes
-/// over by them, the one that was found last, of three, and the other one. Nothing is left then.
+/// In the third format two roots that name one object wait, and each is a word; then the object of two pointers is scanned word by word,
+/// the one that was found last, of three, is scanned in part, and then the rest of it and the other one. Nothing is left then.
 #[test]
 fn counts_words(rt: HostRuntime) -> Result<(), Fail> {
     let shapes = [(2, 0), (0, 0), (3, 0)];
     let made = build(rt.alloc(), &shapes, &[(0, 0, 1), (0, 1, 2)])?;
     let roots = roots_of(rt.alloc(), &made, &[(3, 0), (31, 0)])?;
     let mut marker = begun_third(rt.alloc(), &made.table, &roots)?;
-    assert_eq!(rt;
-        (mark_third(&mut marker, &made.table, 0), marker.scans()),
-        (0, 0)
-    );
-    assert_eq!(rt;
-        (mark_third(&mut marker, &made.table, 1), marker.scans()),
-        (1, 0)
-    );
-    assert_eq!(rt;
-        (mark_third(&mut marker, &made.table, 1), marker.scans()),
-        (1, 0)
-    );
-    assert_eq!(rt;
-        (mark_third(&mut marker, &made.table, 1), marker.scans()),
-        (3, 1)
-    );
-    assert_eq!(rt;
-        (mark_third(&mut marker, &made.table, 2), marker.scans()),
-        (4, 2)
-    );
-    assert_eq!(rt;
-        (mark_third(&mut marker, &made.table, 9), marker.scans()),
-        (1, 3)
-    );
-    assert_eq!(rt;
-        (mark_third(&mut marker, &made.table, 9), marker.scans()),
-        (0, 3)
-    );
+    for (asked, words, scans) in [
+        (0, 0, 0),
+        (1, 1, 0),
+        (1, 1, 0),
+        (1, 1, 0),
+        (1, 1, 0),
+        (2, 2, 1),
+        (9, 4, 3),
+        (9, 0, 3),
+    ] {
+        assert_eq!(rt;
+            (mark_third(&mut marker, &made.table, asked), marker.scans()),
+            (words, scans)
+        );
+    }
     assert_eq!(rt; (marker.finish(&made.table), marker.scans()), (3, 3));
     Ok(())
 }
 
-/// The same roots, where one call takes them and scans all, and where the end does.
+/// The same roots, where one call takes them and scans all, where it stops within an object or at its end, and where the end does the rest.
 #[test]
 fn takes_all_that_waits(rt: HostRuntime) -> Result<(), Fail> {
     let shapes = [(2, 0), (0, 0), (3, 0)];
-    for (asked, words) in [(0, 0), (100, 10)] {
+    for (asked, words, scans) in [(0, 0, 0), (4, 4, 0), (5, 5, 1), (7, 7, 1), (100, 10, 3)] {
         let made = build(rt.alloc(), &shapes, &[(0, 0, 1), (0, 1, 2)])?;
         let roots = roots_of(rt.alloc(), &made, &[(3, 0), (31, 0)])?;
         let mut marker = begun_third(rt.alloc(), &made.table, &roots)?;
         let looked = mark_third(&mut marker, &made.table, asked);
-        assert_eq!(rt; looked, words);
+        assert_eq!(rt; (looked, marker.scans()), (words, scans));
         assert_eq!(rt; (marker.finish(&made.table), marker.scans()), (3, 3));
     }
+    Ok(())
+}
+
+/// An object of twelve pointers is scanned in three steps. What its first pointers lead to is put aside, and isn't scanned before it.
+#[test]
+fn scans_in_part(rt: HostRuntime) -> Result<(), Fail> {
+    let shapes = [(12, 0), (1, 0), (0, 0)];
+    let made = build(rt.alloc(), &shapes, &[(0, 1, 1), (0, 11, 2), (1, 0, 0)])?;
+    let roots = roots_of(rt.alloc(), &made, &[(0, 0)])?;
+    let mut marker = begun_third(rt.alloc(), &made.table, &roots)?;
+    for (asked, words, scans) in [(6, 6, 0), (6, 6, 0), (2, 2, 1), (1, 1, 2), (9, 2, 3)] {
+        assert_eq!(rt;
+            (mark_third(&mut marker, &made.table, asked), marker.scans()),
+            (words, scans)
+        );
+    }
+    assert_eq!(rt; (marker.finish(&made.table), marker.scans()), (3, 3));
     Ok(())
 }
 

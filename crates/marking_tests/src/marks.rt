@@ -173,6 +173,41 @@ fn comes_back_to_what_was_found_before(rt: HostRuntime) -> Result<(), Fail> {
     Ok(())
 }
 
+/// So many words of the object that comes next are looked at, if there is one: it is scanned in part then.
+fn look(marks: &Marks, grey: &mut Grey, words: u32)
+    requires even { length marks.now ≡ length grey.old.scanned }
+    requires fingers { HasFingers marks.now grey.old }
+    ensures scanned { length grey.new.scanned ≡ length grey.old.scanned }
+    ensures fingers { HasFingers marks.now grey.new }
+{
+    let Some(_) = grey.any(marks) else {
+        return;
+    };
+    if words != 0 {
+        grey.look(words);
+    }
+}
+
+/// An object that is scanned in part comes next until it is scanned, and what was found meanwhile comes after it, the last one first.
+#[test]
+#[tactic(auto, unfolding(mark_bitmap::specs::Grey::nothing_scanned))]
+fn comes_back_to_what_is_scanned_in_part(rt: HostRuntime) -> Result<(), Fail> {
+    let mut marks = Marks::new(rt.alloc(), 200)?;
+    let mut grey = Grey::new(rt.alloc(), 200, false)?;
+    mark(&rt, &mut marks, &mut grey, 90);
+    look(&marks, &mut grey, 2);
+    mark(&rt, &mut marks, &mut grey, 5);
+    mark(&rt, &mut marks, &mut grey, 150);
+    look(&marks, &mut grey, 3);
+    assert_eq!(rt; grey.looked(), 3);
+    scan(&rt, &marks, &mut grey, 90);
+    assert_eq!(rt; grey.looked(), 0);
+    scan(&rt, &marks, &mut grey, 150);
+    scan(&rt, &marks, &mut grey, 5);
+    assert_eq!(rt; grey.any(&marks), None);
+    Ok(())
+}
+
 /// Where the stack is full the lower of two objects is held, and the other comes by its finger, after the stack.
 #[test]
 #[tactic(auto, unfolding(mark_bitmap::specs::Grey::nothing_scanned))]

@@ -71,9 +71,9 @@ pub record HasBegun (c c' : CoreState) : Type 0 where
   pub previous_tops : c'.marker.tams.previous ≡ c.marker.tams.previous
   pub previous_marks : c'.marker.bitmaps.previous ≡ c.marker.bitmaps.previous
 
--- So many units of marking were done, fewer than k only if nothing is left to be marked: in the first two formats objects were scanned, in
--- the third words looked at. So many objects were scanned, none of them twice. What was marked or scanned is so still, and the logs, the
--- tops and what is kept stay
+-- So many units of marking were done, k at most, and fewer only if nothing is left to be marked: in the first two formats objects were
+-- scanned, in the third words looked at. So many objects were scanned, none of them twice. What was marked or scanned is so still, and the
+-- logs, the tops and what is kept stay
 pub record HasMarked (k : ℕ) (c c' : CoreState) : Type 0 where
   pub same : c' ≡ record c { marker = c'.marker }
   pub units : ℕ

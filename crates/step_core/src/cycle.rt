@@ -10,7 +10,8 @@
 //! ```
 //!
 //! In the first two formats what roots name is grey at once, and `mark` counts objects. In the third it waits, and `mark` counts words: so
-//! neither step's time hangs on how many objects there are, or how large they are.
+//! neither step's time hangs on how many objects there are, or how large they are: of an object with more words than are left it scans a
+//! part.
 //!
 //! After `remark`, weak slots that lead to what isn't kept are cleared: in the first two formats at once, in the third later, so many
 //! objects at a time (`clear`). What needs all of them to lead to what is kept first brings that to its end (`settle`): `begin`, `cleanup`

@@ -175,7 +175,8 @@ written_kept k core a x y o p t at writes name same long named stay pointers wea
     let keeps = write_keeps core.footing.snapshot k t a x y writes name at same core.rests.keeps in
     core_over k core t k.buffers k.marker k.cards k.sets k.roots refl
     (layers_writes k.config k.table t k.buffers k.marker a x y writes core.layers
-    (follows_of (record k { table = t }) _ core.footing.snapshot shows keeps) long) core.cards remembers lead
+    (follows_of (record k { table = t }) _ core.footing.snapshot shows keeps) long
+    (ap (λ (ps : List (Option ℕ)). length ps) same)) core.cards remembers lead
     (record { graph = with_changed core.footing.graph x.name p; snapshot = core.footing.snapshot }) (record {
       shows = shows;
       keeps = keeps;

@@ -3,10 +3,10 @@ use Rattle.std.proofs.Common.{◌≡◌, ℕ, ◌<◌, ◌≤◌, Some, length, 
 use Rattle.heap_model.specs.Graph.{Graph}
 use Rattle.heap_model.specs.Heap.{Stored}
 use Rattle.heap_words.specs.declared.config.Config.{Config}
-use Rattle.regions.specs.Table.{Table, object_at, object_words, top_of}
+use Rattle.regions.specs.Table.{Table, object_at, object_words, pointers_at, top_of}
 use Rattle.regions.specs.Tiles.{Object, tile_size}
 use Rattle.regions.proofs.Tiles.Changes.{WritesObject, object_same}
-use Rattle.step_core.proofs.Mutating.Small.{IsHalf, IsOver, sizes_same, words_written}
+use Rattle.step_core.proofs.Mutating.Small.{IsHalf, IsOver, pointers_written, sizes_same, words_written}
 use Rattle.alloc_buffers.specs.Placement.{Buffers, AreAbove}
 use Rattle.alloc_buffers.proofs.Above.{above_same}
 use Rattle.satb_log.specs.Logs.{log_of}
@@ -30,10 +30,12 @@ pub stands_over : (t t' : Table) (m : Marker) → MarkerStands t m → length t'
     → ((k : ℕ) → k < length t.regions → slice_index m.tams.next k ≤ top_of t' k)
     → ((a : ℕ) (x : Stored) → object_at t a ≡ Some x → (y : Stored) × (object_at t' a ≡ Some y))
     → ((a : ℕ) (x : Stored) → object_at t a ≡ Some x → object_words t' a ≡ object_words t a)
+    → ((a : ℕ) (x : Stored) → object_at t a ≡ Some x → length (pointers_at t' a) ≡ length (pointers_at t a))
     → (m.running ≡ true → CanFollow t' m) → MarkerStands t' m
-stands_over t t' m st count size low high stays words follows =
+stands_over t t' m st count size low high stays words pointers follows =
     table_stands t t' m st count size low high (λ a x _ o. stays a x o) (λ a x _ o. stays a x o)
-    (λ a h. let o = st.previous.object a h in words a o.0 o.1) (λ a h. let o = st.next.object a h in words a o.0 o.1) follows
+    (λ a h. let o = st.previous.object a h in words a o.0 o.1) (λ a h. let o = st.next.object a h in words a o.0 o.1)
+    (λ _ a h. let o = st.next.object a h in pointers a o.0 o.1) follows
 
 -- an object is written over: there still is one
 pub still_there : (t t' : Table) (a b : ℕ) (x y z : Stored) → WritesObject t t' a x y → object_at t b ≡ Some z
@@ -44,12 +46,14 @@ still_there t t' a b x y z w e =
 -- the marker stands over the table with an object written
 pub marker_writes : (t t' : Table) (b : Buffers) (m : Marker) (a : ℕ) (x y : Stored) → WritesObject t t' a x y
     → AreAbove t b (slice_index m.tams.previous) → AreAbove t b (slice_index m.tams.next)
-    → MarkerStands t m → (m.running ≡ true → CanFollow t' m) → tile_size (Object y) ≡ tile_size (Object x) → MarkerStands t' m
-marker_writes t t' b m a x y w previous next st follows long =
+    → MarkerStands t m → (m.running ≡ true → CanFollow t' m) → tile_size (Object y) ≡ tile_size (Object x)
+    → length y.pointers ≡ length x.pointers → MarkerStands t' m
+marker_writes t t' b m a x y w previous next st follows long shape =
     let p = above_same t t' b (slice_index m.tams.previous) w.size w.count w.used previous in
     let n = above_same t t' b (slice_index m.tams.next) w.size w.count w.used next in
     stands_over t t' m st w.count w.size (λ k lt. p.tops k (rw w.count lt)) (λ k lt. n.tops k (rw w.count lt))
-    (λ c z e. still_there t t' a c x y z w e) (λ c z e. words_written t t' a x y w long c) follows
+    (λ c z e. still_there t t' a c x y z w e) (λ c z e. words_written t t' a x y w long c)
+    (λ c z e. pointers_written t t' a x y w shape c) follows
 
 -- an object is written, and marking may have gone on: tops stay, and no log is full
 pub layers_changed : (config : Config) (t t' : Table) (b : Buffers) (m m' : Marker) (a : ℕ) (x y : Stored) → WritesObject t t' a x y
@@ -75,10 +79,10 @@ layers_changed config t t' b m m' a x y w l st tams spare logs room long = recor
 -- an object is written, and nothing else changed
 pub layers_writes : (config : Config) (t t' : Table) (b : Buffers) (m : Marker) (a : ℕ) (x y : Stored)
     → WritesObject t t' a x y → LayersFit config t b m → (m.running ≡ true → CanFollow t' m)
-    → tile_size (Object y) ≡ tile_size (Object x) → LayersFit config t' b m
-layers_writes config t t' b m a x y w l follows long =
+    → tile_size (Object y) ≡ tile_size (Object x) → length y.pointers ≡ length x.pointers → LayersFit config t' b m
+layers_writes config t t' b m a x y w l follows long shape =
     layers_changed config t t' b m m a x y w l
-    (marker_writes t t' b m a x y w l.above_previous l.above_next l.marker follows long) refl refl refl l.room long
+    (marker_writes t t' b m a x y w l.above_previous l.above_next l.marker follows long shape) refl refl refl l.room long
 
 -- marking goes on: tops stay, and no log is full
 pub layers_marked : (config : Config) (t : Table) (b : Buffers) (m m' : Marker) → LayersFit config t b m → MarkerStands t m'

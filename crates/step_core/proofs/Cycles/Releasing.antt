@@ -210,6 +210,7 @@ module _ (k : CoreState) (core : IsCore k) (shaped : IsShaped k.table) (n m : �
       (λ a x marked o. (x, previous_after a marked ∙ o)) (λ a x marked o. (x, next_after a marked ∙ o))
       (λ a marked. words_by k.table (released k.table n) a (previous_after a marked))
       (λ a marked. words_by k.table (released k.table n) a (next_after a marked)) (λ on. absurd (let e = idle in cc))
+      (λ on. absurd (let e = idle in cc))
 
   -- what lay above the tops at mark start still does
   above_after : (limit limit' : ℕ → ℕ) → ((j : ℕ) → n ≤ j → j < n + m → limit' j ≡ j * size)

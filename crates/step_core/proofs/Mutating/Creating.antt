@@ -15,7 +15,7 @@ use Rattle.heap_model.specs.Marking.{Marking, KeepsSnapshot}
 use Rattle.heap_model.proofs.Mutate.{object_added}
 use Rattle.heap_model.proofs.Waiting.{will_object_added}
 use Rattle.heap_model.proofs.Unreached.{object_sound, unreached_object}
-use Rattle.regions.specs.Table.{Table, new_object, object_at, object_words}
+use Rattle.regions.specs.Table.{Table, new_object, object_at, object_words, pointers_at}
 use Rattle.graph_runs.specs.State.{register_place, root_counts_of}
 use Rattle.graph_runs.specs.Machine.{made}
 use Rattle.heap_steps.specs.declared.step.Action.TheVariants as actions
@@ -32,7 +32,7 @@ use Rattle.step_core.specs.Cycle.{LeavesRegions}
 use Rattle.step_core.specs.Answers.{Acts}
 use Rattle.step_core.proofs.Mutating.Acting.{acts_by}
 use Rattle.step_core.proofs.Mutating.Fields.{nil_get, nil_fields}
-use Rattle.step_core.proofs.Mutating.Small.{IsHalf, IsOver, sizes_added, words_by}
+use Rattle.step_core.proofs.Mutating.Small.{IsHalf, IsOver, pointers_by, sizes_added, words_by}
 use Rattle.step_core.proofs.Cores.Added.{Creates}
 use Rattle.step_core.proofs.Cores.Sizes.{some_words}
 use Rattle.step_core.proofs.Mutating.Written.{kept_is, kept_above, kept_same, marking_same}
@@ -200,6 +200,7 @@ module _ (k : CoreState) (m : ℕ) (to : Register) (t2 : Table) (b1 : Buffers) (
           unmoved = makes.unmoved;
           marker = stands_over k.table t2 k.marker core.layers.marker makes.region_count words
               (λ j lt. previous.tops j (rw makes.region_count lt)) (λ j lt. next.tops j (rw makes.region_count lt)) still still_words
+              still_pointers
               (follows_of (new (register_place (root_counts_of k.config) m to.number)) _ core.footing.snapshot shows keeps);
           above_previous = previous;
           above_next = next;
@@ -248,4 +249,10 @@ module _ (k : CoreState) (m : ℕ) (to : Register) (t2 : Table) (b1 : Buffers) (
       still_words y x e = elim (cases_eq y a) [
         | inl q ↦ absurd (let before = makes.was in let some = sym (ap (object_at k.table) q) ∙ e in cc)
         | inr ne ↦ words_by k.table t2 y (makes.others y ne)
+      ]
+
+      still_pointers : (y : ℕ) (x : Stored) → object_at k.table y ≡ Some x → length (pointers_at t2 y) ≡ length (pointers_at k.table y)
+      still_pointers y x e = elim (cases_eq y a) [
+        | inl q ↦ absurd (let before = makes.was in let some = sym (ap (object_at k.table) q) ∙ e in cc)
+        | inr ne ↦ pointers_by k.table t2 y (makes.others y ne)
       ]

@@ -7,7 +7,7 @@ use Rattle.std.proofs.lemmas.Bool.{cases_lt}
 use Rattle.heap_model.specs.Heap.{Stored}
 use Rattle.regions.specs.Tiles.{Object, tile_size}
 use Rattle.regions.specs.Table.{Table, Region, Free, region_kind, nth_region, region_at, region_tile, tile_in}
-use Rattle.regions.specs.Table.{tile_object, kind_of, object_at, object_words, stored_size}
+use Rattle.regions.specs.Table.{tile_object, kind_of, object_at, object_pointers, object_words, pointers_at, stored_size}
 use Rattle.regions.specs.declared.row.Kind.{Kind}
 use Rattle.regions.specs.declared.row.Kind.TheVariants as kinds
 use Rattle.regions.proofs.Tiles.Changes.{WritesObject, object_same}
@@ -22,6 +22,14 @@ words_by t t' a e = ap stored_size e
 pub words_are : (t : Table) (a : ℕ) (x : Stored) → object_at t a ≡ Some x → object_words t a ≡ tile_size (Object x)
 unfolding object_words
 words_are t a x e = ap stored_size e
+
+pub pointers_by : (t t' : Table) (a : ℕ) → object_at t' a ≡ object_at t a → length (pointers_at t' a) ≡ length (pointers_at t a)
+unfolding pointers_at
+pointers_by t t' a e = ap (λ (o : Option Stored). length (object_pointers o)) e
+
+pub pointers_are : (t : Table) (a : ℕ) (x : Stored) → object_at t a ≡ Some x → length (pointers_at t a) ≡ length x.pointers
+unfolding pointers_at
+pointers_are t a x e = ap (λ (o : Option Stored). length (object_pointers o)) e
 
 pub words_none : (t : Table) (a : ℕ) → object_at t a ≡ None → object_words t a ≡ 0
 unfolding object_words
@@ -70,6 +78,16 @@ words_written t t' a x y w long b =
     elim (cases_eq b a) [
       | inl q ↦ ap (object_words t') q ∙ words_are t' a y w.is ∙ long ∙ sym (ap (object_words t) q ∙ words_are t a x w.was)
       | inr n ↦ words_by t t' b (object_same t t' b (w.others b n))
+    ]
+
+-- and with as many pointers
+pub pointers_written : (t t' : Table) (a : ℕ) (x y : Stored) → WritesObject t t' a x y → length y.pointers ≡ length x.pointers
+    → (b : ℕ) → length (pointers_at t' b) ≡ length (pointers_at t b)
+pointers_written t t' a x y w shape b =
+    elim (cases_eq b a) [
+      | inl q ↦ ap (λ (c : ℕ). length (pointers_at t' c)) q ∙ pointers_are t' a y w.is ∙ shape
+          ∙ sym (ap (λ (c : ℕ). length (pointers_at t c)) q ∙ pointers_are t a x w.was)
+      | inr n ↦ pointers_by t t' b (object_same t t' b (w.others b n))
     ]
 
 pub free_region : (r : Region) → region_kind r ≡ kinds.Free → r ≡ Free

@@ -144,6 +144,9 @@ module _ (k : CoreState) (core : IsCore k) (a i : ℕ) (w : Option ℕ) (t : Tab
           let (z, e) = (followed core.footing.graph (heap_of k) core.rests.shows.shows).pointer p.0 p.2.field b p.2.object p.2.at p.2.is in
           all b z e
 
+  shape : length (with_pointer x i w).pointers ≡ length x.pointers
+  shape = length-set x.pointers i w
+
   -- the graph that the invariant knows, with the field changed
   abbrev pub graph_after : Graph
   graph_after =
@@ -165,7 +168,7 @@ module _ (k : CoreState) (core : IsCore k) (a i : ℕ) (w : Option ℕ) (t : Tab
   -- the core after a store while marking doesn't run
   pub idle_kept : k.marker.running ≡ false → IsCore (with_store k t k.marker)
   idle_kept idle = core_over k core t k.buffers k.marker k.cards k.sets k.roots refl
-      (layers_writes k.config k.table t k.buffers k.marker a x (with_pointer x i w) writes core.layers (λ run. absurd cc) long)
+      (layers_writes k.config k.table t k.buffers k.marker a x (with_pointer x i w) writes core.layers (λ run. absurd cc) long shape)
       core.cards (store_remembers k.marker (same_roles k.marker)) (store_slots k.marker (same_roles k.marker)) (record {
         graph =
             graph_after;
@@ -196,7 +199,7 @@ module _ (k : CoreState) (core : IsCore k) (a i : ℕ) (w : Option ℕ) (t : Tab
     mid_stands =
         let tams = same.tams in
         marker_writes k.table t k.buffers m a x (with_pointer x i w) writes (rw tams core.layers.above_previous)
-        (rw tams core.layers.above_next) st mid_follows long
+        (rw tams core.layers.above_next) st mid_follows long shape
 
     unreached_after : k.marker.running ≡ true → KeepsUnreached core.footing.snapshot graph_after
     unreached_after run =

@@ -17,6 +17,7 @@ use Rattle.marker.specs.Stands.{MarkerStands, IsKept}
 use Rattle.marker.specs.Steps.{SameRoles, KeepsSnapshots, Overwrites}
 use Rattle.marker.specs.declared.marker.Marker.{Marker}
 use Rattle.marker.proofs.Views.{same_heap}
+use Rattle.marker.proofs.Done.{undone}
 use Rattle.step_core.specs.Stands.{CoreState, kept_of, heap_of, marking_of, RemembersFields, ShowsGraph, KeepsFrom, IsCore, IsWordOf}
 use Rattle.step_core.specs.Cycle.{LeavesRegions}
 use Rattle.step_core.specs.Mutators.{with_root_word}
@@ -83,6 +84,7 @@ module _ (k : CoreState) (core : IsCore k) (place : ℕ) (w : Option ℕ) (m : M
     saved_by s g v shows u shown f = record {
       earlier = earlier_by s v f;
       marking = λ on. touched_invariant s g (heap_of k) (marking_of k) shows.shows (f.marking run) u (core.layers.marker.scanned_marked run)
+          (undone k.table k.marker core.layers.marker run)
           (heap_of (with_touch k place w m)) (marking_of (with_touch k place w m)) place w v shown set_in kept;
     }
 

@@ -14,7 +14,7 @@ use Rattle.step_core.proofs.Cores.Slots.{shows_now, all_closed, slots_now}
 use Rattle.heap_model.proofs.Relocated.{relocated_shows, relocated_invariant}
 use Rattle.heap_model.proofs.Same.{same_invariant}
 use Rattle.regions.specs.Tiles.{Object, tile_size}
-use Rattle.regions.specs.Table.{Table, object_at, object_words}
+use Rattle.regions.specs.Table.{Table, object_at, object_words, pointers_at}
 use Rattle.alloc_buffers.specs.Placement as placement
 use Rattle.alloc_buffers.specs.Placement.{Buffers, BuffersStand}
 use Rattle.alloc_buffers.proofs.Placed.{closed_stand, retired_above}
@@ -30,6 +30,7 @@ use Rattle.remembered_sets.specs.Sets.{Sets, card_count}
 use Rattle.marker.specs.Stands.{MarkerStands}
 use Rattle.marker.specs.Live.{LiveCounts, CountsWords}
 use Rattle.marker.proofs.LiveCounts.{marked_words_same}
+use Rattle.marker.proofs.Scanned.{grey_is}
 use Rattle.marker.specs.declared.marker.Marker.{Marker}
 use Rattle.region_choice.specs.declared.LiveRow.{LiveRow}
 use Rattle.region_choice.specs.Ages.{Ages, AgesAfter}
@@ -48,7 +49,7 @@ use Rattle.step_core.proofs.Pauses.Ready.{ready_config, ready_table, ready_marke
 use Rattle.step_core.proofs.Pauses.Refined.{can_scan}
 use Rattle.step_core.proofs.Cores.Resting.{aged_stays}
 use Rattle.step_core.proofs.Cores.Sizes.{some_words}
-use Rattle.step_core.proofs.Mutating.Small.{words_are, ordinary_known}
+use Rattle.step_core.proofs.Mutating.Small.{pointers_are, words_are, ordinary_known}
 use Rattle.step_core.proofs.Pauses.Wide.{wide_after}
 use Rattle.step_core.proofs.Pauses.Chosen.{MayMove, set_moves, chosen_rows, chosen_distinct}
 use Rattle.step_core.proofs.Pauses.Chosen.{chosen_room, chosen_within, chosen_ordinary, chosen_new}
@@ -184,7 +185,13 @@ module _ (k : CoreState) (core : IsCore k) (which : Choice) (budget : ℕ) (chos
         ]
 
     same_marking : k.marker.running ≡ true → SameMarking (marking_of k) (marking_of after)
-    same_marking run = record { old = old_same run; marked = marks_same run; scanned = λ a. refl; logged = λ a. (λ x. x, λ x. x) }
+    same_marking run = record {
+      old = old_same run;
+      marked = marks_same run;
+      scanned = λ a. refl;
+      done = λ a. refl;
+      logged = λ a. (λ x. x, λ x. x);
+    }
 
     all_new : k.marker.running ≡ true → IsNewSet (layers_of k) chosen
     all_new run = may.all_new run
@@ -229,6 +236,19 @@ module _ (k : CoreState) (core : IsCore k) (which : Choice) (budget : ℕ) (chos
     words_stay a x outside o =
         let (y, is, same) = ev.regions.objects a x outside o in
         words_are t a y is ∙ same_long x y same ∙ sym (words_are k.table a x o)
+
+    -- the held object stays where it is, with as many pointers
+    held_pointers : k.marker.running ≡ true → (a : ℕ) → k.marker.grey.held ≡ Some a
+        → length (pointers_at t a) ≡ length (pointers_at k.table a)
+    held_pointers run a held =
+        let marked = (grey_is k.marker.bitmaps.next k.marker.grey a ((core.layers.marker.finger run).held a held)).0 in
+        let o = core.layers.marker.next.object a marked in
+        elim (cases_Bool (set_in k.table.words_per_region chosen a)) [
+          | inl inside ↦ absurd (let none = none_marked run a inside in cc)
+          | inr outside ↦
+              let (y, is, same) = ev.regions.objects a o.0 outside o.1 in
+              pointers_are t a y is ∙ same.pointers ∙ sym (pointers_are k.table a o.0 o.1)
+        ]
 
     -- what is counted of marks from which those of the set go
     counts_after : (marks marks' : List Bool) (counts counts' : List ℕ) → CountsWords k.table marks counts
@@ -280,7 +300,7 @@ module _ (k : CoreState) (core : IsCore k) (which : Choice) (budget : ℕ) (chos
             stacked = λ a on. grey_same run a ∙ fingers.stacked a on;
             apart = fingers.apart;
             beside = fingers.beside;
-            lowest = λ by_address a b held less. grey_same run b ∙ fingers.lowest by_address a b held less;
+            lowest = λ by_address whole a b held less. grey_same run b ∙ fingers.lowest by_address whole a b held less;
             none = λ a held. grey_same run a ∙ fingers.none a held;
           };
       newer = newer;
@@ -290,6 +310,7 @@ module _ (k : CoreState) (core : IsCore k) (which : Choice) (budget : ℕ) (chos
       none_wait = core.layers.marker.none_wait;
       scanned_marked = λ run a e. marks_same run a ∙ core.layers.marker.scanned_marked run a e;
       counted = core.layers.marker.counted;
+      part = λ run a held. omega (arith, core.layers.marker.part run a held, held_pointers run a held);
       live = counts_after k.marker.bitmaps.previous bm.previous k.marker.live.previous live.previous core.layers.marker.live
           core.layers.marker.previous.object ev.previous.each_mark forgets.previous forgets.each_previous;
       live_next = counts_after k.marker.bitmaps.next bm.next k.marker.live.next live.next core.layers.marker.live_next

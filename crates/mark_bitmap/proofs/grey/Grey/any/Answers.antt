@@ -8,6 +8,6 @@ returns-clause-grey c =
     held_grey c.args.marks.now c.args.self.now c.requires.fingers c.self.inside.held (ap (λ (s : Scans). s.held) (sym c.self.view_is))
 
 pub returns-clause-lowest : goal.returns-clause-lowest
-returns-clause-lowest c = λ by_address.
-    held_lowest c.args.marks.now c.args.self.now c.requires.fingers by_address c.self.inside.held
+returns-clause-lowest c = λ by_address whole.
+    held_lowest c.args.marks.now c.args.self.now c.requires.fingers by_address whole c.self.inside.held
     (ap (λ (s : Scans). s.held) (sym c.self.view_is))

@@ -21,8 +21,9 @@ returns-then-is_by_address-clause-begins c =
     let s = c.start.ensures in
     let r = c.reach_roots.ensures in
     let ready = made_ready c.args.table.now c.args.roots.now.words c.args.self.now c.start.new.self c.law.ensures.positive
-    c.requires.stands c.requires.idle c.requires.closed s.tops s.unmarked s.unscanned s.previous_tops s.previous_marks s.logs s.waiting in
-    all_begun c.args.table.now c.args.roots.now.words c.start.new.self c.reach_roots.new.self ready r.marks r.same r.scanned r.logs
+    c.requires.stands c.requires.idle c.requires.closed s.tops s.unmarked s.unscanned s.whole s.previous_tops s.previous_marks s.logs
+    s.waiting in
+    all_begun c.args.table.now c.args.roots.now.words c.start.new.self c.reach_roots.new.self ready r.marks r.same r.scanned r.place r.logs
     r.waiting
 
 pub returns-then-is_by_address-clause-roots : goal.returns-then-is_by_address-clause-roots
@@ -36,12 +37,13 @@ returns-then-is_by_address-clause-snapshot c = λ g shows.
     let s = c.start.ensures in
     let r = c.reach_roots.ensures in
     let ready = made_ready c.args.table.now c.args.roots.now.words c.args.self.now c.start.new.self c.law.ensures.positive
-    c.requires.stands c.requires.idle c.requires.closed s.tops s.unmarked s.unscanned s.previous_tops s.previous_marks s.logs s.waiting in
+    c.requires.stands c.requires.idle c.requires.closed s.tops s.unmarked s.unscanned s.whole s.previous_tops s.previous_marks s.logs
+    s.waiting in
     let heap = same_heap c.args.table.now c.args.roots.now.words c.start.new.self c.reach_roots.new.self r.same
     ∙ previous_heap c.args.table.now c.args.roots.now.words c.args.self.now c.start.new.self s.previous_tops s.previous_marks in
     begins g (heap_of c.args.table.now c.args.roots.now.words c.reach_roots.new.self) (marking_of c.args.table.now c.reach_roots.new.self)
     (subst (λ (h : Heap). WillShow g h) (sym heap) shows)
-    (all_begun c.args.table.now c.args.roots.now.words c.start.new.self c.reach_roots.new.self ready r.marks r.same r.scanned r.logs
+    (all_begun c.args.table.now c.args.roots.now.words c.start.new.self c.reach_roots.new.self ready r.marks r.same r.scanned r.place r.logs
     r.waiting)
 
 -- ---- in the third
@@ -61,14 +63,16 @@ pub returns-clause-stands : goal.returns-clause-stands
 returns-clause-stands c =
     let s = c.start.ensures in
     let ready = made_ready c.args.table.now c.args.roots.now.words c.args.self.now c.start.new.self c.law.ensures.positive
-    c.requires.stands c.requires.idle c.requires.closed s.tops s.unmarked s.unscanned s.previous_tops s.previous_marks s.logs s.waiting in
+    c.requires.stands c.requires.idle c.requires.closed s.tops s.unmarked s.unscanned s.whole s.previous_tops s.previous_marks s.logs
+    s.waiting in
     waiting_stands c.args.table.now c.args.roots.now.words c.start.new.self c.copy.new.self ready s.stands s.running c.copy.ensures.held
 
 pub returns-clause-begins : goal.returns-clause-begins
 returns-clause-begins c =
     let s = c.start.ensures in
     let ready = made_ready c.args.table.now c.args.roots.now.words c.args.self.now c.start.new.self c.law.ensures.positive
-    c.requires.stands c.requires.idle c.requires.closed s.tops s.unmarked s.unscanned s.previous_tops s.previous_marks s.logs s.waiting in
+    c.requires.stands c.requires.idle c.requires.closed s.tops s.unmarked s.unscanned s.whole s.previous_tops s.previous_marks s.logs
+    s.waiting in
     all_wait c.args.table.now c.args.roots.now.words c.start.new.self c.copy.new.self ready c.copy.ensures.held
 
 pub returns-clause-roots : goal.returns-clause-roots
@@ -80,7 +84,8 @@ pub returns-clause-snapshot : goal.returns-clause-snapshot
 returns-clause-snapshot c = λ g shows.
     let s = c.start.ensures in
     let ready = made_ready c.args.table.now c.args.roots.now.words c.args.self.now c.start.new.self c.law.ensures.positive
-    c.requires.stands c.requires.idle c.requires.closed s.tops s.unmarked s.unscanned s.previous_tops s.previous_marks s.logs s.waiting in
+    c.requires.stands c.requires.idle c.requires.closed s.tops s.unmarked s.unscanned s.whole s.previous_tops s.previous_marks s.logs
+    s.waiting in
     let now = with_waiting c.start.new.self c.copy.new.self in
     let heap = previous_heap c.args.table.now c.args.roots.now.words c.args.self.now now s.previous_tops s.previous_marks in
     begins g (heap_of c.args.table.now c.args.roots.now.words now) (marking_of c.args.table.now now)

@@ -29,7 +29,16 @@ loop-place-preserved c =
     let q = c.reach.ensures in
     early_more c.args.table.now c.args.log.now c.loop-place.place c.new-at.result c.args.self.now c.loop-place.self c.reach.new.self
     (c.get.ensures ∙ ap Some (sym c.new-at.ensures)) c.loop-place.invariant
-    (record { stands = q.stands; marks = q.marks; same = q.same; scanned = q.scanned; scans = q.scans; logs = q.logs; waiting = q.waiting })
+    (record {
+      stands = q.stands;
+      marks = q.marks;
+      same = q.same;
+      scanned = q.scanned;
+      place = q.place;
+      scans = q.scans;
+      logs = q.logs;
+      waiting = q.waiting;
+    })
 
 pub returns-clause-marks : goal.returns-clause-marks
 returns-clause-marks c =

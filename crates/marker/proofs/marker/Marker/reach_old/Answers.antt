@@ -41,7 +41,8 @@ returns-clause-stands c =
     set_stands c.args.table.now c.args.self.now c.args.at c.insert.new.self c.add.new.self c.add-2.new.self c.region_of.result
     c.object_size-size.result c.law.ensures.positive c.requires.stands c.requires.running c.requires.below
     c.requires.kept unmarked c.insert.ensures.set
-    c.add.ensures.scanned (rw c.insert.ensures.set finger) c.add-2.ensures c.region_of.ensures c.object_size-size.ensures
+    c.add.ensures.scanned c.add.ensures.place (rw c.insert.ensures.set finger) c.add-2.ensures c.region_of.ensures
+    c.object_size-size.ensures
 
 pub returns-clause-marks : goal.returns-clause-marks
 returns-clause-marks c =

@@ -21,7 +21,16 @@ loop-place-preserved-then-not-names_marked c =
     among_next c.args.table.now c.args.roots.now.words c.loop-place.from c.in-Some.place c.get.result
     c.args.self.now c.loop-place.self c.reach.new.self
     c.in-Some.ensures.lowest c.get.ensures c.loop-place.invariant
-    (record { stands = q.stands; marks = q.marks; same = q.same; scanned = q.scanned; scans = q.scans; logs = q.logs; waiting = q.waiting })
+    (record {
+      stands = q.stands;
+      marks = q.marks;
+      same = q.same;
+      scanned = q.scanned;
+      place = q.place;
+      scans = q.scans;
+      logs = q.logs;
+      waiting = q.waiting;
+    })
 
 pub past_marked-from-requires : goal.past_marked-from-requires
 past_marked-from-requires c =

@@ -8,7 +8,7 @@ pub loop-done-preserved : goal.loop-done-preserved
 loop-done-preserved c =
     let q = c.scan.ensures in
     one_scanned c.args.table.now c.args.self.now c.loop-done.self c.scan.new.self c.loop-done.done c.in-Some.object c.loop-done.invariant
-    c.in-Some.ensures.grey c.in-Some.ensures.within q.stands q.snapshots q.scanned q.counted q.same q.logs q.waiting q.marks.stays
+    c.in-Some.ensures.grey c.in-Some.ensures.within q.stands q.snapshots q.scanned q.counted q.same q.logs q.waiting q.grows.marked
 
 pub returns-in_default-clause-grows : goal.returns-in_default-clause-grows
 returns-in_default-clause-grows c = c.loop-done.invariant.grows

@@ -15,4 +15,4 @@ returns-clause-snapshots c =
     let q = c.reach_all.ensures in
     drained_keeps c.args.table.now c.args.self.now c.reach_all.new.self c.args.mutator c.drain-log.new.self c.drain-log.result
     c.requires.stands c.requires.running c.drain-log.ensures.emptied
-    c.drain-log.ensures.all q.same q.scanned q.logs q.waiting q.marks
+    c.drain-log.ensures.all q.same q.scanned q.place q.logs q.waiting q.marks

@@ -28,7 +28,7 @@ loop-taken-preserved c =
     let p = c.loop-taken.invariant in
     let q = c.reach_old.ensures in
     root_taken c.args.table.now c.loop-taken.self c.pop.new.self c.in-Some.at p.stands p.running c.in-Some.ensures.last
-    c.reach_old.new.self q.same q.scanned q.logs q.waiting q.marks c.args.self.now c.loop-taken.taken p q.stands q.scans
+    c.reach_old.new.self q.same q.scanned q.place q.logs q.waiting q.marks c.args.self.now c.loop-taken.taken p q.stands q.scans
 
 pub returns-in_default-clause-snapshots : goal.returns-in_default-clause-snapshots
 returns-in_default-clause-snapshots c =
