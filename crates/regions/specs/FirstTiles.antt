@@ -1,5 +1,5 @@
 -- The entries that lead to the tile of a card's first word.
-use Rattle.std.specs.Prelude.{◌≡◌, ℕ, ◌*◌, ◌/◌, ◌^◌, ◌<◌, ◌≤◌, ◌⊎◌, List, length, slice_index, IsSome, if◌then◌else◌}
+use Rattle.std.specs.Prelude.{◌≡◌, ℕ, ◌+◌, ◌*◌, ◌/◌, ◌^◌, ◌<◌, ◌≤◌, ◌⊎◌, List, length, slice_index, IsSome, if◌then◌else◌}
 use Rattle.regions.specs.Table.{Table, tile_in}
 use Rattle.regions.specs.Walks.{IsHolder}
 use Rattle.bit_sets.specs.Bits.{is_between}
@@ -34,9 +34,16 @@ IsPut a end w before after = after ≡ (if is_between a end w then a else before
 abbrev pub IsOwn : ℕ → ℕ → ℕ → ℕ → Type 0
 IsOwn a end w entry = (a ≤ w) × (w < end) × (entry ≡ a)
 
--- the words from a up to a middle are cut off those up to an end: a card has the entry that it had, or that of the two which it begins in
-abbrev pub IsCutOff : ℕ → ℕ → ℕ → ℕ → ℕ → ℕ → Type 0
-IsCutOff a middle end w before after = (after ≡ before) ⊎ (IsOwn a middle w after ⊎ IsOwn middle end w after)
+-- a card begins in the words from a up to an end
+abbrev pub HasCard : ℕ → ℕ → ℕ → Type 0
+HasCard card_words a end = (c : ℕ) × (a ≤ c * card_words) × (c * card_words < end)
+
+-- The words from a up to a middle are cut off those up to an end. The card that begins at word w has a as its entry if w is among them. Of
+-- the other words' cards the last one has the middle, if a card begins in those that are cut off; and any card that, or the entry it had
+pub record IsCutOff (card_words a middle end w before after : ℕ) : Type 0 where
+  pub front : a ≤ w → w < middle → after ≡ a
+  pub last : HasCard card_words a middle → middle ≤ w → w < end → end ≤ w + card_words → after ≡ middle
+  pub others : (w < a) ⊎ (middle ≤ w) → (after ≡ before) ⊎ IsOwn middle end w after
 
 -- so many words are a power of two, fewer than a region can have
 pub record IsPower (size shift : ℕ) : Type 0 where

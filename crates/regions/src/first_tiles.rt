@@ -155,7 +155,7 @@ fn write_tile(entries: &mut [u32], shift: u32, at: u32, end: u32)
     fill_cards(entries, card_from(shift, at), card_from(shift, end), at);
 }
 
-/// The last card that begins in the words from `at` up to `end`, if one does, has `at` as its entry. No promise hangs on which card it is.
+/// The last card that begins in the words from `at` up to `end`, if one does, has `at` as its entry.
 #[inline(always)]
 fn write_rest(entries: &mut [u32], shift: u32, at: u32, end: u32)
     requires narrow { shift < 12 }
@@ -165,6 +165,8 @@ fn write_rest(entries: &mut [u32], shift: u32, at: u32, end: u32)
     ensures len { length entries.new ≡ length entries.old }
     ensures entries { (c : ℕ) → (slice_index entries.new c ≡ slice_index entries.old c)
         ⊎ IsOwn at end (c * 2 ^ shift) (slice_index entries.new c) }
+    ensures last { (c : ℕ) → at ≤ c * 2 ^ shift → c * 2 ^ shift < end → end ≤ c * 2 ^ shift + 2 ^ shift
+        → slice_index entries.new c ≡ at }
 {
     let past = card_from(shift, end);
     if card_from(shift, at) < past {
@@ -179,12 +181,11 @@ fn write_cut(entries: &mut [u32], shift: u32, at: u32, middle: u32, end: u32)
     requires order { at ≤ middle }
     requires rest { middle ≤ end }
     requires small { end ≤ max_words }
+    requires within { end ≤ length entries.old * 2 ^ shift }
     ensures len { length entries.new ≡ length entries.old }
-    ensures entries { (c : ℕ) → IsCutOff at middle end (c * 2 ^ shift) (slice_index entries.old c) (slice_index entries.new c) }
+    ensures entries { (c : ℕ) → IsCutOff (2 ^ shift) at middle end (c * 2 ^ shift) (slice_index entries.old c)
+        (slice_index entries.new c) }
 {
-    if entries.len() < card_from(shift, end) as usize {
-        return;
-    }
     write_tile(entries, shift, at, middle);
     write_rest(entries, shift, middle, end);
 }
@@ -225,17 +226,20 @@ impl FirstTiles {
         write_tile(&mut self.starts, shift, at, at + size);
     }
 
-    /// An object takes the front of a filler of `filler` words. Where no card begins in it nothing is written: the words before its first
-    /// one and up to its last one are in one card if these two differ in no bit above those of a card's words.
+    /// An object takes the front of a filler of `filler` words. Where no card begins in it nothing is written: then its last word is in one
+    /// card with the word before the object, and the two differ in no bit above those of a card's words.
     #[inline(always)]
     pub(crate) fn cut_front(&mut self, at: u32, size: u32, filler: u32)
         requires room { size ≤ filler }
+        requires within { at + filler ≤ length self.old.starts * self.old.card_words }
         requires small { at + filler ≤ max_words }
-        ensures { AreEntriesPut (IsCutOff at (at + size) (at + filler)) self.old self.new }
+        ensures { AreEntriesPut (IsCutOff self.old.card_words at (at + size) (at + filler)) self.old self.new }
     {
         let middle = at + size;
         if (at.wrapping_sub(1) ^ middle.wrapping_sub(1)) >= self.card_words {
-            write_cut(&mut self.starts, self.shift, at, middle, at + filler);
+            let end = at + filler;
+            zero_below(&mut self.starts, card_from(self.shift, end), self.cards);
+            write_cut(&mut self.starts, self.shift, at, middle, end);
         }
     }
 

@@ -210,7 +210,7 @@ module _ (size shift lowest free : ℕ) (entries : Entries) (starts : Starts) (m
   -- a tile cut off a filler's front
   pub cut_sound : (new : Entries) (starts' : Starts) (memory' : Memory) (t' : Table) (x n r : ℕ) (tile : Tile)
       → Replaces t t' x n (tile ∷ remainder r) → tile_in t x ≡ Some (Filler n) → 0 < tile_size tile → tile_size tile + r ≡ n
-      → AreEntriesPut (IsCutOff x (x + tile_size tile) (x + n)) entries new → Notes starts starts' x tile
+      → AreEntriesPut (IsCutOff entries.card_words x (x + tile_size tile) (x + n)) entries new → Notes starts starts' x tile
       → memory.written ≤ memory'.written → IsWrittenTable size memory'.all rows t'
       → IsRegionTable size shift lowest free new starts' memory' rows
   cut_sound new starts' memory' t' x n r tile cut was some sum put noted more w =
@@ -307,7 +307,7 @@ module _ (size shift lowest free : ℕ) (entries : Entries) (starts : Starts) (m
   pub front_sound : (new : Entries) (starts' : Starts) (memory' : Memory) (x n r at end weaks : ℕ) (tile : Tile)
       → tile_in t x ≡ Some (Filler n) → 0 < tile_size tile → tile_size tile + r ≡ n → EachForwarded (λ _. ⊥) (tile ∷ [])
       → at ≡ x + tile_size tile → end ≡ x + n
-      → AreEntriesPut (IsCutOff x at end) entries new
+      → AreEntriesPut (IsCutOff entries.card_words x at end) entries new
       → tile_weaks tile ≡ weaks → starts' ≡ start_added starts x weaks
       → memory.written ≤ memory'.written → IsWrittenTable size memory'.all rows (replace_tile t x (tile ∷ remainder r))
       → IsRegionTable size shift lowest free new starts' memory' rows

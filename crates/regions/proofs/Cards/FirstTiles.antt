@@ -10,6 +10,9 @@ use Rattle.regions.proofs.Words.Divides.{div_is}
 use Rattle.regions.proofs.Walks.WalkFrom.{cut_at, tile_listed}
 use Rattle.regions.proofs.Tiles.Holders.{one_holder}
 use Rattle.regions.proofs.Tiles.Placing.{Replaces, remainder_total, tile_at-end, filler_region}
+use Rattle.regions.proofs.Common.{HasCard, ◌^◌, bit_xor, max_words, pow_pos}
+use Rattle.regions.proofs.Blocks.{same_block}
+use Rattle.std.proofs.Math.Pow.{pow_mono}
 
 -- ---- how they are written
 -- entries from a first card up to another are written
@@ -111,17 +114,87 @@ rest_put old len at end past c z e h fits = elim (cases_eq c (past - 1)) [
   | inr b ↦ inl (get_or-set_other old (past - 1) c at 0 b)
 ]
 
--- the entries of an object are written, and then that of what is left
-pub cut_put : (at middle end w before mid after : ℕ) → IsPut at middle w before mid → (after ≡ mid) ⊎ IsOwn middle end w after
-    → IsCutOff at middle end w before after
-cut_put at middle end w before mid after e (inr own) = inr (inr own)
-cut_put at middle end w before mid after e (inl same) = elim (cases_lt w at) [
-  | inl b ↦ inl (same ∙ e ∙ if_below at middle w at before b)
-  | inr b ↦ elim (cases_lt w middle) [
-    | inl d ↦ inr (inl (b, d, same ∙ e ∙ if_between at middle w at before b d))
-    | inr d ↦ inl (same ∙ e ∙ if_above at middle w at before d)
-  ]
+pub last_put : (old : List ℕ) (len at end past c : ℕ) → 0 < len → past ≡ div_ceil end len → div_ceil at len < past → past ≤ length old
+    → c * len < end → end ≤ c * len + len → get_or (set old (past - 1) at) c 0 ≡ at
+last_put old len at end past c z e h fits low high =
+    let below : c < past = elim (cases_lt c past) [
+      | inl b ↦ b
+      | inr b ↦ (let reached = card_behind c end len z (omega arith) in absurd (omega arith))
+    ] in
+    let is : c ≡ past - 1 = elim (cases_lt c (past - 1)) [
+      | inl b ↦ (
+          let m = mul-le (suc c) len (past - 1) len b (omega arith) in
+          let before = card_before (past - 1) end len z (omega arith) in
+          absurd (omega arith))
+      | inr b ↦ omega arith
+    ] in
+    ap (λ (k : ℕ). get_or (set old (past - 1) at) k 0) is ∙ get_or-set_same old (past - 1) at 0 (omega arith)
+
+-- no card begins in the rest, so none is its last
+pub last_none : {A : Type 0} (len at end c : ℕ) → 0 < len → div_ceil end len ≤ div_ceil at len → at ≤ c * len → c * len < end → A
+last_none len at end c z h low high = elim (cases_lt c (div_ceil at len)) [
+  | inl b ↦ (let before = card_before c at len z b in absurd (omega arith))
+  | inr b ↦ (let reached = card_behind c end len z (omega arith) in absurd (omega arith))
 ]
+
+-- the entries of an object are written, and then that of what is left
+pub cut_put : (cw at middle end w before mid after : ℕ) → IsPut at middle w before mid → (after ≡ mid) ⊎ IsOwn middle end w after
+    → (middle ≤ w → w < end → end ≤ w + cw → after ≡ middle) → IsCutOff cw at middle end w before after
+cut_put cw at middle end w before mid after e rest last = record {
+  front = λ low high. elim rest [
+    | inl same ↦ same ∙ e ∙ if_between at middle w at before low high
+    | inr own ↦ (let above = own.0 in absurd (omega arith))
+  ];
+  last = λ some low high near. last low high near;
+  others = λ apart. elim rest [
+    | inl same ↦ inl (same ∙ e ∙ elim apart [
+      | inl b ↦ if_below at middle w at before b
+      | inr b ↦ if_above at middle w at before b
+    ])
+    | inr own ↦ inr own
+  ];
+}
+
+-- a card that begins at or below one of two words in one card begins at or below the other
+card_below : (cw c x y : ℕ) → 0 < cw → x / cw ≡ y / cw → c * cw ≤ y → c * cw ≤ x
+card_below cw c x y some same below =
+    let low : x / cw * cw ≤ x = omega (arith, some) in
+    let high : y < y / cw * cw + cw = omega (arith, some) in
+    let at_most : c ≤ y / cw = elim (cases_lt (y / cw) c) [
+      | inl b ↦ (let m = mul-le (suc (y / cw)) cw c cw b (omega arith) in absurd (omega (arith, m, high, below)))
+      | inr b ↦ b
+    ] in
+    let m = mul-le c cw (y / cw) cw at_most (omega arith) in
+    let whole : x / cw * cw ≡ y / cw * cw = ap (λ (n : ℕ). n * cw) same in
+    omega (arith, low, m, whole)
+
+-- no card begins in an object whose last word is in one card with the word before it
+pub none_cut : (cw k at middle : ℕ) → cw ≡ 2 ^ k → k < 12 → middle ≤ max_words
+    → bit_xor ((at + 4294967295) % 4294967296) ((middle + 4294967295) % 4294967296) < cw → HasCard cw at middle → ⊥
+none_cut cw k at middle power narrow small near card =
+    by_ends ((at + 4294967295) % 4294967296) ((middle + 4294967295) % 4294967296) refl refl near
+  where
+    by_ends : (x y : ℕ) → x ≡ (at + 4294967295) % 4294967296 → y ≡ (middle + 4294967295) % 4294967296 → bit_xor x y < cw → ⊥
+    by_ends x y x_is y_is near =
+        let some : 0 < cw = rw power (pow_pos k) in
+        let few : cw ≤ 4096 = rw power (pow_mono {i = k} {j = 12} (omega arith)) in
+        let (c, low, high) = card in
+        let same : x / cw ≡ y / cw = same_block x y cw k power near in
+        let in_y : c * cw ≤ y = omega (arith, y_is, high, small) in
+        let in_x : c * cw ≤ x = card_below cw c x y some same in_y in
+        let y_small : y < 2147483648 = omega (arith, y_is, high, small) in
+        let far : x / cw * cw ≤ y =
+        (let m : y / cw * cw ≤ y = omega (arith, some) in subst (λ (n : ℕ). n * cw ≤ y) (sym same) m) in
+        let x_near : x < x / cw * cw + cw = omega (arith, some) in
+        omega (arith, x_is, low, in_x, y_small, far, x_near, few)
+
+-- nothing is written where no card begins in what is cut off
+pub cut_none : (cw at middle end c before : ℕ) → (HasCard cw at middle → ⊥) → IsCutOff cw at middle end (c * cw) before before
+cut_none cw at middle end c before none = record {
+  front = λ low high. absurd (none (c, low, high));
+  last = λ some low high near. absurd (none some);
+  others = λ apart. inl refl;
+}
 
 -- ---- how they lead on
 holds : (t : Table) (a w : ℕ) (u : Tile) → tile_in t a ≡ Some u → a ≤ w → w < a + tile_size u → IsHolder t a w
@@ -275,23 +348,29 @@ module _ (t t' : Table) (x n r : ℕ) (tile : Tile) (g : IsShaped t) (g' : IsSha
   ]
 
   -- a tile is cut off the front of a filler of n words, of which r are left
-  pub entries_cut : (old new : Entries) → AreEntriesPut (IsCutOff x (x + tile_size tile) (x + n)) old new
+  pub entries_cut : (old new : Entries) → AreEntriesPut (IsCutOff old.card_words x (x + tile_size tile) (x + n)) old new
       → AreEntries t old → AreEntries t' new
-  entries_cut old new put e = rw put.card_words (λ b c h. go b c h (put.entries c))
+  entries_cut old new put e = rw put.card_words (λ b c h. elim (cases_lt (c * old.card_words) x) [
+    | inl lt ↦ other b c h ((put.entries c).others (inl lt))
+    | inr ge ↦ elim (cases_lt (c * old.card_words) (x + tile_size tile)) [
+      | inl lt ↦ (
+          let w : ℕ = c * old.card_words in
+          subst (λ (m : ℕ). LeadsTo t' m b w) (sym ((put.entries c).front ge lt))
+          (leads_to t' x b w tile first ge (one_holder t' b x w g' h (holds t' x w tile first ge lt))))
+      | inr le ↦ other b c h ((put.entries c).others (inr le))
+    ]
+  ])
     where
-      go : (b c : ℕ) → IsHolder t' b (c * old.card_words)
-          → IsCutOff x (x + tile_size tile) (x + n) (c * old.card_words) (get_or old.starts c 0) (get_or new.starts c 0)
+      other : (b c : ℕ) → IsHolder t' b (c * old.card_words)
+          → (get_or new.starts c 0 ≡ get_or old.starts c 0)
+          ⊎ IsOwn (x + tile_size tile) (x + n) (c * old.card_words) (get_or new.starts c 0)
           → LeadsTo t' (get_or new.starts c 0) b (c * old.card_words)
-      go b c h (inl same) =
+      other b c h (inl same) =
           let w : ℕ = c * old.card_words in
           let (a, before, region) = before_cut b w h in
           subst (λ (m : ℕ). LeadsTo t' m b w) (sym same)
           (leads_on t t' (get_or old.starts c 0) a b w cut.size (stays (get_or old.starts c 0)) region (e a c before))
-      go b c h (inr (inl own)) =
-          let w : ℕ = c * old.card_words in
-          subst (λ (m : ℕ). LeadsTo t' m b w) (sym own.2)
-          (leads_to t' x b w tile first own.0 (one_holder t' b x w g' h (holds t' x w tile first own.0 own.1)))
-      go b c h (inr (inr own)) =
+      other b c h (inr own) =
           let w : ℕ = c * old.card_words in
           let m : ℕ = x + tile_size tile in
           let is : tile_in t' m ≡ Some (Filler r) = rest (omega (arith, own.0, own.1)) in

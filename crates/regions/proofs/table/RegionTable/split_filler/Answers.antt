@@ -20,6 +20,11 @@ write_remainder-requires-clause-within c =
     let f = tile_within _ _ _ _ _ c.self.invariant.written c.self.view_is c.requires.there in
     rw c.write_filler.ensures.written (omega (arith, f, c.requires.room, c.word.ensures, c.get-kept.ensures.value, c.get.ensures.value))
 
+pub cut_front-requires-clause-within : goal.cut_front-requires-clause-within
+cut_front-requires-clause-within c =
+    let f = filler_fits _ _ _ _ _ _ c.self.invariant.table c.self.view_is c.requires.there in
+    omega (arith, f, c.self.invariant.table.small, c.self.invariant.each_card, c.word-2.ensures, c.get-2.ensures.value)
+
 pub cut_front-requires-clause-small : goal.cut_front-requires-clause-small
 cut_front-requires-clause-small c =
     let f = filler_fits _ _ _ _ _ _ c.self.invariant.table c.self.view_is c.requires.there in
