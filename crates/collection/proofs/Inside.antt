@@ -6,6 +6,7 @@ use Rattle.std.proofs.lemmas.Option.{slice_get-get_or}
 use Rattle.heap_model.specs.Heap.{Stored}
 use Rattle.regions.specs.Table.{Table, free_count, first_free}
 use Rattle.alloc_buffers.specs.declared.buffers.Buffer.{Buffer}
+use Rattle.alloc_buffers.specs.OpenBuffers.{rest_of}
 use Rattle.alloc_buffers.specs.Placement.{Buffers, Placement, Room, room_for, fresh_room, in_new_buffer, in_buffer, alone, outside}
 use Rattle.alloc_buffers.specs.Placement.{made_at, allocation_by, allocation_of, small_allocation_of, run_allocation_of}
 use Rattle.step_core.specs.Stands.{CoreState}
@@ -108,6 +109,14 @@ module _ (c : CoreState) (m size : ℕ) (small : 2 * size ≤ c.table.words_per_
       (placed ∙ ap (allocation_by t b m size) is ∙ ap (λ (q : Bool). if q then Some (in_buffer t b m size y) else outside t b m size)
       (le-leb size y.rest h))
       (record { place = in_buffer t b m size y; is = refl; free = inside_buffer t b m size y })
+
+  -- the same by how many words are left
+  pub in_rest : size < rest_of (slice_index_or b.open_buffers m None) → FitsOpen c m size
+  in_rest h = go (slice_index_or b.open_buffers m None) refl h
+    where
+      go : (o : Option Buffer) → slice_index_or b.open_buffers m None ≡ o → size < rest_of o → FitsOpen c m size
+      go None e f = absurd (omega arith)
+      go (Some y) e f = in_open y e (omega arith)
 
   -- or it hasn't, and the object goes outside
   pub IsOut : Type 0

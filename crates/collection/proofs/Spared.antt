@@ -13,7 +13,7 @@ use Rattle.graph_runs.specs.Run.{IsNew}
 use Rattle.step_core.specs.Stands.{CoreState}
 use Rattle.step_core.specs.Answers.{IsFull}
 use Rattle.step_core.specs.Mutators.{ActsOn, HasActed, core_after, with_made}
-use Rattle.collection.specs.Rooms.{HasRun, IsSpared, TakesRegion}
+use Rattle.collection.specs.Rooms.{FitsOpen, HasRun, IsSpared, TakesRegion}
 use Rattle.collection.specs.Steps.{FitsLeavingTwo, asked_words}
 use Rattle.collection.proofs.Made.{place_near, run_free, run_taken}
 use Rattle.collection.proofs.Placed.{place_found}
@@ -48,6 +48,10 @@ module _ (c : CoreState) where
       (place_found c.table (omega arith) c.buffers op.mutator (asked_words op.action) small) in
       by_place op new x e (λ two s.
       (let n = place_near c.table c.buffers op.mutator (asked_words op.action) small x e s in omega (arith, n, more)))
+
+  -- it takes none
+  pub open_spared : (op : Op) → IsNew op.action → FitsOpen c op.mutator (asked_words op.action) → IsSpared c op
+  open_spared op new f = by_place op new f.place f.is (λ two s. (let e = f.free s in omega (arith, e, two)))
 
   -- it has a run
   pub run_spared : (op : Op) → IsNew op.action → c.table.words_per_region < 2 * asked_words op.action → HasRun c (asked_words op.action)

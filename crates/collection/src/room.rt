@@ -113,16 +113,30 @@ pub(crate) fn is_spared(core: &Core, op: &Op, size: u32) -> bool
     }
 }
 
-/// Whether more than two regions are free, for an object of at most half a region.
+/// Whether an object may have more than half a region. Of up to 8 words none has, since a region has 16.
+#[inline(always)]
+fn is_large(core: &Core, size: u64) -> bool
+    ensures { result ≡ false → 2 * size ≤ core.now.config.words }
+{
+    core.law_remembers();
+    8 < size && u64::from(core.config().words) / 2 < size
+}
+
+/// Whether an object of at most half a region has room in the mutator's buffer, or more than two regions are free. The buffer is asked
+/// first: mostly it has room, and who makes the object asks it in any case.
 #[inline(always)]
 pub(crate) fn has_spare(core: &Core, op: &Op, size: u64) -> bool
+    requires mutator { op.now.mutator < core.now.config.mutators }
     requires new { IsNew op.now.action }
     requires size { size ≡ asked_words op.now.action }
     ensures { result ≡ true → IsSpared core.now op.now }
 {
     core.law_remembers();
-    if u64::from(core.config().words) / 2 < size {
+    if is_large(core, size) {
         return false;
+    }
+    if size < u64::from(core.buffers().rest(op.mutator)) {
+        return true;
     }
     core.free_regions() > 2
 }

@@ -30,8 +30,7 @@ pub use Rattle.heap_words.specs.Headers.{header_word, pointer_of, pointer_word}
 pub use Rattle.heap_words.specs.Memory.{Memory}
 pub use Rattle.heap_words.specs.declared.addr.Addr.{Addr}
 pub use Rattle.heap_words.specs.declared.header.Header.{Header}
-pub use Rattle.regions.specs.FirstTiles.{Entries, AreEntries, AreEntriesPut, start_in, entry_of, last_card, tile_entry, rest_entry}
-pub use Rattle.regions.specs.FirstTiles.{front_entry}
+pub use Rattle.regions.specs.FirstTiles.{Entries, AreEntries, AreEntriesPut, HasCard, LeadsTo, IsCutOff, IsOwn, IsPut}
 pub use Rattle.regions.specs.Rows.{table_of, IsTable, IsRegionTable, sizes_in, AreTilesWritten, AreUsedBelow, free_row_count, left_by}
 pub use Rattle.regions.specs.Rows.{region_by, regions_of, IsRow, IsRestRow, AreRows, free_row, table_by, object_size, first_stored}
 pub use Rattle.regions.specs.Rows.{IsObjectHeader, kind_is_free, run_row, run_rows, region_of, stored_by, IsTableBy, put_remainder}

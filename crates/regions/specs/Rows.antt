@@ -134,8 +134,8 @@ pub record AreTilesWritten (t : Table) (n : ℕ) : Type 0 where
   pub each : (a : ℕ) (tile : Tile) → tile_in t a ≡ Some tile → a + tile_size tile ≤ n
 
 -- words and rows are a table's, with 2 ^ shift words a region, which are whole cards; each tile stands in the words that are
--- written; no row below `lowest` is free; `free` rows are; each card has its entry; and `weaks` tells where objects with weak slots
--- start
+-- written; no row below `lowest` is free; `free` rows are; each card's entry leads to its tile; and `weaks` tells where objects with weak
+-- slots start
 pub record IsRegionTable (size shift lowest free : ℕ) (entries : Entries) (weaks : Starts) (memory : Memory) (rows : List Row)
     : Type 0 where
   pub table : IsTable size memory.all rows

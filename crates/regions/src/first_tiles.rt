@@ -1,29 +1,34 @@
-//! The first tile of each card: where the tile starts that holds the card's first word.
+//! The first tile of each card: an entry that leads to the tile that holds the card's first word.
 //!
 //! ```text
 //!   cards      |0       |1       |2       |3       |4       |5       |
-//!   tiles      |a   |b                |f, a filler                |c ..
-//!   entry       a        b        b        card 5   card 5   f
+//!   tiles      |a   |b      |c |d   |e  |f, left of the buffer   |g ..
+//!   entry       a        b        d        a        a        e
 //! ```
 //!
-//! Each card that begins below its region's top has an entry, an address. At or below the card's first word it is where the tile
-//! starts. Above it, in a filler, it is the first word of the last card that begins in the filler, whose own entry is the
-//! filler's start. So when an object is cut off a filler's front, the object's cards get new entries and that last card does;
-//! the rest of the filler's cards lead to it as before.
+//! Each card that begins below its region's top has an entry: where a tile starts, at or below the card's first word, in the region where
+//! the tile of that word starts. The tile of that word is found from there, tile by tile (`RegionTable::first_tile`).
 //!
-//! A new tile costs an entry for each card that begins in it, and a first tile is found by a look at one entry or two, however
-//! far from the region's bottom or the run's first region the card lies. Tables of this kind are known as block offset tables.
+//! A new tile is the entry of each card that begins in it. An object that is cut off a filler's front takes no tile's start away: all
+//! entries still lead to their tiles, so it has to write none. For speed alone one that crosses a card's border does. It becomes the entry
+//! of the cards that begin in it, and what is left of the filler that of the filler's last card. In the picture that last card is 5: its
+//! entry was written when d crossed into card 2, and e, which starts where d ends, crossed no border.
+//!
+//! So no size of a heap or of its regions makes a search longer. A card's first word is in an object, which then is its entry, or in what
+//! is left of a buffer. Of what is left only the last card may hold words of an object too, and a search for it passes what came since its
+//! entry was written: tiles that start in one card. So where an object has words in a card, the card's first tile and its objects are
+//! found by a walk over the tiles of two cards at most. For a card that a filler covers, as cards 3 and 4, a search may pass all objects
+//! of one buffer. Tables of this kind are known as block offset tables.
 //!
 //! There is room for an entry of each card, and those of the first cards are written. The others are 0 to who asks, and nothing of
 //! them is touched until a tile comes there (`reach`): so a table that is made touches nothing, however many cards a heap has.
 
-ghost use Rattle.std.specs.Prelude.{◌≡◌, ◌+◌, ◌*◌, ◌/◌, ◌<◌, ◌≤◌, ◌^◌, ◌==◌, ◌&&◌, if◌then◌else◌};
+ghost use Rattle.std.specs.Prelude.{◌≡◌, ◌+◌, ◌*◌, ◌/◌, ◌<◌, ◌≤◌, ◌^◌, ◌⊎◌, if◌then◌else◌};
 ghost use Rattle.std.specs.Prelude.{ℕ, IfOk, IsTrue, length, replicate, slice_index, vec_capacity, vec_len};
 ghost use Rattle.std.specs.Int.{div_ceil, is_power_of_two};
 ghost use Rattle.bit_sets.specs.Bits.{is_between};
 ghost use Rattle.heap_words.specs.Memory.{memory};
-ghost use Rattle.regions.specs.Tiles.{Filler};
-ghost use Rattle.regions.specs.FirstTiles.{AreEntriesPut, last_card, entry_of, front_entry, rest_entry, start_in, tile_entry};
+ghost use Rattle.regions.specs.FirstTiles.{AreEntriesPut, IsCutOff, IsOwn, IsPut};
 ghost use Rattle.heap_words.specs.Configs.{max_words};
 
 use std::alloc::{AllocError, Global};
@@ -137,30 +142,31 @@ fn fill_cards(entries: &mut [u32], from: u32, to: u32, entry: u32)
     }
 }
 
-/// Each card that begins in the words from `at` up to `end` has this entry.
+/// Each card that begins in the words from `at` up to `end` has `at` as its entry.
 #[inline(always)]
-fn write_entries(entries: &mut [u32], shift: u32, at: u32, end: u32, entry: u32)
+fn write_tile(entries: &mut [u32], shift: u32, at: u32, end: u32)
     requires narrow { shift < 12 }
     requires order { at ≤ end }
     requires small { end ≤ max_words }
     requires within { end ≤ length entries.old * 2 ^ shift }
     ensures len { length entries.new ≡ length entries.old }
-    ensures entries { (c : ℕ) → slice_index entries.new c
-        ≡ (if is_between at end (c * 2 ^ shift) then entry else slice_index entries.old c) }
+    ensures entries { (c : ℕ) → IsPut at end (c * 2 ^ shift) (slice_index entries.old c) (slice_index entries.new c) }
 {
-    fill_cards(entries, card_from(shift, at), card_from(shift, end), entry);
+    fill_cards(entries, card_from(shift, at), card_from(shift, end), at);
 }
 
 /// The last card that begins in the words from `at` up to `end`, if one does, has `at` as its entry.
 #[inline(always)]
-fn write_start(entries: &mut [u32], shift: u32, at: u32, end: u32)
+fn write_rest(entries: &mut [u32], shift: u32, at: u32, end: u32)
     requires narrow { shift < 12 }
     requires order { at ≤ end }
     requires small { end ≤ max_words }
     requires within { end ≤ length entries.old * 2 ^ shift }
     ensures len { length entries.new ≡ length entries.old }
-    ensures entries { (c : ℕ) → slice_index entries.new c
-        ≡ (if is_between at end (c * 2 ^ shift) && (c * 2 ^ shift == last_card (2 ^ shift) end) then at else slice_index entries.old c) }
+    ensures entries { (c : ℕ) → (slice_index entries.new c ≡ slice_index entries.old c)
+        ⊎ IsOwn at end (c * 2 ^ shift) (slice_index entries.new c) }
+    ensures last { (c : ℕ) → at ≤ c * 2 ^ shift → c * 2 ^ shift < end → end ≤ c * 2 ^ shift + 2 ^ shift
+        → slice_index entries.new c ≡ at }
 {
     let past = card_from(shift, end);
     if card_from(shift, at) < past {
@@ -168,56 +174,20 @@ fn write_start(entries: &mut [u32], shift: u32, at: u32, end: u32)
     }
 }
 
-/// The words from `at` up to `middle` become an object, and those behind it, up to `end`, the rest of a filler: both in one go, so that
-/// each of the three places is looked up once.
+/// The words from `at` up to `middle` become an object, and those behind it, up to `end`, are what is left of a filler.
 #[inline(always)]
-fn write_front(entries: &mut [u32], shift: u32, at: u32, middle: u32, end: u32)
+fn write_cut(entries: &mut [u32], shift: u32, at: u32, middle: u32, end: u32)
     requires narrow { shift < 12 }
     requires order { at ≤ middle }
     requires rest { middle ≤ end }
     requires small { end ≤ max_words }
     requires within { end ≤ length entries.old * 2 ^ shift }
     ensures len { length entries.new ≡ length entries.old }
-    ensures entries { (c : ℕ) → slice_index entries.new c
-        ≡ (if is_between middle end (c * 2 ^ shift) && (c * 2 ^ shift == last_card (2 ^ shift) end) then middle
-        else (if is_between at middle (c * 2 ^ shift) then at else slice_index entries.old c)) }
+    ensures entries { (c : ℕ) → IsCutOff (2 ^ shift) at middle end (c * 2 ^ shift) (slice_index entries.old c)
+        (slice_index entries.new c) }
 {
-    write_entries(entries, shift, at, middle, at);
-    write_start(entries, shift, middle, end);
-}
-
-/// The entries of a filler's cards: the last one's is its start, and the others' is that card.
-#[inline(always)]
-fn write_filler(entries: &mut [u32], shift: u32, at: u32, size: u32)
-    requires narrow { shift < 12 }
-    requires positive { 0 < size }
-    requires small { at + size ≤ max_words }
-    requires within { at + size ≤ length entries.old * 2 ^ shift }
-    ensures len { length entries.new ≡ length entries.old }
-    ensures entries { (c : ℕ) → slice_index entries.new c
-        ≡ (if is_between at (at + size) (c * 2 ^ shift) then entry_of (2 ^ shift) at (Filler size) (c * 2 ^ shift)
-        else slice_index entries.old c) }
-{
-    let first = card_from(shift, at);
-    let past = card_from(shift, at + size);
-    if first < past {
-        let last = past - 1;
-        fill_cards(entries, first, last, last << shift);
-        entries[last as usize] = at;
-    }
-}
-
-/// Where the entries say that the tile of a card's first word starts.
-fn find_start(entries: &[u32], shift: u32, card: u32) -> u32
-    requires narrow { shift < 12 }
-    requires small { card * 2 ^ shift ≤ max_words }
-    ensures { result ≡ start_in (2 ^ shift) entries.now card }
-{
-    let entry = entry_at(entries, card);
-    if entry <= card << shift {
-        return entry;
-    }
-    entry_at(entries, entry >> shift)
+    write_tile(entries, shift, at, middle);
+    write_rest(entries, shift, middle, end);
 }
 
 impl FirstTiles {
@@ -245,113 +215,38 @@ impl FirstTiles {
         word >> self.shift
     }
 
-    /// The first word of a card.
-    pub(crate) fn first_word(&self, card: u32) -> u32
-        requires { card * self.now.card_words ≤ max_words }
-        ensures { result ≡ card * self.now.card_words }
-    {
-        card << self.shift
-    }
-
-    /// An object stands at an address.
-    pub(crate) fn put_object(&mut self, at: u32, size: u32)
+    /// A tile stands at an address: it is the entry of the cards that begin in it.
+    pub(crate) fn put_tile(&mut self, at: u32, size: u32)
         requires within { at + size ≤ length self.old.starts * self.old.card_words }
         requires small { at + size ≤ max_words }
-        ensures { AreEntriesPut self.old self.new (λ w before. if is_between at (at + size) w then at else before) }
+        ensures { AreEntriesPut (IsPut at (at + size)) self.old self.new }
     {
         let shift = self.shift;
         zero_below(&mut self.starts, card_from(shift, at + size), self.cards);
-        write_entries(&mut self.starts, shift, at, at + size, at);
+        write_tile(&mut self.starts, shift, at, at + size);
     }
 
-    /// An object takes the front of a filler, whose entries stand, and what is left is a filler or nothing. Where that is an entry or two
-    /// it is part of the caller, and else one call: so the former saves nothing that a call would need.
+    /// An object takes the front of a filler of `filler` words. Where no card begins in it nothing is written: then its last word is in one
+    /// card with the word before the object, and the two differ in no bit above those of a card's words.
     #[inline(always)]
     pub(crate) fn cut_front(&mut self, at: u32, size: u32, filler: u32)
         requires room { size ≤ filler }
         requires within { at + filler ≤ length self.old.starts * self.old.card_words }
         requires small { at + filler ≤ max_words }
-        ensures { AreEntriesPut self.old self.new (front_entry self.old.card_words at (at + size) (at + filler)) }
+        ensures { AreEntriesPut (IsCutOff self.old.card_words at (at + size) (at + filler)) self.old self.new }
     {
-        if self.is_cut_here(at, size, filler) {
-            self.cut_here(at, size, filler);
-        } else {
-            self.cut_apart(at, size, filler);
+        let middle = at + size;
+        if (at.wrapping_sub(1) ^ middle.wrapping_sub(1)) >= self.card_words {
+            let end = at + filler;
+            zero_below(&mut self.starts, card_from(self.shift, end), self.cards);
+            write_cut(&mut self.starts, self.shift, at, middle, end);
         }
     }
 
-    /// Whether the entries are written and at most one card begins in the object. No promise hangs on the answer. The tests are those of
-    /// `cut_here`, in the same numbers, so that the compiler leaves them out there.
-    #[inline(always)]
-    fn is_cut_here(&self, at: u32, size: u32, filler: u32) -> bool
-        requires room { size ≤ filler }
-        requires within { at + filler ≤ length self.now.starts * self.now.card_words }
-        requires small { at + filler ≤ max_words }
-    {
-        let shift = self.shift;
-        if self.starts.len() < card_from(shift, at + filler) as usize {
-            return false;
-        }
-        card_from(shift, at).wrapping_add(1) >= card_from(shift, at + size)
-    }
-
-    /// The same as `cut_front`, as a call.
-    #[cold]
-    #[inline(never)]
-    fn cut_apart(&mut self, at: u32, size: u32, filler: u32)
-        requires room { size ≤ filler }
-        requires within { at + filler ≤ length self.old.starts * self.old.card_words }
-        requires small { at + filler ≤ max_words }
-        ensures { AreEntriesPut self.old self.new (front_entry self.old.card_words at (at + size) (at + filler)) }
-    {
-        self.cut_here(at, size, filler);
-    }
-
-    /// The same, as part of the caller.
-    #[inline(always)]
-    fn cut_here(&mut self, at: u32, size: u32, filler: u32)
-        requires room { size ≤ filler }
-        requires within { at + filler ≤ length self.old.starts * self.old.card_words }
-        requires small { at + filler ≤ max_words }
-        ensures { AreEntriesPut self.old self.new (front_entry self.old.card_words at (at + size) (at + filler)) }
-    {
-        let shift = self.shift;
-        zero_below(&mut self.starts, card_from(shift, at + filler), self.cards);
-        write_front(&mut self.starts, shift, at, at + size, at + filler);
-    }
-
-    /// A filler stands at an address.
-    #[inline(always)]
-    pub(crate) fn put_filler(&mut self, at: u32, size: u32)
-        requires positive { 0 < size }
-        requires within { at + size ≤ length self.old.starts * self.old.card_words }
-        requires small { at + size ≤ max_words }
-        ensures { AreEntriesPut self.old self.new (tile_entry self.old.card_words at size (Filler size)) }
-    {
-        let shift = self.shift;
-        zero_below(&mut self.starts, card_from(shift, at + size), self.cards);
-        write_filler(&mut self.starts, shift, at, size);
-    }
-
-    /// A filler that ended at `end` starts at `at` now, or is gone where that is its end.
-    #[inline(always)]
-    pub(crate) fn move_filler(&mut self, at: u32, end: u32)
-        requires order { at ≤ end }
-        requires within { end ≤ length self.old.starts * self.old.card_words }
-        requires small { end ≤ max_words }
-        ensures { AreEntriesPut self.old self.new (rest_entry self.old.card_words at end) }
-    {
-        let shift = self.shift;
-        zero_below(&mut self.starts, card_from(shift, end), self.cards);
-        write_start(&mut self.starts, shift, at, end);
-    }
-
-    /// Where the tile of a card's first word starts.
+    /// A card's entry: where a tile starts from which the tile of the card's first word is found.
     pub(crate) fn start(&self, card: u32) -> u32
-        requires known { card < length self.now.starts }
-        requires small { length self.now.starts * self.now.card_words ≤ max_words }
-        ensures { result ≡ start_in self.now.card_words self.now.starts card }
+        ensures { result ≡ slice_index self.now.starts card }
     {
-        find_start(&self.starts, self.shift, card)
+        entry_at(&self.starts, card)
     }
 }

@@ -17,9 +17,8 @@
 //!
 //! A run is found by `free_run`, written with its object by `make_run`, and goes whole by `release`.
 //!
-//! A field is read or written by its address in constant time, and the first tile of a card is found by a look at an entry or two
-//! (`first_tiles`). Where objects with weak slots start is a set (`weak_starts`). Nothing but
-//! `RegionTable::new` takes memory.
+//! A field is read or written by its address in constant time, and the first tile of a card is found from an entry of that card
+//! (`first_tiles`). Where objects with weak slots start is a set (`weak_starts`). Nothing but `RegionTable::new` takes memory.
 #![tactic(auto)]
 
 mod first_tiles;

@@ -85,7 +85,7 @@ impl RegionTable {
         let end = bottom + size;
         self.words.zero_below(end);
         self.words.write_object(Addr::new(bottom), name, counts);
-        self.first_tiles.put_object(bottom, size);
+        self.first_tiles.put_tile(bottom, size);
         write_run(
             &mut self.rows,
             number as usize,

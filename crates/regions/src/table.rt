@@ -29,7 +29,7 @@ pub struct RegionTable {
     pub(crate) lowest: usize,
     /// How many regions are free.
     pub(crate) free: u32,
-    /// Where the tile of each card's first word starts.
+    /// What leads to the tile of each card's first word.
     pub(crate) first_tiles: FirstTiles,
     /// Where the objects with weak slots start.
     pub(crate) weak_starts: WeakStarts,

@@ -113,7 +113,7 @@ impl RegionTable {
         let end = at.word() + more;
         self.words.zero_below(end);
         self.words.write_filler(at, size);
-        self.first_tiles.put_filler(at.word(), more);
+        self.first_tiles.put_tile(at.word(), more);
         let number = region.number() as usize;
         let used = self.rows[number].used;
         self.rows[number] = Row {
@@ -136,9 +136,7 @@ impl RegionTable {
         self.words.write_filler(at, size);
         let behind = at.word() + kept;
         write_remainder(&mut self.words, behind, filler.get() - kept);
-        self.first_tiles.put_filler(at.word(), kept);
-        self.first_tiles
-            .move_filler(behind, at.word() + filler.get());
+        self.first_tiles.cut_front(at.word(), kept, filler.get());
         Addr::new(behind)
     }
 
@@ -189,7 +187,7 @@ impl RegionTable {
         let end = to.word() + size;
         self.words.zero_below(end);
         self.words.copy_apart(from, to, size);
-        self.first_tiles.put_object(to.word(), size);
+        self.first_tiles.put_tile(to.word(), size);
         let number = region.number() as usize;
         let used = self.rows[number].used;
         self.rows[number] = Row {

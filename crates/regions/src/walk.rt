@@ -4,6 +4,7 @@ ghost use Rattle.std.specs.Iterator.{YieldsFirst, item_count};
 ghost use Rattle.regions.specs.Tiles.{total_size};
 ghost use Rattle.regions.specs.Table.{kind_of, object_at, tile_in, top_of};
 ghost use Rattle.regions.specs.declared.row.Kind.TheVariants as kinds;
+ghost use Rattle.regions.specs.FirstTiles.{LeadsTo};
 ghost use Rattle.regions.specs.Walks.{tiles_of, placed, walk_rest, IsCut, IsWalk, IsTileBehind, IsHolder, IsLowestTile, IsNextTile, IsLast};
 
 use crate::row::{Kind, Shape};
@@ -134,8 +135,8 @@ impl RegionTable {
     }
 
     /// Where the tile that holds a word starts: in a run its object. None where the word is at or above its
-    /// region's top. It looks at the tiles from the one on that holds the first word of the word's card, and at none where that is the
-    /// word.
+    /// region's top. It looks at the tile to which the entry of the word's card leads, and at those from there on if that isn't the one:
+    /// at the tiles of two cards at most where an object has words in the word's card, and else at those of a buffer (`first_tiles`).
     #[inline(always)]
     pub fn first_tile(&self, word: Addr) -> Option<Addr>
         requires { word < length self.now.regions * self.now.words_per_region }
@@ -148,18 +149,17 @@ impl RegionTable {
         }
         let card = self.first_tiles.card_of(word.word());
         let start = Addr::new(self.first_tiles.start(card));
-        if word.word() == self.first_tiles.first_word(card) {
+        if word.word() < start.word() + self.tile(start).size() {
             return Some(start);
         }
         self.search_tile(start, word)
     }
 
-    /// The same by a search from a tile on that holds a word of the same region at or below this one. It isn't made part of its callers,
-    /// which mostly look for a card's first word.
+    /// The same by a search from a tile on that leads to the word's. It isn't made part of its callers, which mostly look for a card's
+    /// first word.
     #[inline(never)]
     fn search_tile(&self, start: Addr, word: Addr) -> Option<Addr>
-        requires { (from : ℕ) × IsHolder self.now start from × (from ≤ word)
-            × (word / self.now.words_per_region ≡ from / self.now.words_per_region) }
+        requires { (a : ℕ) × IsHolder self.now a word × LeadsTo self.now start a word }
         ensures found { IsSome result ↔ (word < top_of self.now (word / self.now.words_per_region)) }
         ensures holder { IfSome result (λ a. IsHolder self.now a word) }
     {

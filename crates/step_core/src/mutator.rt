@@ -538,14 +538,14 @@ impl Core {
         8 < size && self.table.words_per_region() < 2 * size
     }
 
-    /// Whether an object has few fields and no weak slot, and leaves something of the mutator's buffer. No promise hangs on the answer. The
-    /// last test is that of `cut`, in the same numbers, so that the compiler leaves that out.
+    /// Whether an object has up to 18 words and no weak slot, and leaves something of the mutator's buffer. No promise hangs on the answer.
+    /// The last test is that of `cut`, in the same numbers, so that the compiler leaves that out.
     #[inline(always)]
     fn is_small(&self, mutator: u32, counts: Counts, weaks: u8) -> bool
         requires { mutator < self.now.config.mutators }
     {
         let size = counts.size(weaks);
-        if weaks > 0 || 6 < size || self.next == u64::MAX {
+        if weaks > 0 || 18 < size || self.next == u64::MAX {
             return false;
         }
         (size as u32) < self.buffers.rest(mutator)

@@ -1,14 +1,15 @@
 -- First tiles over each change of the table.
-use Rattle.regions.proofs.Common.{length-replicate, AreTilesWritten, free_row_count, if◌then◌else◌, EachForwarded, IsRegionTable, replicate}
-use Rattle.regions.proofs.Common.{AreEntriesPut, replace_tile, with_regions, IsReleasable, object_words, AreUsedBelow, div-mul-add, tile_at}
-use Rattle.regions.proofs.Common.{region_tile, pointers_at, set_pointer, run_regions, start_added, length-set, is_between, total_size, zero}
-use Rattle.regions.proofs.Common.{nth_region, new_object, first_free, IsOrdinary, run_length, free_table, AreEntries, tile_entry, Forwarded}
-use Rattle.regions.proofs.Common.{rest_entry, tile_size, object_at, fields_at, values_at, set_field, set_value, remainder, push_tile, false}
-use Rattle.regions.proofs.Common.{region_at, first_run, last_card, AreStarts, forgotten, cases_lt, Ordinary, weaks_at, set_weak, released}
-use Rattle.regions.proofs.Common.{table_of, sizes_in, entry_of, IsShaped, HasWeaks, tile_in, is_free, kind_of, used_of, Entries, Option, []}
-use Rattle.regions.proofs.Common.{length, get_or, le-leb, lt-leb, lt-ltb, le-ltb, Stored, Object, Filler, Region, top_of, Memory, Starts, ℕ}
-use Rattle.regions.proofs.Common.{subst, arith, Table, First, taken, Bool, true, Some, None, List, refl, ◌&&◌, ◌==◌, Tile, Free, Rest, ◌≡◌}
-use Rattle.regions.proofs.Common.{◌≢◌, ◌+◌, ◌-◌, ◌*◌, ◌/◌, ◌%◌, ◌<◌, ◌≤◌, ◌∷◌, ◌∙◌, suc, inl, inr, sym, leb, ltb, Row, ap}
+use Rattle.regions.proofs.Common.{length-replicate, AreTilesWritten, free_row_count, EachForwarded, IsRegionTable, replicate}
+use Rattle.regions.proofs.Common.{AreEntriesPut, replace_tile, with_regions, IsReleasable, object_words, AreUsedBelow, div-mul-add}
+use Rattle.regions.proofs.Common.{region_tile, pointers_at, set_pointer, run_regions, start_added, length-set, total_size}
+use Rattle.regions.proofs.Common.{nth_region, new_object, first_free, IsOrdinary, run_length, free_table, AreEntries, Forwarded, IsSome}
+use Rattle.regions.proofs.Common.{IsPut, IsCutOff}
+use Rattle.regions.proofs.Common.{tile_size, object_at, fields_at, values_at, set_field, set_value, remainder, push_tile}
+use Rattle.regions.proofs.Common.{region_at, first_run, AreStarts, forgotten, cases_lt, Ordinary, weaks_at, set_weak, released}
+use Rattle.regions.proofs.Common.{table_of, sizes_in, IsShaped, HasWeaks, tile_in, is_free, kind_of, used_of, Entries, Option, []}
+use Rattle.regions.proofs.Common.{length, get_or, Stored, Object, Filler, Region, top_of, Memory, Starts, ℕ}
+use Rattle.regions.proofs.Common.{subst, arith, Table, First, taken, Some, None, List, refl, Tile, Free, Rest, ◌≡◌}
+use Rattle.regions.proofs.Common.{◌≢◌, ◌+◌, ◌*◌, ◌/◌, ◌%◌, ◌<◌, ◌≤◌, ◌∷◌, ◌∙◌, inl, inr, sym, Row, ap}
 use Rattle.regions.proofs.Tiles.Targets.{IsWrittenTable}
 use Rattle.regions.proofs.Tiles.Making.{length-regions_of}
 use Rattle.regions.proofs.Tiles.ShapedMade.{shaped_of, first_object, kind_at}
@@ -25,7 +26,7 @@ use Rattle.regions.proofs.LongRuns.RunLaws.{frees, Releases, ordinary_released, 
 use Rattle.regions.proofs.Tiles.TileLaws.{Forwards, object_forwarded}
 use Rattle.regions.proofs.Words.ObjectWords.{words_of}
 use Rattle.regions.proofs.Tiles.Within.{within_fewer, within_added, within_cut}
-use Rattle.regions.proofs.Cards.FirstTiles.{entries_added, entries_same, entries_fewer, entries_cut, if_between, if_below, if_above}
+use Rattle.regions.proofs.Cards.FirstTiles.{no_tile, entries_added, entries_same, entries_fewer, entries_cut}
 use Rattle.regions.specs.declared.row.Kind.TheVariants as kinds
 
 pub sound_changed : (size shift lowest low free free' : ℕ) (entries new : Entries) (starts starts' : Starts) (memory memory' : Memory)
@@ -66,7 +67,7 @@ sound_changed size shift lowest low free free' entries new starts starts' memory
 -- no region of a new table has a tile
 pub free_entries : (count size : ℕ) (entries : Entries) → AreEntries (free_table count size) entries
 unfolding free_table tile_in region_at
-free_entries count size entries a c u h low high = absurd (let z : None ≡ Some u = sym (none (a / size)) ∙ h in cc)
+free_entries count size entries a c h = absurd (let z : None ≡ Some h.tile = sym (none (a / size)) ∙ h.tile_is in cc)
   where
     none : (k : ℕ) → region_tile (get_or (replicate count Free) k Free) (a % size) ≡ None
     none k = ap (λ (r : Region). region_tile r (a % size)) (frees count k)
@@ -75,21 +76,11 @@ pub new_size : (name p weak d : ℕ) → tile_size (Object (new_object name p we
 new_size name p weak d =
     omega (arith, length-replicate {A = Option ℕ} p None, length-replicate {A = Option ℕ} weak None, length-replicate {A = ℕ} d 0)
 
--- entries that are put twice
-pub put_twice : (old mid new : Entries) (first : ℕ → ℕ → ℕ) (second : ℕ → ℕ → ℕ → ℕ) → AreEntriesPut old mid first
-    → AreEntriesPut mid new (second mid.card_words) → AreEntriesPut old new (λ w before. second old.card_words w (first w before))
-put_twice old mid new first second p q = record {
-  card_words = q.card_words ∙ p.card_words;
-  len = q.len ∙ p.len;
-  entries = λ c. q.entries c ∙ ap (λ (k : ℕ). second k (c * k) (get_or mid.starts c 0)) p.card_words
-      ∙ ap (second old.card_words (c * old.card_words)) (p.entries c);
-}
-
 -- ---- an object is written
 object_entries : (t t' : Table) (entries : Entries) (x : ℕ) (s s' : Stored) → WritesObject t t' x s s'
     → tile_size (Object s') ≡ tile_size (Object s) → AreEntries t entries → AreEntries t' entries
 object_entries t t' entries x s s' w size e =
-    entries_same t t' entries x (Object s) (Object s') (tile_of t x s w.was) (tile_of t' x s' w.is) w.others size (λ n. refl) e
+    entries_same t t' entries x (Object s) (Object s') w.size (tile_of t x s w.was) (tile_of t' x s' w.is) w.others size e
 
 module _ (size shift lowest free : ℕ) (entries : Entries) (starts : Starts) (memory : Memory) (rows : List Row) (t : Table)
     (s : IsRegionTable size shift lowest free entries starts memory rows) (e : table_of size memory.all rows ≡ t) where
@@ -108,6 +99,12 @@ module _ (size shift lowest free : ℕ) (entries : Entries) (starts : Starts) (m
   pub region_words : starts.region_words ≡ t.words_per_region
   region_words = s.weak_regions ∙ ap (λ (u : Table). u.words_per_region) e
 
+  -- regions stay as large
+  same_size : (memory' : Memory) (rows' : List Row) (t' : Table) → IsWrittenTable size memory'.all rows' t'
+      → t'.words_per_region ≡ t.words_per_region
+  same_size memory' rows' t' w =
+      sym (ap (λ (u : Table). u.words_per_region) w.table_is) ∙ ap (λ (u : Table). u.words_per_region) e
+
   -- where a tile stands there is a flag
   pub known_now : (a : ℕ) (tile : Tile) → tile_in t a ≡ Some tile → 0 < tile_size tile → a < length starts.flags
   known_now a tile is some = let within = shaped.within a tile is in let count = flag_count in omega arith
@@ -116,8 +113,7 @@ module _ (size shift lowest free : ℕ) (entries : Entries) (starts : Starts) (m
       → length t'.regions ≡ length t.regions → tile_in t' a ≡ Some tile → 0 < tile_size tile → a < length starts.flags
   known_then memory' rows' t' a tile w count is some =
       let within = (shaped_of size memory'.all rows' t' w.is_table w.table_is).within a tile is in
-      let wide : t'.words_per_region ≡ t.words_per_region =
-      sym (ap (λ (u : Table). u.words_per_region) w.table_is) ∙ ap (λ (u : Table). u.words_per_region) e in
+      let wide = same_size memory' rows' t' w in
       let total : length t'.regions * t'.words_per_region ≡ length t.regions * t.words_per_region =
       ap (λ (n : ℕ). n * t'.words_per_region) count ∙ ap (λ (n : ℕ). length t.regions * n) wide in
       let flags = flag_count in
@@ -179,7 +175,7 @@ module _ (size shift lowest free : ℕ) (entries : Entries) (starts : Starts) (m
   forward_sound starts' memory' t' a to n x f was long gone more w =
       sound_changed size shift lowest lowest free free entries entries starts starts' memory memory' rows rows t t' s e w f.count refl refl
       s.used_below s.free_is gone.region_words gone.len (λ g. starts_forwarded t t' starts starts' g a to n x was f gone)
-      (entries_same t t' entries a (Object x) (Forwarded to n) was f.is f.others (sym long) (λ m. refl))
+      (entries_same t t' entries a (Object x) (Forwarded to n) f.size was f.is f.others (sym long))
       (λ g.
       let all = g.each a (Object x) was in
       within_added t t' memory.written memory'.written a (Forwarded to n) more (omega arith) f.is f.others g)
@@ -187,95 +183,42 @@ module _ (size shift lowest free : ℕ) (entries : Entries) (starts : Starts) (m
   -- a region is taken, or regions are released
   pub fewer_sound : (starts' : Starts) (memory' : Memory) (rows' : List Row) (low free' : ℕ) (t' : Table)
       → length t'.regions ≡ length t.regions → ((y : ℕ) (u : Tile) → tile_in t' y ≡ Some u → tile_in t y ≡ Some u)
+      → ((b y : ℕ) → IsSome (tile_in t' b) → y / t.words_per_region ≡ b / t.words_per_region → tile_in t' y ≡ tile_in t y)
       → AreUsedBelow low rows' → free' ≡ free_row_count rows' → starts'.region_words ≡ starts.region_words
       → length starts'.flags ≡ length starts.flags → (AreStarts t starts.flags → AreStarts t' starts'.flags)
       → memory.written ≤ memory'.written → IsWrittenTable size memory'.all rows' t'
       → IsRegionTable size shift low free' entries starts' memory' rows'
-  fewer_sound starts' memory' rows' low free' t' count fewer used counted wide long told more w =
+  fewer_sound starts' memory' rows' low free' t' count fewer near used counted wide long told more w =
       sound_changed size shift lowest low free free' entries entries starts starts' memory memory' rows rows' t t' s e w count refl refl
-      used counted wide long told (entries_fewer t t' entries fewer) (within_fewer t t' memory.written memory'.written more fewer)
+      used counted wide long told (entries_fewer t t' entries (same_size memory' rows' t' w) fewer near)
+      (within_fewer t t' memory.written memory'.written more fewer)
 
   -- a tile more
   pub added_sound : (new : Entries) (starts' : Starts) (memory' : Memory) (rows' : List Row) (low free' : ℕ) (t' : Table) (a n : ℕ)
       (tile : Tile) → length t'.regions ≡ length t.regions → tile_in t' a ≡ Some tile → ((y : ℕ) → y ≢ a → tile_in t' y ≡ tile_in t y)
-      → n ≡ tile_size tile → AreEntriesPut entries new (tile_entry entries.card_words a n tile) → (HasWeaks t a → ⊥)
+      → n ≡ tile_size tile → AreEntriesPut (IsPut a (a + n)) entries new → (HasWeaks t a → ⊥)
       → Notes starts starts' a tile → AreUsedBelow low rows' → free' ≡ free_row_count rows'
       → memory.written ≤ memory'.written → a + n ≤ memory'.written → IsWrittenTable size memory'.all rows' t'
       → IsRegionTable size shift low free' new starts' memory' rows'
   added_sound new starts' memory' rows' low free' t' a n tile count is others long put none noted used counted more fits w =
-      let cw : ℕ = entries.card_words in
       sound_changed size shift lowest low free free' entries new starts starts' memory memory' rows rows' t t' s e w count put.card_words
       put.len used counted noted.region_words noted.len (λ g. starts_added t t' starts starts' g a tile is none others noted)
-      (entries_added t t' entries new a tile (shaped_of size memory'.all rows' t' w.is_table w.table_is) put.card_words is others
-      (λ c low high. put.entries c
-      ∙ if_between a (a + n) (c * cw) (entry_of cw a tile (c * cw)) (get_or entries.starts c 0) low (omega arith))
-      (λ c apart. put.entries c ∙ elim apart [
-        | inl b ↦ if_below a (a + n) (c * cw) (entry_of cw a tile (c * cw)) (get_or entries.starts c 0) b
-        | inr b ↦ if_above a (a + n) (c * cw) (entry_of cw a tile (c * cw)) (get_or entries.starts c 0) (omega arith)
-      ])) (within_added t t' memory.written memory'.written a tile more (omega arith) is others)
+      (entries_added t t' entries new a tile (shaped_of size memory'.all rows' t' w.is_table w.table_is) (same_size memory' rows' t' w)
+      is others (subst (λ (m : ℕ). AreEntriesPut (IsPut a (a + m)) entries new) long put))
+      (within_added t t' memory.written memory'.written a tile more (omega arith) is others)
 
   -- a tile cut off a filler's front
   pub cut_sound : (new : Entries) (starts' : Starts) (memory' : Memory) (t' : Table) (x n r : ℕ) (tile : Tile)
       → Replaces t t' x n (tile ∷ remainder r) → tile_in t x ≡ Some (Filler n) → 0 < tile_size tile → tile_size tile + r ≡ n
-      → AreEntriesPut entries new (λ w before. rest_entry entries.card_words (x + tile_size tile) (x + n) w
-      (tile_entry entries.card_words x (tile_size tile) tile w before)) → Notes starts starts' x tile
+      → AreEntriesPut (IsCutOff entries.card_words x (x + tile_size tile) (x + n)) entries new → Notes starts starts' x tile
       → memory.written ≤ memory'.written → IsWrittenTable size memory'.all rows t'
       → IsRegionTable size shift lowest free new starts' memory' rows
   cut_sound new starts' memory' t' x n r tile cut was some sum put noted more w =
-      let cw : ℕ = entries.card_words in
-      let end : ℕ = x + tile_size tile in
-      let first : ℕ → ℕ =
-      λ c. if is_between x end (c * cw) then entry_of cw x tile (c * cw) else get_or entries.starts c 0 in
       sound_changed size shift lowest lowest free free entries new starts starts' memory memory' rows rows t t' s e w cut.count
       put.card_words put.len s.used_below s.free_is noted.region_words noted.len
       (λ g. starts_cut t t' starts starts' g x n r tile (omega arith) (none_in t x (Filler n) was refl) cut noted)
-      (entries_cut t t' entries new x n r tile (shaped_of size memory'.all rows t' w.is_table w.table_is) put.card_words was sum
-      (cut_first cut some sum) (cut_rest cut some sum) cut.others
-      (λ c low high. put.entries c ∙ both_below end (x + n) (c * cw) (c * cw == last_card cw (x + n)) end (first c) high
-      ∙ if_between x end (c * cw) (entry_of cw x tile (c * cw)) (get_or entries.starts c 0) low high)
-      (λ c low high. put.entries c ∙ both_inside end (x + n) (c * cw) (c * cw == last_card cw (x + n)) end (first c) low high
-      ∙ ap (λ (m : ℕ). if c * cw == last_card cw (x + n) then end else m)
-      (if_above x end (c * cw) (entry_of cw x tile (c * cw)) (get_or entries.starts c 0) low))
-      (λ c apart. put.entries c ∙ elim apart [
-        | inl b ↦ both_below end (x + n) (c * cw) (c * cw == last_card cw (x + n)) end (first c) (omega arith)
-            ∙ if_below x end (c * cw) (entry_of cw x tile (c * cw)) (get_or entries.starts c 0) b
-        | inr b ↦ both_above end (x + n) (c * cw) (c * cw == last_card cw (x + n)) end (first c) b
-            ∙ if_above x end (c * cw) (entry_of cw x tile (c * cw)) (get_or entries.starts c 0) (omega arith)
-      ])) (within_cut t t' memory.written memory'.written x n r tile more cut was sum)
-    where
-      at_zero : x + 0 ≡ x
-      at_zero = omega arith
-
-      cut_first : Replaces t t' x n (tile ∷ remainder r) → 0 < tile_size tile → tile_size tile + r ≡ n → tile_in t' x ≡ Some tile
-      cut_first c z k = ap (tile_in t') (sym at_zero) ∙ c.within 0 (omega arith)
-
-      cut_rest : Replaces t t' x n (tile ∷ remainder r) → 0 < tile_size tile → tile_size tile + r ≡ n → 0 < r
-          → tile_in t' (x + tile_size tile) ≡ Some (Filler r)
-      cut_rest c z k p = c.within (tile_size tile) (omega arith) ∙ behind_first (tile_size tile) r refl z p
-        where
-          behind_first : (m r : ℕ) → tile_size tile ≡ m → 0 < m → 0 < r → tile_at m (tile ∷ remainder r) ≡ Some (Filler r)
-          behind_first zero r q z p = absurd (omega arith)
-          behind_first (suc m) zero q z p = absurd (omega arith)
-          behind_first (suc m) (suc r) q z p =
-              let none : suc m - suc m ≡ 0 = omega arith in
-              rw (q, le-leb (suc m) (suc m) (omega arith), none) refl
-
-      both_below : (from to w : ℕ) (b : Bool) (a d : ℕ) → w < from → (if is_between from to w && b then a else d) ≡ d
-      both_below from to w b a d h = rw (lt-leb from w h) refl
-
-      both_inside : (from to w : ℕ) (b : Bool) (a d : ℕ) → from ≤ w → w < to
-          → (if is_between from to w && b then a else d) ≡ (if b then a else d)
-      both_inside from to w b a d l h = rw (le-leb from w l, lt-ltb w to h) refl
-
-      both_above : (from to w : ℕ) (b : Bool) (a d : ℕ) → to ≤ w → (if is_between from to w && b then a else d) ≡ d
-      both_above from to w b a d h = go (leb from w)
-        where
-          none : ltb w to ≡ false
-          none = le-ltb w to h
-
-          go : (k : Bool) → (if (k && ltb w to) && b then a else d) ≡ d
-          go true = rw none refl
-          go false = refl
+      (entries_cut t t' x n r tile shaped (shaped_of size memory'.all rows t' w.is_table w.table_is) cut was some sum entries new put)
+      (within_cut t t' memory.written memory'.written x n r tile more cut was sum)
 
   pub taken_sound : (memory' : Memory) (rows' : List Row) (low free' k : ℕ) → first_free t ≡ Some k → AreUsedBelow low rows'
       → free' ≡ free_row_count rows' → memory.written ≤ memory'.written → IsWrittenTable size memory'.all rows' (taken t (first_free t))
@@ -284,7 +227,8 @@ module _ (size shift lowest free : ℕ) (entries : Entries) (starts : Starts) (m
       let taken_is = region_taken t k first in
       let fewer : (y : ℕ) (u : Tile) → tile_in (taken t (Some k)) y ≡ Some u → tile_in t y ≡ Some u =
       λ y u h. sym (taken_is.others y) ∙ h in
-      fewer_sound starts memory' rows' low free' (taken t (Some k)) taken_is.count fewer used counted refl refl
+      fewer_sound starts memory' rows' low free' (taken t (Some k)) taken_is.count fewer (λ b y h near. taken_is.others y) used counted
+      refl refl
       (λ g. starts_same t (taken t (Some k)) starts.flags g taken_is.others)
       more
       (subst (λ (o : Option ℕ). IsWrittenTable size memory'.all rows' (taken t o)) first w)
@@ -304,7 +248,13 @@ module _ (size shift lowest free : ℕ) (entries : Entries) (starts : Starts) (m
               | inl f ↦ absurd (let z : None ≡ Some u = sym (x.gone y b f) ∙ h in cc)
               | inr f ↦ sym (x.others y (inr f)) ∙ h
             ]
-          ]) used counted clear.region_words clear.len
+          ]) (λ b y h near. x.others y (elim (cases_lt (b / t.words_per_region) k) [
+            | inl f ↦ inl (omega arith)
+            | inr f ↦ elim (cases_lt (b / t.words_per_region) (k + m)) [
+              | inl d ↦ absurd (no_tile (tile_in (released t k) b) (x.gone b f d) h)
+              | inr d ↦ inr (omega arith)
+            ]
+          ])) used counted clear.region_words clear.len
           (λ g. starts_released t (released t k) starts starts' g k m shaped.positive some later x clear) more w
 
       go : (r : Region) → nth_region t k ≡ r → IsRegionTable size shift low free' entries starts' memory' rows'
@@ -317,7 +267,7 @@ module _ (size shift lowest free : ℕ) (entries : Entries) (starts : Starts) (m
   pub push_sound : (new : Entries) (starts' : Starts) (memory' : Memory) (rows' : List Row) (low free' k at n weaks : ℕ) (tile : Tile)
       → k < length t.regions → kind_of t k ≡ kinds.Ordinary → 0 < tile_size tile
       → used_of t k + tile_size tile ≤ t.words_per_region → EachForwarded (λ _. ⊥) (tile ∷ [])
-      → at ≡ top_of t k → n ≡ tile_size tile → AreEntriesPut entries new (tile_entry entries.card_words at n tile)
+      → at ≡ top_of t k → n ≡ tile_size tile → AreEntriesPut (IsPut at (at + n)) entries new
       → tile_weaks tile ≡ weaks → starts' ≡ start_added starts at weaks → AreUsedBelow low rows' → free' ≡ free_row_count rows'
       → memory.written ≤ memory'.written → at + n ≤ memory'.written → IsWrittenTable size memory'.all rows' (push_tile t k tile)
       → IsRegionTable size shift low free' new starts' memory' rows'
@@ -333,7 +283,7 @@ module _ (size shift lowest free : ℕ) (entries : Entries) (starts : Starts) (m
 
   pub run_sound : (new : Entries) (starts' : Starts) (memory' : Memory) (rows' : List Row) (low free' k m at n weaks : ℕ) (o : Stored)
       → 0 < m → first_run is_free m t.regions ≡ Some k → at ≡ k * t.words_per_region → n ≡ tile_size (Object o)
-      → AreEntriesPut entries new (λ w before. if is_between at (at + n) w then at else before)
+      → AreEntriesPut (IsPut at (at + n)) entries new
       → length o.weaks ≡ weaks → starts' ≡ start_added starts at weaks → AreUsedBelow low rows' → free' ≡ free_row_count rows'
       → memory.written ≤ memory'.written → at + n ≤ memory'.written
       → IsWrittenTable size memory'.all rows' (with_regions t k m (run_regions t.words_per_region o m))
@@ -354,21 +304,20 @@ module _ (size shift lowest free : ℕ) (entries : Entries) (starts : Starts) (m
       (λ y apart. made.others y (λ z. apart (z ∙ sym there))) long put (none_there t at void)
       (notes starts starts' at weaks (Object o) known slots flags_are) used counted more fits w
 
-  pub front_sound : (new : Entries) (starts' : Starts) (memory' : Memory) (x n r at b end weaks : ℕ) (tile : Tile)
+  pub front_sound : (new : Entries) (starts' : Starts) (memory' : Memory) (x n r at end weaks : ℕ) (tile : Tile)
       → tile_in t x ≡ Some (Filler n) → 0 < tile_size tile → tile_size tile + r ≡ n → EachForwarded (λ _. ⊥) (tile ∷ [])
-      → b ≡ tile_size tile → at ≡ x + tile_size tile → end ≡ x + n
-      → AreEntriesPut entries new (λ w before. rest_entry entries.card_words at end w (tile_entry entries.card_words x b tile w before))
+      → at ≡ x + tile_size tile → end ≡ x + n
+      → AreEntriesPut (IsCutOff entries.card_words x at end) entries new
       → tile_weaks tile ≡ weaks → starts' ≡ start_added starts x weaks
       → memory.written ≤ memory'.written → IsWrittenTable size memory'.all rows (replace_tile t x (tile ∷ remainder r))
       → IsRegionTable size shift lowest free new starts' memory' rows
-  front_sound new starts' memory' x n r at b end weaks tile was some sum unmoved b_is at_is end_is put
-      slots flags_are more w =
+  front_sound new starts' memory' x n r at end weaks tile was some sum unmoved at_is end_is put slots flags_are more w =
       let total : total_size (tile ∷ remainder r) ≡ n = ap (λ (m : ℕ). tile_size tile + m) (remainder_total r) ∙ sum in
       let cut = filler_replaced t x n (tile ∷ remainder r) shaped.positive shaped.fitting was (omega arith) (some, remainder_positive r)
       total (joined_unmoved tile r unmoved) in
       let n' = notes starts starts' x weaks tile (known_now x (Filler n) was (omega arith)) slots flags_are in
       cut_sound new starts' memory' (replace_tile t x (tile ∷ remainder r)) x n r tile cut was some sum
-      (rw (b_is, at_is, end_is) at put) n' more w
+      (rw (at_is, end_is) at put) n' more w
     where
       joined_unmoved : (u : Tile) (r : ℕ) → EachForwarded (λ _. ⊥) (u ∷ []) → EachForwarded (λ _. ⊥) (u ∷ remainder r)
       joined_unmoved (Forwarded to m) r h = absurd h.0

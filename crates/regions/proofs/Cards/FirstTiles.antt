@@ -1,13 +1,18 @@
--- The entries of first tiles: how they are written, and that they stay right.
-use Rattle.regions.proofs.Common.{◌≡◌, ◌≢◌, ◌+◌, ◌-◌, ◌*◌, ◌/◌, ◌%◌, ◌<◌, ◌≤◌, ◌⊎◌, ◌∙◌, ℕ, suc, Bool, true, false, Some, List, subst}
-use Rattle.regions.proofs.Common.{length, length-set, get_or, set, inl, inr, refl, sym, ap, arith, leb, ltb, if◌then◌else◌, ◌&&◌, ◌==◌}
-use Rattle.regions.proofs.Common.{cases_lt, cases_eq, le-leb, lt-leb, lt-ltb, le-ltb, get_or-set_same, get_or-set_other, div_ceil_times}
-use Rattle.regions.proofs.Common.{mul-le, div_ceil, is_between, Tile, Object, Filler, Forwarded, tile_size, Table, tile_in, IsHolder}
-use Rattle.regions.proofs.Common.{IsShaped, Entries, AreEntries, entry_of, last_card, start_in}
-use Rattle.std.proofs.Common.{eqb}
-use Rattle.std.proofs.lemmas.Bool.{eqb-false, eq-eqb, ne_eqb}
-use Rattle.regions.proofs.Words.Divides.{div_is, div_low}
+-- The entries of first tiles: how they are written, and that they lead on.
+use Rattle.regions.proofs.Common.{◌≡◌, ◌≢◌, ◌+◌, ◌-◌, ◌*◌, ◌/◌, ◌%◌, ◌<◌, ◌≤◌, ◌⊎◌, ◌∷◌, ◌∙◌, ℕ, suc, Bool, true, false, Some, None, Option}
+use Rattle.regions.proofs.Common.{List, zero, IsSome, subst, length, length-set, get_or, set, inl, inr, refl, sym, ap, arith, leb, ltb}
+use Rattle.regions.proofs.Common.{if◌then◌else◌, ◌&&◌, cases_lt, cases_eq, le-leb, lt-leb, lt-ltb, le-ltb, get_or-set_same}
+use Rattle.regions.proofs.Common.{get_or-set_other}
+use Rattle.regions.proofs.Common.{div_ceil_times, mul-le, div_ceil, is_between, Tile, Filler, tile_size, tile_at, Table, tile_in, tiles_of}
+use Rattle.regions.proofs.Common.{remainder}
+use Rattle.regions.proofs.Common.{IsHolder, IsShaped, Entries, AreEntries, AreEntriesPut, LeadsTo, IsCutOff, IsOwn, IsPut}
+use Rattle.regions.proofs.Words.Divides.{div_is}
+use Rattle.regions.proofs.Walks.WalkFrom.{cut_at, tile_listed}
 use Rattle.regions.proofs.Tiles.Holders.{one_holder}
+use Rattle.regions.proofs.Tiles.Placing.{Replaces, remainder_total, tile_at-end, filler_region}
+use Rattle.regions.proofs.Common.{HasCard, ◌^◌, bit_xor, max_words, pow_pos}
+use Rattle.regions.proofs.Blocks.{same_block}
+use Rattle.std.proofs.Math.Pow.{pow_mono}
 
 -- ---- how they are written
 -- entries from a first card up to another are written
@@ -97,129 +102,101 @@ cards_between len at end c x y z =
       ]
     ]
 
--- where no card begins
-pub none_between : (len at end c x y : ℕ) → 0 < len → div_ceil end len ≤ div_ceil at len
-    → (if is_between at end (c * len) then x else y) ≡ y
-none_between len at end c x y z h = elim (cases_lt c (div_ceil at len)) [
-  | inl b ↦ if_below at end (c * len) x y (card_before c at len z b)
-  | inr b ↦ if_above at end (c * len) x y (card_behind c end len z (omega arith))
+-- the last card that begins in the words has their start as its entry
+pub rest_put : (old : List ℕ) (len at end past c : ℕ) → 0 < len → past ≡ div_ceil end len → div_ceil at len < past → past ≤ length old
+    → (get_or (set old (past - 1) at) c 0 ≡ get_or old c 0) ⊎ IsOwn at end (c * len) (get_or (set old (past - 1) at) c 0)
+rest_put old len at end past c z e h fits = elim (cases_eq c (past - 1)) [
+  | inl b ↦ inr (
+    card_behind c at len z (omega arith),
+    card_before c end len z (omega arith),
+    ap (λ (k : ℕ). get_or (set old (past - 1) at) k 0) b ∙ get_or-set_same old (past - 1) at 0 (omega arith),
+  )
+  | inr b ↦ inl (get_or-set_other old (past - 1) c at 0 b)
 ]
 
--- the last card that begins below an end, by the first one behind it
-pub last_is : (end len : ℕ) → 0 < len → 0 < div_ceil end len → div_ceil end len - 1 ≡ (end - 1) / len
-last_is end len z some =
-    let last : ℕ = div_ceil end len - 1 in
-    let before = card_before last end len z (omega arith) in
-    let behind = card_behind (div_ceil end len) end len z (omega arith) in
-    let next : div_ceil end len ≡ suc last = omega arith in
-    let whole : div_ceil end len * len ≡ last * len + len = ap (λ (n : ℕ). n * len) next ∙ omega arith in
-    sym (div_is (end - 1) len last (omega arith) (omega (arith, whole)))
-
--- the last card that begins below an end
-pub last_known : (end len n : ℕ) → 0 < len → 0 < end → end ≤ n * len → (end - 1) / len < n
-last_known end len n z some h = elim (cases_lt ((end - 1) / len) n) [
-  | inl b ↦ b
-  | inr b ↦ (let low = div_low (end - 1) len ((end - 1) / len) z refl in
-      let m = mul-le n len ((end - 1) / len) len b (omega arith) in
-      absurd (omega arith))
-]
-
--- the last card's entry is written
-pub start_written : (old : List ℕ) (len at end c : ℕ) → 0 < len → at < end → at ≤ (end - 1) / len * len → (end - 1) / len < length old
-    → get_or (set old ((end - 1) / len) at) c 0
-    ≡ (if is_between at end (c * len) && (c * len == last_card len end) then at else get_or old c 0)
-start_written old len at end c z h low inside = elim (cases_eq c ((end - 1) / len)) [
-  | inl e ↦ (
-      let high = div_low (end - 1) len ((end - 1) / len) z refl in
-      rw (
-        e,
-        get_or-set_same old ((end - 1) / len) at 0 inside,
-        le-leb at ((end - 1) / len * len) low,
-        lt-ltb ((end - 1) / len * len) end (omega (arith, high)),
-        eq-eqb ((end - 1) / len * len) ((end - 1) / len * len) refl,
-      ) refl)
-  | inr e ↦ get_or-set_other old ((end - 1) / len) c at 0 e ∙ sym (none (is_between at end (c * len)) (other e))
-]
-  where
-    other : c ≢ (end - 1) / len → eqb (c * len) (last_card len end) ≡ false
-    other e = ne_eqb (c * len) (last_card len end) (λ same. elim (cases_lt c ((end - 1) / len)) [
-      | inl b ↦ (let m = mul-le (suc c) len ((end - 1) / len) len b (omega arith) in omega arith)
-      | inr b ↦
-          (let m = mul-le (suc ((end - 1) / len)) len c len (let ne : c ≢ (end - 1) / len = e in omega arith) (omega arith) in omega arith)
-    ])
-
-    none : (b : Bool) → eqb (c * len) (last_card len end) ≡ false
-        → (if b && (c * len == last_card len end) then at else get_or old c 0) ≡ get_or old c 0
-    none true f = rw f refl
-    none false f = refl
-
--- a card begins in the words, so its last one's entry is written; else none is
-pub start_put : (old : List ℕ) (len at end past c : ℕ) → 0 < len → past ≡ div_ceil end len → div_ceil at len < past → end ≤ length old * len
-    → get_or (set old (past - 1) at) c 0 ≡ (if is_between at end (c * len) && (c * len == last_card len end) then at else get_or old c 0)
-start_put old len at end past c z e h within =
-    let last : past - 1 ≡ (end - 1) / len = ap (λ (n : ℕ). n - 1) e ∙ last_is end len z (omega arith) in
-    let low : at ≤ (past - 1) * len = card_behind (past - 1) at len z (omega arith) in
-    let high : (past - 1) * len < end = card_before (past - 1) end len z (omega arith) in
-    ap (λ (k : ℕ). get_or (set old k at) c 0) last
-    ∙ start_written old len at end c z (omega arith) (subst (λ (k : ℕ). at ≤ k * len) last low)
-    (last_known end len (length old) z (omega arith) within)
-
-pub start_stays : (old : List ℕ) (len at end c : ℕ) → 0 < len → div_ceil end len ≤ div_ceil at len
-    → get_or old c 0 ≡ (if is_between at end (c * len) && (c * len == last_card len end) then at else get_or old c 0)
-start_stays old len at end c z h = sym (go (c * len == last_card len end))
-  where
-    and_true : (b : Bool) → (b && true) ≡ b
-    and_true true = refl
-    and_true false = refl
-
-    and_no : (b : Bool) → (b && false) ≡ false
-    and_no true = refl
-    and_no false = refl
-
-    go : (b : Bool) → (if is_between at end (c * len) && b then at else get_or old c 0) ≡ get_or old c 0
-    go true = subst (λ (d : Bool). (if d then at else get_or old c 0) ≡ get_or old c 0) (sym (and_true (is_between at end (c * len))))
-        (none_between len at end c at (get_or old c 0) z h)
-    go false = subst (λ (d : Bool). (if d then at else get_or old c 0) ≡ get_or old c 0) (sym (and_no (is_between at end (c * len)))) refl
-
--- the cards of a filler
-pub filler_put : (old mid : List ℕ) (len at n past c : ℕ) → 0 < len → past ≡ div_ceil (at + n) len → div_ceil at len < past
-    → length mid ≡ length old → at + n ≤ length old * len
-    → ((k : ℕ) → get_or mid k 0 ≡ (if is_between (div_ceil at len) (past - 1) k then (past - 1) * len else get_or old k 0))
-    → get_or (set mid (past - 1) at) c 0
-    ≡ (if is_between at (at + n) (c * len) then entry_of len at (Filler n) (c * len) else get_or old c 0)
-filler_put old mid len at n past c z e h same within fill =
-    let last : past - 1 ≡ (at + n - 1) / len = ap (λ (k : ℕ). k - 1) e ∙ last_is (at + n) len z (omega arith) in
-    let far : (past - 1) * len ≡ last_card len (at + n) = ap (λ (k : ℕ). k * len) last in
-    let high : (past - 1) * len < at + n = card_before (past - 1) (at + n) len z (omega arith) in
-    let known : past - 1 < length mid =
-    subst (λ (k : ℕ). k < length mid) (sym last) (rw same (last_known (at + n) len (length old) z (omega arith) within)) in
-    elim (cases_eq c (past - 1)) [
+pub last_put : (old : List ℕ) (len at end past c : ℕ) → 0 < len → past ≡ div_ceil end len → div_ceil at len < past → past ≤ length old
+    → c * len < end → end ≤ c * len + len → get_or (set old (past - 1) at) c 0 ≡ at
+last_put old len at end past c z e h fits low high =
+    let below : c < past = elim (cases_lt c past) [
+      | inl b ↦ b
+      | inr b ↦ (let reached = card_behind c end len z (omega arith) in absurd (omega arith))
+    ] in
+    let is : c ≡ past - 1 = elim (cases_lt c (past - 1)) [
       | inl b ↦ (
-          let low : at ≤ c * len = card_behind c at len z (omega arith) in
-          let is : (c * len == last_card len (at + n)) ≡ true =
-          eq-eqb (c * len) (last_card len (at + n)) (ap (λ (k : ℕ). k * len) b ∙ far) in
-          let there : c * len < at + n = rw b high in
-          ap (λ (k : ℕ). get_or (set mid (past - 1) at) k 0) b ∙ get_or-set_same mid (past - 1) at 0 known
-          ∙ sym (if_between at (at + n) (c * len) (entry_of len at (Filler n) (c * len)) (get_or old c 0) low there ∙ rw is refl))
-      | inr b ↦ get_or-set_other mid (past - 1) c at 0 b ∙ fill c ∙ elim (cases_lt c (div_ceil at len)) [
-        | inl d ↦ if_below (div_ceil at len) (past - 1) c ((past - 1) * len) (get_or old c 0) d
-            ∙ sym (if_below at (at + n) (c * len) (entry_of len at (Filler n) (c * len)) (get_or old c 0) (card_before c at len z d))
-        | inr d ↦ elim (cases_lt c (past - 1)) [
-          | inl f ↦ (
-              let less : c * len < (past - 1) * len = (let m = mul-le (suc c) len (past - 1) len f (omega arith) in omega arith) in
-              let not_last : (c * len == last_card len (at + n)) ≡ false =
-              ne_eqb (c * len) (last_card len (at + n)) (λ q. let w : c * len ≡ (past - 1) * len = q ∙ sym far in omega arith) in
-              if_between (div_ceil at len) (past - 1) c ((past - 1) * len) (get_or old c 0) d f ∙ far
-              ∙ sym (if_between at (at + n) (c * len) (entry_of len at (Filler n) (c * len)) (get_or old c 0)
-              (card_behind c at len z d) (omega arith) ∙ rw not_last refl))
-          | inr f ↦ if_above (div_ceil at len) (past - 1) c ((past - 1) * len) (get_or old c 0) f
-              ∙ sym (if_above at (at + n) (c * len) (entry_of len at (Filler n) (c * len)) (get_or old c 0)
-              (card_behind c (at + n) len z (omega arith)))
-        ]
-      ]
-    ]
+          let m = mul-le (suc c) len (past - 1) len b (omega arith) in
+          let before = card_before (past - 1) end len z (omega arith) in
+          absurd (omega arith))
+      | inr b ↦ omega arith
+    ] in
+    ap (λ (k : ℕ). get_or (set old (past - 1) at) k 0) is ∙ get_or-set_same old (past - 1) at 0 (omega arith)
 
--- ---- how they stay right
+-- no card begins in the rest, so none is its last
+pub last_none : {A : Type 0} (len at end c : ℕ) → 0 < len → div_ceil end len ≤ div_ceil at len → at ≤ c * len → c * len < end → A
+last_none len at end c z h low high = elim (cases_lt c (div_ceil at len)) [
+  | inl b ↦ (let before = card_before c at len z b in absurd (omega arith))
+  | inr b ↦ (let reached = card_behind c end len z (omega arith) in absurd (omega arith))
+]
+
+-- the entries of an object are written, and then that of what is left
+pub cut_put : (cw at middle end w before mid after : ℕ) → IsPut at middle w before mid → (after ≡ mid) ⊎ IsOwn middle end w after
+    → (middle ≤ w → w < end → end ≤ w + cw → after ≡ middle) → IsCutOff cw at middle end w before after
+cut_put cw at middle end w before mid after e rest last = record {
+  front = λ low high. elim rest [
+    | inl same ↦ same ∙ e ∙ if_between at middle w at before low high
+    | inr own ↦ (let above = own.0 in absurd (omega arith))
+  ];
+  last = λ some low high near. last low high near;
+  others = λ apart. elim rest [
+    | inl same ↦ inl (same ∙ e ∙ elim apart [
+      | inl b ↦ if_below at middle w at before b
+      | inr b ↦ if_above at middle w at before b
+    ])
+    | inr own ↦ inr own
+  ];
+}
+
+-- a card that begins at or below one of two words in one card begins at or below the other
+card_below : (cw c x y : ℕ) → 0 < cw → x / cw ≡ y / cw → c * cw ≤ y → c * cw ≤ x
+card_below cw c x y some same below =
+    let low : x / cw * cw ≤ x = omega (arith, some) in
+    let high : y < y / cw * cw + cw = omega (arith, some) in
+    let at_most : c ≤ y / cw = elim (cases_lt (y / cw) c) [
+      | inl b ↦ (let m = mul-le (suc (y / cw)) cw c cw b (omega arith) in absurd (omega (arith, m, high, below)))
+      | inr b ↦ b
+    ] in
+    let m = mul-le c cw (y / cw) cw at_most (omega arith) in
+    let whole : x / cw * cw ≡ y / cw * cw = ap (λ (n : ℕ). n * cw) same in
+    omega (arith, low, m, whole)
+
+-- no card begins in an object whose last word is in one card with the word before it
+pub none_cut : (cw k at middle : ℕ) → cw ≡ 2 ^ k → k < 12 → middle ≤ max_words
+    → bit_xor ((at + 4294967295) % 4294967296) ((middle + 4294967295) % 4294967296) < cw → HasCard cw at middle → ⊥
+none_cut cw k at middle power narrow small near card =
+    by_ends ((at + 4294967295) % 4294967296) ((middle + 4294967295) % 4294967296) refl refl near
+  where
+    by_ends : (x y : ℕ) → x ≡ (at + 4294967295) % 4294967296 → y ≡ (middle + 4294967295) % 4294967296 → bit_xor x y < cw → ⊥
+    by_ends x y x_is y_is near =
+        let some : 0 < cw = rw power (pow_pos k) in
+        let few : cw ≤ 4096 = rw power (pow_mono {i = k} {j = 12} (omega arith)) in
+        let (c, low, high) = card in
+        let same : x / cw ≡ y / cw = same_block x y cw k power near in
+        let in_y : c * cw ≤ y = omega (arith, y_is, high, small) in
+        let in_x : c * cw ≤ x = card_below cw c x y some same in_y in
+        let y_small : y < 2147483648 = omega (arith, y_is, high, small) in
+        let far : x / cw * cw ≤ y =
+        (let m : y / cw * cw ≤ y = omega (arith, some) in subst (λ (n : ℕ). n * cw ≤ y) (sym same) m) in
+        let x_near : x < x / cw * cw + cw = omega (arith, some) in
+        omega (arith, x_is, low, in_x, y_small, far, x_near, few)
+
+-- nothing is written where no card begins in what is cut off
+pub cut_none : (cw at middle end c before : ℕ) → (HasCard cw at middle → ⊥) → IsCutOff cw at middle end (c * cw) before before
+cut_none cw at middle end c before none = record {
+  front = λ low high. absurd (none (c, low, high));
+  last = λ some low high near. absurd (none some);
+  others = λ apart. inl refl;
+}
+
+-- ---- how they lead on
 holds : (t : Table) (a w : ℕ) (u : Tile) → tile_in t a ≡ Some u → a ≤ w → w < a + tile_size u → IsHolder t a w
 holds t a w u h low high = record { tile = u; tile_is = h; low = low; high = high }
 
@@ -227,189 +204,176 @@ holds t a w u h low high = record { tile = u; tile_is = h; low = low; high = hig
 one_tile : (t : Table) (a b : ℕ) (u v : Tile) → tile_in t a ≡ Some u → tile_in t b ≡ Some v → b ≡ a → u ≡ v
 one_tile t a b u v h k e = let z : Some u ≡ Some v = sym h ∙ ap (tile_in t) (sym e) ∙ k in cc
 
--- one more tile, or one in place of another
-pub entries_added : (t t' : Table) (old new : Entries) (a : ℕ) (tile : Tile) → IsShaped t'
-    → new.card_words ≡ old.card_words → tile_in t' a ≡ Some tile
-    → ((y : ℕ) → y ≢ a → tile_in t' y ≡ tile_in t y)
-    → ((c : ℕ) → a ≤ c * old.card_words → c * old.card_words < a + tile_size tile
-    → get_or new.starts c 0 ≡ entry_of old.card_words a tile (c * old.card_words))
-    → ((c : ℕ) → (c * old.card_words < a) ⊎ (a + tile_size tile ≤ c * old.card_words) → get_or new.starts c 0 ≡ get_or old.starts c 0)
-    → AreEntries t old → AreEntries t' new
-entries_added t t' old new a tile g len is others here there e = rw len (λ b c u h low high.
+pub no_tile : (o : Option Tile) → o ≡ None → IsSome o → ⊥
+no_tile None e s = cc
+no_tile (Some u) e s = cc
+
+-- an entry whose tile stays leads on
+leads_on : (t t' : Table) (entry a b w : ℕ) → t'.words_per_region ≡ t.words_per_region
+    → (IsSome (tile_in t entry) → IsSome (tile_in t' entry)) → a / t.words_per_region ≡ b / t.words_per_region
+    → LeadsTo t entry a w → LeadsTo t' entry b w
+leads_on t t' entry a b w wide stays same l = record { start = stays l.start; low = l.low; region = rw wide (l.region ∙ same) }
+
+-- the entry of a tile is where the tile starts
+leads_to : (t : Table) (a b w : ℕ) (tile : Tile) → tile_in t a ≡ Some tile → a ≤ w → b ≡ a → LeadsTo t a b w
+leads_to t a b w tile is low same = record {
+  start = subst (λ (o : Option Tile). IsSome o) (sym is) refl;
+  low = low;
+  region = ap (λ (n : ℕ). n / t.words_per_region) (sym same);
+}
+
+-- a tile starts wherever one did
+starts_on : (t t' : Table) (a y : ℕ) (tile : Tile) → tile_in t' a ≡ Some tile → ((y : ℕ) → y ≢ a → tile_in t' y ≡ tile_in t y)
+    → IsSome (tile_in t y) → IsSome (tile_in t' y)
+starts_on t t' a y tile is others h = elim (cases_eq y a) [
+  | inl same ↦ subst (λ (o : Option Tile). IsSome o) (sym (ap (tile_in t') same ∙ is)) refl
+  | inr other ↦ subst (λ (o : Option Tile). IsSome o) (sym (others y other)) h
+]
+
+-- one more tile, the entry of the cards that begin in it
+pub entries_added : (t t' : Table) (old new : Entries) (a : ℕ) (tile : Tile) → IsShaped t' → t'.words_per_region ≡ t.words_per_region
+    → tile_in t' a ≡ Some tile → ((y : ℕ) → y ≢ a → tile_in t' y ≡ tile_in t y)
+    → AreEntriesPut (IsPut a (a + tile_size tile)) old new → AreEntries t old → AreEntries t' new
+entries_added t t' old new a tile g wide is others put e = rw put.card_words (λ b c h.
     let w : ℕ = c * old.card_words in
+    let before : ℕ = get_or old.starts c 0 in
+    let end : ℕ = a + tile_size tile in
     elim (cases_eq b a) [
       | inl same ↦ (
-          let v : tile ≡ u = one_tile t' a b tile u is h same in
-          let size = ap tile_size v in
-          here c (omega arith) (omega arith) ∙ ap (λ (n : ℕ). entry_of old.card_words n tile w) (sym same)
-          ∙ ap (λ (x : Tile). entry_of old.card_words b x w) v)
+          let size = ap tile_size (one_tile t' a b tile h.tile is h.tile_is same) in
+          let low : a ≤ w = omega (arith, h.low) in
+          let high : w < end = omega (arith, h.high) in
+          subst (λ (n : ℕ). LeadsTo t' n b w) (sym (put.entries c ∙ if_between a end w a before low high))
+          (leads_to t' a b w tile is low same))
       | inr other ↦ (
-          let apart : (w < a) ⊎ (a + tile_size tile ≤ w) = elim (cases_lt w a) [
-            | inl lt ↦ inl lt
-            | inr ge ↦ elim (cases_lt w (a + tile_size tile)) [
-              | inl lt ↦ absurd (other (one_holder t' b a w g (holds t' b w u h low high) (holds t' a w tile is ge lt)))
-              | inr le ↦ inr le
+          let was : IsHolder t b w = holds t b w h.tile (sym (others b other) ∙ h.tile_is) h.low h.high in
+          let same : get_or new.starts c 0 ≡ before = put.entries c ∙ elim (cases_lt w a) [
+            | inl lt ↦ if_below a end w a before lt
+            | inr ge ↦ elim (cases_lt w end) [
+              | inl lt ↦ absurd (other (one_holder t' b a w g h (holds t' a w tile is ge lt)))
+              | inr le ↦ if_above a end w a before le
             ]
           ] in
-          there c apart ∙ e b c u (sym (others b other) ∙ h) low high)
+          subst (λ (n : ℕ). LeadsTo t' n b w) (sym same)
+          (leads_on t t' before b b w wide (starts_on t t' a before tile is others) refl (e b c was)))
     ])
 
--- a tile of the same size and entry in place of another
-pub entries_same : (t t' : Table) (entries : Entries) (a : ℕ) (u v : Tile) → tile_in t a ≡ Some u → tile_in t' a ≡ Some v
-    → ((y : ℕ) → y ≢ a → tile_in t' y ≡ tile_in t y) → tile_size v ≡ tile_size u
-    → ((w : ℕ) → entry_of entries.card_words a u w ≡ entry_of entries.card_words a v w)
+-- a tile of the same size in place of another
+pub entries_same : (t t' : Table) (entries : Entries) (a : ℕ) (u v : Tile) → t'.words_per_region ≡ t.words_per_region
+    → tile_in t a ≡ Some u → tile_in t' a ≡ Some v → ((y : ℕ) → y ≢ a → tile_in t' y ≡ tile_in t y) → tile_size v ≡ tile_size u
     → AreEntries t entries → AreEntries t' entries
-entries_same t t' entries a u v is is' others size entry e b c x h low high =
-    elim (cases_eq b a) [
+entries_same t t' entries a u v wide is is' others size e b c h =
+    let w : ℕ = c * entries.card_words in
+    let before : ℕ = get_or entries.starts c 0 in
+    let was : IsHolder t b w = elim (cases_eq b a) [
       | inl same ↦ (
-          let z : v ≡ x = one_tile t' a b v x is' h same in
-          let s = ap tile_size z in
-          e a c u is (omega arith) (omega arith) ∙ entry (c * entries.card_words)
-          ∙ ap (λ (n : ℕ). entry_of entries.card_words n v (c * entries.card_words)) (sym same)
-          ∙ ap (λ (y : Tile). entry_of entries.card_words b y (c * entries.card_words)) z)
-      | inr other ↦ e b c x (sym (others b other) ∙ h) low high
-    ]
+          let long = ap tile_size (one_tile t' a b v h.tile is' h.tile_is same) in
+          holds t b w u (ap (tile_in t) same ∙ is) h.low (omega (arith, h.high)))
+      | inr other ↦ holds t b w h.tile (sym (others b other) ∙ h.tile_is) h.low h.high
+    ] in
+    leads_on t t' before b b w wide (starts_on t t' a before v is' others) refl (e b c was)
 
--- no new tile
-pub entries_fewer : (t t' : Table) (entries : Entries) → ((y : ℕ) (u : Tile) → tile_in t' y ≡ Some u → tile_in t y ≡ Some u)
+-- no new tile, and a region with a tile has all that it had
+pub entries_fewer : (t t' : Table) (entries : Entries) → t'.words_per_region ≡ t.words_per_region
+    → ((y : ℕ) (u : Tile) → tile_in t' y ≡ Some u → tile_in t y ≡ Some u)
+    → ((b y : ℕ) → IsSome (tile_in t' b) → y / t.words_per_region ≡ b / t.words_per_region → tile_in t' y ≡ tile_in t y)
     → AreEntries t entries → AreEntries t' entries
-entries_fewer t t' entries f e b c u h low high = e b c u (f b u h) low high
+entries_fewer t t' entries wide fewer near e b c h =
+    let w : ℕ = c * entries.card_words in
+    let before : ℕ = get_or entries.starts c 0 in
+    let l = e b c (holds t b w h.tile (fewer b h.tile h.tile_is) h.low h.high) in
+    let there : IsSome (tile_in t' b) = subst (λ (o : Option Tile). IsSome o) (sym h.tile_is) refl in
+    leads_on t t' before b b w wide (λ s. subst (λ (o : Option Tile). IsSome o) (sym (near b before there l.region)) s) refl l
 
--- a tile is cut off the front of a filler of n words, of which r are left
-pub entries_cut : (t t' : Table) (old new : Entries) (x n r : ℕ) (tile : Tile) → IsShaped t' → new.card_words ≡ old.card_words
-    → tile_in t x ≡ Some (Filler n) → tile_size tile + r ≡ n → tile_in t' x ≡ Some tile
-    → (0 < r → tile_in t' (x + tile_size tile) ≡ Some (Filler r))
-    → ((y : ℕ) → (y < x) ⊎ (x + n ≤ y) → tile_in t' y ≡ tile_in t y)
-    → ((c : ℕ) → x ≤ c * old.card_words → c * old.card_words < x + tile_size tile
-    → get_or new.starts c 0 ≡ entry_of old.card_words x tile (c * old.card_words))
-    → ((c : ℕ) → x + tile_size tile ≤ c * old.card_words → c * old.card_words < x + n
-    → get_or new.starts c 0
-    ≡ (if c * old.card_words == last_card old.card_words (x + n) then x + tile_size tile else get_or old.starts c 0))
-    → ((c : ℕ) → (c * old.card_words < x) ⊎ (x + n ≤ c * old.card_words) → get_or new.starts c 0 ≡ get_or old.starts c 0)
-    → AreEntries t old → AreEntries t' new
-entries_cut t t' old new x n r tile g len was sum is rest others here behind there e = rw len (λ b c u h low high. go b c u h low high)
-  where
-    s : ℕ
-    s = tile_size tile
+-- the words of a filler are in one region
+filler_region_of : (t : Table) (x n j : ℕ) → IsShaped t → tile_in t x ≡ Some (Filler n) → j < n
+    → (x + j) / t.words_per_region ≡ x / t.words_per_region
+filler_region_of t x n j g is lt =
+    let z = g.positive in
+    let k : ℕ = x / t.words_per_region in
+    let whole : k * t.words_per_region + x % t.words_per_region ≡ x = omega arith in
+    let fits = (g.fitting k).fits (filler_region t x n is).1 in
+    let end = (cut_at (tiles_of t k) (x % t.words_per_region) (Filler n) (tile_listed t x (Filler n) is).0).1 in
+    div_is (x + j) t.words_per_region k (omega arith) (omega (arith, whole, fits, end))
 
-    cw : ℕ
-    cw = old.card_words
+module _ (t t' : Table) (x n r : ℕ) (tile : Tile) (g : IsShaped t) (g' : IsShaped t') (cut : Replaces t t' x n (tile ∷ remainder r))
+    (was : tile_in t x ≡ Some (Filler n)) (some : 0 < tile_size tile) (sum : tile_size tile + r ≡ n) where
+  first : tile_in t' x ≡ Some tile
+  first = let zero_is : x + 0 ≡ x = omega arith in ap (tile_in t') (sym zero_is) ∙ cut.within 0 (omega arith)
 
-    other_entry : (w before : ℕ) → before ≡ entry_of cw x (Filler n) w
-        → (if w == last_card cw (x + n) then x + s else before) ≡ entry_of cw (x + s) (Filler r) w
-    other_entry w before k =
-        let end : x + n ≡ x + s + r = omega arith in
-        rw k (by_end w (eqb w (last_card cw (x + n))) refl end)
-      where
-        by_end : (w : ℕ) (b : Bool) → eqb w (last_card cw (x + n)) ≡ b → x + n ≡ x + s + r
-            → (if w == last_card cw (x + n) then x + s else entry_of cw x (Filler n) w) ≡ entry_of cw (x + s) (Filler r) w
-        by_end w true f end = rw (← end) (rw f refl)
-        by_end w false f end = rw (← end) (rw f refl)
+  rest : 0 < r → tile_in t' (x + tile_size tile) ≡ Some (Filler r)
+  rest p = cut.within (tile_size tile) (omega arith) ∙ behind_first (tile_size tile) r refl some p
+    where
+      behind_first : (m r : ℕ) → tile_size tile ≡ m → 0 < m → 0 < r → tile_at m (tile ∷ remainder r) ≡ Some (Filler r)
+      behind_first zero r q z p = absurd (omega arith)
+      behind_first (suc m) zero q z p = absurd (omega arith)
+      behind_first (suc m) (suc r) q z p =
+          let none : suc m - suc m ≡ 0 = omega arith in
+          rw (q, le-leb (suc m) (suc m) (omega arith), none) refl
 
-    -- a tile that starts within the filler is one of the two
-    within : (b c : ℕ) (u : Tile) → tile_in t' b ≡ Some u → b ≤ c * cw → c * cw < b + tile_size u → x ≤ b
-        → b < x + n → (b ≡ x) ⊎ ((b ≡ x + s) × (0 < r))
-    within b c u h low high ge lt =
-        let self = holds t' b b u h (omega arith) (omega arith) in
-        elim (cases_lt b (x + s)) [
-          | inl f ↦ inl (one_holder t' b x b g self (holds t' x b tile is ge f))
-          | inr f ↦ (
-              let some : 0 < r = omega arith in
-              inr (one_holder t' b (x + s) b g self (holds t' (x + s) b (Filler r) (rest some) f (omega arith)), some))
-        ]
-
-    go : (b c : ℕ) (u : Tile) → tile_in t' b ≡ Some u → b ≤ c * cw → c * cw < b + tile_size u
-        → get_or new.starts c 0 ≡ entry_of cw b u (c * cw)
-    go b c u h low high = elim (cases_lt b x) [
-      | inl lt ↦ outside (inl lt)
-      | inr ge ↦ elim (cases_lt b (x + n)) [
-        | inr le ↦ outside (inr le)
-        | inl lt ↦ elim (within b c u h low high ge lt) [
-          | inl same ↦ (
-              let v : tile ≡ u = one_tile t' x b tile u is h same in
-              let size = ap tile_size v in
-              here c (omega arith) (omega arith) ∙ ap (λ (m : ℕ). entry_of cw m tile (c * cw)) (sym same)
-              ∙ ap (λ (y : Tile). entry_of cw b y (c * cw)) v)
-          | inr (same, some) ↦ (
-              let v : Filler r ≡ u = one_tile t' (x + s) b (Filler r) u (rest some) h same in
-              let size = ap tile_size v in
-              let before : get_or old.starts c 0 ≡ entry_of cw x (Filler n) (c * cw) = e x c (Filler n) was (omega arith) (omega arith) in
-              behind c (omega arith) (omega arith) ∙ other_entry (c * cw) (get_or old.starts c 0) before
-              ∙ ap (λ (m : ℕ). entry_of cw m (Filler r) (c * cw)) (sym same) ∙ ap (λ (y : Tile). entry_of cw b y (c * cw)) v)
-        ]
+  -- a tile still starts wherever one did
+  stays : (y : ℕ) → IsSome (tile_in t y) → IsSome (tile_in t' y)
+  stays y h = elim (cases_lt y x) [
+    | inl lt ↦ subst (λ (o : Option Tile). IsSome o) (sym (cut.others y (inl lt))) h
+    | inr ge ↦ elim (cases_lt y (x + n)) [
+      | inr le ↦ subst (λ (o : Option Tile). IsSome o) (sym (cut.others y (inr le))) h
+      | inl lt ↦ elim (cases_eq y x) [
+        | inl same ↦ subst (λ (o : Option Tile). IsSome o) (sym (ap (tile_in t') same ∙ first)) refl
+        | inr other ↦ (
+            let place : x + (y - x) ≡ y = omega arith in
+            let none : tile_in t y ≡ None = ap (tile_in t) (sym place) ∙ cut.inside (y - x) (omega arith) (omega arith) in
+            absurd (no_tile (tile_in t y) none h))
       ]
     ]
-      where
-        outside : (b < x) ⊎ (x + n ≤ b) → get_or new.starts c 0 ≡ entry_of cw b u (c * cw)
-        outside k =
-            let stays : tile_in t b ≡ Some u = sym (others b k) ∙ h in
-            there c (apart k) ∙ e b c u stays low high
-          where
-            apart : (b < x) ⊎ (x + n ≤ b) → (c * cw < x) ⊎ (x + n ≤ c * cw)
-            apart (inr le) = inr (omega arith)
-            apart (inl lt) = elim (cases_lt (c * cw) x) [
-              | inl f ↦ inl f
-              | inr f ↦ elim (cases_lt (c * cw) (x + n)) [
-                | inr k ↦ inr k
-                | inl k ↦ (
-                    let self = holds t' b (c * cw) u h low high in
-                    elim (cases_lt (c * cw) (x + s)) [
-                      | inl q ↦ (let z = one_holder t' b x (c * cw) g self (holds t' x (c * cw) tile is f q) in absurd (omega arith))
-                      | inr q ↦ (
-                          let some : 0 < r = omega arith in
-                          let z =
-                          one_holder t' b (x + s) (c * cw) g self (holds t' (x + s) (c * cw) (Filler r) (rest some) q (omega arith)) in
-                          absurd (omega arith))
-                    ])
-              ]
-            ]
+  ]
 
--- ---- what is found by them
-pub start_right : (t : Table) (entries : Entries) (a c : ℕ) → 0 < entries.card_words → AreEntries t entries
-    → IsHolder t a (c * entries.card_words) → start_in entries.card_words entries.starts c ≡ a
-start_right t entries a c z e h = go h.tile h.tile_is h.high
-  where
-    cw : ℕ
-    cw = entries.card_words
+  -- a word of a tile was one of a tile of the same region
+  before_cut : (b w : ℕ) → IsHolder t' b w → (a : ℕ) × IsHolder t a w × (a / t.words_per_region ≡ b / t.words_per_region)
+  before_cut b w h = elim (cases_lt b x) [
+    | inl lt ↦ (b, holds t b w h.tile (sym (cut.others b (inl lt)) ∙ h.tile_is) h.low h.high, refl)
+    | inr ge ↦ elim (cases_lt b (x + n)) [
+      | inr le ↦ (b, holds t b w h.tile (sym (cut.others b (inr le)) ∙ h.tile_is) h.low h.high, refl)
+      | inl lt ↦ (
+          let place : x + (b - x) ≡ b = omega arith in
+          let at : tile_at (b - x) (tile ∷ remainder r) ≡ Some h.tile =
+          sym (cut.within (b - x) (omega arith)) ∙ ap (tile_in t') place ∙ h.tile_is in
+          let end = tile_at-end (tile ∷ remainder r) (b - x) h.tile at in
+          let total = remainder_total r in
+          let region = filler_region_of t x n (b - x) g was (omega arith) in (
+            x,
+            holds t x w (Filler n) was (omega (arith, h.low)) (omega (arith, h.high)),
+            sym region ∙ ap (λ (m : ℕ). m / t.words_per_region) place,
+          ))
+    ]
+  ]
 
-    w : ℕ
-    w = c * cw
-
-    direct : (n : ℕ) → n ≤ w → get_or entries.starts c 0 ≡ n → start_in cw entries.starts c ≡ n
-    direct n le f = rw (f, le-leb n w le) refl
-
-    go : (u : Tile) → tile_in t a ≡ Some u → w < a + tile_size u → start_in cw entries.starts c ≡ a
-    go (Object s) is high = direct a h.low (e a c (Object s) is h.low high)
-    go (Forwarded to n) is high = direct a h.low (e a c (Forwarded to n) is h.low high)
-    go (Filler n) is high = by_last (eqb w (last_card cw (a + n))) refl
-      where
-        last : ℕ
-        last = (a + n - 1) / cw
-
-        whole : (a + n - 1) / cw * cw + (a + n - 1) % cw ≡ a + n - 1
-        whole = omega (arith, z)
-
-        part : (a + n - 1) % cw < cw
-        part = omega (arith, z)
-
-        card_le : c ≤ last
-        card_le = elim (cases_lt last c) [
-          | inl b ↦ (let m = mul-le (suc last) cw c cw b (omega arith) in absurd (omega (arith, whole, part)))
-          | inr b ↦ b
-        ]
-
-        le : w ≤ last * cw
-        le = mul-le c cw last cw card_le (omega arith)
-
-        by_last : (b : Bool) → eqb w (last_card cw (a + n)) ≡ b → start_in cw entries.starts c ≡ a
-        by_last true f = direct a h.low (e a c (Filler n) is h.low high ∙ rw f refl)
-        by_last false f =
-            let far : w ≢ last * cw = eqb-false w (last * cw) f in
-            let entry : get_or entries.starts c 0 ≡ last * cw = e a c (Filler n) is h.low high ∙ rw f refl in
-            let low = h.low in
-            let there : get_or entries.starts last 0 ≡ entry_of cw a (Filler n) (last * cw) =
-            e a last (Filler n) is (omega (arith, le, low)) (omega (arith, whole, high)) in
-            let own : entry_of cw a (Filler n) (last * cw) ≡ a = rw (eq-eqb (last * cw) (last * cw) refl) refl in
-            let back : last * cw / cw ≡ last = div_is (last * cw) cw last (omega arith) (omega (arith, z)) in
-            let above : leb (last * cw) w ≡ false = lt-leb (last * cw) w (omega (arith, le, far)) in
-            rw (entry, above, back) (there ∙ own)
+  -- a tile is cut off the front of a filler of n words, of which r are left
+  pub entries_cut : (old new : Entries) → AreEntriesPut (IsCutOff old.card_words x (x + tile_size tile) (x + n)) old new
+      → AreEntries t old → AreEntries t' new
+  entries_cut old new put e = rw put.card_words (λ b c h. elim (cases_lt (c * old.card_words) x) [
+    | inl lt ↦ other b c h ((put.entries c).others (inl lt))
+    | inr ge ↦ elim (cases_lt (c * old.card_words) (x + tile_size tile)) [
+      | inl lt ↦ (
+          let w : ℕ = c * old.card_words in
+          subst (λ (m : ℕ). LeadsTo t' m b w) (sym ((put.entries c).front ge lt))
+          (leads_to t' x b w tile first ge (one_holder t' b x w g' h (holds t' x w tile first ge lt))))
+      | inr le ↦ other b c h ((put.entries c).others (inr le))
+    ]
+  ])
+    where
+      other : (b c : ℕ) → IsHolder t' b (c * old.card_words)
+          → (get_or new.starts c 0 ≡ get_or old.starts c 0)
+          ⊎ IsOwn (x + tile_size tile) (x + n) (c * old.card_words) (get_or new.starts c 0)
+          → LeadsTo t' (get_or new.starts c 0) b (c * old.card_words)
+      other b c h (inl same) =
+          let w : ℕ = c * old.card_words in
+          let (a, before, region) = before_cut b w h in
+          subst (λ (m : ℕ). LeadsTo t' m b w) (sym same)
+          (leads_on t t' (get_or old.starts c 0) a b w cut.size (stays (get_or old.starts c 0)) region (e a c before))
+      other b c h (inr own) =
+          let w : ℕ = c * old.card_words in
+          let m : ℕ = x + tile_size tile in
+          let is : tile_in t' m ≡ Some (Filler r) = rest (omega (arith, own.0, own.1)) in
+          subst (λ (k : ℕ). LeadsTo t' k b w) (sym own.2)
+          (leads_to t' m b w (Filler r) is own.0
+          (one_holder t' b m w g' h (holds t' m w (Filler r) is own.0 (omega (arith, own.1)))))

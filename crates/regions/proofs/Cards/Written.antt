@@ -1,5 +1,6 @@
 -- Entries of which the first are written: the others are 0.
-use Rattle.regions.proofs.Common.{◌≡◌, ◌+◌, ◌-◌, ◌*◌, ◌^◌, ◌≤◌, ◌++◌, ◌∙◌, ℕ, List, length, get_or, replicate, take, refl, sym, ap, arith}
+use Rattle.regions.proofs.Common.{◌≡◌, ◌+◌, ◌-◌, ◌*◌, ◌^◌, ◌≤◌, ◌++◌, ◌∙◌, ℕ, List, length, get_or, replicate, take, refl, sym, ap, subst}
+use Rattle.regions.proofs.Common.{arith}
 use Rattle.regions.proofs.Common.{⊎_elim, cases_lt, div_ceil, div_ceil_times, mul-le, pow_pos, length-append, length-replicate}
 use Rattle.regions.proofs.Common.{get_or_append_left, get_or_past, take_at, AreEntriesPut}
 use Rattle.std.proofs.lemmas.List.{get_or-append_right}
@@ -33,19 +34,21 @@ pub cards_reached : (end shift n past : ℕ) → past ≡ div_ceil end (2 ^ shif
 cards_reached end shift n past e h = rw e (cards_fit end (2 ^ shift) n (pow_pos shift) h)
 
 -- what a write to those that are written makes of all
-entries_put : (f : ℕ → ℕ) (old items lent new rest : List ℕ) (len n i : ℕ) → length new ≡ len → lent ≡ items
-    → (memory items n).all ≡ (memory old n).all → get_or new i 0 ≡ f (get_or lent i 0)
-    → get_or (memory (take len (new ++ rest)) n).all i 0 ≡ f (get_or (memory old n).all i 0)
-entries_put f old items lent new rest len n i h same all e = entry_lent new rest len n i h ∙ e
-    ∙ ap f (ap (λ (l : List ℕ). get_or l i 0) same ∙ sym (entry_is items n i) ∙ ap (λ (l : List ℕ). get_or l i 0) all)
+entries_put : (R : ℕ → ℕ → Type 0) (old items lent new rest : List ℕ) (len n i : ℕ) → length new ≡ len → lent ≡ items
+    → (memory items n).all ≡ (memory old n).all → R (get_or lent i 0) (get_or new i 0)
+    → R (get_or (memory old n).all i 0) (get_or (memory (take len (new ++ rest)) n).all i 0)
+entries_put R old items lent new rest len n i h same all r =
+    subst (λ (k : ℕ). R (get_or (memory old n).all i 0) k) (sym (entry_lent new rest len n i h))
+    (subst (λ (k : ℕ). R k (get_or new i 0)) (ap (λ (l : List ℕ). get_or l i 0) same ∙ sym (entry_is items n i)
+    ∙ ap (λ (l : List ℕ). get_or l i 0) all) r)
 
-pub entries_all : (cw : ℕ) (entry : ℕ → ℕ → ℕ) (old items lent new rest : List ℕ) (len n : ℕ) → length new ≡ len → lent ≡ items
+pub entries_all : (cw : ℕ) (R : ℕ → ℕ → ℕ → Type 0) (old items lent new rest : List ℕ) (len n : ℕ) → length new ≡ len → lent ≡ items
     → length old ≤ n → len ≤ n → (memory items n).all ≡ (memory old n).all
-    → ((c : ℕ) → get_or new c 0 ≡ entry (c * cw) (get_or lent c 0))
-    → AreEntriesPut (record { card_words = cw; starts = (memory old n).all })
-    (record { card_words = cw; starts = (memory (take len (new ++ rest)) n).all }) entry
-entries_all cw entry old items lent new rest len n h same short fits all e = record {
+    → ((c : ℕ) → R (c * cw) (get_or lent c 0) (get_or new c 0))
+    → AreEntriesPut R (record { card_words = cw; starts = (memory old n).all })
+    (record { card_words = cw; starts = (memory (take len (new ++ rest)) n).all })
+entries_all cw R old items lent new rest len n h same short fits all r = record {
   card_words = refl;
   len = length_all (take len (new ++ rest)) n (let t = take_at new rest len h in rw t (omega arith)) ∙ sym (length_all old n short);
-  entries = λ c. entries_put (entry (c * cw)) old items lent new rest len n c h same all (e c);
+  entries = λ c. entries_put (R (c * cw)) old items lent new rest len n c h same all (r c);
 }

@@ -3,7 +3,7 @@ use Rattle.regions.proofs.Common.{◌≡◌, ◌≢◌, ◌+◌, ◌-◌, ◌*�
 use Rattle.regions.proofs.Common.{length, ⊎_elim, refl, sym, ap, subst, arith, cases_lt, mul-le, Addr, Stored, Tile, Object, tile_size}
 use Rattle.regions.proofs.Common.{tile_at, total_size, Table, Region, Free, Ordinary, First, Rest, nth_region, region_used, kind_of}
 use Rattle.regions.proofs.Common.{used_of, tile_in, top_of, tile_shape, AllPositive, tiles_of, tiles_from, placed, walk_rest, IsHolder}
-use Rattle.regions.proofs.Common.{IsRunStart, IsShaped, Shape}
+use Rattle.regions.proofs.Common.{IsRunStart, IsShaped, Shape, LeadsTo}
 use Rattle.regions.specs.declared.row.Kind.TheVariants as kinds
 use Rattle.regions.proofs.Tiles.ShapedMade.{kind_at, tiles_at, first_object}
 use Rattle.regions.proofs.Walks.WalkFrom.{cut_at, tile_listed, listed_tile}
@@ -14,6 +14,7 @@ use Rattle.regions.proofs.Cards.FirstTile.{found_below, IsSearch, IsSearching}
 use Rattle.regions.proofs.Tiles.Laws.{object_tile}
 use Rattle.regions.proofs.Tiles.Changes.{object_of_tile}
 use Rattle.regions.proofs.Words.Divides.{div_is}
+use Rattle.regions.proofs.Tiles.Steps.{tile_there}
 
 spread : (a b c n : ℕ) → a + b ≡ c → a * n + b * n ≡ c * n
 spread a b c n e = rw (← e) (omega arith)
@@ -228,20 +229,20 @@ holder_of t w g h = go (nth_region t k) refl
         let split : l.first * n + l.later * n ≡ k * n = spread l.first l.later k n l.number in
         object l.first l.object l.begins (omega (arith, whole, split)) (omega (arith, whole, h, split, l.words, l.reaches))
 
--- ---- the search from a card's first word on
-pub search_from : (t : Table) (a from word : ℕ) → IsShaped t → IsHolder t a from → from ≤ word
-    → word / t.words_per_region ≡ from / t.words_per_region
-    → IsSearching t word (walk_rest t (a / t.words_per_region) (a % t.words_per_region))
-search_from t a from word g h l same =
+-- ---- the search from a tile on that leads to the word's
+pub search_from : (t : Table) (entry a word : ℕ) → IsShaped t → IsHolder t a word → LeadsTo t entry a word
+    → IsSearching t word (walk_rest t (entry / t.words_per_region) (entry % t.words_per_region))
+search_from t entry a word g h l =
     let z = g.positive in
-    let low = h.low in
-    let whole : a / t.words_per_region * t.words_per_region + a % t.words_per_region ≡ a = omega arith in
-    let cut = cut_at (tiles_of t (a / t.words_per_region)) (a % t.words_per_region) h.tile (tile_listed t a h.tile h.tile_is).0 in
+    let (u, is) = tile_there t entry l.start in
+    let whole : entry / t.words_per_region * t.words_per_region + entry % t.words_per_region ≡ entry = omega arith in
+    let cut = cut_at (tiles_of t (entry / t.words_per_region)) (entry % t.words_per_region) u (tile_listed t entry u is).0 in
+    let low = l.low in
     record {
-      first = a / t.words_per_region;
-      start = subst (λ (k : ℕ). IsRunStart t k (a / t.words_per_region)) (sym same) (holder_start t a from g h).run;
+      first = entry / t.words_per_region;
+      start = subst (λ (k : ℕ). IsRunStart t (word / t.words_per_region) k) (sym l.region) (holder_start t a word g h).run;
       search = record {
-        offset = a % t.words_per_region;
+        offset = entry % t.words_per_region;
         left_is = refl;
         cut = cut.0;
         within = omega (arith, cut.1);

@@ -57,8 +57,8 @@ index_mut-requires c =
     let n = known _ _ _ _ _ c.self.view_is c.requires.known in
     omega (arith, n.in_rows, c.number-number.ensures)
 
-pub put_object-requires : goal.put_object-requires
-put_object-requires c =
+pub put_tile-requires : goal.put_tile-requires
+put_tile-requires c =
     let (n, t) = known_top _ _ _ _ _ c.self.invariant.table c.self.view_is c.requires.known c.requires.ordinary in
     let at = top_at _ _ _ _ _ _ n c.top-to.ensures in
     let small = c.self.invariant.table.small in
@@ -84,7 +84,7 @@ invariant_of-self c =
     ∙ ap (λ (n : ℕ). start_added c.self.inside.weak_starts c.word-2.result n) slots in
     push_sound _ _ _ _ _ _ _ _ _ c.self.invariant c.self.view_is _ _ _ _ _ _ c.args.region c.word-2.result c.object_size-size.result
     (length o.0.weaks) (Object o.0) c.requires.known c.requires.ordinary (omega (arith, o.1.large, long)) (rw long at c.requires.room) tt
-    (c.word-2.ensures ∙ c.top-to.ensures) (c.object_size-size.ensures ∙ long) c.put_object.ensures refl flags
+    (c.word-2.ensures ∙ c.top-to.ensures) (c.object_size-size.ensures ∙ long) c.put_tile.ensures refl flags
     (used_set _ _ _ _ (omega (arith, n.in_rows, c.number-number.ensures)) refl c.self.invariant.used_below)
     (count_kept c.self.inside.rows.items c.number-number.result _ _ (omega (arith, n.in_rows, c.number-number.ensures))
     (rw c.number-number.ensures (row_used _ _ _ _ _ n c.requires.ordinary)) refl c.self.invariant.free_is)

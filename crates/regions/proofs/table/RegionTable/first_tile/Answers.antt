@@ -1,45 +1,44 @@
-use Rattle.regions.proofs.Common.{arith, ap, subst, ◌≡◌, ◌<◌, ◌*◌, ◌/◌, ℕ, ◌∙◌, Table, top_of, start_in, IsHolder}
-use Rattle.regions.proofs.Cards.CardStarts.{card_known, card_start}
+use Rattle.regions.proofs.Common.{arith, ap, ◌≡◌, ◌∙◌, tile_size, tile_shape, size_of_shape}
+use Rattle.regions.proofs.Cards.CardStarts.{led}
+use Rattle.regions.proofs.Tiles.Steps.{tile_there}
+use Rattle.regions.proofs.Walks.WalkMade.{shape_size_is}
 use Rattle.regions.proofs.table.RegionTable.first_tile.Goals as goal
 
-below_top : (t : Table) (top region place word w : ℕ) → top ≡ top_of t region → region ≡ place → w ≡ word → w < top → word < top_of t place
-below_top t top region place word w e f g h = omega (arith, e, ap (top_of t) f, g, h)
+pub tile-requires : goal.tile-requires
+tile-requires c =
+    (led _ _ _ _ _ _ _ _ _ c.args.word _ _ _ _ _ c.new-start.result c.self.invariant c.self.view_is (c.word.ensures ∙ c.top.ensures)
+    c.region_of.ensures c.word-2.ensures c.if-word.false c.word-3.ensures c.card_of-card.ensures.card c.card_of-card.ensures.positive
+    (c.new-start.ensures ∙ c.start.ensures)).leads.start
 
-pub start-requires-clause-known : goal.start-requires-clause-known
-start-requires-clause-known c =
-    let card = c.card_of-card.ensures.card ∙ ap (λ (n : ℕ). n / c.self.inside.first_tiles.card_words) c.word-3.ensures in
-    card_known _ _ _ _ _ _ _ _ _ c.args.word c.card_of-card.result c.self.invariant c.self.view_is
-    c.requires c.card_of-card.ensures.positive card
+pub overflow_add-word : goal.overflow_add-word
+overflow_add-word c =
+    let l = led _ _ _ _ _ _ _ _ _ c.args.word _ _ _ _ _ c.new-start.result c.self.invariant c.self.view_is
+    (c.word.ensures ∙ c.top.ensures) c.region_of.ensures c.word-2.ensures c.if-word.false c.word-3.ensures c.card_of-card.ensures.card
+    c.card_of-card.ensures.positive (c.new-start.ensures ∙ c.start.ensures) in
+    let (u, is) = tile_there c.args.self.now c.new-start.result l.leads.start in
+    let shape : c.tile.result ≡ tile_shape u = rw is at c.tile.ensures in
+    let size : c.size.result ≡ tile_size u = c.size.ensures ∙ ap size_of_shape shape ∙ shape_size_is u in
+    let within = c.law.ensures.within c.new-start.result u is in
+    omega (arith, size, within, c.law.ensures.in_all, c.word-5.ensures)
 
-pub first_word-requires : goal.first_word-requires
-first_word-requires c =
-    let card = c.card_of-card.ensures.card ∙ ap (λ (n : ℕ). n / c.self.inside.first_tiles.card_words) c.word-3.ensures in
-    let below : c.args.word < top_of c.args.self.now (c.args.word / c.args.self.now.words_per_region) =
-    below_top _ _ _ _ _ _ (c.word.ensures ∙ c.top.ensures) c.region_of.ensures c.word-2.ensures c.if-word.false in
-    let s = card_start _ _ _ _ _ _ _ _ _ c.args.word c.card_of-card.result c.self.invariant c.self.view_is
-    below c.card_of-card.ensures.positive card in
-    omega (arith, s.low, c.requires, c.law.ensures.in_all)
-
-pub returns-then-word-first_word-clause-holder : goal.returns-then-word-first_word-clause-holder
-returns-then-word-first_word-clause-holder c =
-    let card = c.card_of-card.ensures.card ∙ ap (λ (n : ℕ). n / c.self.inside.first_tiles.card_words) c.word-3.ensures in
-    let below : c.args.word < top_of c.args.self.now (c.args.word / c.args.self.now.words_per_region) =
-    below_top _ _ _ _ _ _ (c.word.ensures ∙ c.top.ensures) c.region_of.ensures c.word-2.ensures c.if-word.false in
-    let s = card_start _ _ _ _ _ _ _ _ _ c.args.word c.card_of-card.result c.self.invariant c.self.view_is
-    below c.card_of-card.ensures.positive card in
-    let at : c.new-start.result ≡ start_in c.self.inside.first_tiles.card_words c.self.inside.first_tiles.starts c.card_of-card.result =
-    c.new-start.ensures ∙ c.start.ensures in
-    let same : c.card_of-card.result * c.self.inside.first_tiles.card_words ≡ c.args.word =
-    omega (arith, c.if-word-first_word.true, c.word-4.ensures, c.first_word.ensures) in
-    subst (λ (w : ℕ). IsHolder c.args.self.now c.new-start.result w) same (rw at s.holder)
+pub returns-then-word-size-clause-holder : goal.returns-then-word-size-clause-holder
+returns-then-word-size-clause-holder c =
+    let l = led _ _ _ _ _ _ _ _ _ c.args.word _ _ _ _ _ c.new-start.result c.self.invariant c.self.view_is
+    (c.word.ensures ∙ c.top.ensures) c.region_of.ensures c.word-2.ensures c.if-word.false c.word-3.ensures c.card_of-card.ensures.card
+    c.card_of-card.ensures.positive (c.new-start.ensures ∙ c.start.ensures) in
+    let (u, is) = tile_there c.args.self.now c.new-start.result l.leads.start in
+    let shape : c.tile.result ≡ tile_shape u = rw is at c.tile.ensures in
+    let size : c.size.result ≡ tile_size u = c.size.ensures ∙ ap size_of_shape shape ∙ shape_size_is u in
+    record {
+      tile = u;
+      tile_is = is;
+      low = l.leads.low;
+      high = omega (arith, size, c.word-4.ensures, c.word-5.ensures, c.if-word-size.true);
+    }
 
 pub search_tile-requires : goal.search_tile-requires
 search_tile-requires c =
-    let card = c.card_of-card.ensures.card ∙ ap (λ (n : ℕ). n / c.self.inside.first_tiles.card_words) c.word-3.ensures in
-    let below : c.args.word < top_of c.args.self.now (c.args.word / c.args.self.now.words_per_region) =
-    below_top _ _ _ _ _ _ (c.word.ensures ∙ c.top.ensures) c.region_of.ensures c.word-2.ensures c.if-word.false in
-    let s = card_start _ _ _ _ _ _ _ _ _ c.args.word c.card_of-card.result c.self.invariant c.self.view_is
-    below c.card_of-card.ensures.positive card in
-    let at : c.new-start.result ≡ start_in c.self.inside.first_tiles.card_words c.self.inside.first_tiles.starts c.card_of-card.result =
-    c.new-start.ensures ∙ c.start.ensures in
-    (_, rw at s.holder, s.low, s.region)
+    let l = led _ _ _ _ _ _ _ _ _ c.args.word _ _ _ _ _ c.new-start.result c.self.invariant c.self.view_is
+    (c.word.ensures ∙ c.top.ensures) c.region_of.ensures c.word-2.ensures c.if-word.false c.word-3.ensures c.card_of-card.ensures.card
+    c.card_of-card.ensures.positive (c.new-start.ensures ∙ c.start.ensures) in
+    (l.at, l.holder, l.leads)

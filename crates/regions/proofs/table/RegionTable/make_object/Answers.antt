@@ -47,9 +47,9 @@ invariant_of-self c =
     let flags = c.add.ensures ∙ ap (λ (k : ℕ). start_added c.self.inside.weak_starts k c.from-weaks.result) c.word-3.ensures
     ∙ ap (λ (n : ℕ). start_added c.self.inside.weak_starts c.args.at n) c.from-weaks.ensures in
     front_sound _ _ _ _ _ _ _ _ _ c.self.invariant c.self.view_is c.cut_front.new.self _ _ c.args.at c.args.filler
-    _ (c.args.at + c.size-size.result) c.size-size.result (c.args.at + c.get-2.result) c.args.counts.weaks
+    _ (c.args.at + c.size-size.result) (c.args.at + c.get-2.result) c.args.counts.weaks
     (Object (new_object c.args.name c.args.counts.pointers c.args.counts.weaks c.args.counts.values))
-    c.requires.there (omega (arith, long)) (omega (arith, c.requires.room, long, c.size-size.ensures)) tt long
+    c.requires.there (omega (arith, long)) (omega (arith, c.requires.room, long, c.size-size.ensures)) tt
     (omega (arith, c.word-2.ensures, long)) (omega (arith, c.word-2.ensures, c.get-2.ensures.value))
     (rw c.word-2.ensures at c.cut_front.ensures)
     (length-replicate {A = Option ℕ} c.args.counts.weaks None) flags

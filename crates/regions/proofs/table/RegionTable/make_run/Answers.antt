@@ -38,8 +38,8 @@ write_run-requires-clause-small c =
     let (e, f) = run_there _ _ _ _ _ _ c.self.invariant.table c.self.view_is c.requires.lowest in
     omega (arith, f.whole, c.self.invariant.table.small)
 
-pub put_object-requires : goal.put_object-requires
-put_object-requires c =
+pub put_tile-requires : goal.put_tile-requires
+put_tile-requires c =
     let (e, f) = run_there _ _ _ _ _ _ c.self.invariant.table c.self.view_is c.requires.lowest in
     let covers : 2 + c.args.counts.pointers + c.args.counts.weaks + c.args.counts.values ≤ c.args.count * c.self.inside.words_per_region =
     rw (size_is_of _ _ _ _ c.self.view_is) c.requires.covers in
@@ -68,7 +68,7 @@ invariant_of-self c =
     (ap (λ (k : ℕ). k * c.self.inside.words_per_region) c.number-number.ensures
     ∙ ap (λ (m : ℕ). c.args.first * m) (size_is_of _ _ _ _ c.self.view_is))
     (omega (arith, size, new_size c.args.name c.args.counts.pointers c.args.counts.weaks c.args.counts.values))
-    c.put_object.ensures (length-replicate {A = Option ℕ} c.args.counts.weaks None) flags
+    c.put_tile.ensures (length-replicate {A = Option ℕ} c.args.counts.weaks None) flags
     (used_written c.self.inside.rows.items _ _ c.self.inside.lowest c.args.first c.args.count c.self.inside.lowest _
     c.self.invariant.used_below (omega (arith, f.room))
     (used_le c.self.inside.rows.items c.self.inside.lowest c.args.first c.self.invariant.used_below

@@ -5,13 +5,13 @@ use Rattle.regions.proofs.table.RegionTable.search_tile.Goals as goal
 
 pub walk_from-at-items-requires : goal.walk_from-at-items-requires
 walk_from-at-items-requires c =
-    let (from, holder, low, region) = c.requires in
-    rw holder.tile_is refl
+    let (at, holder, leads) = c.requires in
+    leads.start
 
 pub loop-at-init : goal.loop-at-init
 loop-at-init c =
-    let (from, holder, low, region) = c.requires in
-    let first = search_from c.args.self.now c.args.start from c.args.word c.law.ensures holder low region in
+    let (at, holder, leads) = c.requires in
+    let first = search_from c.args.self.now c.args.start at c.args.word c.law.ensures holder leads in
     rw (c.into_iter-at-iterator.ensures.into_iter_gives, c.walk_from-at-items.ensures) first
 
 pub overflow_add-word : goal.overflow_add-word

@@ -1,8 +1,8 @@
-use Rattle.regions.proofs.Common.{arith, refl, ◌≡◌, ◌+◌, ◌-◌, ◌<◌, Filler, tile_entry, rest_entry}
+use Rattle.regions.proofs.Common.{arith, refl, ◌≡◌, ◌+◌, ◌-◌, ◌<◌, Filler}
 use Rattle.regions.proofs.Tiles.Replaced.{filler_fits}
 use Rattle.regions.proofs.Tiles.Within.{tile_within}
 use Rattle.regions.proofs.Tiles.Fillers.{filler_cut}
-use Rattle.regions.proofs.Cards.Entries.{front_sound, put_twice}
+use Rattle.regions.proofs.Cards.Entries.{front_sound}
 use Rattle.regions.proofs.table.RegionTable.split_filler.Goals as goal
 
 pub write_filler-requires : goal.write_filler-requires
@@ -20,26 +20,15 @@ write_remainder-requires-clause-within c =
     let f = tile_within _ _ _ _ _ c.self.invariant.written c.self.view_is c.requires.there in
     rw c.write_filler.ensures.written (omega (arith, f, c.requires.room, c.word.ensures, c.get-kept.ensures.value, c.get.ensures.value))
 
-pub put_filler-requires-clause-within : goal.put_filler-requires-clause-within
-put_filler-requires-clause-within c =
+pub cut_front-requires-clause-within : goal.cut_front-requires-clause-within
+cut_front-requires-clause-within c =
     let f = filler_fits _ _ _ _ _ _ c.self.invariant.table c.self.view_is c.requires.there in
-    omega (arith, f, c.requires.room, c.self.invariant.table.small, c.self.invariant.each_card, c.word-2.ensures, c.get-kept.ensures.value)
+    omega (arith, f, c.self.invariant.table.small, c.self.invariant.each_card, c.word-2.ensures, c.get-2.ensures.value)
 
-pub put_filler-requires-clause-small : goal.put_filler-requires-clause-small
-put_filler-requires-clause-small c =
+pub cut_front-requires-clause-small : goal.cut_front-requires-clause-small
+cut_front-requires-clause-small c =
     let f = filler_fits _ _ _ _ _ _ c.self.invariant.table c.self.view_is c.requires.there in
-    omega (arith, f, c.requires.room, c.self.invariant.table.small, c.self.invariant.each_card, c.word-2.ensures, c.get-kept.ensures.value)
-
-pub overflow_add-word : goal.overflow_add-word
-overflow_add-word c =
-    let f = filler_fits _ _ _ _ _ _ c.self.invariant.table c.self.view_is c.requires.there in
-    omega (arith, f, c.self.invariant.table.small, c.self.invariant.each_card, c.word-3.ensures, c.get-2.ensures.value)
-
-pub move_filler-requires : goal.move_filler-requires
-move_filler-requires c =
-    let f = filler_fits _ _ _ _ _ _ c.self.invariant.table c.self.view_is c.requires.there in
-    rw (c.put_filler.ensures.len, c.put_filler.ensures.card_words)
-    (omega (arith, f, c.self.invariant.table.small, c.self.invariant.each_card, c.word-3.ensures, c.get-2.ensures.value))
+    omega (arith, f, c.self.invariant.table.small, c.word-2.ensures, c.get-2.ensures.value)
 
 pub invariant_of-self : goal.invariant_of-self
 invariant_of-self c =
@@ -49,15 +38,10 @@ invariant_of-self c =
     c.requires.there (omega (arith, c.requires.room)) (omega (arith, c.get-kept.ensures.value, c.get-kept.ensures.positive))
     c.write_filler.ensures.all c.write_remainder.ensures.all at rest in
     let some : 0 < c.args.size = omega (arith, c.get-kept.ensures.value, c.get-kept.ensures.positive) in
-    let place : c.word-2.result ≡ c.args.at = c.word-2.ensures in
-    let end : c.word-3.result + c.get-2.result ≡ c.args.at + c.args.filler = omega (arith, c.word-3.ensures, c.get-2.ensures.value) in
-    front_sound _ _ _ _ _ _ _ _ _ c.self.invariant c.self.view_is c.move_filler.new.self _ _ c.args.at
-    c.args.filler (c.args.filler - c.args.size) (c.word.result + c.get-kept.result) c.args.size (c.word-3.result + c.get-2.result) 0
-    (Filler c.args.size) c.requires.there some (omega (arith, c.requires.room)) tt refl at end
-    (put_twice c.self.inside.first_tiles _ _
-    (tile_entry c.self.inside.first_tiles.card_words c.args.at c.args.size (Filler c.args.size))
-    (λ cw. rest_entry cw (c.word.result + c.get-kept.result) (c.word-3.result + c.get-2.result))
-    (rw (place, c.get-kept.ensures.value) at c.put_filler.ensures) c.move_filler.ensures) refl refl
+    front_sound _ _ _ _ _ _ _ _ _ c.self.invariant c.self.view_is c.cut_front.new.self _ _ c.args.at c.args.filler
+    (c.args.filler - c.args.size) (c.args.at + c.get-kept.result) (c.args.at + c.get-2.result) 0 (Filler c.args.size) c.requires.there some
+    (omega (arith, c.requires.room)) tt (omega (arith, c.get-kept.ensures.value)) (omega (arith, c.get-2.ensures.value))
+    (rw c.word-2.ensures at c.cut_front.ensures) refl refl
     (omega (arith, c.write_filler.ensures.written, c.write_remainder.ensures.written)) w
 
 pub returns-clause-split : goal.returns-clause-split

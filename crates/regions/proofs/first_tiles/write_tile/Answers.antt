@@ -1,6 +1,6 @@
 use Rattle.regions.proofs.Common.{◌^◌, ◌∙◌, pow_pos}
 use Rattle.regions.proofs.Cards.FirstTiles.{cards_between, cards_fit}
-use Rattle.regions.proofs.first_tiles.write_entries.Goals as goal
+use Rattle.regions.proofs.first_tiles.write_tile.Goals as goal
 
 pub fill_cards-requires : goal.fill_cards-requires
 fill_cards-requires c = rw c.card_from-2.ensures (cards_fit c.args.end (2 ^ c.args.shift) _ (pow_pos c.args.shift) c.requires.within)
