@@ -23,6 +23,7 @@
 #![tactic(auto)]
 
 mod first_tiles;
+mod giving;
 mod objects;
 pub mod row;
 mod runs;
