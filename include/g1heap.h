@@ -20,8 +20,8 @@
    calls the collector's steps itself.
 
    OWNERSHIP. A g1_heap is the caller's, and begins as G1_HEAP_NONE, all zeros. g1_new puts a heap into it, whose memory comes from malloc,
-   all of it then; no other call takes memory. g1_free takes the heap out again and frees it. Don't write to its fields, nor use a copy of
-   them: two copies are two owners.
+   all of it then; no other call takes memory, but g1_give_back asks for some meanwhile. g1_free takes the heap out again and frees it.
+   Don't write to its fields, nor use a copy of them: two copies are two owners.
 
    ARGUMENTS. Any numbers will do. Those that name no step of this heap are answered G1_NO_STEP, and nothing changes. What names a step goes
    to the heap, which does it or refuses it; a refused step changes nothing either. Only the pointers are the caller's duty: `heap` points
@@ -116,7 +116,7 @@ enum {
     G1_BAD_WORDS = 42,
     G1_BAD_BUFFER = 43,
     G1_BAD_MUTATORS = 44,
-    G1_NO_MEMORY = 45, /* g1_new: malloc refused */
+    G1_NO_MEMORY = 45, /* g1_new, g1_give_back: malloc refused */
     G1_BAD_CARD = 46,
     G1_BAD_GLOBALS = 47,
     G1_BAD_REGISTERS = 48,
@@ -265,6 +265,19 @@ g1_answer g1_queued(const g1_heap *heap);
 g1_answer g1_globals(const g1_heap *heap);
 g1_answer g1_registers(const g1_heap *heap);
 g1_answer g1_name(const g1_heap *heap, uint32_t mutator, uint32_t of);
+
+/* Memory goes back to the system. A word of the heap takes memory when it is first written, and keeps it when its object is gone. This call
+   gives back the memory of all words above the highest region in use, and what marks, dirty cards and the queue of cards took beyond what
+   they hold now. Their room in the heap stays, so no later step wants for memory: the heap is as it was, each later answer is what it would
+   be without the call, and a record has no line for it. A free region below one in use keeps its memory. To give back as much as can be:
+
+       g1_collect_all(&heap, &policy);
+       while (g1_compact(&heap, sizes.words).second != 0) {}    // regions in use go down, below the free ones
+       g1_give_back(&heap);
+
+   DONE, NO_HEAP, or NO_MEMORY: meanwhile it asks malloc for as much as the words may take, and touches none of it. Where that is refused,
+   less goes back or nothing. It takes time for what goes back, some 0.2 ms for 1 MB. docs/EMBEDDING.md says for which heaps it pays. */
+g1_answer g1_give_back(g1_heap *heap);
 
 /* A policy of collection, so that a program never thinks of it: it makes its objects by g1_make, which takes the steps of the collector
    that are due.

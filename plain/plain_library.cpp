@@ -180,6 +180,9 @@ void g1_free(g1_heap* heap) {
     *heap = G1_HEAP_NONE;
 }
 
+// The plain heap keeps what it has.
+g1_answer g1_give_back(g1_heap* heap) { return answer(heap->live ? G1_DONE : G1_NO_HEAP); }
+
 // Whether an object has so many data words from one on: G1_DONE, or why it hasn't.
 static g1_answer has_words(g1_heap* heap, std::uint32_t mutator, std::uint32_t object, std::uint32_t from, std::size_t count) {
     g1_answer shape = g1_shape(heap, mutator, object);

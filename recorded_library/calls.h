@@ -41,6 +41,7 @@ g1_answer g1raw_queued(const g1_heap *heap);
 g1_answer g1raw_globals(const g1_heap *heap);
 g1_answer g1raw_registers(const g1_heap *heap);
 g1_answer g1raw_name(const g1_heap *heap, uint32_t mutator, uint32_t of);
+g1_answer g1raw_give_back(g1_heap *heap);
 void g1raw_policy_start(g1_policy *policy, const g1_sizes *sizes);
 g1_answer g1_make_noted(g1_heap *heap, g1_policy *policy, uint32_t mutator, uint32_t to, uint32_t pointers, uint32_t weaks, uint32_t values,
                         entry *entries, size_t room, uint32_t *count);

@@ -175,6 +175,12 @@ void g1_free(g1_heap *heap)
     heap->live = false, heap->at = NULL;
 }
 
+/* It is no step, so there is no line for it. */
+g1_answer g1_give_back(g1_heap *heap)
+{
+    return g1raw_give_back(&box_of(heap)->heap);
+}
+
 uint32_t g1_record(g1_heap *heap, g1_line_writer write, void *context)
 {
     box *in = (box *)heap->at;

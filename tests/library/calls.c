@@ -48,6 +48,7 @@ static void refuse_sizes(void)
     is("no heap", g1_free_regions(&heap), G1_NO_HEAP, 0, 0);
     is("no heap", g1_free_run(&heap), G1_NO_HEAP, 0, 0);
     is("no heap", g1_name(&heap, 0, 0), G1_NO_HEAP, 0, 0);
+    is("no heap", g1_give_back(&heap), G1_NO_HEAP, 0, 0);
     g1_free(&heap);
 }
 
@@ -221,6 +222,7 @@ static void collect(g1_heap *h, uint64_t name)
     is("live words", g1_live_words(h), G1_NUMBER, 9, 0);
     is("cleanup", g1_cleanup(h), G1_RECLAIMED, 0, 0);
     is("queued", g1_queued(h), G1_NUMBER, 0, 0);
+    is("give back", g1_give_back(h), G1_DONE, 0, 0);
     is("refine", g1_refine(h, 5), G1_REFINED, 0, 0);
     is("pause", g1_pause(h, 16), G1_MOVED, 9, 1);
     is("free run", g1_free_run(h), G1_NUMBER, 2, 0);

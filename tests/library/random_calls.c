@@ -165,7 +165,10 @@ int main(int count, char **words)
         if (draw() % 8 == 0) sizes.regions = below(1100), sizes.card = below(70), sizes.mutators = below(70);
         note(g1_new(&heap, &sizes));
         start_policy(&sizes);
-        for (int i = 0; i < calls; i++) note_answer(draw() % 6 == 0 ? step_of_collector(&heap) : step_of_mutator(&heap, &sizes));
+        for (int i = 0; i < calls; i++) {
+            note_answer(draw() % 6 == 0 ? step_of_collector(&heap) : step_of_mutator(&heap, &sizes));
+            if (i % 500 == 499) note_answer(g1_give_back(&heap));
+        }
         note_policy();
         g1_free(&heap);
     }

@@ -316,6 +316,28 @@ impl Heap {
         self.core.take_nil().map(|number| Global::new(&self.core.globals, number))
     }
 
+    /// Gives memory back to the system: that of all words above the highest region in use, and what marks and cards took beyond what they
+    /// hold now. Its room in the heap stays, so nothing else changes. False where the system refuses what this asks for meanwhile, as much
+    /// as the words may take; then less goes back or nothing. Within a run there is [`Steps::give_back`](crate::Steps::give_back).
+    ///
+    /// ```
+    /// # use g1heap::*;
+    /// let mut heap = Heap::new(&Sizes::mebibytes(64))?;
+    /// heap.run(|f| {
+    ///     for _ in 0..5000 {
+    ///         f.scope(|g| g.alloc_any(0, 0, 1000).map(drop))?;
+    ///     }
+    ///     f.collect(); // and then regions in use go down, below the free ones
+    ///     while f.steps().compact(8192).regions > 0 {}
+    ///     Ok::<_, Error>(())
+    /// })?;
+    /// assert!(heap.give_back());
+    /// # Ok::<_, Box<dyn std::error::Error>>(())
+    /// ```
+    pub fn give_back(&mut self) -> bool {
+        self.core.raw.give_back().code == sys::DONE
+    }
+
     /// What the policy did so far.
     ///
     /// ```

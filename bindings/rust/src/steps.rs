@@ -1,6 +1,6 @@
 use crate::frame::Frame;
 use crate::heap::Counts;
-use crate::sys::{g1_answer, Raw, NIL};
+use crate::sys::{g1_answer, Raw, DONE, NIL};
 use std::fmt;
 
 /// The steps of the collector, and what a policy steers by. [`Frame::steps`](crate::Frame::steps) lends them.
@@ -112,6 +112,10 @@ impl<'a> Steps<'a> {
     /// What the last marking found dead leaves the weak slots of at most so many objects. What is read from weak slots stays the same.
     pub fn clear(&self, objects: u32) {
         self.raw.clear(objects);
+    }
+    /// The same as [`Heap::give_back`](crate::Heap::give_back), within a run.
+    pub fn give_back(&self) -> bool {
+        self.raw.give_back().code == DONE
     }
     /// Whether weak slots that read nil wait to be cleared.
     pub fn clearing(&self) -> bool {

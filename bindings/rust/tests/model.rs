@@ -183,7 +183,7 @@ impl Model {
     }
     fn steps(&mut self, f: &Frame<'_, '_>) {
         let steps = f.steps();
-        let _ = match self.random.below(10) {
+        let _ = match self.random.below(11) {
             0 => u64::from(steps.begin()),
             1 => steps.mark(3).unwrap_or(0),
             2 => steps.remark().unwrap_or(0),
@@ -193,6 +193,7 @@ impl Model {
             6 => steps.compact(200).words,
             7 => steps.pause_within(200, 4).words,
             8 => steps.young(200, 4).words,
+            9 => u64::from(steps.give_back()),
             _ => {
                 f.collect_due();
                 0

@@ -115,6 +115,14 @@ impl Bits {
         self.words.clear();
     }
 
+    /// The memory of pages that the set had before it was cleared, and no longer has, goes back to the system. The set stays, and so does
+    /// its room. Where the memory that this asks for meanwhile is refused, none goes back.
+    pub fn give_back(&mut self, alloc: Global) -> Result<(), AllocError>
+        ensures { self.new ≡ self.old }
+    {
+        self.words.give_back(alloc)
+    }
+
     /// The numbers of whole groups, from one up to another, which is not one of them, are in the set, or they aren't.
     fn put_groups(&mut self, first: u32, past: u32, value: bool)
         requires order { first < past }

@@ -20,6 +20,7 @@ ghost use Rattle.bit_sets.specs.Bits.{is_between};
 ghost use Rattle.bit_sets.specs.BitWords.{AreSame};
 ghost use Rattle.bit_sets.specs.Pages.{index_of, paged_word, ArePages};
 
+use heap_words::room::give_back;
 use std::alloc::{AllocError, Global};
 use std::marker::Model;
 
@@ -326,6 +327,14 @@ impl PagedWords {
         }
         self.places.fill(0);
         self.pool.clear();
+    }
+
+    /// The memory of pages that were taken once, and aren't any more, goes back to the system. The words stay, and so does the room for
+    /// all pages. Where the memory that this asks for meanwhile is refused, none goes back.
+    pub(crate) fn give_back(&mut self, alloc: Global) -> Result<(), AllocError>
+        ensures { self.new ≡ self.old }
+    {
+        give_back(alloc, &mut self.pool, self.len as usize)
     }
 
     /// The lowest group from one up to another, which is not one of them, whose word isn't 0; that other one if there is none. It looks at

@@ -1,10 +1,10 @@
 -- Flags of which the first are written: the others are clear.
 use Rattle.std.proofs.Common.{◌≡◌, ◌+◌, ◌-◌, ◌<◌, ◌≤◌, ◌++◌, ◌∙◌, ℕ, Bool, false, List, length, get_or, set, replicate, refl, sym, ap}
-use Rattle.std.proofs.Common.{arith, ⊎_elim, length-set, length-append, ext_get_or}
+use Rattle.std.proofs.Common.{arith, take, ⊎_elim, length-set, length-append, ext_get_or}
 use Rattle.std.proofs.lemmas.Bool.{cases_lt}
 use Rattle.std.proofs.lemmas.List.{length-replicate, get_or-append_right, get_or_append_left, get_or_past, get_or-replicate}
-use Rattle.std.proofs.lemmas.List.{set-append_left}
-use Rattle.cards.specs.Flags.{flags_of}
+use Rattle.std.proofs.lemmas.List.{set-append_left, length-take-le, get_or-take, get_or_default}
+use Rattle.cards.specs.Flags.{flags_of, AreClearFrom}
 
 pub all_clear : (k i : ℕ) → get_or (replicate k false) i false ≡ false
 all_clear k i =
@@ -45,3 +45,12 @@ clear_written old new n m h e fits kept clear =
     λ b k. clear i false b k ∙ sym (get_or_past old i false b) in
     ⊎_elim (λ b. kept i false (omega (arith, h)) b) (λ b. ⊎_elim (λ k. there b k) past (cases_lt i m)) (cases_lt i (length old)) in
     ext_get_or false (flags_of new n) (flags_of old n) long (λ i b. flag_is new n i ∙ same i ∙ sym (flag_is old n i))
+
+-- clear flags that are given up after those that stay
+pub clear_given : (items : List Bool) (n end : ℕ) → end ≤ length items → length items ≤ n → AreClearFrom end items
+    → flags_of (take end items) n ≡ flags_of items n
+clear_given items n end h fits clear =
+    let long : length (take end items) ≡ end = length-take-le end items h in
+    sym (clear_written (take end items) items n (length items) (omega (arith, long, h)) refl fits
+    (λ k d b l. sym (get_or-take end items k d (omega (arith, long, l))))
+    (λ k d l b. get_or_default items k d false b ∙ clear k (omega (arith, long, l))))

@@ -9,8 +9,9 @@
 //! (`reach`). So flags that are made touch nothing, however many cards a heap has.
 
 ghost use Rattle.std.specs.Prelude.{◌≡◌, ◌<◌, ◌≤◌, false, true, IfOk, length, replicate, slice_index_or, slice_set, vec_capacity, vec_len};
-ghost use Rattle.cards.specs.Flags.{flags_of};
+ghost use Rattle.cards.specs.Flags.{flags_of, AreClearFrom};
 
+use heap_words::room::give_back;
 use std::alloc::{AllocError, Global};
 use std::marker::Model;
 
@@ -66,6 +67,20 @@ fn clear_below(items: &mut Vec<bool>, past: u32, count: u32)
     }
 }
 
+/// The number after that of the last flag that is set, 0 where none is.
+fn set_end(items: &[bool]) -> usize
+    ensures clear { AreClearFrom result items.now }
+    ensures within { result ≤ length items.now }
+{
+    let mut end = 0;
+    for i in 0..items.len() {
+        if items[i] {
+            end = i + 1;
+        }
+    }
+    end
+}
+
 impl Flags {
     /// No card is flagged of so many.
     pub(crate) fn new(alloc: Global, count: u32) -> Result<Flags, AllocError>
@@ -75,6 +90,13 @@ impl Flags {
             items: Vec::with_capacity(alloc, count as usize)?,
             count,
         })
+    }
+
+    /// How many cards there are.
+    pub(crate) fn len(&self) -> usize
+        ensures { result ≡ length self.now }
+    {
+        self.count as usize
     }
 
     /// Whether a card is flagged.
@@ -115,5 +137,15 @@ impl Flags {
         ensures { self.new ≡ slice_set self.old card false }
     {
         self.put(card, false);
+    }
+
+    /// The flags after the last one that is set are no longer written, and their memory goes back to the system. Each flag stays, and so
+    /// does the room. Where the memory that this asks for meanwhile is refused, none goes back.
+    pub(crate) fn give_back(&mut self, alloc: Global) -> Result<(), AllocError>
+        ensures { self.new ≡ self.old }
+    {
+        let end = set_end(&self.items);
+        self.items.truncate(end);
+        give_back(alloc, &mut self.items, self.count as usize)
     }
 }

@@ -18,12 +18,13 @@
 //! ```
 //!
 //! A card that is dirty is in the logs and the queue together exactly once, and a clean one not at all. So the
-//! queue never holds more cards than there are: its room is made once, and no call but the making takes memory or
-//! fails.
+//! queue never holds more cards than there are: its room is made once, and no call but the making and `give_back` takes
+//! memory or fails.
 #![tactic(auto)]
 
 mod flags;
 mod log;
+mod queue;
 pub mod table;
 
 pub use table::CardTable;

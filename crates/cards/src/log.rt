@@ -24,7 +24,7 @@ pub(crate) fn move_to(log: &mut CardLog, queue: &mut VecDeque<u32>)
 }
 
 /// The cards enter the queue at its end.
-fn append_all(queue: &mut VecDeque<u32>, cards: &[u32])
+pub(crate) fn append_all(queue: &mut VecDeque<u32>, cards: &[u32])
     requires { deque_len queue.old + length cards.now ≤ deque_capacity queue.old }
     ensures queue { queue.new.items ≡ queue.old.items ++ cards.now }
     ensures capacity { deque_capacity queue.new ≡ deque_capacity queue.old }

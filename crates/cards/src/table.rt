@@ -13,6 +13,7 @@ ghost use Rattle.cards.specs.Cards.{appended, clean_cards, dirtied, flushed, is_
 
 use crate::flags::Flags;
 use crate::log::{CardLog, LOG_LEN, move_to};
+use crate::queue::give_back;
 use heap_words::addr::Card;
 use std::alloc::{AllocError, Global};
 use std::collections::VecDeque;
@@ -165,6 +166,18 @@ impl CardTable {
             let log = &mut self.logs[mutator];
             move_to(log, &mut self.queue);
         }
+    }
+}
+
+impl CardTable {
+    /// The memory of flags after the last dirty card goes back to the system, and so does that of the queue's room beyond its cards. The
+    /// table stays, and so does its room. Where the memory that this asks for meanwhile is refused, less goes back.
+    pub fn give_back(&mut self, alloc: Global) -> Result<(), AllocError>
+        ensures { self.new ≡ self.old }
+    {
+        let cards = self.dirty.len();
+        self.dirty.give_back(alloc)?;
+        give_back(alloc, &mut self.queue, cards)
     }
 }
 

@@ -28,12 +28,12 @@ use Rattle.step_core.proofs.Cores.Following.{passage_is_run}
 use Rattle.collection.specs.Steps.{HoldsBack, IsCollectors, TakesOwn}
 use Rattle.heap_calls.specs.Filled.{AreFields, FillsIt, StepsTo, Fills, making, pointing, wording}
 use Rattle.heap_calls.specs.Numbers.{no_step, refused, register, told}
-use Rattle.heap_calls.specs.Steps.{HasRegister, MakesHeap, StaysSame, Steps}
+use Rattle.heap_calls.specs.Steps.{HasRegister, MakesHeap, StaysSame, Steps, given_back}
 use Rattle.heap_calls.specs.Words.{ReadsAll, ReadsNone, WritesAll, WritesNone}
 use Rattle.heap_calls.specs.declared.answer.Answer.{Answer}
 use Rattle.g1heap_c.specs.Calls.{AreCalls, Call, Called, IsCall, telling}
 use Rattle.g1heap_c.specs.Calls.{NewCall, StepCall, NewFilledCall, MakeCall, MakeFilledCall, CollectCall, CollectAllCall, ReadWordsCall}
-use Rattle.g1heap_c.specs.Calls.{WriteWordsCall, AskCall, NoStepCall, FreeCall}
+use Rattle.g1heap_c.specs.Calls.{WriteWordsCall, AskCall, GiveBackCall, NoStepCall, FreeCall}
 use Rattle.g1heap_c.specs.MadeFilled.{AsksToFill}
 use Rattle.g1heap_c.specs.Policies.{AnswersMake, CollectsIn, asked}
 use Rattle.g1heap_c.specs.Runs.{AreEventsOf, AreRun, CallRuns, HasCollected, HasEvents, HasFilling, HasMaking, HasMakingAndFilling}
@@ -400,6 +400,8 @@ call_done (WriteWordsCall m object from ws) s c c' answer st h =
 call_done (AskCall question) s c c' answer st h =
     let same : c' ≡ c = held_is c' c h.1 in
     record { events = []; from = same_from s c c' st same; has = record { events = refl; answers = h.0; same = same } }
+call_done (GiveBackCall granted) s c c' answer st h =
+    none_done (given_back granted) s c c' answer st (record { answer_is = h.0; same = h.1 })
 call_done NoStepCall s c c' answer st h = none_done no_step s c c' answer st h
 call_done FreeCall s c c' answer st h = let e : Some c' ≡ None = h.1 in cc
 

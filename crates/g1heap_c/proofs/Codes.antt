@@ -1,5 +1,5 @@
 -- The code of each answer of a run is one that calls on a heap have.
-use Rattle.std.proofs.Common.{◌≡◌, ◌≤◌, ◌-◌, ℕ, List, [], ◌∷◌, Some, None, inl, inr, refl, sym, subst, arith}
+use Rattle.std.proofs.Common.{◌≡◌, ◌≤◌, ◌-◌, ℕ, Bool, false, true, List, [], ◌∷◌, Some, None, inl, inr, refl, sym, subst, arith}
 use Rattle.std.specs.Prelude.{All}
 use Rattle.std.proofs.lemmas.List.Elements.{All-cons, All-nil}
 use Rattle.heap_steps.specs.declared.step.CollectorStep.TheVariants as collector
@@ -14,10 +14,11 @@ use Rattle.graph_runs.specs.State.{State}
 use Rattle.step_core.specs.Mutators.{register_of}
 use Rattle.step_core.specs.Stands.{CoreState, name_in}
 use Rattle.heap_calls.specs.Numbers.{counted, numbers, refused, register}
+use Rattle.heap_calls.specs.Steps.{given_back}
 use Rattle.heap_calls.specs.declared.answer.Answer.{Answer}
 use Rattle.g1heap_c.specs.Calls.{Call, Called, IsAnswerTo, Question, telling}
 use Rattle.g1heap_c.specs.Calls.{NewCall, StepCall, NewFilledCall, MakeCall, MakeFilledCall, CollectCall, CollectAllCall, ReadWordsCall}
-use Rattle.g1heap_c.specs.Calls.{WriteWordsCall, AskCall, NoStepCall, FreeCall}
+use Rattle.g1heap_c.specs.Calls.{WriteWordsCall, AskCall, GiveBackCall, NoStepCall, FreeCall}
 use Rattle.g1heap_c.specs.Calls.{FreeRegions, FreeRun, UsedWords, LiveWords, Marking, Grey, Clearing, Queued, Globals, Registers, Name}
 use Rattle.g1heap_c.specs.Runs.{AreRun, CallsRun, HasCode, HasEvents, IsCode}
 use Rattle.g1heap_c.proofs.Named.{is_register}
@@ -26,7 +27,11 @@ none : IsCode 32
 none = inr (inr (inl refl))
 
 live : IsCode 34
-live = inr (inr (inr refl))
+live = inr (inr (inr (inl refl)))
+
+of_given : (granted : Bool) → IsCode (given_back granted).code
+of_given true = inl (omega arith)
+of_given false = inr (inr (inr (inr refl)))
 
 of_refused : (why : Refusal) → IsCode (refused why).code
 of_refused refusals.Nil = inr (inl (omega arith, omega arith))
@@ -78,6 +83,7 @@ of_call c es (ReadWordsCall m object from before after) y d (inr h) = alike y _ 
 of_call c es (WriteWordsCall m object from words) y d (inl (is, inl h)) = alike y _ h.tells (inl (omega arith))
 of_call c es (WriteWordsCall m object from words) y d (inl (is, inr h)) = alike y _ h.tells (of_refused h.why)
 of_call c es (AskCall question) y d h = of_question question c y h.answers
+of_call c es (GiveBackCall granted) y d h = alike y _ h.tells (of_given granted)
 of_call c es NoStepCall y d h = alike y _ h.tells none
 of_call c es FreeCall y d h = absurd h
 of_call c es _ y d (inr h) = alike y _ h.1.tells none

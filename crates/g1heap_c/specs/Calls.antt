@@ -1,5 +1,5 @@
 -- Calls on a heap, and what is proved of each.
-use Rattle.std.specs.Prelude.{◌≡◌, ℕ, ⊤, List, [], ◌∷◌, length, Option, Some, None}
+use Rattle.std.specs.Prelude.{◌≡◌, ℕ, ⊤, Bool, List, [], ◌∷◌, length, Option, Some, None}
 use Rattle.heap_words.specs.Configs.{globals_of, registers_of}
 use Rattle.heap_words.specs.declared.config.Config.{Config}
 use Rattle.regions.specs.Table.{free_count}
@@ -12,7 +12,8 @@ use Rattle.step_core.specs.Measures.{used_words, live_words, HasGrey, HasSlotsLe
 use Rattle.step_core.specs.Stands.{CoreState}
 use Rattle.heap_calls.specs.Filled.{MakesFilled}
 use Rattle.heap_calls.specs.Numbers.{told}
-use Rattle.heap_calls.specs.Steps.{IsMarking, IsName, IsNumber, IsFreeRun, IsSign, MakesHeap, TakesStep, TakesNone, Tells, plain, scanned}
+use Rattle.heap_calls.specs.Steps.{GivesBack, IsMarking, IsName, IsNumber, IsFreeRun, IsSign, MakesHeap, TakesStep, TakesNone, Tells}
+use Rattle.heap_calls.specs.Steps.{plain, scanned}
 use Rattle.heap_calls.specs.Words.{ReadsWords, WritesWords}
 use Rattle.heap_calls.specs.declared.answer.Answer.{Answer}
 use Rattle.g1heap_c.specs.MadeFilled.{AsksFilled}
@@ -36,7 +37,8 @@ pub data Question : Type 0 where
 
 -- Which call it is, with its numbers. A heap is made; it takes a step; it makes an object and fills it; it makes an object by the policy,
 -- and makes one by the policy and fills it; the steps of the collector that are due; a whole collection; data words are read from one on,
--- with what the buffer holds before and after, and are written; something is asked; the numbers name no step of any heap; it is freed
+-- with what the buffer holds before and after, and are written; something is asked; memory is given back, and what that asks for meanwhile
+-- is granted or not; the numbers name no step of any heap; it is freed
 pub data Call : Type 0 where
   NewCall : (config : Config) → Call
   StepCall : (step : Step) → Call
@@ -48,6 +50,7 @@ pub data Call : Type 0 where
   ReadWordsCall : (m object from : ℕ) (before after : List ℕ) → Call
   WriteWordsCall : (m object from : ℕ) (words : List ℕ) → Call
   AskCall : (question : Question) → Call
+  GiveBackCall : (granted : Bool) → Call
   NoStepCall : Call
   FreeCall : Call
 
@@ -83,6 +86,7 @@ IsCall heap CollectAllCall answer after = CollectsAll heap answer after
 IsCall heap (ReadWordsCall m object from before out) answer after = ReadsWords heap m object from before out answer after
 IsCall heap (WriteWordsCall m object from words) answer after = WritesWords heap m object from words answer after
 IsCall heap (AskCall question) answer after = Tells (IsAnswerTo question) heap answer after
+IsCall heap (GiveBackCall granted) answer after = GivesBack granted heap answer after
 IsCall heap NoStepCall answer after = TakesNone heap answer after
 IsCall heap FreeCall answer after = (answer ≡ told 0 0 0) × (after ≡ None)
 

@@ -18,11 +18,11 @@ use Rattle.step_core.specs.Words.{reading, writing}
 use Rattle.collection.specs.Steps.{IsCollectors}
 use Rattle.heap_calls.specs.Filled.{AreFields, making, pointing, wording}
 use Rattle.heap_calls.specs.Numbers.{no_step, numbers, refused, register, told}
-use Rattle.heap_calls.specs.Steps.{HasRegister}
+use Rattle.heap_calls.specs.Steps.{HasRegister, given_back}
 use Rattle.heap_calls.specs.declared.answer.Answer.{Answer}
 use Rattle.g1heap_c.specs.Calls.{Call, Called, AreCalls, IsAnswerTo, IsCall, telling}
 use Rattle.g1heap_c.specs.Calls.{NewCall, StepCall, NewFilledCall, MakeCall, MakeFilledCall, CollectCall, CollectAllCall, ReadWordsCall}
-use Rattle.g1heap_c.specs.Calls.{WriteWordsCall, AskCall, NoStepCall, FreeCall}
+use Rattle.g1heap_c.specs.Calls.{WriteWordsCall, AskCall, GiveBackCall, NoStepCall, FreeCall}
 use Rattle.g1heap_c.specs.Policies.{asked}
 
 -- the event of a step with a reply, taken by whose step it is
@@ -168,6 +168,7 @@ HasEvents c es (WriteWordsCall m object from words) answer c' =
     (HasWritten es m object from words answer ⊎ HasRefused c es (last_write m (register object) from words) answer c')
     (HasNoEvent c es no_step answer c')
 HasEvents c es (AskCall question) answer c' = HasAsked c es (IsAnswerTo question) answer c'
+HasEvents c es (GiveBackCall granted) answer c' = HasNoEvent c es (given_back granted) answer c'
 HasEvents c es NoStepCall answer c' = HasNoEvent c es no_step answer c'
 HasEvents c es FreeCall answer c' = ⊥
 
@@ -204,9 +205,10 @@ abbrev pub HasOneEvent : Step → Answer → Type 0
 HasOneEvent step answer = (c c' d d' : CoreState) (es other : List Event)
     → HasEvents c es (StepCall step) answer c' → HasEvents d other (StepCall step) answer d' → es ≡ other
 
--- the codes of calls on a heap: of what is done, of what is refused, that there is no such step, and that there is a heap already
+-- the codes of calls on a heap: of what is done, of what is refused, that there is no such step, that there is a heap already, and that
+-- memory was refused
 abbrev pub IsCode : ℕ → Type 0
-IsCode n = (n ≤ 10) ⊎ (((16 ≤ n) × (n ≤ 22)) ⊎ ((n ≡ 32) ⊎ (n ≡ 34)))
+IsCode n = (n ≤ 10) ⊎ (((16 ≤ n) × (n ≤ 22)) ⊎ ((n ≡ 32) ⊎ ((n ≡ 34) ⊎ (n ≡ 45))))
 
 -- a call's answer has such a code
 abbrev pub HasCode : Called → Type 0

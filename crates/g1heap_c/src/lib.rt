@@ -13,6 +13,7 @@
 
 pub mod collector;
 pub mod filled;
+pub mod giving;
 pub mod laws;
 pub mod made_filled;
 pub mod making;

@@ -28,6 +28,10 @@ no_step = told 32 0 0
 abbrev pub no_heap : Answer
 no_heap = told 33 0 0
 
+-- the answer where memory was refused
+abbrev pub no_memory : Answer
+no_memory = told 45 0 0
+
 abbrev pub refused : Refusal → Answer
 refused why = told (15 + refusal_number why) 0 0
 

@@ -1,5 +1,5 @@
 -- What a call does to a heap: nothing, where there is none, or a core.
-use Rattle.std.specs.Prelude.{◌≡◌, ◌↔◌, ◌⊎◌, ℕ, ◌-◌, ◌<◌, Option, Some, None, true}
+use Rattle.std.specs.Prelude.{◌≡◌, ◌↔◌, ◌⊎◌, ℕ, ◌-◌, ◌<◌, Option, Some, None, Bool, true, if◌then◌else◌}
 use Rattle.heap_words.specs.declared.config.Config.{Config}
 use Rattle.heap_words.specs.declared.config.NewFault.{NewFault}
 use Rattle.heap_words.specs.Configs.{Suits, IsNewFault, registers_of}
@@ -18,7 +18,7 @@ use Rattle.heap_calls.specs.FreeRuns.{IsLongestRun}
 use Rattle.step_core.specs.Cycle.{Does, MayReclaim}
 use Rattle.step_core.specs.Mutators.{register_of}
 use Rattle.step_core.specs.Fresh.{fresh_core}
-use Rattle.heap_calls.specs.Numbers.{told, no_step, no_heap, numbers, counted, fault_code, register}
+use Rattle.heap_calls.specs.Numbers.{told, no_step, no_heap, no_memory, numbers, counted, fault_code, register}
 use Rattle.heap_calls.specs.declared.answer.Answer.{Answer}
 
 -- how the reply of a step from one core to another is told: as it is; and of a mark, by how many objects it scanned
@@ -98,6 +98,14 @@ pub record IsName (m r : ℕ) (c : CoreState) (answer : Answer) : Type 0 where
   pub shows : HasRegister c m r → (g : Graph) → ShowsGraph g c
       → answer ≡ numbers (replies.Named (root_at g (register_place g.places m r)))
   pub none : (HasRegister c m r → ⊥) → answer ≡ no_step
+
+-- what is answered where memory is to go back to the system: done, if the memory that this asks for meanwhile is granted
+abbrev pub given_back : Bool → Answer
+given_back granted = if granted then told 0 0 0 else no_memory
+
+-- memory goes back, if that is granted; the heap is as it was
+abbrev pub GivesBack : Bool → Option CoreState → Answer → Option CoreState → Type 0
+GivesBack granted = Tells (λ c answer. answer ≡ given_back granted)
 
 -- a new heap of these sizes: they suit, and it stands for the state with no objects
 pub record IsMade (config : Config) (code : ℕ) (after : Option CoreState) : Type 0 where

@@ -53,6 +53,13 @@ pub fn no_heap() -> Answer
     bare(33)
 }
 
+/// The answer where memory was refused.
+pub fn no_memory() -> Answer
+    ensures { result ≡ spec.no_memory }
+{
+    bare(45)
+}
+
 /// A number of the heap.
 pub fn number(count: u64) -> Answer
     ensures { result ≡ spec.told 10 count 0 }

@@ -7,12 +7,13 @@
 //! ```
 //!
 //! `named` has what a call's numbers name, `answer` the numbers that a call answers, `heap` a heap as C keeps it, `handle` its pointer,
-//! `loose` the box that this points to, `making` how it begins, `filled` a new object with its fields, `words` several data words, and
-//! `readers` what is looked for in a heap.
+//! `loose` the box that this points to, `making` how it begins, `filled` a new object with its fields, `words` several data words,
+//! `readers` what is looked for in a heap, and `giving` memory that is given back to the system.
 #![tactic(auto)]
 
 pub mod answer;
 pub mod filled;
+pub mod giving;
 pub mod handle;
 pub mod heap;
 pub mod loose;

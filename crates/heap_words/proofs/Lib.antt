@@ -1,3 +1,4 @@
 pub mod Codec
 pub mod Blocks
 pub mod Limits
+pub mod Cut

@@ -11,5 +11,6 @@ pub mod addr;
 pub mod config;
 pub mod header;
 pub mod powers;
+pub mod room;
 pub mod short_list;
 pub mod words;

@@ -22,7 +22,7 @@ ghost use Rattle.std.specs.Prelude.{true, length, replicate, slice_index, slice_
 ghost use Rattle.heap_words.specs.Sizes.{field_word, size_of};
 ghost use Rattle.heap_words.specs.Headers.{header_of, header_word, pointer_of, pointer_word};
 ghost use Rattle.heap_words.specs.Contents.{put, header_at, counts_of, pointer_count, pointer_count_at, field_count, field_count_at};
-ghost use Rattle.heap_words.specs.Memory.{memory};
+ghost use Rattle.heap_words.specs.Memory.{cut_at, memory};
 ghost use Rattle.heap_words.specs.declared.header.Header.TheVariants as headers;
 
 use crate::addr::{Addr, Ptr};
@@ -30,6 +30,7 @@ use crate::header::{
     Count, FillerSize, Header, HeaderCounts, decode_header, decode_pointer, encode_header,
     encode_pointer,
 };
+use crate::room::give_back;
 use std::alloc::{AllocError, Global};
 use std::marker::Model;
 
@@ -176,6 +177,15 @@ impl Words {
         if self.items.len() < end as usize {
             self.items.resize(end as usize, 0).unwrap();
         }
+    }
+
+    /// The words from an address on are no longer written, and their memory goes back to the system. There is room for all words still.
+    /// Where the memory that this asks for meanwhile is refused, none goes back.
+    pub fn give_back(&mut self, alloc: Global, end: usize) -> Result<(), AllocError>
+        ensures { self.new ≡ cut_at self.old end }
+    {
+        self.items.truncate(end);
+        give_back(alloc, &mut self.items, self.count)
     }
 
     /// The header at an address, None if the word there is ill-formed.

@@ -41,6 +41,15 @@ impl Bitmaps {
         })
     }
 
+    /// The memory of pages of marks that neither set has any longer goes back to the system. Both sets stay, and so does their room. Where
+    /// the memory that this asks for meanwhile is refused, less goes back.
+    pub fn give_back(&mut self, alloc: Global) -> Result<(), AllocError>
+        ensures { self.new ≡ self.old }
+    {
+        self.previous.give_back(alloc)?;
+        self.next.give_back(alloc)
+    }
+
     /// The two exchange their roles.
     pub fn swap_roles(&mut self)
         ensures previous { self.new.previous ≡ self.old.next }

@@ -151,6 +151,14 @@ impl Grey {
         self.fingers.set(object.word() / 64);
     }
 
+    /// The memory of pages of flags that the scanned objects no longer have goes back to the system. Nothing changes, and the room stays.
+    /// Where the memory that this asks for meanwhile is refused, none goes back.
+    pub fn give_back(&mut self, alloc: Global) -> Result<(), AllocError>
+        ensures { self.new ≡ self.old }
+    {
+        self.scanned.give_back(alloc)
+    }
+
     /// An object is marked that was neither marked nor scanned, which makes it grey. It is held, and the one that was held is put on the
     /// stack. Where that has no room, the lower of the two is held, and the finger of the other is set. Where the scan of the held object
     /// has begun, it stays held, and the other one is put aside.

@@ -94,6 +94,14 @@ impl Marks {
         self.bits.clear();
     }
 
+    /// The memory of pages that the set no longer has goes back to the system. The set stays, and so does its room. Where the memory that
+    /// this asks for meanwhile is refused, none goes back.
+    pub fn give_back(&mut self, alloc: Global) -> Result<(), AllocError>
+        ensures { self.new ≡ self.old }
+    {
+        self.bits.give_back(alloc)
+    }
+
     /// Clears the addresses from `from` up to `to`, which is not one of them.
     pub fn clear_range(&mut self, from: Addr, to: Addr)
         requires { to ≤ length self.old }

@@ -102,6 +102,15 @@ impl Marker {
         })
     }
 
+    /// The memory of pages of marks that are no longer needed goes back to the system. What marking knows stays, and so does its room.
+    /// Where the memory that this asks for meanwhile is refused, less goes back.
+    pub fn give_back(&mut self, alloc: Global) -> Result<(), AllocError>
+        ensures { self.new ≡ self.old }
+    {
+        self.bitmaps.give_back(alloc)?;
+        self.grey.give_back(alloc)
+    }
+
     /// How many objects were scanned since marking began.
     pub fn scans(&self) -> u32
         ensures { result ≡ self.now.scans.since }

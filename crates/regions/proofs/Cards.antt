@@ -4,3 +4,4 @@ pub mod CardStarts
 pub mod FirstTiles
 pub mod Entries
 pub mod ValueRuns
+pub mod Given

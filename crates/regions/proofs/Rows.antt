@@ -5,3 +5,4 @@ pub mod Fronts
 pub mod Counting
 pub mod UsedBelow
 pub mod Sound
+pub mod Cut

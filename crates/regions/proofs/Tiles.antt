@@ -25,3 +25,4 @@ pub mod Within
 pub mod Apart
 pub mod Twice
 pub mod Made
+pub mod Below

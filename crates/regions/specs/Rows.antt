@@ -129,6 +129,10 @@ free_row_count rows = count_by (λ row. kind_is_free row.kind) rows
 abbrev pub AreUsedBelow : ℕ → List Row → Type 0
 AreUsedBelow n rows = (k : ℕ) → k < n → kind_is_free (slice_index_or rows k free_row).kind ≡ false
 
+-- each row from n on is free
+abbrev pub AreFreeFrom : ℕ → List Row → Type 0
+AreFreeFrom n rows = (k : ℕ) → n ≤ k → kind_is_free (slice_index_or rows k free_row).kind ≡ true
+
 -- each tile stands in the first n words
 pub record AreTilesWritten (t : Table) (n : ℕ) : Type 0 where
   pub each : (a : ℕ) (tile : Tile) → tile_in t a ≡ Some tile → a + tile_size tile ≤ n

@@ -34,6 +34,8 @@ ghost use Rattle.heap_words.specs.Configs.{max_words};
 use std::alloc::{AllocError, Global};
 use std::marker::Model;
 
+mod giving;
+
 /// The entries of all cards. Addresses and sizes are words. A card has a power of two of words, so that a card is found by a
 /// shift.
 #[derive(Drop)]

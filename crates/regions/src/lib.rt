@@ -22,6 +22,7 @@
 #![tactic(auto)]
 
 mod first_tiles;
+mod giving;
 mod objects;
 pub mod row;
 mod runs;

@@ -104,6 +104,14 @@ impl WeakStarts {
         }
     }
 
+    /// The memory of pages that the set no longer has goes back to the system. The set stays, and so does its room. Where the memory that
+    /// this asks for meanwhile is refused, none goes back.
+    pub(crate) fn give_back(&mut self, alloc: Global) -> Result<(), AllocError>
+        ensures { self.new ≡ self.old }
+    {
+        self.addresses.give_back(alloc)
+    }
+
     /// The lowest address of the set from one on.
     fn next(&self, from: u32) -> Option<u32>
         ensures { MatchOption result (HasNone (has self.now.flags) from) (IsLowest (has self.now.flags) from) }

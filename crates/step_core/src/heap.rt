@@ -29,7 +29,7 @@ use region_choice::{LiveRow, RegionAges};
 use regions::RegionTable;
 use remembered_sets::RememberedSets;
 use root_table::Roots;
-use std::alloc::Global;
+use std::alloc::{AllocError, Global};
 use std::marker::Model;
 
 /// A heap: its table of regions, its allocation buffers, its marker, its dirty cards and remembered sets, the room that a pause
@@ -161,6 +161,21 @@ impl Core {
             ages,
             clearing: None,
         })
+    }
+
+    /// The memory that was taken for words above the highest region in use goes back to the system, and so does what was taken for more
+    /// marks, dirty cards and queued cards than there are. The heap stays as it is, and so does its room: no step takes memory afterwards.
+    /// Meanwhile this asks for as much memory as the words may take, and touches none of it. Where that is refused, less goes back.
+    ///
+    /// ```rust
+    /// core.give_back(alloc)?;
+    /// ```
+    pub fn give_back(&mut self, alloc: Global) -> Result<(), AllocError>
+        ensures { self.new ≡ self.old }
+    {
+        self.table.give_back(alloc)?;
+        self.marker.give_back(alloc)?;
+        self.cards.give_back(alloc)
     }
 
     /// The heap's sizes.

@@ -240,8 +240,8 @@ fn a_marking_cycle(rt: HostRuntime) -> Result<(), Fail> {
     Ok(())
 }
 
-/// Objects of a region each, of which a register holds the last: two cycles reclaim the others, and the regions are taken
-/// again.
+/// Objects of a region each, of which a register holds the last: two cycles reclaim the others, the memory above goes back, and the regions
+/// are taken again.
 #[test]
 fn reclaims_regions(rt: HostRuntime) -> Result<(), Fail> {
     let r0 = register(0);
@@ -268,6 +268,7 @@ fn reclaims_regions(rt: HostRuntime) -> Result<(), Fail> {
             collect(&mut core, CollectorStep::Cleanup),
             Reply::Reclaimed(if round == 0 { 2 } else { 3 })
         );
+        assert!(rt; core.give_back(rt.alloc()).is_ok());
     }
     Ok(())
 }

@@ -160,6 +160,7 @@ extern "C" {
     pub fn g1_globals(heap: *const g1_heap) -> g1_answer;
     pub fn g1_registers(heap: *const g1_heap) -> g1_answer;
     pub fn g1_name(heap: *const g1_heap, mutator: u32, of: u32) -> g1_answer;
+    pub fn g1_give_back(heap: *mut g1_heap) -> g1_answer;
     pub fn g1_policy_start(policy: *mut g1_policy, sizes: *const g1_sizes);
     pub fn g1_make(heap: *mut g1_heap, policy: *mut g1_policy, mutator: u32, to: u32, pointers: u32, weaks: u32, values: u32) -> g1_answer;
     pub fn g1_make_filled(
@@ -218,6 +219,7 @@ macro_rules! each_call_of_numbers {
             globals = g1_globals();
             registers = g1_registers();
             name = g1_name(mutator: u32, of: u32);
+            give_back = g1_give_back();
         }
     };
 }

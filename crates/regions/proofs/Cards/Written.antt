@@ -9,7 +9,7 @@ use Rattle.bit_sets.proofs.BitWords.{all_zeros}
 use Rattle.regions.proofs.Cards.FirstTiles.{cards_fit}
 
 -- a card's entry, written or not
-entry_is : (xs : List ℕ) (n i : ℕ) → get_or (memory xs n).all i 0 ≡ get_or xs i 0
+pub entry_is : (xs : List ℕ) (n i : ℕ) → get_or (memory xs n).all i 0 ≡ get_or xs i 0
 entry_is xs n i =
     ⊎_elim (λ b. get_or_append_left xs (replicate {A = ℕ} (n - length xs) 0) 0 i b)
     (λ b. get_or-append_right xs (replicate (n - length xs) 0) (length xs) i 0 refl b ∙ all_zeros (n - length xs) (i - length xs)

@@ -1,0 +1,178 @@
+/* Memory that goes back to the system by g1_give_back, by what /proc/self/statm tells of the process: so it needs Linux.
+
+     give_back               heaps of 64 MiB and of 1 GiB: most of what fills them is dropped, they are compacted, and memory goes back;
+                             then all of it is used once more. A heap that grows and shrinks 100 times
+     give_back same COUNT    a drawn program, which gives back COUNT times: its record is the same whatever COUNT is
+
+   Prints what the process holds. The status is 1 where that is too much, or an object isn't as it was. */
+#include <g1heap.h>
+#include <stdio.h>
+#include <stdlib.h>
+#include <string.h>
+#include <unistd.h>
+
+enum { LISTS = 1024, NEW = LISTS, AT = LISTS + 1, REGISTERS = LISTS + 2, MEBIBYTE = 1 << 20 };
+
+static g1_heap heap = G1_HEAP_NONE;
+static g1_policy policy;
+static g1_sizes sizes;
+static uint64_t seed = 1;
+/* Of each list how many objects it has, and the sum of their first data words. */
+static uint64_t counts[LISTS], sums[LISTS];
+
+static uint32_t draw(uint32_t below)
+{
+    seed ^= seed << 13, seed ^= seed >> 7, seed ^= seed << 17;
+    return (uint32_t)((seed >> 20) % below);
+}
+
+/* The bytes that the process holds. */
+static uint64_t resident(void)
+{
+    unsigned long long all, held = 0;
+    FILE *file = fopen("/proc/self/statm", "r");
+    if (file == NULL || fscanf(file, "%llu %llu", &all, &held) != 2) held = 0;
+    if (file != NULL) fclose(file);
+    return held * (uint64_t)sysconf(_SC_PAGESIZE);
+}
+
+static int fails(const char *what)
+{
+    printf("%s\n", what);
+    return 1;
+}
+
+static int begin(uint32_t regions, uint32_t words, uint32_t registers)
+{
+    sizes = (g1_sizes){regions, words, 511, 1, 0, 64, 0, registers};
+    if (sizes.buffer > words / 2) sizes.buffer = words / 2;
+    memset(counts, 0, sizeof counts), memset(sums, 0, sizeof sums);
+    if (g1_new(&heap, &sizes) != G1_DONE) return fails("there is no such heap");
+    g1_policy_start(&policy, &sizes);
+    return 0;
+}
+
+/* Makes an object of 1 pointer and so many data words, at the front of a list. Returns the code. */
+static uint32_t add(uint32_t values)
+{
+    uint32_t list = draw(LISTS), value = draw(1000000), code = g1_make(&heap, &policy, 0, NEW, 1, 0, values).code;
+    if (code != G1_NAME) return code;
+    g1_put(&heap, 0, NEW, 0, list), g1_write(&heap, 0, NEW, 0, value), g1_write(&heap, 0, NEW, values - 1, value);
+    g1_move(&heap, 0, list, NEW);
+    g1_drop(&heap, 0, NEW);
+    counts[list]++, sums[list] += value;
+    return code;
+}
+
+/* Makes so many bytes of them. */
+static int grow(uint64_t bytes, uint32_t values)
+{
+    for (uint64_t made = 0; made < bytes; made += 8 * (3 + (uint64_t)values))
+        if (add(values) != G1_NAME) return fails("the heap is full too early");
+    return 0;
+}
+
+/* Makes them until the heap is full: nine tenths of it live then at least. */
+static int fill(uint32_t values)
+{
+    uint32_t code;
+    do code = add(values);
+    while (code == G1_NAME);
+    if (code != G1_FULL) return fails("no Full");
+    g1_collect_all(&heap, &policy);
+    return g1_live_words(&heap).first / 9 * 10 > (uint64_t)sizes.regions * sizes.words ? 0 : fails("the heap is full too early");
+}
+
+static void drop_lists(uint32_t from)
+{
+    for (uint32_t list = from; list < LISTS; list++) g1_drop(&heap, 0, list), counts[list] = sums[list] = 0;
+}
+
+/* Whether each list has the objects that were made for it. */
+static int are_whole(void)
+{
+    for (uint32_t list = 0; list < LISTS; list++) {
+        uint64_t count = 0, sum = 0;
+        g1_move(&heap, 0, AT, list);
+        while (g1_name(&heap, 0, AT).code == G1_NAME) count++, sum += g1_read(&heap, 0, AT, 0).first, g1_get(&heap, 0, AT, AT, 0);
+        if (count != counts[list] || sum != sums[list]) return printf("list %u has %llu objects\n", list, (unsigned long long)count), 0;
+    }
+    return 1;
+}
+
+static int shrink(void)
+{
+    g1_collect_all(&heap, &policy);
+    while (g1_compact(&heap, sizes.words).second != 0) continue;
+    return g1_give_back(&heap).code == G1_DONE ? 0 : fails("memory was refused");
+}
+
+/* A heap of so many mebibytes, three quarters of which are filled and dropped but for so many; and again. */
+static int in_heap(uint32_t mebibytes, uint32_t left)
+{
+    uint64_t bytes = (uint64_t)mebibytes * MEBIBYTE;
+    if (begin(1024, mebibytes * 128, REGISTERS)) return 1;
+    for (int turn = 0; turn < 2; turn++) {
+        if (grow(bytes / 4 * 3 - 8 * g1_live_words(&heap).first, 61)) return 1;
+        uint64_t most = resident();
+        drop_lists(LISTS * left / (mebibytes / 4 * 3));
+        if (shrink()) return 1;
+        uint64_t live = 8 * g1_live_words(&heap).first, held = resident();
+        printf("%u MiB: %llu bytes live, %llu held, %llu before\n", mebibytes, (unsigned long long)live, (unsigned long long)held,
+               (unsigned long long)most);
+        /* The marks of the marking before the last one keep up to a 64th of the heap. */
+        if (held > live + live / 2 + 16 * MEBIBYTE + bytes / 64 || most < bytes / 2) return fails("too much is held, or too little was");
+        if (!are_whole()) return fails("objects are lost");
+    }
+    if (mebibytes <= 64 && (fill(61) || !are_whole())) return fails("the heap can't be used whole");
+    g1_free(&heap);
+    return 0;
+}
+
+/* Grows and shrinks. What the process holds is the same after each turn, once the first few are over. */
+static int in_turns(void)
+{
+    uint64_t held = 0;
+    if (begin(512, 16384, REGISTERS)) return 1;
+    for (int turn = 0; turn < 100; turn++) {
+        if (grow(40 * MEBIBYTE, 509)) return 1;
+        drop_lists(LISTS / 32);
+        if (turn % 10 == 9) drop_lists(0);
+        if (shrink() || !are_whole()) return fails("a turn failed");
+        if (turn == 9) held = resident();
+    }
+    printf("100 turns: %llu bytes held after 10, %llu after all\n", (unsigned long long)held, (unsigned long long)resident());
+    if (resident() > held + MEBIBYTE) return fails("the process has grown");
+    g1_free(&heap);
+    return 0;
+}
+
+/* A drawn program in a small heap, with so many calls of g1_give_back spread over it. */
+static int same(uint32_t given)
+{
+    enum { STEPS = 20000, USED = 24 };
+    if (begin(32, 256, USED)) return 1;
+    for (uint32_t i = 0; i < STEPS; i++) {
+        uint32_t a = draw(USED), b = draw(USED), pointers = draw(4), values = draw(draw(40) == 0 ? 600 : 20);
+        switch (draw(8)) {
+        case 0: case 1: case 2: g1_make(&heap, &policy, 0, a, pointers, draw(3), values); break;
+        case 3: case 4: g1_put(&heap, 0, a, draw(4), b); break;
+        case 5: g1_write(&heap, 0, a, draw(4), i); break;
+        case 6: g1_drop(&heap, 0, a); break;
+        default:
+            if (draw(40) == 0) g1_collect_all(&heap, &policy);
+            else if (draw(10) == 0) g1_compact(&heap, sizes.words);
+            else g1_get(&heap, 0, a, b, draw(4));
+        }
+        if (given != 0 && i % (STEPS / given) == 0 && g1_give_back(&heap).code != G1_DONE) return fails("memory was refused");
+    }
+    g1_free(&heap);
+    return 0;
+}
+
+int main(int count, char **words)
+{
+    if (count == 3 && strcmp(words[1], "same") == 0) return same((uint32_t)atoi(words[2]));
+    if (g1_give_back(&heap).code != G1_NO_HEAP) return fails("nothing gives memory back");
+    return in_heap(64, 20) || in_heap(1024, 50) || in_turns();
+}
