@@ -287,7 +287,7 @@ g1_answer g1_give_back(g1_heap *heap);
        g1_make(&heap, &policy, 0, 0, 2, 0, 1);           // register 0 of mutator 0: a new object of 2 pointers, 0 weak slots, 1 data word
 
    A policy is the caller's, like the heap, and calls on both go under one lock. It holds plain numbers, and any will do: they decide when
-   the collector works, and how much at a time. The first six may be set at any time.
+   the collector works, and how much at a time. The first eight may be set at any time.
 
    TWO REGIONS ARE KEPT, since live objects are copied into free regions alone. No region is taken for an object where fewer than 2 would
    stay free. Before that comes a whole collection: a marking from begin to remark with nothing between, a cleanup, and pauses for as long
@@ -309,7 +309,9 @@ typedef struct g1_policy {
     uint32_t mark_words;   /* words: as many are looked at by marking at a look, at most */
     uint32_t cycle_words;  /* words: where so many were asked for since the last cycle began, another one begins */
     uint32_t young_words;  /* words: new regions of so many are evacuated first, and no fewer later */
-    uint32_t cards_left;   /* cards: where more are queued at a look, it refines as many at most */
+    uint32_t cards_left;   /* cards: where more are queued at a look, it refines all but half as many */
+    uint32_t visit_cards;  /* cards: as many may lead into the regions of a pause, and more only after one that gained little for them */
+    uint32_t clear_objects;/* objects with weak slots: so many are cleared at a look after marking */
     uint32_t look, left;   /* words that may be asked for before the next look, as it was set, and what is left of them */
     uint32_t begin_at;     /* regions: where so many are free, or fewer, a cycle begins */
     uint32_t young_at;     /* regions: where so many are free, or fewer, new regions are evacuated; 0 where that brings little */
@@ -318,11 +320,16 @@ typedef struct g1_policy {
     uint32_t gained;       /* regions: so many that brought */
     uint32_t wanted;       /* regions: after a cycle regions are evacuated until so many are free; 0 where that is over */
     uint32_t pace;         /* words that marking looks at, at each look of a cycle */
+    uint32_t visits;       /* cards that may lead into the regions of the next pause, if more than visit_cards */
+    uint32_t clears;       /* looks at which weak slots were cleared since the last marking, */
+    uint32_t cleared;      /* and after the marking before it */
+    uint32_t last;         /* what the last look did: 1 if it refined alone, 2 if it evacuated new regions, else 0 */
     uint32_t packed_free;  /* what the last whole collection left: free regions, */
     uint64_t packed_live;  /* live words */
     uint64_t packed_next;  /* and the next name; while these stay, pauses gain nothing more */
     uint64_t paid;         /* words that were copied for what was gained */
     uint64_t asked;        /* words asked for since the last cycle began */
+    uint64_t rest;         /* words to be asked for before the next pause, where more than twice `reserve` regions are free */
     uint64_t looked;       /* words that the marking of the running cycle looked at, */
     uint64_t marked;       /* and that of the last one */
     uint64_t cycles;       /* cycles that ended, */

@@ -232,6 +232,7 @@ public:
 
     Reply begin() {
         if (marking_) return refused(Refusal::MarkRunning);
+        uncleared_ = nowhere;
         retire_buffers();
         next_marks_.clear();
         for (Region& region : regions_) {
@@ -259,6 +260,7 @@ public:
         while (!waiting_.empty()) take_root();
         scan(~Number(0));
         clear_weak_slots();
+        uncleared_ = sizes_.format == 3 ? 0 : nowhere;
         previous_marks_.swap(next_marks_);
         for (Region& region : regions_) {
             std::swap(region.previous_start, region.next_start);
@@ -270,6 +272,7 @@ public:
 
     Reply cleanup() {
         if (marking_) return refused(Refusal::MarkRunning);
+        uncleared_ = nowhere;
         Number reclaimed = 0;
         for (Number region = 0; region < sizes_.regions; ++region) {
             if (regions_[region].kind == Kind::Ordinary) {
@@ -314,8 +317,14 @@ public:
         return evacuate();
     }
 
-    // Weak slots are cleared by remark.
-    Reply clear(Number) { return reply(Form::Ok); }
+    // Weak slots are cleared by remark. Here it is counted how far a heap would be that clears them little by little.
+    Reply clear(Number units) {
+        if (uncleared_ == nowhere) return reply(Form::Ok);
+        Address at = uncleared_ == 0 ? with_weaks(0, 0) : uncleared_;
+        for (; at != nowhere && units != 0; --units) at = with_weaks(region_of(at), at + tile_size(words_[at]));
+        uncleared_ = at;
+        return reply(Form::Ok);
+    }
 
     Reply young(Number budget, Number cards) {
         make_ready();
@@ -726,6 +735,17 @@ protected:
         }
     }
 
+    // The first object with weak slots from a tile of a region on.
+    Address with_weaks(Number region, Address tile) const {
+        while (region != nowhere) {
+            for (; tile < regions_[region].top; tile += tile_size(words_[tile]))
+                if (is_object(words_[tile]) && weak_count(words_[tile]) != 0) return tile;
+            region = weak_regions_.next(region + 1);
+            if (region != nowhere) tile = bottom(region);
+        }
+        return nowhere;
+    }
+
     void clear_slots_of(Address at) {
         Address first = at + 2 + pointer_count(words_[at]), end = first + weak_count(words_[at]);
         for (Address slot = first; slot < end; ++slot)
@@ -735,6 +755,7 @@ protected:
     // The pause, and the compaction.
 
     void make_ready() {
+        uncleared_ = nowhere;
         retire_buffers();
         current_ = no_region;
         for (Number mutator = 0; mutator < sizes_.mutators; ++mutator) flush_card_log(mutator);
@@ -915,6 +936,8 @@ protected:
     Number looked_ = 0;
     bool marking_ = false;
     Number marked_ = 0;
+    // From where on objects with weak slots would still be cleared, and nowhere once that is over.
+    Address uncleared_ = nowhere;
     // What roots named when marking began, and is still to be marked: in the third format.
     std::vector<Address> waiting_;
     std::vector<Address> deletion_logs_;

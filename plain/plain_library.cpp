@@ -32,7 +32,7 @@ public:
     Number free_regions() const { return free_count_; }
     bool marking() const { return marking_; }
     bool grey() const { return marking_ && (held_ != plain::nowhere || !waiting_.empty()); }
-    bool clearing() const { return false; }
+    bool clearing() const { return uncleared_ != plain::nowhere; }
     Number queued() const { return queue_count_; }
     plain::Reply name(Number mutator, Number number) const { return named(root(mutator, number)); }
     plain::Reply new_object(Number mutator, Number to, Number pointers, Number values) { return make(mutator, to, pointers, 0, values); }

@@ -31,23 +31,39 @@ static inline uint32_t policy_pause_budget(const g1_sizes *sizes)
 }
 static inline void policy_start(g1_policy *policy, const g1_sizes *sizes)
 {
-    g1_policy start = {0, 0, 0, 0, 0, 0, 0, 0, 0, 0, 0, 0, 0, 0, 0, 0, 0, 0, 0, 0, 0, 0, 0, 0, 0, 0, 0, 0};
+    g1_policy start = {0, 0, 0, 0, 0, 0, 0, 0, 0, 0, 0, 0, 0, 0, 0, 0, 0, 0, 0, 0, 0, 0, 0, 0, 0, 0, 0, 0, 0, 0, 0, 0, 0, 0, 0};
     start.reserve = policy_most(3, sizes->regions / 24);
     start.pause_words = policy_pause_budget(sizes);
-    start.mark_words = policy_most(131072, policy_within((uint64_t)16 * sizes->words));
+    start.mark_words = policy_least(524288, policy_most(131072, policy_within((uint64_t)16 * sizes->words)));
     start.cycle_words = policy_within((uint64_t)4 * policy_within((uint64_t)sizes->regions * sizes->words));
-    start.young_words = 131072, start.cards_left = 8192, start.packed_next = UINT64_MAX;
+    start.young_words = 131072, start.cards_left = 4096, start.clear_objects = 16384, start.packed_next = UINT64_MAX;
+    start.visit_cards = policy_most(16384, policy_least(65536, sizes->words));
     start.begin_at = start.reserve + sizes->regions / 8;
     start.span = policy_least(policy_regions(sizes, start.young_words), policy_most(1, sizes->regions / 4));
     start.young_at = policy_above(sizes->regions, start.span);
     *policy = start;
 }
 
-static inline g1_answer policy_pause(policy_of *of, uint32_t words)
+static inline g1_answer policy_moved(policy_of *of, g1_answer moved)
 {
-    g1_answer moved = g1_pause(of->heap, words);
     of->policy->pauses++, of->policy->copied += moved.first;
     return moved;
+}
+static inline g1_answer policy_pause(policy_of *of, uint32_t words) { return policy_moved(of, g1_pause(of->heap, words)); }
+static inline uint32_t policy_cards(policy_of *of)
+{
+    return (uint32_t)((uint64_t)of->sizes->regions * of->sizes->words / of->sizes->card);
+}
+/* The cards that may lead into the regions of a pause. */
+static inline uint32_t policy_visits(policy_of *of) { return policy_most(of->policy->visits, of->policy->visit_cards); }
+/* Takes note of a pause within cards: where it gained little for them, the next one may visit more; and it rests. */
+static inline void policy_note_pause(policy_of *of, uint32_t before, g1_answer moved)
+{
+    uint64_t gained = (uint64_t)policy_above(policy_free(of->heap), before) * of->sizes->words;
+    uint32_t visits = policy_visits(of);
+    if (gained < visits / 2) of->policy->visits = policy_least(policy_within((uint64_t)2 * visits), policy_cards(of));
+    else if (gained / 4 >= visits) of->policy->visits = visits / 2;
+    of->policy->rest = (moved.first + 32 * g1_queued(of->heap).first) / 4;
 }
 /* A compaction of a region of words. Answers whether it took a region. */
 static inline int policy_compact(policy_of *of)
@@ -73,7 +89,7 @@ static inline void policy_plan_young(policy_of *of, uint32_t free, uint32_t span
 static inline void policy_plan_cycle(policy_of *of, uint32_t free)
 {
     uint32_t room = policy_above(free, of->policy->reserve), needed;
-    uint64_t words = policy_within(of->policy->marked), marking = words * 3 / 2 / policy_most(of->policy->mark_words, 1);
+    uint64_t words = policy_within(of->policy->marked), marking = words * 3 / 2 / policy_most(of->policy->mark_words, 1) + of->policy->cleared;
     needed = policy_least(policy_within(marking), room / 4 * 3);
     of->policy->wanted = 0;
     of->policy->begin_at = room < 2 ? policy_above(free, 1)
@@ -91,8 +107,9 @@ static inline void policy_pause_young(policy_of *of)
 {
     g1_policy *policy = of->policy;
     uint32_t before = policy_free(of->heap), after, was;
-    g1_answer moved = policy_pause(of, policy->pause_words);
+    g1_answer moved = policy_moved(of, g1_young(of->heap, policy->pause_words, policy_visits(of)));
     after = policy_free(of->heap);
+    policy_note_pause(of, before, moved);
     policy->gained += policy_above(after, before), policy->paid += moved.first;
     uint64_t worth = (uint64_t)policy->gained * of->sizes->words;
     int is_cut_short = (uint64_t)2 * policy->pause_words < (uint64_t)before * of->sizes->words;
@@ -104,23 +121,31 @@ static inline void policy_pause_young(policy_of *of)
     policy_plan_young(of, after, policy->paid > worth / 8 ? policy_within((uint64_t)4 * was) : policy->paid <= worth / 32 ? was / 2 : was);
     if (policy->paid > worth && (policy->span <= was || policy->cycles != 0)) policy->young_at = 0;
 }
-static inline void policy_end(policy_of *of)
+/* Reclaims what is dead, after marking and clearing. Evacuation is due then. */
+static inline void policy_reclaim(policy_of *of)
 {
+    g1_policy *policy = of->policy;
     uint64_t all = (uint64_t)of->sizes->regions * of->sizes->words, live;
     uint32_t most, free;
-    policy_remark(of);
     g1_cleanup(of->heap);
     free = policy_free(of->heap), live = g1_live_words(of->heap).first;
     most = (uint32_t)((all > live ? all - live : 0) / of->sizes->words);
-    of->policy->wanted = policy_most(1, policy_most(most - most / 4, policy_within((uint64_t)2 * of->policy->reserve)));
-    of->policy->begin_at = policy_least(of->policy->begin_at, (uint32_t)((uint64_t)3 * free / 4));
+    policy->wanted = policy_most(1, policy_most(most - most / 4, policy_within((uint64_t)2 * policy->reserve)));
+    policy->begin_at = policy_least(policy->begin_at, (uint32_t)((uint64_t)3 * free / 4));
+    policy->cleared = policy->clears, policy->clears = 0;
+}
+static inline void policy_end(policy_of *of)
+{
+    policy_remark(of);
+    policy_reclaim(of);
 }
 /* One pause of so many words at most. Answers whether it paid. */
-static inline int policy_evacuate_some(policy_of *of, uint32_t *left)
+static inline int policy_evacuate_some(policy_of *of, uint32_t *left, int is_within)
 {
     g1_policy *policy = of->policy;
     uint32_t before = policy_free(of->heap), after;
     int is_cut_short;
+    g1_answer moved;
     uint64_t words = of->sizes->words, live, used, more, all, budget, copied;
     if (policy->wanted == 0 || *left == 0) return 0;
     if (before >= policy->wanted) {
@@ -131,9 +156,14 @@ static inline int policy_evacuate_some(policy_of *of, uint32_t *left)
     more = policy_above(policy->wanted, before) * words;
     all = live != 0 && more > UINT64_MAX / live ? UINT64_MAX : more * live;
     budget = used <= live ? *left : all / (used - live);
-    is_cut_short = budget >= *left && *left < policy->pause_words;
-    copied = policy_pause(of, budget < *left ? (uint32_t)budget : *left).first;
-    after = policy_free(of->heap);
+    budget = budget < *left ? budget : *left;
+    is_cut_short = budget == *left && *left < policy->pause_words;
+    if (is_within) {
+        moved = policy_moved(of, g1_pause_within(of->heap, (uint32_t)budget, policy_visits(of)));
+        is_cut_short |= moved.second == 0 && policy_visits(of) < policy_cards(of);
+        policy_note_pause(of, before, moved);
+    } else moved = policy_pause(of, (uint32_t)budget);
+    copied = moved.first, after = policy_free(of->heap);
     *left = copied < *left ? *left - (uint32_t)copied : 0;
     if (after > before && after < policy->wanted && (after <= policy->reserve || copied <= 4 * (after - before) * words)) return 1;
     if (!is_cut_short || after >= policy->wanted) policy_plan_cycle(of, after);
@@ -142,38 +172,79 @@ static inline int policy_evacuate_some(policy_of *of, uint32_t *left)
 static inline void policy_evacuate(policy_of *of)
 {
     uint32_t left = of->policy->pause_words;
-    while (policy_evacuate_some(of, &left)) {}
+    while (policy_evacuate_some(of, &left, 0)) {}
 }
-static inline void policy_begin(policy_of *of)
+/* Begins a cycle, if one is due. Answers whether it is. */
+static inline int policy_begin(policy_of *of)
 {
     g1_policy *policy = of->policy;
     uint32_t free = policy_free(of->heap);
     uint64_t words, pace;
-    if (free > policy->begin_at && policy->asked < policy->cycle_words) return;
+    if (free > policy->begin_at && policy->asked < policy->cycle_words) return 0;
     words = policy->cycles == 0 ? g1_used_words(of->heap).first / 2 : policy->marked;
     pace = 64 + policy_within(words) * 3ull / 2 / policy_most(1, policy_above(free, policy->reserve));
     policy->pace = pace < policy->mark_words ? (uint32_t)pace : policy->mark_words, policy->asked = 0, policy->wanted = 0;
     policy->looked = 0;
     g1_begin(of->heap);
     if (free <= policy->reserve) policy_end(of);
+    return 1;
 }
-static inline void policy_mark_or_begin(policy_of *of)
+static inline void policy_mark(policy_of *of)
 {
-    if (g1_marking(of->heap).first == 1) {
-        uint32_t words = policy_least(of->policy->pace, of->policy->mark_words);
-        g1_mark(of->heap, words), of->policy->looked += words;
-        if (policy_free(of->heap) <= of->policy->reserve || g1_grey(of->heap).first == 0) policy_end(of);
-    } else policy_begin(of);
+    uint32_t words = policy_least(of->policy->pace, of->policy->mark_words);
+    g1_mark(of->heap, words), of->policy->looked += words;
+    if (policy_free(of->heap) <= of->policy->reserve) policy_end(of);
+    else if (g1_grey(of->heap).first == 0) policy_remark(of);
 }
-static inline void policy_due(policy_of *of)
+/* All that is due, where few regions are free. */
+static inline void policy_hurry(policy_of *of)
 {
     uint64_t queued = g1_queued(of->heap).first, left = of->policy->cards_left;
     int is_young_due;
-    if (queued > left) g1_refine(of->heap, (uint32_t)(queued - left));
-    is_young_due = policy_is_young_due(of->policy, policy_free(of->heap));
-    if (is_young_due) policy_pause_young(of);
-    policy_mark_or_begin(of);
-    if (!is_young_due) policy_evacuate(of);
+    if (g1_clearing(of->heap).first == 1) policy_reclaim(of);
+    else {
+        if (queued > left) g1_refine(of->heap, (uint32_t)(queued - left));
+        is_young_due = policy_is_young_due(of->policy, policy_free(of->heap));
+        if (is_young_due) policy_pause_young(of);
+        if (g1_marking(of->heap).first == 1) policy_mark(of);
+        else policy_begin(of);
+        if (is_young_due) return;
+    }
+    policy_evacuate(of);
+}
+/* Refines what is queued beyond half of the cards that may be left, once they are more. Answers whether that is enough for a look. */
+static inline int policy_refine(policy_of *of)
+{
+    g1_policy *policy = of->policy;
+    uint64_t queued = g1_queued(of->heap).first, cards = queued - policy->cards_left / 2;
+    if (queued <= policy->cards_left) return 0;
+    g1_refine(of->heap, (uint32_t)cards);
+    return policy->last != 1 && cards > policy->cards_left;
+}
+/* What a look did: 1 refined alone, 2 evacuated new regions, 0 else. */
+static inline uint32_t policy_work(policy_of *of)
+{
+    g1_policy *policy = of->policy;
+    uint32_t free = policy_free(of->heap), left = policy->pause_words;
+    int rests = policy->rest != 0 && free > policy_most(policy_within((uint64_t)2 * policy->reserve), policy->wanted / 3);
+    if (policy_refine(of)) return 1;
+    if (g1_clearing(of->heap).first == 1) {
+        g1_clear(of->heap, policy->clear_objects), policy->clears++;
+        if (g1_clearing(of->heap).first == 0) policy_reclaim(of);
+        return 0;
+    }
+    if (policy->last != 2 && !rests && policy_is_young_due(policy, free)) {
+        policy_pause_young(of);
+        return 2;
+    }
+    if (g1_marking(of->heap).first == 1) policy_mark(of);
+    else if (!policy_begin(of) && !rests) policy_evacuate_some(of, &left, 1);
+    return 0;
+}
+static inline void policy_due(policy_of *of)
+{
+    if (policy_free(of->heap) <= of->policy->reserve) policy_hurry(of);
+    else of->policy->last = policy_work(of);
 }
 static inline int policy_left_so(policy_of *of)
 {
@@ -224,11 +295,13 @@ static inline int policy_room(policy_of *of, uint32_t mutator, uint64_t size)
     if (size > (uint64_t)of->sizes->regions * of->sizes->words || !of->has_name(of->heap)) return 1;
     if (due) {
         policy->asked += policy->look + size;
+        policy->rest = policy->rest > policy->look + size ? policy->rest - (policy->look + size) : 0;
         policy->look = policy->left = of->sizes->words / 2;
         policy_due(of);
     }
     if (policy_spared(of, mutator, size)) return 1;
     if (g1_marking(of->heap).first == 1) policy_end(of);
+    else if (g1_clearing(of->heap).first == 1) policy_reclaim(of);
     if (policy->wanted != 0) policy_pause_all(of), policy_plan_cycle(of, policy_free(of->heap));
     if (policy_spared(of, mutator, size)) return 1;
     policy_whole(of);

@@ -11,7 +11,9 @@ pub record IsStarted (config : Config) (p : Policy) : Type 0 where
   pub pause_words : 98304 ≤ p.pause_words
   pub mark_regions : min (config.words * 4) (2 ^ 32 - 1) ≤ p.mark_words
   pub young_words : p.young_words ≡ 131072
-  pub cards_left : p.cards_left ≡ 8192
+  pub cards_left : p.cards_left ≡ 4096
+  pub clear_objects : p.clear_objects ≡ 16384
+  pub visit_cards : p.visit_cards ≡ min (max config.words 16384) 65536
   pub left : p.left ≡ 0
   pub wanted : p.wanted ≡ 0
   pub young : p.young ≡ 0

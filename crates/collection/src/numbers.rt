@@ -9,7 +9,7 @@ use heap_steps::{CollectorStep, Reply};
 use heap_words::config::Config;
 use step_core::Core;
 
-/// A policy's numbers and counts. A client may set the first six at any time; the others are the policy's
+/// A policy's numbers and counts. A client may set the first eight at any time; the others are the policy's
 /// own.
 #[repr(C)]
 #[derive(Clone, Copy, Debug, PartialEq, Eq, Drop)]
@@ -24,8 +24,12 @@ pub struct Policy {
     pub cycle_words: u32,
     /// Words: new regions of so many are evacuated first, and no fewer later.
     pub young_words: u32,
-    /// Cards: where more are queued at a look, it refines all but so many.
+    /// Cards: where more are queued at a look, it refines all but half as many.
     pub cards_left: u32,
+    /// Cards: as many may lead into the regions of a pause, and more only after one that gained little for them.
+    pub visit_cards: u32,
+    /// Objects with weak slots: so many are cleared at a look after marking.
+    pub clear_objects: u32,
     /// Words that may be asked for before the next look, as it was set, and what is left of them.
     pub look: u32,
     pub left: u32,
@@ -41,6 +45,13 @@ pub struct Policy {
     pub wanted: u32,
     /// Words that marking looks at, at each look of a cycle.
     pub pace: u32,
+    /// Cards that may lead into the regions of the next pause, if more than `visit_cards`.
+    pub visits: u32,
+    /// Looks at which weak slots were cleared since the last marking, and after the marking before it.
+    pub clears: u32,
+    pub cleared: u32,
+    /// What the last look did: 1 if it refined alone, 2 if it evacuated new regions, else 0.
+    pub last: u32,
     /// What the last whole collection left: the free regions, the live words and the next name. While these stay no object was made, and
     /// none died, so that pauses gain nothing more.
     pub packed_free: u32,
@@ -50,6 +61,8 @@ pub struct Policy {
     pub paid: u64,
     /// Words asked for since the last cycle began.
     pub asked: u64,
+    /// Words to be asked for before the next pause, where more than twice `reserve` regions are free.
+    pub rest: u64,
     /// Words that the marking of the running cycle looked at, and that of the last one.
     pub looked: u64,
     pub marked: u64,
@@ -88,6 +101,26 @@ fn pause_budget(config: &Config) -> u32
     config.words.saturating_mul(4).max(share)
 }
 
+/// How many cards the heap has.
+fn cards_of(config: &Config) -> u32 {
+    let words = u64::from(config.regions) * u64::from(config.words);
+    (words / u64::from(config.card_words().max(1))).min(u64::from(u32::MAX)) as u32
+}
+
+/// Words: as many are looked at by marking at a look, at most: 16 regions, 131,072 at least and 524,288 at most, or four regions if that is
+/// more.
+fn marked_words(config: &Config) -> u32
+    ensures { min (config.now.words * 4) (2 ^ 32 - 1) ≤ result }
+{
+    let share = config.words.saturating_mul(16).max(131072).min(524288);
+    config.words.saturating_mul(4).max(share)
+}
+
+/// A look at which cards were refined and nothing else was done, and one at which new regions were evacuated.
+pub(crate) const REFINED: u32 = 1;
+
+pub(crate) const EVACUATED: u32 = 2;
+
 impl Policy {
     ghost use Rattle.collection.specs.Numbers.{IsStarted};
 
@@ -105,13 +138,15 @@ impl Policy {
         Policy {
             reserve,
             pause_words: pause_budget(config),
-            mark_words: config.words.saturating_mul(16).max(131072),
+            mark_words: marked_words(config),
             cycle_words: config
                 .regions
                 .saturating_mul(config.words)
                 .saturating_mul(4),
             young_words,
-            cards_left: 8192,
+            cards_left: 4096,
+            visit_cards: config.words.max(16384).min(65536),
+            clear_objects: 16384,
             look: 0,
             left: 0,
             begin_at: reserve.saturating_add(config.regions / 8),
@@ -121,11 +156,16 @@ impl Policy {
             gained: 0,
             wanted: 0,
             pace: 0,
+            visits: 0,
+            clears: 0,
+            cleared: 0,
+            last: 0,
             packed_free: 0,
             packed_live: 0,
             packed_next: u64::MAX,
             paid: 0,
             asked: 0,
+            rest: 0,
             looked: 0,
             marked: 0,
             cycles: 0,
@@ -198,10 +238,9 @@ impl Policy {
     pub(crate) fn look_on(&mut self, config: &Config, size: u64)
         ensures { self.new.begin_at ≡ self.old.begin_at }
     {
-        self.asked = self
-            .asked
-            .saturating_add(u64::from(self.look))
-            .saturating_add(size);
+        let asked = u64::from(self.look).saturating_add(size);
+        self.asked = self.asked.saturating_add(asked);
+        self.rest = self.rest.saturating_sub(asked);
         self.look = config.words / 2;
         self.left = self.look;
     }
@@ -226,6 +265,8 @@ impl Policy {
         )) as u32;
         self.wanted = (most - most / 4).max(self.reserve.saturating_mul(2)).max(1);
         self.begin_at = self.begin_at.min((u64::from(free) * 3 / 4) as u32);
+        self.cleared = self.clears;
+        self.clears = 0;
     }
 
     /// The budget of a pause after a cycle, at most so many words: what it takes to empty regions of the usual density until as many are
@@ -259,8 +300,44 @@ impl Policy {
         after <= self.reserve || copied <= gained.saturating_mul(4)
     }
 
+    /// How many cards may lead into the regions of a pause.
+    pub(crate) fn visited(&self) -> u32 {
+        self.visits.max(self.visit_cards)
+    }
+
+    /// Whether a pause that took no region may have found too many cards for each.
+    pub(crate) fn is_bounded(&self, config: &Config) -> bool {
+        self.visited() < cards_of(config)
+    }
+
+    /// Whether pauses rest: four words were copied since for each word asked for, and regions enough are free.
+    pub(crate) fn rests(&self, free: u32) -> bool {
+        self.rest != 0 && free > self.reserve.saturating_mul(2).max(self.wanted / 3)
+    }
+
+    /// Takes note of a pause within cards, after which so many are queued. If it gained fewer words than half of the cards that it might
+    /// visit, the next one may visit twice as many, and half as many if it gained four times as many. The next one rests until a fourth
+    /// of the words that it copied are asked for, a card that it left counted as 32 words.
+    pub(crate) fn note_pause(
+        &mut self,
+        config: &Config,
+        before: u32,
+        after: u32,
+        reply: Reply,
+        queued: u32,
+    ) {
+        let gained = u64::from(after.saturating_sub(before)) * u64::from(config.words);
+        let visits = self.visited();
+        if gained < u64::from(visits / 2) {
+            self.visits = visits.saturating_mul(2).min(cards_of(config));
+        } else if gained / 4 >= u64::from(visits) {
+            self.visits = visits / 2;
+        }
+        self.rest = moved(reply).1.saturating_add(u64::from(queued) * 32) / 4;
+    }
+
     /// Sets when the next cycle begins, and when new regions are evacuated before it. It has as much room as it takes to mark what the last
-    /// one marked.
+    /// one marked, and to clear weak slots at as many looks as after it.
     pub(crate) fn plan_cycle(&mut self, config: &Config, free: u32) {
         let room = free.saturating_sub(self.reserve);
         self.wanted = 0;
@@ -269,7 +346,8 @@ impl Policy {
         } else {
             let words = self.marked.min(u64::from(u32::MAX));
             let marking = words * 3 / 2 / u64::from(self.mark_words.max(1));
-            let needed = marking.min(u64::from(room / 4 * 3)) as u32;
+            let looks = marking.saturating_add(u64::from(self.cleared));
+            let needed = looks.min(u64::from(room / 4 * 3)) as u32;
             self.reserve
                 .saturating_add((room / 4).min(config.regions / 8).max(needed))
         };
@@ -303,6 +381,16 @@ impl Policy {
         self.gained = 0;
         self.paid = 0;
         true
+    }
+
+    /// Whether new regions are evacuated at this look: not twice in turn, and not while pauses rest.
+    pub(crate) fn is_young_turn(&mut self, free: u32) -> bool
+        ensures { result ≡ false → self.new ≡ self.old }
+    {
+        if self.last == EVACUATED || self.rests(free) {
+            return false;
+        }
+        self.is_young_due(free)
     }
 
     /// Takes note of a pause of new regions. If its budget left some of them, and not the room for copies, and these pauses brought enough,
