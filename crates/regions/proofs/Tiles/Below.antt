@@ -7,7 +7,9 @@ use Rattle.regions.proofs.Common.{kind_of, tile_in, tile_object, object_at, is_f
 use Rattle.regions.proofs.Common.{region_by, regions_of, sizes_in, kind_is_free, free_row, table_of, IsRegionTable, Row}
 use Rattle.regions.proofs.Common.{Kind}
 use Rattle.heap_words.specs.Memory.{cut_at}
+use Rattle.regions.specs.FirstTiles.{LeadsTo}
 use Rattle.regions.specs.Rows.{AreFreeFrom}
+use Rattle.regions.specs.Walks.{IsHolder}
 use Rattle.regions.proofs.Rows.RowLemmas.{regions-at, regions-past}
 use Rattle.regions.proofs.Tiles.Placing.{tile_at-end}
 use Rattle.regions.proofs.Tiles.InUse.{object_in_use}
@@ -136,8 +138,11 @@ entries_cut size shift lowest free entries new starts memory rows t m s e f len 
     λ k b. ap (λ (u : Table). get_or u.regions k Free) (sym e) ∙ free_from (sizes_in memory.all) size rows m k memory.all f b in
     sound_changed size shift lowest lowest free free entries new starts starts memory memory rows rows t t s e
     (record { is_table = s.table; table_is = e }) refl len each s.used_below s.free_is refl refl (λ g. g)
-    (λ g a c u h low high.
-    let ends = tile_below t m shaped empty a u h in
-    let in_cut : c * entries.card_words < m * size = rw size_is (omega (arith, ends, rw len at high)) in
-    rw len (below c in_cut ∙ g a c u h (rw len at low) (rw len at high)))
+    (λ g a c h.
+    let holder : IsHolder t a (c * entries.card_words) = subst (λ (n : ℕ). IsHolder t a (c * n)) len h in
+    let ends = tile_below t m shaped empty a holder.tile holder.tile_is in
+    let in_cut : c * entries.card_words < m * size = rw size_is (omega (arith, ends, holder.high)) in
+    let leads : LeadsTo t (get_or entries.starts c 0) a (c * new.card_words) =
+    subst (λ (n : ℕ). LeadsTo t (get_or entries.starts c 0) a (c * n)) (sym len) (g a c holder) in
+    subst (λ (e : ℕ). LeadsTo t e a (c * new.card_words)) (sym (below c in_cut)) leads)
     (λ g. g)
