@@ -125,6 +125,22 @@ fn clear_on<W: Watch>(core: &mut Core, policy: &mut Policy, watch: &mut W)
     }
 }
 
+/// Takes a pause of the regions in which least is live, within the policy's cards or within any.
+fn pause_some<W: Watch>(
+    core: &mut Core,
+    policy: &mut Policy,
+    words: u32,
+    is_within: bool,
+    watch: &mut W,
+) -> Reply
+    ensures { CollectsWithin W.sees 1 core.old watch.old core.new watch.new }
+{
+    if is_within {
+        return pause_within(core, policy, words, false, watch);
+    }
+    take(core, policy, CollectorStep::Pause(words), watch)
+}
+
 /// Evacuates some of the regions in which little is live, so many words at most, which are fewer then; within the policy's cards, or
 /// within any. Answers whether it paid. If what is left of a look cut it short, or no region had so few cards, that says nothing: the
 /// next look goes on.
@@ -149,11 +165,7 @@ fn evacuate_some<W: Watch>(
     }
     let budget = policy.evacuation_budget(&config, before, core.live_words(), *left);
     let is_bounded = is_within && policy.is_bounded(&config);
-    let reply = if is_within {
-        pause_within(core, policy, budget, false, watch)
-    } else {
-        take(core, policy, CollectorStep::Pause(budget), watch)
-    };
+    let reply = pause_some(core, policy, budget, is_within, watch);
     let after = core.free_regions();
     let (regions, copied) = moved(reply);
     let is_cut_short = budget == *left && budget < policy.pause_words || is_bounded && regions == 0;
@@ -289,7 +301,10 @@ fn go_on<W: Watch>(core: &mut Core, policy: &mut Policy, watch: &mut W)
         mark_on(core, policy, watch);
         return;
     }
-    if begin_cycle(core, policy, watch) || policy.rests(core.free_regions()) {
+    if begin_cycle(core, policy, watch) {
+        return;
+    }
+    if policy.rests(core.free_regions()) {
         return;
     }
     let mut left = policy.pause_words;
