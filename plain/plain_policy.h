@@ -61,9 +61,10 @@ static inline void policy_note_pause(policy_of *of, uint32_t before, g1_answer m
 {
     uint64_t gained = (uint64_t)policy_above(policy_free(of->heap), before) * of->sizes->words;
     uint32_t visits = policy_visits(of);
-    if (gained < visits / 2) of->policy->visits = policy_least(policy_within((uint64_t)2 * visits), policy_cards(of));
+    uint64_t rest = (moved.first + 32 * g1_queued(of->heap).first) / 4;
+    if (gained < visits) of->policy->visits = policy_least(policy_within((uint64_t)2 * visits), policy_within((uint64_t)16 * policy_cards(of)));
     else if (gained / 4 >= visits) of->policy->visits = visits / 2;
-    of->policy->rest = (moved.first + 32 * g1_queued(of->heap).first) / 4;
+    of->policy->rest = rest < gained / 2 ? rest : gained / 2;
 }
 /* A compaction of a region of words. Answers whether it took a region. */
 static inline int policy_compact(policy_of *of)
@@ -132,7 +133,7 @@ static inline void policy_reclaim(policy_of *of)
     most = (uint32_t)((all > live ? all - live : 0) / of->sizes->words);
     policy->wanted = policy_most(1, policy_most(most - most / 4, policy_within((uint64_t)2 * policy->reserve)));
     policy->begin_at = policy_least(policy->begin_at, (uint32_t)((uint64_t)3 * free / 4));
-    policy->cleared = policy->clears, policy->clears = 0;
+    policy->visits /= 2, policy->cleared = policy->clears, policy->clears = 0;
 }
 static inline void policy_end(policy_of *of)
 {

@@ -265,6 +265,7 @@ impl Policy {
         )) as u32;
         self.wanted = (most - most / 4).max(self.reserve.saturating_mul(2)).max(1);
         self.begin_at = self.begin_at.min((u64::from(free) * 3 / 4) as u32);
+        self.visits /= 2;
         self.cleared = self.clears;
         self.clears = 0;
     }
@@ -315,9 +316,10 @@ impl Policy {
         self.rest != 0 && free > self.reserve.saturating_mul(2).max(self.wanted / 3)
     }
 
-    /// Takes note of a pause within cards, after which so many are queued. If it gained fewer words than half of the cards that it might
-    /// visit, the next one may visit twice as many, and half as many if it gained four times as many. The next one rests until a fourth
-    /// of the words that it copied are asked for, a card that it left counted as 32 words.
+    /// Takes note of a pause within cards, after which so many are queued. If it gained fewer words than the cards that it might visit,
+    /// the next one may visit twice as many, and half as many if it gained four times as many, or after a cycle. A card counts for each
+    /// region that it may lead into, so more than all cards may be needed. The next one rests until a fourth of its
+    /// work is asked for, a word copied counted as one and a card that it left as 32, but for no more than half of what it gained.
     pub(crate) fn note_pause(
         &mut self,
         config: &Config,
@@ -328,12 +330,14 @@ impl Policy {
     ) {
         let gained = u64::from(after.saturating_sub(before)) * u64::from(config.words);
         let visits = self.visited();
-        if gained < u64::from(visits / 2) {
-            self.visits = visits.saturating_mul(2).min(cards_of(config));
+        if gained < u64::from(visits) {
+            let most = cards_of(config).saturating_mul(16);
+            self.visits = visits.saturating_mul(2).min(most);
         } else if gained / 4 >= u64::from(visits) {
             self.visits = visits / 2;
         }
-        self.rest = moved(reply).1.saturating_add(u64::from(queued) * 32) / 4;
+        let work = moved(reply).1.saturating_add(u64::from(queued) * 32);
+        self.rest = (work / 4).min(gained / 2);
     }
 
     /// Sets when the next cycle begins, and when new regions are evacuated before it. It has as much room as it takes to mark what the last
