@@ -35,6 +35,7 @@ static void start_policy(const g1_sizes *s)
     if (draw() % 2 == 0) return;
     policy.reserve = below(4), policy.pause_words = below(600), policy.mark_words = below(30);
     policy.cycle_words = below(3 * s->words), policy.young_words = below(4 * s->words), policy.cards_left = below(40);
+    policy.visit_cards = below(60), policy.clear_objects = below(20);
 }
 static void note_policy(void)
 {

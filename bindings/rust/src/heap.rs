@@ -238,11 +238,18 @@ pub struct Pace {
     pub cycle_words: u32,
     /// Words: new regions of so many are evacuated first, and no fewer later.
     pub young_words: u32,
-    /// Cards: where more are queued at a look, it refines all but so many.
+    /// Cards: where more are queued at a look, it refines all but half as many.
     pub cards_left: u32,
+    /// Cards: as many may lead into the regions of a pause, and more only after one that gained little for them.
+    pub visit_cards: u32,
+    /// Objects with weak slots: so many are cleared at a look after marking.
+    pub clear_objects: u32,
 }
 
-with! { Pace { reserve: u32, pause_words: u32, mark_words: u32, cycle_words: u32, young_words: u32, cards_left: u32 } }
+with! { Pace {
+    reserve: u32, pause_words: u32, mark_words: u32, cycle_words: u32, young_words: u32, cards_left: u32, visit_cards: u32,
+    clear_objects: u32
+} }
 
 /// A heap. It may go to another thread. Threads that are in it at once share a [`Shared`](crate::Shared), or a `Mutex<Heap>`.
 ///
@@ -362,7 +369,8 @@ impl Heap {
         let it = self.core.raw.policy();
         let (reserve, pause_words, mark_words) = (it.reserve, it.pause_words, it.mark_words);
         let (cycle_words, young_words, cards_left) = (it.cycle_words, it.young_words, it.cards_left);
-        Pace { reserve, pause_words, mark_words, cycle_words, young_words, cards_left }
+        let (visit_cards, clear_objects) = (it.visit_cards, it.clear_objects);
+        Pace { reserve, pause_words, mark_words, cycle_words, young_words, cards_left, visit_cards, clear_objects }
     }
 
     /// Sets how much the policy does at once.
@@ -377,6 +385,7 @@ impl Heap {
         let mut it = self.core.raw.policy();
         (it.reserve, it.pause_words, it.mark_words) = (pace.reserve, pace.pause_words, pace.mark_words);
         (it.cycle_words, it.young_words, it.cards_left) = (pace.cycle_words, pace.young_words, pace.cards_left);
+        (it.visit_cards, it.clear_objects) = (pace.visit_cards, pace.clear_objects);
         self.core.raw.set_policy(it);
     }
 

@@ -301,10 +301,12 @@ fn the_policy_has_a_pace() {
     let mut heap = heap();
     let pace = heap.pace();
     assert!(pace.reserve == 3 && pace.pause_words > 0 && pace.mark_words > 0 && pace.cycle_words > 0);
-    assert!(pace.young_words > 0 && pace.cards_left > 0);
+    assert!(pace.young_words > 0 && pace.cards_left > 0 && pace.visit_cards > 0 && pace.clear_objects > 0);
     let other = pace.reserve(4).pause_words(100).mark_words(5).cycle_words(1000).young_words(300).cards_left(2);
+    let other = other.visit_cards(9).clear_objects(3);
     assert_eq!((other.reserve, other.pause_words, other.mark_words), (4, 100, 5));
     assert_eq!((other.cycle_words, other.young_words, other.cards_left), (1000, 300, 2));
+    assert_eq!((other.visit_cards, other.clear_objects), (9, 3));
     heap.set_pace(other);
     assert_eq!(heap.pace(), other);
     heap.run(|f| (0..10_000).for_each(|_| f.scope(|g| assert!(g.alloc::<Cell>().is_ok()))));
