@@ -43,6 +43,7 @@ static void note_policy(void)
     note(policy.wanted), note(policy.pace), note(policy.paid), note(policy.asked), note(policy.marked), note(policy.cycles);
     note(policy.scanned), note(policy.pauses), note(policy.copied), note(policy.compactions), note(policy.compacted);
     note(policy.packed_free), note(policy.packed_live), note(policy.packed_next);
+    note(policy.visits), note(policy.clears), note(policy.cleared), note(policy.last), note(policy.rest);
 }
 
 static g1_answer asked(g1_heap *h, const g1_sizes *s, uint32_t m, uint32_t a)
