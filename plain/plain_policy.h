@@ -108,7 +108,8 @@ static inline void policy_pause_young(policy_of *of)
 {
     g1_policy *policy = of->policy;
     uint32_t before = policy_free(of->heap), after, was;
-    g1_answer moved = policy_moved(of, g1_young(of->heap, policy->pause_words, policy_visits(of)));
+    uint32_t words = policy->pause_words, cards = policy_visits(of);
+    g1_answer moved = policy_moved(of, policy->cycles != 0 ? g1_young(of->heap, words, cards) : g1_pause_within(of->heap, words, cards));
     after = policy_free(of->heap);
     policy_note_pause(of, before, moved);
     policy->gained += policy_above(after, before), policy->paid += moved.first;

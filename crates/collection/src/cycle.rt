@@ -58,14 +58,16 @@ fn pause_within<W: Watch>(
     reply
 }
 
-/// Evacuates some new regions, of which most objects are dead by now.
+/// Evacuates some new regions, of which most objects are dead by now: by age, but before the first cycle those in which least is live, so
+/// that what survived earlier pauses moves down as well, and leaves room side by side for large objects.
 fn pause_young<W: Watch>(core: &mut Core, policy: &mut Policy, watch: &mut W)
     ensures { CollectsSome W.sees 1 core.old watch.old core.new watch.new }
 {
     let config = core.config();
     let before = core.free_regions();
     let budget = policy.pause_words;
-    let reply = pause_within(core, policy, budget, true, watch);
+    let is_young = policy.cycles != 0;
+    let reply = pause_within(core, policy, budget, is_young, watch);
     policy.note_young(&config, before, core.free_regions(), reply);
 }
 
