@@ -329,7 +329,7 @@ typedef struct g1_policy {
     uint64_t packed_next;  /* and the next name; while these stay, pauses gain nothing more */
     uint64_t paid;         /* words that were copied for what was gained */
     uint64_t asked;        /* words asked for since the last cycle began */
-    uint64_t rest;         /* words to be asked for before the next pause, where more than twice `reserve` regions are free */
+    uint64_t rest;         /* words to be asked for before the next pause, while regions enough are free */
     uint64_t looked;       /* words that the marking of the running cycle looked at, */
     uint64_t marked;       /* and that of the last one */
     uint64_t cycles;       /* cycles that ended, */

@@ -198,22 +198,6 @@ static inline void policy_mark(policy_of *of)
     if (policy_free(of->heap) <= of->policy->reserve) policy_end(of);
     else if (g1_grey(of->heap).first == 0) policy_remark(of);
 }
-/* All that is due, where few regions are free. */
-static inline void policy_hurry(policy_of *of)
-{
-    uint64_t queued = g1_queued(of->heap).first, left = of->policy->cards_left;
-    int is_young_due;
-    if (g1_clearing(of->heap).first == 1) policy_reclaim(of);
-    else {
-        if (queued > left) g1_refine(of->heap, (uint32_t)(queued - left));
-        is_young_due = policy_is_young_due(of->policy, policy_free(of->heap));
-        if (is_young_due) policy_pause_young(of);
-        if (g1_marking(of->heap).first == 1) policy_mark(of);
-        else policy_begin(of);
-        if (is_young_due) return;
-    }
-    policy_evacuate(of);
-}
 /* Refines what is queued beyond half of the cards that may be left, once they are more. Answers whether that is enough for a look. */
 static inline int policy_refine(policy_of *of)
 {
@@ -222,6 +206,21 @@ static inline int policy_refine(policy_of *of)
     if (queued <= policy->cards_left) return 0;
     g1_refine(of->heap, (uint32_t)cards);
     return policy->last != 1 && cards > policy->cards_left;
+}
+/* All that is due, where few regions are free. */
+static inline void policy_hurry(policy_of *of)
+{
+    int is_young_due;
+    if (g1_clearing(of->heap).first == 1) policy_reclaim(of);
+    else {
+        policy_refine(of);
+        is_young_due = policy_is_young_due(of->policy, policy_free(of->heap));
+        if (is_young_due) policy_pause_young(of);
+        if (g1_marking(of->heap).first == 1) policy_mark(of);
+        else policy_begin(of);
+        if (is_young_due) return;
+    }
+    policy_evacuate(of);
 }
 /* What a look did: 1 refined alone, 2 evacuated new regions, 0 else. */
 static inline uint32_t policy_work(policy_of *of)

@@ -247,37 +247,6 @@ fn young_on<W: Watch>(core: &mut Core, policy: &mut Policy, watch: &mut W)
     mark_or_begin(core, policy, watch);
 }
 
-/// Refines what is queued beyond the cards that may be left, so that no more are left for a pause.
-fn refine_on<W: Watch>(core: &mut Core, policy: &mut Policy, watch: &mut W)
-    ensures collects { CollectsWithin W.sees 1 core.old watch.old core.new watch.new }
-    ensures some { CollectsSome W.sees 1 core.old watch.old core.new watch.new ⊎ (core.new ≡ core.old) × (policy.new ≡ policy.old) }
-{
-    let queued = core.queued();
-    let left = policy.cards_left;
-    if queued > left {
-        take(core, policy, CollectorStep::Refine(queued - left), watch);
-    }
-}
-
-/// All that is due, where few regions are free.
-fn hurry<W: Watch>(core: &mut Core, policy: &mut Policy, watch: &mut W)
-    ensures collects { CollectsWithin W.sees (core.old.config.regions + 5) core.old watch.old core.new watch.new }
-    ensures some { IsDue core.old policy.old.begin_at
-        → CollectsSome W.sees (core.old.config.regions + 5) core.old watch.old core.new watch.new }
-{
-    if core.clearing() {
-        reclaim(core, policy, watch);
-        evacuate(core, policy, watch);
-        return;
-    }
-    refine_on(core, policy, watch);
-    if policy.is_young_due(core.free_regions()) {
-        young_on(core, policy, watch);
-        return;
-    }
-    cycle_on(core, policy, watch);
-}
-
 /// Refines all that is queued but half of the cards that may be left, once they are more. Answers whether that is enough for a look: it
 /// never is twice in turn.
 fn refine_most<W: Watch>(core: &mut Core, policy: &mut Policy, watch: &mut W) -> bool
@@ -292,6 +261,25 @@ fn refine_most<W: Watch>(core: &mut Core, policy: &mut Policy, watch: &mut W) ->
     let cards = queued - policy.cards_left / 2;
     take(core, policy, CollectorStep::Refine(cards), watch);
     policy.last != REFINED && cards > policy.cards_left
+}
+
+/// All that is due, where few regions are free.
+fn hurry<W: Watch>(core: &mut Core, policy: &mut Policy, watch: &mut W)
+    ensures collects { CollectsWithin W.sees (core.old.config.regions + 5) core.old watch.old core.new watch.new }
+    ensures some { IsDue core.old policy.old.begin_at
+        → CollectsSome W.sees (core.old.config.regions + 5) core.old watch.old core.new watch.new }
+{
+    if core.clearing() {
+        reclaim(core, policy, watch);
+        evacuate(core, policy, watch);
+        return;
+    }
+    refine_most(core, policy, watch);
+    if policy.is_young_due(core.free_regions()) {
+        young_on(core, policy, watch);
+        return;
+    }
+    cycle_on(core, policy, watch);
 }
 
 /// Goes on with a cycle, or begins one where it is due, or evacuates some regions after one.

@@ -61,7 +61,7 @@ pub struct Policy {
     pub paid: u64,
     /// Words asked for since the last cycle began.
     pub asked: u64,
-    /// Words to be asked for before the next pause, where more than twice `reserve` regions are free.
+    /// Words to be asked for before the next pause, while regions enough are free.
     pub rest: u64,
     /// Words that the marking of the running cycle looked at, and that of the last one.
     pub looked: u64,
@@ -311,7 +311,7 @@ impl Policy {
         self.visited() < cards_of(config)
     }
 
-    /// Whether pauses rest: four words were copied since for each word asked for, and regions enough are free.
+    /// Whether pauses rest: fewer words were asked for since the last one than `note_pause` set, and regions enough are free.
     pub(crate) fn rests(&self, free: u32) -> bool {
         self.rest != 0 && free > self.reserve.saturating_mul(2).max(self.wanted / 3)
     }

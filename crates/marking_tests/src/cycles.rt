@@ -273,13 +273,14 @@ fn marks_a_ring(rt: HostRuntime) -> Result<(), Fail> {
 }
 
 /// Goes on with marking in the third format, and answers how many words were looked at.
-fn mark_third(marker: &mut Marker, table: &RegionTable, words: u32) -> u32
+fn mark_third(marker: &mut Marker, table: &RegionTable, words: u32) -> (u32, u32)
     requires stands { MarkerStands table.now marker.old }
     requires running { marker.old.running ≡ true }
     ensures stands { MarkerStands table.now marker.new }
     ensures running { marker.new.running ≡ true }
 {
-    marker.mark(table, third_sizes().format, words)
+    let looked = marker.mark(table, third_sizes().format, words);
+    (looked, marker.scans())
 }
 
 /// In the third format two roots that name one object wait, and each is a word; then the object of two pointers is scanned word by word,
@@ -290,38 +291,14 @@ fn counts_words(rt: HostRuntime) -> Result<(), Fail> {
     let made = build(rt.alloc(), &shapes, &[(0, 0, 1), (0, 1, 2)])?;
     let roots = roots_of(rt.alloc(), &made, &[(3, 0), (31, 0)])?;
     let mut marker = begun_third(rt.alloc(), &made.table, &roots)?;
-    assert_eq!(rt;
-        (mark_third(&mut marker, &made.table, 0), marker.scans()),
-        (0, 0)
-    );
-    assert_eq!(rt;
-        (mark_third(&mut marker, &made.table, 1), marker.scans()),
-        (1, 0)
-    );
-    assert_eq!(rt;
-        (mark_third(&mut marker, &made.table, 1), marker.scans()),
-        (1, 0)
-    );
-    assert_eq!(rt;
-        (mark_third(&mut marker, &made.table, 1), marker.scans()),
-        (1, 0)
-    );
-    assert_eq!(rt;
-        (mark_third(&mut marker, &made.table, 1), marker.scans()),
-        (1, 0)
-    );
-    assert_eq!(rt;
-        (mark_third(&mut marker, &made.table, 2), marker.scans()),
-        (2, 1)
-    );
-    assert_eq!(rt;
-        (mark_third(&mut marker, &made.table, 9), marker.scans()),
-        (4, 3)
-    );
-    assert_eq!(rt;
-        (mark_third(&mut marker, &made.table, 9), marker.scans()),
-        (0, 3)
-    );
+    assert_eq!(rt; mark_third(&mut marker, &made.table, 0), (0, 0));
+    assert_eq!(rt; mark_third(&mut marker, &made.table, 1), (1, 0));
+    assert_eq!(rt; mark_third(&mut marker, &made.table, 1), (1, 0));
+    assert_eq!(rt; mark_third(&mut marker, &made.table, 1), (1, 0));
+    assert_eq!(rt; mark_third(&mut marker, &made.table, 1), (1, 0));
+    assert_eq!(rt; mark_third(&mut marker, &made.table, 2), (2, 1));
+    assert_eq!(rt; mark_third(&mut marker, &made.table, 9), (4, 3));
+    assert_eq!(rt; mark_third(&mut marker, &made.table, 9), (0, 3));
     assert_eq!(rt; (marker.finish(&made.table), marker.scans()), (3, 3));
     Ok(())
 }
@@ -334,8 +311,7 @@ fn takes_all_that_waits(rt: HostRuntime) -> Result<(), Fail> {
         let made = build(rt.alloc(), &shapes, &[(0, 0, 1), (0, 1, 2)])?;
         let roots = roots_of(rt.alloc(), &made, &[(3, 0), (31, 0)])?;
         let mut marker = begun_third(rt.alloc(), &made.table, &roots)?;
-        let looked = mark_third(&mut marker, &made.table, asked);
-        assert_eq!(rt; (looked, marker.scans()), (words, scans));
+        assert_eq!(rt; mark_third(&mut marker, &made.table, asked), (words, scans));
         assert_eq!(rt; (marker.finish(&made.table), marker.scans()), (3, 3));
     }
     Ok(())
@@ -348,26 +324,11 @@ fn scans_in_part(rt: HostRuntime) -> Result<(), Fail> {
     let made = build(rt.alloc(), &shapes, &[(0, 1, 1), (0, 11, 2), (1, 0, 0)])?;
     let roots = roots_of(rt.alloc(), &made, &[(0, 0)])?;
     let mut marker = begun_third(rt.alloc(), &made.table, &roots)?;
-    assert_eq!(rt;
-        (mark_third(&mut marker, &made.table, 6), marker.scans()),
-        (6, 0)
-    );
-    assert_eq!(rt;
-        (mark_third(&mut marker, &made.table, 6), marker.scans()),
-        (6, 0)
-    );
-    assert_eq!(rt;
-        (mark_third(&mut marker, &made.table, 2), marker.scans()),
-        (2, 1)
-    );
-    assert_eq!(rt;
-        (mark_third(&mut marker, &made.table, 1), marker.scans()),
-        (1, 2)
-    );
-    assert_eq!(rt;
-        (mark_third(&mut marker, &made.table, 9), marker.scans()),
-        (2, 3)
-    );
+    assert_eq!(rt; mark_third(&mut marker, &made.table, 6), (6, 0));
+    assert_eq!(rt; mark_third(&mut marker, &made.table, 6), (6, 0));
+    assert_eq!(rt; mark_third(&mut marker, &made.table, 2), (2, 1));
+    assert_eq!(rt; mark_third(&mut marker, &made.table, 1), (1, 2));
+    assert_eq!(rt; mark_third(&mut marker, &made.table, 9), (2, 3));
     assert_eq!(rt; (marker.finish(&made.table), marker.scans()), (3, 3));
     Ok(())
 }
