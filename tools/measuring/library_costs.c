@@ -29,6 +29,10 @@ int main(int count, char **words)
     else if (strcmp(call, "put while marking") == 0) {
         g1_begin(&heap);
         for (long i = 0; i < times; i++, again()) sum += g1_put(&heap, 0, 0, 0, 1).code;
+    } else if (strncmp(call, "get weak", 8) == 0) {
+        g1_new_weak(&heap, 0, 4, 0, 1, 0), g1_put_weak(&heap, 0, 4, 0, 1);
+        if (strcmp(call, "get weak while clearing") == 0) g1_begin(&heap), g1_remark(&heap);
+        for (long i = 0; i < times; i++, again()) sum += g1_get_weak(&heap, 0, 2, 4, 0).first;
     } else if (strcmp(call, "move") == 0) for (long i = 0; i < times; i++, again()) sum += g1_move(&heap, 0, 2, 0).code;
     else if (strcmp(call, "new 2 + 1") == 0) for (long i = 0; i < times; i++, again()) sum += g1_new_object(&heap, 0, 3, 2, 1).code;
     else if (strcmp(call, "make 2 + 1") == 0) {

@@ -44,8 +44,8 @@ JAVA = {"gcbench": 50, "binary_trees": 32}
 THREADS = (1, 2, 4)
 WAYS = ("call", "node", "tree", "turns", "heaps", "messages")
 JAVA_FLAGS = ["-XX:+UseG1GC", "-XX:ParallelGCThreads=1", "-XX:ConcGCThreads=1", "-XX:G1ConcRefinementThreads=1"]
-CALLS = ["get", "read", "write", "put", "put while marking", "move", "new 2 + 1", "new filled 2 + 1", "make 2 + 1", "make filled 2 + 1",
-         "name", "scope", "no such register"]
+CALLS = ["get", "read", "write", "put", "put while marking", "get weak", "get weak while clearing", "move", "new 2 + 1",
+         "new filled 2 + 1", "make 2 + 1", "make filled 2 + 1", "name", "scope", "no such register"]
 # Between which calls instructions are counted, if not from the 10,000th to the 30,000th: where the collector works beside them, over many of
 # its looks.
 WINDOWS = {"make filled 2 + 1": (160000, 260000)}
