@@ -223,6 +223,15 @@ g1_answer g1_new_weak(g1_heap *heap, uint32_t by, uint32_t to, uint32_t pointers
 {
     return weaks == 0 ? g1_new_object(heap, by, to, pointers, values) : tell(G1_FULL, 0);
 }
+/* It has no weak slots, so these calls do nothing. */
+g1_answer g1_get_weak(g1_heap *heap, uint32_t by, uint32_t to, uint32_t from, uint32_t slot)
+{
+    return (void)heap, (void)by, (void)to, (void)from, (void)slot, tell(G1_NIL, 0);
+}
+g1_answer g1_put_weak(g1_heap *heap, uint32_t by, uint32_t into, uint32_t slot, uint32_t from)
+{
+    return (void)heap, (void)by, (void)into, (void)slot, (void)from, tell(G1_NIL, 0);
+}
 /* Its policy only counts what is asked for: there is nothing to collect by. */
 void g1_policy_start(g1_policy *policy, const g1_sizes *sizes) { (void)sizes, memset(policy, 0, sizeof *policy); }
 g1_answer g1_make(g1_heap *heap, g1_policy *policy, uint32_t by, uint32_t to, uint32_t pointers, uint32_t weaks, uint32_t values)
