@@ -17,9 +17,10 @@ int main(int count, char **words)
     const char *call = count == 3 ? words[1] : "";
     long times = count == 3 ? atol(words[2]) : 0;
     uint64_t sum = 0, words_of_it[] = {7};
-    /* A filled object's numbers are constants, as a new one's are: its source is the first object, and regions have room for both. */
+    /* A filled object's numbers are constants, as a new one's are: its source is the first object. Where nothing is freed a region has room
+       for all. */
     static const uint32_t sources[] = {0, G1_NIL_REGISTER};
-    if (strstr(call, "filled") != NULL) sizes.regions = 16, sizes.words = 1 << 18;
+    if (strcmp(call, "new filled 2 + 1") == 0) sizes.regions = 16, sizes.words = 1 << 18;
     if (g1_new(&heap, &sizes) != G1_DONE) return 1;
     g1_new_object(&heap, 0, 0, 2, 2), g1_new_object(&heap, 0, 1, 2, 2), g1_put(&heap, 0, 0, 0, 1);
     if (strcmp(call, "get") == 0) for (long i = 0; i < times; i++, again()) sum += g1_get(&heap, 0, 2, 0, 0).first;

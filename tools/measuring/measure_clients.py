@@ -8,7 +8,7 @@ ARCHIVE is lib/libg1heap.a where it is left out. Each table goes over memories: 
 where its module is beside the archive; Boehm's collector; malloc, where nothing is freed; the heap without proofs behind the same header; and
 tools/measuring/tuned_heap.c behind the same header, by calls and inlined, which says what such a heap takes at least and never frees either.
 
-`calls` counts the instructions of a call with the making of the question in C, by callgrind, from two runs that differ by 20,000 calls or more; there
+`calls` counts the instructions of a call with the making of the question in C, by callgrind, from two runs that differ by 20,000 calls; there
 the recorded library is one more memory, while nothing is recorded. `programs` counts those of whole clients. `clients` takes the user
 time of larger ones, the best of some runs in turns, and the peak memory; with a JDK also of GCBench and binary-trees on OpenJDK's G1, with
 as much heap, one thread for each of its tasks, and the time in which the virtual machine starts and compiles. `millions` runs a Scheme
@@ -46,9 +46,6 @@ WAYS = ("call", "node", "tree", "turns", "heaps", "messages")
 JAVA_FLAGS = ["-XX:+UseG1GC", "-XX:ParallelGCThreads=1", "-XX:ConcGCThreads=1", "-XX:G1ConcRefinementThreads=1"]
 CALLS = ["get", "read", "write", "put", "put while marking", "get weak", "get weak while clearing", "move", "new 2 + 1",
          "new filled 2 + 1", "make 2 + 1", "make filled 2 + 1", "name", "scope", "no such register"]
-# Between which calls instructions are counted, if not from the 10,000th to the 30,000th: where the collector works beside them, over many of
-# its looks.
-WINDOWS = {"make filled 2 + 1": (160000, 260000)}
 # A step with its size, two numbers of times of which the difference is taken, and what the difference is divided by.
 GROWTH = [
     *[("pause beside marked objects", size, 2, 12, 10) for size in (1000, 1000000)],
@@ -146,8 +143,7 @@ def measure_calls(libraries, folder):
         programs[name] = os.path.join(folder, f"costs{place}")
         compile_c("tools/measuring/library_costs.c", programs[name], *linked)
     for call in CALLS:
-        first, last = WINDOWS.get(call, (10000, 30000))
-        counts = {name: (instructions(it, call, last) - instructions(it, call, first)) / (last - first) for name, it in programs.items()}
+        counts = {name: (instructions(it, call, 30000) - instructions(it, call, 10000)) / 20000 for name, it in programs.items()}
         row(call, [*(f"{count:.0f}" for count in counts.values()), ratio(counts, ARCHIVE, PLAIN)])
 
 
