@@ -5,14 +5,16 @@ use Rattle.std.proofs.Common.{ℕ, zero, suc, List, [], Option, Some, None, refl
 use Rattle.std.specs.Prelude.{slice_get, slice_set}
 use Rattle.std.proofs.lemmas.Bool.{cases_lt, cases_eq}
 use Rattle.std.proofs.lemmas.Option.{slice_get_within}
-use Rattle.heap_model.specs.Graph.{Graph, Object, object_named, next_name, HasPair, IsReachable, FromRoot, FromObject, FromHeld, IsSound, with_root}
+use Rattle.heap_model.specs.Graph.{Graph, Object, object_named, next_name, HasPair, IsReachable, FromRoot, FromObject, FromHeld, IsSound}
+use Rattle.heap_model.specs.Graph.{with_root}
 use Rattle.heap_model.specs.Graph.{with_object, with_changed}
 use Rattle.heap_model.specs.Weak.{touched, KeepsUnreached, IsClearedSlot, ClearsObject, Clears}
 use Rattle.heap_model.proofs.Lists.{AllZip-get_right, get-set_cases, get-set_other, get-push_cases}
 use Rattle.heap_model.proofs.Cleared.{reach_back}
 use Rattle.heap_model.proofs.Changed.{named_at, at_least}
 use Rattle.heap_model.proofs.Unreached.{touched_cases, touched_next, touched_named, touched_reaches, touched_reached}
-use Rattle.graph_runs.specs.State.{State, register_place, with_nil_roots, root_at, AtRoot, AtField, HoldsNames, HaveNoPairs, IsEarlier, ForSnapshot}
+use Rattle.graph_runs.specs.State.{State, register_place, with_nil_roots, root_at, AtRoot, AtField, HoldsNames, HaveNoPairs, IsEarlier}
+use Rattle.graph_runs.specs.State.{ForSnapshot}
 use Rattle.graph_runs.specs.State.{IsSoundState}
 use Rattle.graph_runs.specs.Since.{IsKnown, IsSince, IsSinceState}
 use Rattle.graph_runs.specs.Sparing.{HoldsKnown}
@@ -85,7 +87,12 @@ since_begins g none = record {
 }
 
 since_root : (s g : Graph) (j : ℕ) (v : Option ℕ) → IsSince s g → KnownValue s v → IsSince s (with_root g j v)
-since_root s g j v k value = record { roots = set_known s g.roots j v k.roots value; pointers = k.pointers; unreached = k.unreached; pairs = k.pairs }
+since_root s g j v k value = record {
+  roots = set_known s g.roots j v k.roots value;
+  pointers = k.pointers;
+  unreached = k.unreached;
+  pairs = k.pairs;
+}
 
 since_nils : (s g : Graph) (first count : ℕ) → IsSince s g → IsSince s (with_nil_roots g first count)
 since_nils s g first zero k = k

@@ -270,11 +270,13 @@ module _ (g : Graph) (k : HoldsNames g) (none : HaveNoPairs g) where
   act_goes m (actions.Get to object i) = field_goes m object (λ x. slice_get x.pointers i) _ (λ n x v at e.
       rooted (replies.Named v) (register_place g.places m to.number) v (pointer_value (n - g.first_name) x i v at e) (λ u q. cc))
   act_goes m (actions.Put object i value) = field_goes m object (λ x. slice_get x.pointers i) _ (λ n x v at e.
-      changed n _ (none (n - g.first_name) x at) (fields_set g x.pointers (x.weaks ++ x.held) i (stored g m value) (values_at (n - g.first_name) x at) (stored_value g k m value)))
+      changed n _ (none (n - g.first_name) x at)
+      (fields_set g x.pointers (x.weaks ++ x.held) i (stored g m value) (values_at (n - g.first_name) x at) (stored_value g k m value)))
   act_goes m (actions.Read object i) =
       field_goes m object (λ x. slice_get x.values i) _ (λ n x v at e. stays (replies.Word v) (λ u q. cc))
   act_goes m (actions.Write object i value) =
-      field_goes m object (λ x. slice_get x.values i) _ (λ n x v at e. changed n _ (none (n - g.first_name) x at) (values_at (n - g.first_name) x at))
+      field_goes m object (λ x. slice_get x.values i) _
+      (λ n x v at e. changed n _ (none (n - g.first_name) x at) (values_at (n - g.first_name) x at))
   act_goes m (actions.Move to from) = rooted replies.Done (register_place g.places m to.number)
       (root_at g (register_place g.places m from.number)) (root_value g k (register_place g.places m from.number)) (λ u q. cc)
   act_goes m (actions.Drop register) = rooted replies.Done (register_place g.places m register.number) None (λ n e. cc) (λ u q. cc)

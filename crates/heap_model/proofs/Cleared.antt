@@ -8,7 +8,8 @@ use Rattle.heap_model.specs.Heap.{Heap, Stored, IsShown, IsObjectShown, Shows}
 use Rattle.heap_model.specs.Clearing.{IsWeakShown, WillShowObject, WillShow, kept_word}
 use Rattle.heap_model.specs.Marking.{Marking, IsFound, ByRoot, KeepsSnapshot, IsDone, kept_after}
 use Rattle.heap_model.specs.Count.{IsReachableCount}
-use Rattle.heap_model.specs.Weak.{IsKnown, IsClearedSlot, ClearsObject, Clears, cleared_word, cleared, cleared_object, cleared_after, AreReached}
+use Rattle.heap_model.specs.Weak.{IsKnown, IsClearedSlot, ClearsObject, Clears, cleared_word, cleared, cleared_object, cleared_after}
+use Rattle.heap_model.specs.Weak.{AreReached}
 use Rattle.heap_model.specs.Weak.{cleared_slot, cleared_names, cleared_graph}
 use Rattle.heap_model.proofs.Names.{bool_cases, apart}
 use Rattle.heap_model.proofs.Fields.{ltb_above}

@@ -1,5 +1,6 @@
 -- The turns of the copying.
-use Rattle.std.proofs.Common.{◌≡◌, ◌⊎◌, ◌↔◌, ◌∷◌, ◌++◌, ◌∙◌, ℕ, zero, suc, Bool, true, false, List, [], length, Option, Some, None, refl, sym}
+use Rattle.std.proofs.Common.{◌≡◌, ◌⊎◌, ◌↔◌, ◌∷◌, ◌++◌, ◌∙◌, ℕ, zero, suc, Bool, true, false, List, [], length, Option, Some, None, refl}
+use Rattle.std.proofs.Common.{sym}
 use Rattle.std.proofs.Common.{ap, subst, inl, inr, slice_set, slice_get}
 use Rattle.std.specs.List.{AllZip}
 use Rattle.std.proofs.lemmas.Bool.{cases_eq}
@@ -126,7 +127,15 @@ module _ (set : ℕ → Bool) (h : Heap) (forward : ℕ → Option ℕ) (now : H
   root_updated now' j w w' at moved step = record {
     roots = subst (λ ws. AllZip (IsWord (place_after set forward)) h.roots ws) (sym step.roots) (set_one h.roots now.roots j v.roots at);
     objects = λ a b x e p. let k = v.objects a b x e p in
-        record { part = k.part; at = step.kept b ∙ k.at; name = k.name; values = k.values; shape = k.shape; slots = k.slots; words = k.words };
+        record {
+          part = k.part;
+          at = step.kept b ∙ k.at;
+          name = k.name;
+          values = k.values;
+          shape = k.shape;
+          slots = k.slots;
+          words = k.words;
+        };
     came = λ b y e out. v.came b y (sym (step.kept b) ∙ e) out;
     untouched = λ a e u. step.kept a ∙ v.untouched a e u;
     reached = v.reached;

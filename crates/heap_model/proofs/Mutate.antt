@@ -128,7 +128,8 @@ module _ (live : ℕ → Type 0) (limit : ℕ) (g : Graph) (h h' : Heap) (m : Ma
 
 -- data words lead nowhere, and weak slots alone neither
 module _ (live : ℕ → Type 0) (limit : ℕ) (g : Graph) (h h' : Heap) (m : Marking) (shows : WillShow g h)
-    (i : MarkingInvariant live limit h m) (d : ℕ) (x y : Stored) (v : ObjectSet h h' d x y) (same : y.pointers ≡ x.pointers) (pairs : PairsSet h m x y) where
+    (i : MarkingInvariant live limit h m) (d : ℕ) (x y : Stored) (v : ObjectSet h h' d x y) (same : y.pointers ≡ x.pointers)
+    (pairs : PairsSet h m x y) where
   values_back : (a b : ℕ) (p : Points h' a b) → (q : Points h a b) × (q.object.name ≡ p.object.name)
   values_back = set_points h' h d y x (set_back h h' d x y v) (sym same)
 
@@ -179,7 +180,10 @@ module _ (live : ℕ → Type 0) (limit : ℕ) (h : Heap) (m : Marking) (i : Mar
         ]
 
     added_known : (c : ℕ) → IsKnownAt live h' m c → IsKnownAt live h m c
-    added_known c (inl p) = elim (added_before h h' a x place v c p.0 p.1) [ inl q ↦ inr (ap m.old q.0 ∙ new) | inr at ↦ inl (p.0, at, p.2) ]
+    added_known c (inl p) = elim (added_before h h' a x place v c p.0 p.1) [
+      | inl q ↦ inr (ap m.old q.0 ∙ new)
+      | inr at ↦ inl (p.0, at, p.2)
+    ]
     added_known c (inr n) = inr n
 
     added_root : (b : ℕ) → m.old b ≡ true → IsRoot h' b → IsRoot h b

@@ -1,6 +1,7 @@
 -- What the heap shows of the graph.
 use Rattle.std.proofs.Common.{◌≡◌, ℕ, List, ◌++◌, Option, Some, None, refl, sym, ap, ◌∙◌, subst, slice_get, map}
-use Rattle.heap_model.specs.Graph.{Graph, Object, object_named, object_fields, HasPair, held_by, IsReachable, FromRoot, FromObject, FromHeld}
+use Rattle.heap_model.specs.Graph.{Graph, Object, object_named, object_fields, HasPair, held_by, IsReachable, FromRoot, FromObject}
+use Rattle.heap_model.specs.Graph.{FromHeld}
 use Rattle.std.specs.List.{AllZip}
 use Rattle.heap_model.specs.Heap.{Heap, Stored, Points, Holds, IsRoot, IsShown, IsObjectShown, Shows, IsClosed, fields}
 use Rattle.heap_model.specs.Clearing.{IsWeakShown, WillShowObject, WillShow, StandsOnce, CanBeFollowed, kept_word, kept_held}
@@ -199,7 +200,6 @@ module _ (g : Graph) (h : Heap) (shows : WillShow g h) where
         let (v, is, s) = AllZip-get (IsShown h) y.pointers shown.object.pointers shown.pointers i (Some a) e in
         let (n, is', z, here, called) = shown_name h a v s in
         (z, here);
-    held = λ b k a p. let t = held_shown b k a p in (t.object, t.at);
   }
 
   -- an object of this name is kept

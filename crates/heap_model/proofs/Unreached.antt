@@ -3,7 +3,8 @@ use Rattle.std.proofs.Common.{◌≡◌, ◌<◌, ◌≤◌, ◌-◌, ◌⊎◌,
 use Rattle.std.proofs.Common.{inl, inr, arith, slice_get, lt-ltb, ltb-true}
 use Rattle.std.proofs.lemmas.Bool.{cases_eq, cases_lt}
 use Rattle.std.proofs.Math.Dec.{ltb}
-use Rattle.heap_model.specs.Graph.{Graph, Object, object_named, object_fields, next_name, IsPair, HasPair, IsReachable, FromRoot, FromObject}
+use Rattle.heap_model.specs.Graph.{Graph, Object, object_named, object_fields, next_name, IsPair, HasPair, IsReachable, FromRoot}
+use Rattle.heap_model.specs.Graph.{FromObject}
 use Rattle.heap_model.specs.Graph.{FromHeld, IsSound}
 use Rattle.heap_model.specs.Graph.{with_root, with_object, with_changed}
 use Rattle.heap_model.specs.Weak.{touched, IsKnown, PairsChange, KeepsPairs, KeepsUnreached, IsClearedSlot, ClearsObject, Clears}
@@ -139,7 +140,8 @@ cleared_sound s g g' c k =
                   let (there, holds) = weak_field o at.0 n (was ∙ ap Some (slot_was s v (Some n) n slot refl)) in
                   k.fields m there n o is holds
               | inr at ↦
-                  let (there, holds) = held_field o at.0 n (held_by_was p.weaks o.held at.0 n (ap (λ l. slice_get l at.0) (sym z.held) ∙ at.1)) in
+                  let (there, holds) = held_field o at.0 n
+                  (held_by_was p.weaks o.held at.0 n (ap (λ l. slice_get l at.0) (sym z.held) ∙ at.1)) in
                   k.fields m there n o is holds
             ]
           ]);
@@ -239,7 +241,8 @@ module _ (s g : Graph) (u : KeepsPairs s g) where
           | inl same ↦
               let here = same_some (object_named g n) q.object o (ap (object_named g) (sym same) ∙ q.named) e in
               elim (pairs.went i k b (subst (λ (z : Object). IsPair z.weaks z.held i k b) here q.pair)) [
-                | inl t ↦ inl (record { object = p; named = ap (object_named (with_changed g n p)) same ∙ changed_here g n o p e; pair = t })
+                | inl t ↦
+                    inl (record { object = p; named = ap (object_named (with_changed g n p)) same ∙ changed_here g n o p e; pair = t })
                 | inr known ↦ inr known
               ]
           | inr ne ↦ inl (record { object = q.object; named = changed_other g n l o p q.object e ne q.named; pair = q.pair })

@@ -9,7 +9,7 @@
 ghost use Rattle.std.specs.Prelude.{◌≡◌, ℕ, ◌⊎◌, Option, Some, None, slice_get};
 ghost use Rattle.std.specs.List.{AllZip};
 ghost use Rattle.heap_model.specs.Graph.{Graph, Object, next_name, object_named, held_by, with_root, with_object, with_changed};
-ghost use Rattle.heap_model.specs.Heap.{Heap, Stored, Shows, IsShown, RootSet, ObjectSet, ObjectAdded, SameHeap};
+ghost use Rattle.heap_model.specs.Heap.{Heap, Stored, Holds, Shows, IsShown, RootSet, ObjectSet, ObjectAdded, SameHeap};
 ghost use Rattle.heap_model.specs.Marking.{Marking, KeepsSnapshot, IsDone, kept_after};
 ghost use Rattle.heap_model.specs.Weak.{Clears};
 ghost use Rattle.heap_model.specs.Clearing.{WillShow, IsWeakShown, HasWeak, KeepsAt, IsPassed, IsClearedTo, ClearsWeaks, kept_word};
@@ -22,9 +22,10 @@ pub fn left_law()
     ensures shows { (g : Graph) (h : Heap) → WillShow g h → IsClearedTo None h → Shows g h }
 {}
 
-/// Roots, pointers and what is held for kept keys lead to kept objects, whatever weak slots hold.
+/// Roots and pointers lead to kept objects, whatever weak slots hold, and so does what is held for a key that is kept.
 pub fn followed_law()
-    ensures { (g : Graph) (h : Heap) → WillShow g h → CanBeFollowed h }
+    ensures pointers { (g : Graph) (h : Heap) → WillShow g h → CanBeFollowed h }
+    ensures held { (g : Graph) (h : Heap) → WillShow g h → (a k b : ℕ) → Holds h a k b → KeepsAt h b }
 {}
 
 /// What is read of a weak slot, but nil where its target isn't kept, is what the graph has; and so is what is read of a held slot, but

@@ -2,7 +2,8 @@
 
 ghost use Rattle.std.specs.Prelude.{◌≡◌, ℕ, Option, Some, length, slice_get, slice_set};
 ghost use Rattle.std.specs.List.{AllZip};
-ghost use Rattle.heap_model.specs.Graph.{Graph, Object, IsReachable, next_name, object_named, held_by, with_root, with_object, with_changed};
+ghost use Rattle.heap_model.specs.Graph.{Graph, Object, IsReachable, next_name, object_named, held_by, with_root, with_object};
+ghost use Rattle.heap_model.specs.Graph.{with_changed};
 ghost use Rattle.heap_model.specs.Heap.{Heap, Stored, Shows, IsShown, IsClosed, RootSet, ObjectSet, ObjectAdded, SameHeap};
 ghost use Rattle.heap_model.specs.Heap.{fields, with_field};
 ghost use Rattle.heap_model.specs.Clearing.{WillShow, StandsOnce};

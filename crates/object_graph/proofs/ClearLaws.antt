@@ -37,7 +37,8 @@ part_more f old cur new place slot was value inside field is there given made =
     let read = sym (get_or_from_slice_get (object_in cur place).weaks slot was was there) in
     let more = map_over_more f (object_in old place).weaks (object_in cur place).weaks slot was field weaks read in
     let changed = same_but (object_in cur place) (object_in old place) (ap (λ (x : Object). x.pointers) now)
-    (ap (λ (x : Object). x.held) now) (ap (λ (x : Object). x.values) now) (ap (λ (v : Option ℕ). set (object_in cur place).weaks slot v) given ∙ more) in
+    (ap (λ (x : Object). x.held) now) (ap (λ (x : Object). x.values) now)
+    (ap (λ (v : Option ℕ). set (object_in cur place).weaks slot v) given ∙ more) in
     made ∙ ap (λ (x : Object). set cur place x) changed
     ∙ ap (λ (xs : List Object). set xs place (cleared_part f (slot + 1) (object_in old place))) is
     ∙ set-set old place (cleared_part f slot (object_in old place)) (cleared_part f (slot + 1) (object_in old place))

@@ -2,7 +2,8 @@
 use Rattle.regions.proofs.Common.{get_or_from_slice_get, get_or-replicate, length-replicate, slice_get_within, replace_tile, tile_object, ℕ}
 use Rattle.regions.proofs.Common.{new_object, replicate, slice_get, tile_size, object_at, push_tile, remainder, cases_lt, cases_eq, tile_in}
 use Rattle.regions.proofs.Common.{IsShaped, IsHolder, used_of, kind_of, Option, length, get_or, IsSome, Stored, fields, Object, Filler, ◌≡◌}
-use Rattle.regions.proofs.Common.{top_of, subst, arith, Table, Some, None, refl, ◌≢◌, ◌+◌, ◌-◌, ◌<◌, ◌≤◌, ◌∷◌, ◌++◌, ◌∙◌, sym, inl, inr, [], ap}
+use Rattle.regions.proofs.Common.{top_of, subst, arith, Table, Some, None, refl, ◌≢◌, ◌+◌, ◌-◌, ◌<◌, ◌≤◌, ◌∷◌, ◌++◌, ◌∙◌, sym, inl, inr}
+use Rattle.regions.proofs.Common.{[], ap}
 use Rattle.heap_model.proofs.Lists.{get-append_cases}
 use Rattle.regions.proofs.Tiles.Placing.{Pushed, filler_push, Replaces, filler_replaced, tile_at-alone}
 use Rattle.regions.specs.declared.row.Kind.TheVariants as kinds

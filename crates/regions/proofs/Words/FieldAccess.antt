@@ -7,7 +7,7 @@ use Rattle.std.specs.List.{slice_get}
 use Rattle.heap_model.proofs.Fields.{ltb_above}
 use Rattle.regions.specs.Table.{object_fields, set_field_of}
 use Rattle.regions.proofs.Words.Places.{IsInObject}
-use Rattle.regions.proofs.Words.ObjectWords.{there, IsThere}
+use Rattle.regions.proofs.Words.ObjectWords.{there, IsThere, none_held}
 use Rattle.regions.proofs.Tiles.Targets.{IsWrittenTable}
 use Rattle.regions.proofs.Words.Access.{HasPart, has_part, pointer_read, weak_read, pointer_written, weak_written}
 use Rattle.regions.proofs.Words.Access.{set_pointer-is, set_weak-is}
@@ -38,10 +38,6 @@ weaks_are t x s e = ap object_weaks e
 fields_are : (t : Table) (x : ℕ) (s : Stored) → object_at t x ≡ Some s → fields_at t x ≡ fields s
 unfolding fields_at
 fields_are t x s e = ap object_fields e
-
--- an object in words has no held slots
-pub none_held : (words : List ℕ) (t : Table) (x : ℕ) (s : Stored) → IsThere words t x s → s.held ≡ []
-none_held words t x s i = ap (λ (r : Stored). r.held) i.is_in.stored_is
 
 append_nil : (xs : List (Option ℕ)) → xs ++ [] ≡ xs
 append_nil [] = refl
