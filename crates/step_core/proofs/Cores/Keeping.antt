@@ -29,7 +29,7 @@ use Rattle.step_core.specs.Answers.{Acts}
 use Rattle.step_core.proofs.Cores.Sizes.{some_words}
 use Rattle.step_core.proofs.Cores.Slots.{slots_same, slots_set, object_stays}
 use Rattle.heap_model.specs.Clearing.{IsWeakShown, KeepsAt, kept_word, kept_held}
-use Rattle.step_core.specs.Stands.{IsClearing}
+use Rattle.step_core.specs.Stands.{IsClearing, marking_of}
 use Rattle.step_core.proofs.Cores.Resting.{core_over, root_rests, object_rests}
 use Rattle.step_core.proofs.Cores.Layers.{layers_writes, follows_of, still_there}
 use Rattle.step_core.proofs.Mutating.Written.{object_written, write_keeps, root_keeps}
@@ -177,7 +177,7 @@ no_change s o p weaks held = record {
 }
 
 -- and where there are no held slots there are no pairs
-nothing_there : (vs : List (Option ℕ)) (i b : ℕ) → vs ≡ [] → slice_get vs i ≡ Some (Some b) → ⊥
+pub nothing_there : (vs : List (Option ℕ)) (i b : ℕ) → vs ≡ [] → slice_get vs i ≡ Some (Some b) → ⊥
 nothing_there [] i b e at = cc
 nothing_there (v ∷ vs) i b e at = cc
 

@@ -1,11 +1,14 @@
 -- A pointer or a weak slot that is set, among all fields of its object.
-use Rattle.std.proofs.Common.{◌≡◌, ℕ, zero, suc, ◌+◌, ◌<◌, ◌≤◌, List, [], ◌∷◌, ◌++◌, Option, Some, None, length, refl, ap, arith, inl, inr}
+use Rattle.std.proofs.Common.{◌≡◌, ℕ, zero, suc, ◌+◌, ◌<◌, ◌≤◌, List, [], ◌∷◌, ◌++◌, ◌∙◌, Option, Some, None, length, refl, ap, arith, inl}
+use Rattle.std.proofs.Common.{inr}
 use Rattle.std.specs.Prelude.{slice_get, slice_set, replicate}
 use Rattle.heap_model.specs.Heap.{Stored, fields}
 use Rattle.heap_model.proofs.Lists.{get-append_cases}
 use Rattle.regions.proofs.Words.Fields.{with_pointer, with_weak}
 use Rattle.regions.specs.Table.{Table, new_object, object_at, pointers_at, weaks_at}
 use Rattle.regions.specs.Table.{fields_at, object_pointers, object_weaks, object_fields}
+use Rattle.regions.specs.Shaped.{IsShaped}
+use Rattle.refinement.proofs.Holders.{fields_are}
 use Rattle.std.proofs.lemmas.List.{length-append}
 
 set_front : (xs ys : List (Option ℕ)) (i : ℕ) (v : Option ℕ) → i < length xs → slice_set xs i v ++ ys ≡ slice_set (xs ++ ys) i v
@@ -35,6 +38,15 @@ fields_count t a = go (object_at t a)
     go : (o : Option Stored) → length (object_pointers o) + length (object_weaks o) ≤ length (object_fields o)
     go None = omega arith
     go (Some x) = let all = length-append x.pointers (x.weaks ++ x.held) in let behind = length-append x.weaks x.held in omega arith
+
+-- and no others are
+pub fields_exact : (t : Table) (a : ℕ) → IsShaped t → length (fields_at t a) ≡ length (pointers_at t a) + length (weaks_at t a)
+unfolding fields_at pointers_at weaks_at
+fields_exact t a shape = go (object_at t a) refl
+  where
+    go : (o : Option Stored) → object_at t a ≡ o → length (object_fields o) ≡ length (object_pointers o) + length (object_weaks o)
+    go None e = refl
+    go (Some x) e = fields_are t a x shape e
 
 -- a pointer is a field
 pub pointer_within : (t : Table) (a i : ℕ) → i < length (pointers_at t a) → i < length (fields_at t a)

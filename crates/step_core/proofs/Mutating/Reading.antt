@@ -1,6 +1,6 @@
 -- What is read of a core, in the words of its graph.
 use Rattle.std.proofs.Common.{◌≡◌, ◌<◌, ◌≤◌, ◌∷◌, ◌∙◌, ℕ, zero, suc, Option, Some, None, List, [], length, get_or, refl, sym, ap, subst}
-use Rattle.std.proofs.Common.{arith, inr, slice_get, IsSome}
+use Rattle.std.proofs.Common.{arith, inl, inr, slice_get, IsSome}
 use Rattle.std.specs.List.{AllZip}
 use Rattle.std.proofs.lemmas.Option.{slice_get-get_or}
 use Rattle.heap_model.specs.Graph.{Graph}
