@@ -1,5 +1,5 @@
 -- What the graph has to do with the snapshot, since marking began.
-use Rattle.std.specs.Prelude.{◌≡◌, ℕ, ◌+◌, ◌<◌, ◌≤◌, ◌⊎◌, Some, slice_get}
+use Rattle.std.specs.Prelude.{◌≡◌, ℕ, ◌+◌, ◌<◌, ◌⊎◌, Some, slice_get}
 use Rattle.heap_model.specs.Graph.{Graph, Object, next_name, IsReachable}
 pub use Rattle.heap_model.specs.Weak.{IsKnown}
 use Rattle.graph_runs.specs.State.{State, HaveNoPairs, ForSnapshot}

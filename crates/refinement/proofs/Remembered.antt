@@ -185,6 +185,9 @@ was_cleared h m a s e =
 pub clears_after : (h : Heap) (m : Marking) (kept' : ℕ → Option Stored)
     → ((a : ℕ) → kept' a ≡ cleared_after h m a) → ClearsFields h.kept kept'
 clears_after h m kept' same a s e =
-    let w = was_cleared h m a s (sym (same a) ∙ e) in
-    (w.0, w.1, λ i v f. slot_was m w.0.pointers w.0.weaks (map (cleared_word m) w.0.weaks) w.0.held i v
-    (ap (λ (x : Stored). slice_get (fields x) i) (sym w.2) ∙ f))
+    let w = was_cleared h m a s (sym (same a) ∙ e) in (
+      w.0,
+      w.1,
+      λ i v f. slot_was m w.0.pointers w.0.weaks (map (cleared_word m) w.0.weaks) w.0.held i v
+          (ap (λ (x : Stored). slice_get (fields x) i) (sym w.2) ∙ f),
+    )

@@ -4,7 +4,7 @@ use Rattle.std.proofs.Common.{◌≡◌, ◌+◌, ◌*◌, ◌/◌, ◌<◌, ◌
 use Rattle.std.proofs.Common.{sym, ap, subst, inl, inr, arith, slice_get, slice_set}
 use Rattle.std.proofs.lemmas.Bool.{cases_eq, cases_lt}
 use Rattle.std.proofs.lemmas.Nat.{mul-le}
-use Rattle.std.proofs.lemmas.List.{get_or-set_same, get_or-set_other, length-append, length-set}
+use Rattle.std.proofs.lemmas.List.{get_or-set_same, get_or-set_other, length-set}
 use Rattle.heap_model.specs.Heap.{Stored, fields}
 use Rattle.regions.specs.Table.{Table, fields_at}
 use Rattle.regions.specs.Shaped.{IsShaped}

@@ -10,7 +10,6 @@ use Rattle.cards.specs.Cards.{Cards, is_dirty, dirtied}
 use Rattle.cards.proofs.Laws.{dirty_after}
 use Rattle.heap_model.specs.Graph.{Graph}
 use Rattle.std.proofs.lemmas.Grind.{common_steps}
-use Rattle.std.proofs.lemmas.List.{length-append}
 use Rattle.std.proofs.lemmas.Bool.Decides.{nat_tests}
 use Rattle.remembered_sets.specs.Sets.{may_lead}
 use Rattle.refinement.proofs.Remembered as remembered
