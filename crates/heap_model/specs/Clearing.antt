@@ -21,11 +21,12 @@ abbrev pub kept_word : (ℕ → Option Stored) → Option ℕ → Option ℕ
 kept_word kept None = None
 kept_word kept (Some a) = where_kept (kept a) a
 
--- what the held slots show: nil where nothing is kept at the key
+-- what the held slots show: nil where the key is nil, or nothing is kept there
 abbrev pub kept_held : (ℕ → Option Stored) → Stored → List (Option ℕ)
 kept_held kept x = held_by (map (kept_word kept) x.weaks) x.held
 
--- the stored object has the contents that the graph gives its name, once its weak slots are cleared, and with them what they held
+-- the stored object has the contents that the graph gives its name, once its weak slots are cleared, and with them what they held; and
+-- each held slot that isn't nil has a key
 pub record WillShowObject (g : Graph) (h : Heap) (x : Stored) : Type 0 where
   pub object : Object
   pub named : object_named g x.name ≡ Some object

@@ -11,8 +11,8 @@ pub record Stored : Type 0 where
   pub held : List (Option ℕ)
   pub values : List ℕ
 
--- every field that holds an address, in address order. Marking follows the pointers alone; all that moves objects, or
--- remembers where a region is named from, goes by the fields
+-- every field that holds an address, in address order. Marking follows the pointers, and what is held for a marked key; all that
+-- moves objects, or remembers where a region is named from, goes by the fields
 abbrev pub fields : Stored → List (Option ℕ)
 fields x = x.pointers ++ (x.weaks ++ x.held)
 

@@ -6,6 +6,7 @@ use Rattle.heap_model.specs.Graph.{Graph, Object, object_named, HasPair}
 abbrev pub HasPointer : Graph → ℕ → ℕ → Type 0
 HasPointer g m n = (o : Object) × (i : ℕ) × (object_named g m ≡ Some o) × (slice_get o.pointers i ≡ Some (Some n))
 
+-- the name is in the list
 abbrev pub IsIn : List ℕ → ℕ → Type 0
 IsIn names n = (i : ℕ) × (slice_get names i ≡ Some n)
 
@@ -15,7 +16,7 @@ pub data Follows (g : Graph) (names : List ℕ) : ℕ → Type 0 where
   AsPointer : (m n : ℕ) → IsIn names m → HasPointer g m n → Follows g names n
   AsHeld : (m k n i : ℕ) → HasPair g m i k n → IsIn names m → IsIn names k → Follows g names n
 
--- each name of the list follows from those behind it
+-- each name of the list follows from the later ones
 abbrev pub IsOrder : Graph → List ℕ → Type 0
 IsOrder g [] = ⊤
 IsOrder g (n ∷ names) = Follows g names n × IsOrder g names

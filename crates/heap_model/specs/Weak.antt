@@ -1,6 +1,6 @@
 -- Weak slots: fields that marking doesn't follow. While marking runs, a name that a mutator reads from a weak slot is
 -- touched: it counts as a root of the snapshot from then on. When marking ends, each slot that holds a name of the
--- snapshot which is reachable in it neither from a root nor from a touched name becomes nil, and with it what it held.
+-- snapshot which is reachable in it neither from a root nor from a touched name becomes nil, and so does what it held.
 use Rattle.std.specs.Prelude.{◌≡◌, ℕ, ◌<◌, ◌≤◌, ◌⊎◌, ⊤, Bool, true, ◌∷◌, Option, Some, None, map, slice_get, nat_lt}
 use Rattle.std.specs.Prelude.{if◌then◌else◌}
 use Rattle.std.specs.List.{AllZip}
