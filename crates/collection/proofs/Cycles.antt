@@ -115,7 +115,7 @@ quiet_cycle q r u s a b d e idle stands does_q follows_q does_r follows_r does_u
             (let here : kept_of settled_d.0 x ≡ Some y = sym (clean.changes.kept x) ∙ k in
             let (y1, at1, name1) = kept_named d settled_d.0 z x y here in
             let (y2, at2, name2) = once_named b.config.format over d once x y1 at1 in
-            reach_on s.graph s.graph f.after.graph clears y.name
+            reach_on s.graph s.graph f.after.graph clears (λ i r. inl r) y.name
             (subst (λ (i : ℕ). IsReachable s.graph i) (name2 ∙ name1) (rem.quiet s.graph stands_b x y2 at2)));
         runs = cleaned_runs m settled_d.0 e z.shaped clean;
       },

@@ -75,7 +75,7 @@ module _ (t : Table) where
 
   not_both : (o : Option Placement) → IsOutside t o → IsFitting t o → ⊥
   not_both o out f =
-      let s : Stored = record { name = 0; pointers = []; weaks = []; values = [] } in
+      let s : Stored = record { name = 0; pointers = []; weaks = []; held = []; values = [] } in
       let a = out f.place f.is s in
       let b = f.free s in
       absurd (omega (arith, a, b))

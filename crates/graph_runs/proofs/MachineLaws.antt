@@ -1,5 +1,5 @@
 -- What each step keeps.
-use Rattle.std.proofs.Common.{◌≡◌, ◌-◌, ◌^◌, ◌∙◌, ℕ, Option, Some, None, Bool, true, false, cond, slice_get, replicate, refl, ap}
+use Rattle.std.proofs.Common.{◌≡◌, ◌-◌, ◌^◌, ◌∙◌, ℕ, [], Option, Some, None, Bool, true, false, cond, slice_get, replicate, refl, ap}
 use Rattle.std.proofs.Common.{Result, Ok, Err}
 use Rattle.heap_words.specs.Sizes.{size_of}
 use Rattle.std.specs.Prelude.{◌==◌, nat_lt, IfOk, OnErr}
@@ -25,7 +25,12 @@ pub made_law : (P : Outcome → Type 0) (g : Graph) (m : ℕ) (to : Register) (c
     → P (
       replies.Named (Some (next_name g)),
       with_object g
-          (record { pointers = replicate counts.pointers None; weaks = replicate weaks None; values = replicate counts.values 0 })
+          (record {
+            pointers = replicate counts.pointers None;
+            weaks = replicate weaks None;
+            held = [];
+            values = replicate counts.values 0;
+          })
           (register_place g.places m to.number),
     )
     → P (made g m to counts weaks)

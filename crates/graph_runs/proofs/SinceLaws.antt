@@ -5,14 +5,16 @@ use Rattle.std.proofs.Common.{ℕ, zero, suc, List, [], Option, Some, None, refl
 use Rattle.std.specs.Prelude.{slice_get, slice_set}
 use Rattle.std.proofs.lemmas.Bool.{cases_lt, cases_eq}
 use Rattle.std.proofs.lemmas.Option.{slice_get_within}
-use Rattle.heap_model.specs.Graph.{Graph, Object, object_named, next_name, IsReachable, FromRoot, FromObject, IsSound, with_root}
+use Rattle.heap_model.specs.Graph.{Graph, Object, object_named, next_name, HasPair, IsReachable, FromRoot, FromObject, FromHeld, IsSound}
+use Rattle.heap_model.specs.Graph.{with_root}
 use Rattle.heap_model.specs.Graph.{with_object, with_changed}
 use Rattle.heap_model.specs.Weak.{touched, KeepsUnreached, IsClearedSlot, ClearsObject, Clears}
 use Rattle.heap_model.proofs.Lists.{AllZip-get_right, get-set_cases, get-set_other, get-push_cases}
 use Rattle.heap_model.proofs.Cleared.{reach_back}
 use Rattle.heap_model.proofs.Changed.{named_at, at_least}
 use Rattle.heap_model.proofs.Unreached.{touched_cases, touched_next, touched_named, touched_reaches, touched_reached}
-use Rattle.graph_runs.specs.State.{State, register_place, with_nil_roots, root_at, AtRoot, AtField, HoldsNames, IsEarlier, ForSnapshot}
+use Rattle.graph_runs.specs.State.{State, register_place, with_nil_roots, root_at, AtRoot, AtField, HoldsNames, HaveNoPairs, IsEarlier}
+use Rattle.graph_runs.specs.State.{ForSnapshot}
 use Rattle.graph_runs.specs.State.{IsSoundState}
 use Rattle.graph_runs.specs.Since.{IsKnown, IsSince, IsSinceState}
 use Rattle.graph_runs.specs.Sparing.{HoldsKnown}
@@ -28,7 +30,7 @@ use Rattle.heap_steps.specs.declared.step.Step.TheVariants as steps
 use Rattle.heap_steps.specs.declared.step.Event.{Event}
 use Rattle.heap_steps.specs.declared.step.Reply.{Reply}
 use Rattle.graph_runs.proofs.MachineLaws.{made_law, object_law, field_law}
-use Rattle.graph_runs.proofs.Sound.{root_read, nils, after_law, happens_sound}
+use Rattle.graph_runs.proofs.Sound.{root_read, nils, after_law, happens_sound, no_pairs_added, no_pairs_changed}
 use Rattle.graph_runs.proofs.Collected.{kind}
 
 -- an object's place and its name
@@ -73,8 +75,9 @@ set_known : (s : Graph) (vs : List (Option ℕ)) (i : ℕ) (v : Option ℕ) → 
 set_known s vs i v each value j n e = elim (get-set_cases vs i j v (Some n) e) [ inl q ↦ value n (sym q) | inr q ↦ each j n q ]
 
 -- each change of the graph
-pub since_begins : (g : Graph) → IsSince g g
-since_begins g = record {
+pub since_begins : (g : Graph) → HaveNoPairs g → IsSince g g
+since_begins g none = record {
+  pairs = none;
   roots = λ j n e. inl (FromRoot j n e);
   pointers = λ p i n x at known e. elim known [
     | inl r ↦ inl (FromObject (g.first_name + p) n i x r (named_place g p x at) e)
@@ -84,7 +87,12 @@ since_begins g = record {
 }
 
 since_root : (s g : Graph) (j : ℕ) (v : Option ℕ) → IsSince s g → KnownValue s v → IsSince s (with_root g j v)
-since_root s g j v k value = record { roots = set_known s g.roots j v k.roots value; pointers = k.pointers; unreached = k.unreached }
+since_root s g j v k value = record {
+  roots = set_known s g.roots j v k.roots value;
+  pointers = k.pointers;
+  unreached = k.unreached;
+  pairs = k.pairs;
+}
 
 since_nils : (s g : Graph) (first count : ℕ) → IsSince s g → IsSince s (with_nil_roots g first count)
 since_nils s g first zero k = k
@@ -92,8 +100,9 @@ since_nils s g first (suc count) k = since_root s (with_nil_roots g first count)
     (λ n e. cc)
 
 since_object : (s g : Graph) (x : Object) (j : ℕ) → IsSince s g → next_name s ≤ next_name g
-    → ((i n : ℕ) → slice_get x.pointers i ≡ Some (Some n) → ⊥) → IsSince s (with_object g x j)
-since_object s g x j k later nil = record {
+    → ((i n : ℕ) → slice_get x.pointers i ≡ Some (Some n) → ⊥) → x.held ≡ [] → IsSince s (with_object g x j)
+since_object s g x j k later nil bare = record {
+  pairs = no_pairs_added g x j k.pairs bare;
   roots = set_known s g.roots j (Some (next_name g)) k.roots (λ n e. inr (let same : next_name g ≡ n = cc in omega arith));
   pointers = λ p i n y at known e. elim (get-push_cases g.objects x y p at) [
     | inl q ↦ k.pointers p i n y q known e
@@ -106,8 +115,9 @@ since_object s g x j k later nil = record {
 }
 
 since_changed : (s g : Graph) (n : ℕ) (y : Object) → IsSince s g → IsKnown s n → g.first_name ≤ n → KnownFields s y.pointers
-    → IsSince s (with_changed g n y)
-since_changed s g n y k known low each = record {
+    → y.held ≡ [] → IsSince s (with_changed g n y)
+since_changed s g n y k known low each bare = record {
+  pairs = no_pairs_changed g n y k.pairs bare;
   roots = k.roots;
   pointers = λ p i m z at there e. elim (get-set_cases g.objects (n - g.first_name) p y z at) [
     | inl q ↦ each i m (subst (λ (z : Object). slice_get z.pointers i ≡ Some (Some m)) q e)
@@ -122,6 +132,7 @@ since_changed s g n y k known low each = record {
 
 since_touched : (s g : Graph) (v : Option ℕ) → IsSince s g → s.first_name ≡ g.first_name → IsSince (touched s v) g
 since_touched s g v k first = record {
+  pairs = k.pairs;
   roots = λ j n e. known_on s v n (k.roots j n e);
   pointers = λ p i n x at known e. elim known [
     | inl r ↦ elim (cases_lt (g.first_name + p) (next_name s)) [
@@ -175,15 +186,16 @@ module _ (s g : Graph) (k : IsSince s g) (holds : HoldsNames g) (earlier : IsEar
       let back : n ≡ g.first_name + (n - g.first_name) = omega arith in
       k.pointers (n - g.first_name) i m x at (subst (IsKnown s) back (root_known j n is)) e
 
-  changed_since : (j n : ℕ) (y : Object) → root_at g j ≡ Some n → KnownFields s y.pointers → IsSince s (with_changed g n y)
-  changed_since j n y is each = since_changed s g n y k (root_known j n is) (low j n is) each
+  changed_since : (j n : ℕ) (y : Object) → root_at g j ≡ Some n → KnownFields s y.pointers → y.held ≡ []
+      → IsSince s (with_changed g n y)
+  changed_since j n y is each bare = since_changed s g n y k (root_known j n is) (low j n is) each bare
 
   abbrev Since : Outcome → Type 0
   Since out = IsSince s out.1
 
   made_since : (m : ℕ) (to : Register) (counts : Counts) (weaks : ℕ) → Since (made g m to counts weaks)
   made_since m to counts weaks = made_law Since g m to counts weaks k k
-      (since_object s g _ (register_place g.places m to.number) k earlier.next_name (λ i n e. nils counts.pointers i n e))
+      (since_object s g _ (register_place g.places m to.number) k earlier.next_name (λ i n e. nils counts.pointers i n e) refl)
 
   -- the outcome of an action: it is since the snapshot that the action leaves
   abbrev SinceAfter : Action → Outcome → Type 0
@@ -197,11 +209,11 @@ module _ (s g : Graph) (k : IsSince s g) (holds : HoldsNames g) (earlier : IsEar
   act_since m (actions.Put object i value) = field_law Since g m object (λ x. slice_get x.pointers i) _ k k
       (λ n x v is at e. changed_since (register_place g.places m object.number) n _ is
       (set_known s x.pointers i (stored g m value) (pointers_known (register_place g.places m object.number) n x is at)
-      (stored_known m value)))
+      (stored_known m value)) (k.pairs (n - g.first_name) x at))
   act_since m (actions.Read object i) = field_law Since g m object (λ x. slice_get x.values i) _ k k (λ n x v is at e. k)
   act_since m (actions.Write object i value) = field_law Since g m object (λ x. slice_get x.values i) _ k k
       (λ n x v is at e. changed_since (register_place g.places m object.number) n _ is
-      (pointers_known (register_place g.places m object.number) n x is at))
+      (pointers_known (register_place g.places m object.number) n x is at) (k.pairs (n - g.first_name) x at))
   act_since m (actions.Move to from) = since_root s g (register_place g.places m to.number)
       (root_at g (register_place g.places m from.number)) k (root_known (register_place g.places m from.number))
   act_since m (actions.Drop register) = since_root s g (register_place g.places m register.number) None k (λ n e. cc)
@@ -217,7 +229,7 @@ module _ (s g : Graph) (k : IsSince s g) (holds : HoldsNames g) (earlier : IsEar
       (touched_known s v))
   act_since m (actions.PutWeak object i value) = field_law Since g m object (λ x. slice_get x.weaks i) _ k k
       (λ n x v is at e. changed_since (register_place g.places m object.number) n _ is
-      (pointers_known (register_place g.places m object.number) n x is at))
+      (pointers_known (register_place g.places m object.number) n x is at) (k.pairs (n - g.first_name) x at))
   act_since m (actions.Scope from) = since_nils s g (register_place g.places m from.number) (g.places.registers - from.number) k
   act_since m (actions.Weaks object) = object_law Since g m object _ k (λ n x is at. k)
 
@@ -271,6 +283,16 @@ op_slots s g g' o r holds earlier k slots is =
     (act_slots s g k holds earlier slots o.mutator o.action) in
     after_law (λ t. HoldsKnown t g') s o.action r there (λ v e. slots_on s g' v there)
 
+-- a graph without pairs has none
+pub no_pair : (g : Graph) → HaveNoPairs g → (m i k n : ℕ) → HasPair g m i k n → ⊥
+no_pair g none m i k n p =
+    let bare = none (m - g.first_name) p.object (place_named g m p.object p.named) in
+    nowhere p.object.held bare p.pair.1
+  where
+    nowhere : (vs : List (Option ℕ)) → vs ≡ [] → slice_get vs i ≡ Some (Some n) → ⊥
+    nowhere [] e at = cc
+    nowhere (v ∷ vs) e at = cc
+
 -- what is reachable now is known
 pub reaches_known : (s g : Graph) → IsSince s g → (n : ℕ) → IsReachable g n → IsKnown s n
 reaches_known s g k n (FromRoot j a e) = k.roots j a e
@@ -278,6 +300,7 @@ reaches_known s g k n (FromObject m a i x r named e) =
     let least = at_least g m x named in
     let back : m ≡ g.first_name + (m - g.first_name) = omega arith in
     k.pointers (m - g.first_name) i a x (place_named g m x named) (subst (IsKnown s) back (reaches_known s g k m r)) e
+reaches_known s g k n (FromHeld m l a i p r key) = absurd (no_pair g k.pairs m i l a p)
 
 -- so a name that marking's end takes from a weak slot isn't reachable
 slot_gone : (s : Graph) (v w : Option ℕ) (n : ℕ) → IsClearedSlot s v w → v ≡ Some n → w ≡ None → (n < next_name s) × (IsReachable s n → ⊥)
@@ -310,6 +333,10 @@ holds_sound g holds = record {
 pub since_unreached : (s g : Graph) → IsEarlier s g → IsSince s g → KeepsUnreached s g
 since_unreached s g earlier k = record {
   sound = holds_sound s earlier.holds;
+  pairs = record {
+    went = λ n i l b p. absurd (no_pair s earlier.pairs n i l b p);
+    came = λ n i l b p. absurd (no_pair g k.pairs n i l b p);
+  };
   each = λ n x named old.
       let least = at_least g n x named in
       let back : g.first_name + (n - g.first_name) ≡ n = omega arith in
@@ -331,7 +358,7 @@ happens_since old new (steps.Mutator o) r sound since (inl h) =
     (op_since old.snapshot old.graph new.graph o r sound.graph sound.snapshot since h.0)
 happens_since old new (steps.Mutator o) r sound since (inr h) = subst IsSinceState (sym h.2) since
 happens_since old new (steps.Collector c) r sound since h = elim (kind c r) [
-  | inl t ↦ subst IsSinceState (sym ((t.0 old new).0 h.1)) (since_begins old.graph)
+  | inl t ↦ subst IsSinceState (sym ((t.0 old new).0 h.1)) (since_begins old.graph sound.pairs)
   | inr u ↦ elim u [
     | inl g ↦ subst (λ (o : Option Graph). ForSnapshot o (λ s. IsSince s new.graph)) (sym ((g.0 old new).0 h.1).0) tt
     | inr n ↦ subst IsSinceState (sym ((n.0 old new).0 h.1)) since

@@ -3,13 +3,15 @@ use Rattle.std.proofs.Common.{◌≡◌, ◌+◌, ◌-◌, ◌<◌, ◌≤◌, �
 use Rattle.std.proofs.Common.{ℕ, zero, suc, List, [], length, Option, Some, None, refl, sym, ap, subst, inl, inr, arith}
 use Rattle.std.specs.Prelude.{slice_get, slice_set, slice_index_or, replicate}
 use Rattle.heap_words.specs.declared.config.Config.{Config}
-use Rattle.heap_model.specs.Graph.{Graph, Object, next_name, object_fields, with_root, with_object, with_changed}
+use Rattle.heap_model.specs.Graph.{Graph, Object, next_name, object_fields, held_by, with_root, with_object, with_changed}
 use Rattle.heap_model.specs.Weak.{touched, IsClearedSlot, ClearsObject, Clears}
 use Rattle.heap_model.proofs.Lists.{AllZip-get_right, AllZip_length, get-set_cases, get-append_cases, get-append_left, get-append_right}
 use Rattle.heap_model.proofs.Lists.{get-push_cases, length-set, length-push}
-use Rattle.heap_model.proofs.Unreached.{touched_cases}
+use Rattle.heap_model.proofs.Unreached.{touched_cases, weak_field, held_field, field_cases}
+use Rattle.heap_model.proofs.Cleared.{slot_was}
+use Rattle.heap_model.proofs.Held.{held_by_was}
 use Rattle.graph_runs.specs.State.{State, root_places, root_counts_of, register_place, with_nil_roots, root_at, Occurs, AtRoot, AtField}
-use Rattle.graph_runs.specs.State.{IsNameOf, HoldsNames, IsEarlier, ForSnapshot, IsSoundState, first_graph, first_state}
+use Rattle.graph_runs.specs.State.{IsNameOf, HoldsNames, HaveNoPairs, IsEarlier, ForSnapshot, IsSoundState, first_graph, first_state}
 use Rattle.graph_runs.specs.Machine.{Outcome, refused, on_object, on_field, stored, made, act, outcome_of}
 use Rattle.graph_runs.specs.Run.{snapshot_after, ClearsBy, ChangesState, Happens, IsRun}
 use Rattle.heap_steps.specs.declared.step.Action.{Action}
@@ -93,12 +95,6 @@ changed_holds g name y k each n o = more_names g (with_changed g name y) refl
       | inr q ↦ k n (AtField p i z q e)
     ]
 
-slot_was : (s : Graph) (v v' : Option ℕ) (k : ℕ) → IsClearedSlot s v v' → v' ≡ Some k → v ≡ Some k
-slot_was s None None k c e = cc
-slot_was s None (Some l) k c e = absurd c
-slot_was s (Some n) None k c e = cc
-slot_was s (Some n) (Some l) k c e = let same = c.0 in cc
-
 cleared_holds : (s g g' : Graph) → Clears s g g' → HoldsNames g → HoldsNames g'
 cleared_holds s g g' c k n o =
     let e1 = AllZip_length (ClearsObject s) g.objects g'.objects c.objects in let e2 = c.first_name in
@@ -108,19 +104,54 @@ cleared_holds s g g' c k n o =
     by_place (AtRoot i e) = k n (AtRoot i (ap (λ r. slice_get r i) (sym c.roots) ∙ e))
     by_place (AtField p i y at e) =
         let (x, is, z) = AllZip-get_right (ClearsObject s) g.objects g'.objects c.objects p y at in
-        elim (get-append_cases y.pointers y.weaks i (Some n) e) [
-          | inl q ↦ k n (AtField p i x is (get-append_left x.pointers x.weaks i (Some n) (ap (λ l. slice_get l i) (sym z.pointers) ∙ q)))
-          | inr q ↦
-              let (v, was, slot) = AllZip-get_right (IsClearedSlot s) x.weaks y.weaks z.weaks q.0 (Some n) q.1 in
-              let (there, holds) = get-append_right x.pointers x.weaks q.0 (Some n) (was ∙ ap Some (slot_was s v (Some n) n slot refl)) in
-              k n (AtField p there x is holds)
+        elim (field_cases y i n e) [
+          | inl q ↦ k n (AtField p i x is (get-append_left x.pointers (x.weaks ++ x.held) i (Some n)
+              (ap (λ l. slice_get l i) (sym z.pointers) ∙ q)))
+          | inr b ↦ elim b [
+            | inl q ↦
+                let (v, was, slot) = AllZip-get_right (IsClearedSlot s) x.weaks y.weaks z.weaks q.0 (Some n) q.1 in
+                let (there, holds) = weak_field x q.0 n (was ∙ ap Some (slot_was s v (Some n) n slot refl)) in
+                k n (AtField p there x is holds)
+            | inr q ↦
+                let (there, holds) = held_field x q.0 n (held_by_was y.weaks x.held q.0 n (ap (λ l. slice_get l q.0) (sym z.held) ∙ q.1)) in
+                k n (AtField p there x is holds)
+          ]
         ]
+
+-- no pairs come
+pub no_pairs_changed : (g : Graph) (name : ℕ) (y : Object) → HaveNoPairs g → y.held ≡ [] → HaveNoPairs (with_changed g name y)
+no_pairs_changed g name y k none p z at = elim (get-set_cases g.objects (name - g.first_name) p y z at) [
+  | inl q ↦ ap (λ (o : Object). o.held) q ∙ none
+  | inr q ↦ k p z q
+]
+
+pub no_pairs_added : (g : Graph) (y : Object) (j : ℕ) → HaveNoPairs g → y.held ≡ [] → HaveNoPairs (with_object g y j)
+no_pairs_added g y j k none p z at = elim (get-push_cases g.objects y z p at) [
+  | inl q ↦ k p z q
+  | inr q ↦ ap (λ (o : Object). o.held) q.1 ∙ none
+]
+
+no_pairs_cleared : (s g g' : Graph) → Clears s g g' → HaveNoPairs g → HaveNoPairs g'
+no_pairs_cleared s g g' c k p y at =
+    let (x, is, z) = AllZip-get_right (ClearsObject s) g.objects g'.objects c.objects p y at in
+    z.held ∙ ap (λ vs. held_by y.weaks vs) (k p x is)
+
+no_pairs_nils : (g : Graph) (first count : ℕ) → HaveNoPairs g → HaveNoPairs (with_nil_roots g first count)
+no_pairs_nils g first zero k = k
+no_pairs_nils g first (suc count) k = no_pairs_nils g first count k
+
+no_pairs_touched : (s : Graph) (v : Option ℕ) → HaveNoPairs s → HaveNoPairs (touched s v)
+no_pairs_touched s None k = k
+no_pairs_touched s (Some a) k = elim (touched_cases s a) [
+  | inl c ↦ subst HaveNoPairs (sym c.0) k
+  | inr c ↦ subst HaveNoPairs (sym c.0) k
+]
 
 touched_earlier : (s g : Graph) (v : Option ℕ) → IsEarlier s g → IsValue g v → IsEarlier (touched s v) g
 touched_earlier s g None k value = k
 touched_earlier s g (Some a) k value = elim (touched_cases s a) [
   | inl c ↦ subst (λ (t : Graph). IsEarlier t g) (sym c.0)
-      (record { holds = holds c.1; first_name = k.first_name; next_name = k.next_name })
+      (record { holds = holds c.1; pairs = k.pairs; first_name = k.first_name; next_name = k.next_name })
   | inr c ↦ subst (λ (t : Graph). IsEarlier t g) (sym c.0) k
 ]
   where
@@ -133,9 +164,10 @@ touched_earlier s g (Some a) k value = elim (touched_cases s a) [
     holds below n (AtRoot j e) = first_root below j n e
     holds below n (AtField p i x at e) = k.holds n (AtField p i x at e)
 
--- the graph after the step holds names, has the first name and no fewer objects, and a name that was replied is one of it
+-- the graph after the step holds names, has no pairs, has the first name and no fewer objects, and a name that was replied is one of it
 record Goes (g : Graph) (out : Outcome) : Type 0 where
   holds : HoldsNames out.1
+  pairs : HaveNoPairs out.1
   first_name : out.1.first_name ≡ g.first_name
   next_name : next_name g ≤ next_name out.1
   replied : (v : Option ℕ) → out.0 ≡ replies.Named v → IsValue out.1 v
@@ -145,11 +177,17 @@ nils zero i k e = cc
 nils (suc n) zero k e = cc
 nils (suc n) (suc i) k e = nils n i k e
 
-fresh_fields : (p w i k : ℕ) → slice_get (replicate p None ++ replicate w None) i ≡ Some (Some k) → ⊥
-fresh_fields p w i k e = elim (get-append_cases (replicate p None) (replicate w None) i (Some k) e) [
+fresh_fields : (p w i k : ℕ) → slice_get (replicate p None ++ (replicate w None ++ [])) i ≡ Some (Some k) → ⊥
+fresh_fields p w i k e = elim (get-append_cases (replicate p None) (replicate w None ++ []) i (Some k) e) [
   | inl q ↦ nils p i k q
-  | inr q ↦ nils w q.0 k q.1
+  | inr q ↦ elim (get-append_cases (replicate w None) [] q.0 (Some k) q.1) [ inl r ↦ nils w q.0 k r | inr r ↦ absurd (nowhere r.0 r.1) ]
 ]
+  where
+    none : List (Option ℕ)
+    none = []
+
+    nowhere : (j : ℕ) → slice_get none j ≡ Some (Some k) → ⊥
+    nowhere j r = cc
 
 fields_set : (g : Graph) (p w : List (Option ℕ)) (i : ℕ) (v : Option ℕ) → AreValues g (p ++ w) → IsValue g v
     → AreValues g (slice_set p i v ++ w)
@@ -158,60 +196,68 @@ fields_set g p w i v each value j n e = elim (get-append_cases (slice_set p i v)
   | inr q ↦ (let t = get-append_right p w q.0 (Some n) q.1 in each t.0 n t.1)
 ]
 
-weaks_set : (g : Graph) (p w : List (Option ℕ)) (i : ℕ) (v : Option ℕ) → AreValues g (p ++ w) → IsValue g v
-    → AreValues g (p ++ slice_set w i v)
-weaks_set g p w i v each value j n e = elim (get-append_cases p (slice_set w i v) j (Some n) e) [
-  | inl q ↦ each j n (get-append_left p w j (Some n) q)
-  | inr q ↦ elim (get-set_cases w i q.0 v (Some n) q.1) [
-    | inl a ↦ value n (sym a)
-    | inr a ↦ (let t = get-append_right p w q.0 (Some n) a in each t.0 n t.1)
-  ]
+weaks_set : (g : Graph) (p w h : List (Option ℕ)) (i : ℕ) (v : Option ℕ) → AreValues g (p ++ (w ++ h)) → IsValue g v
+    → AreValues g (p ++ (slice_set w i v ++ h))
+weaks_set g p w h i v each value j n e = elim (get-append_cases p (slice_set w i v ++ h) j (Some n) e) [
+  | inl q ↦ each j n (get-append_left p (w ++ h) j (Some n) q)
+  | inr q ↦ fields_set g w h i v behind value q.0 n q.1
 ]
+  where
+    behind : AreValues g (w ++ h)
+    behind l k at = let t = get-append_right p (w ++ h) l (Some k) at in each t.0 k t.1
 
-module _ (g : Graph) (k : HoldsNames g) where
+module _ (g : Graph) (k : HoldsNames g) (none : HaveNoPairs g) where
   stays : (r : Reply) → ((v : Option ℕ) → r ≡ replies.Named v → ⊥) → Goes g (r, g)
-  stays r not = record { holds = k; first_name = refl; next_name = omega arith; replied = λ v e. absurd (not v e) }
+  stays r not = record { holds = k; pairs = none; first_name = refl; next_name = omega arith; replied = λ v e. absurd (not v e) }
 
   rooted : (r : Reply) (j : ℕ) (v : Option ℕ) → IsValue g v → ((u : Option ℕ) → r ≡ replies.Named u → u ≡ v) → Goes g (r, with_root g j v)
   rooted r j v value same = record {
     holds = root_holds g j v k value;
+    pairs = none;
     first_name = refl;
     next_name = omega arith;
     replied = λ u e n q. value n (sym (same u e) ∙ q);
   }
 
-  added : (x : Object) (j : ℕ) → ((i n : ℕ) → slice_get (object_fields x) i ≡ Some (Some n) → ⊥)
+  added : (x : Object) (j : ℕ) → x.held ≡ [] → ((i n : ℕ) → slice_get (object_fields x) i ≡ Some (Some n) → ⊥)
       → Goes g (replies.Named (Some (next_name g)), with_object g x j)
-  added x j nil =
+  added x j bare nil =
       let e = length-push g.objects x in
       record {
         holds = object_holds g x j k nil;
+        pairs = no_pairs_added g x j none bare;
         first_name = refl;
         next_name = omega arith;
         replied = λ v q n r. let same : n ≡ next_name g = cc in ((omega arith), (omega arith));
       }
 
-  changed : (name : ℕ) (y : Object) → AreValues g (object_fields y) → Goes g (replies.Done, with_changed g name y)
-  changed name y each =
+  changed : (name : ℕ) (y : Object) → y.held ≡ [] → AreValues g (object_fields y) → Goes g (replies.Done, with_changed g name y)
+  changed name y bare each =
       let e = length-set g.objects (name - g.first_name) y in
-      record { holds = changed_holds g name y k each; first_name = refl; next_name = omega arith; replied = λ v q. cc }
+      record {
+        holds = changed_holds g name y k each;
+        pairs = no_pairs_changed g name y none bare;
+        first_name = refl;
+        next_name = omega arith;
+        replied = λ v q. cc;
+      }
 
   values_at : (p : ℕ) (x : Object) → slice_get g.objects p ≡ Some x → AreValues g (object_fields x)
   values_at p x at i n e = k n (AtField p i x at e)
 
   pointer_value : (p : ℕ) (x : Object) (i : ℕ) (v : Option ℕ) → slice_get g.objects p ≡ Some x → slice_get x.pointers i ≡ Some v
       → IsValue g v
-  pointer_value p x i v at e n q = values_at p x at i n (get-append_left x.pointers x.weaks i (Some n) (e ∙ ap Some q))
+  pointer_value p x i v at e n q = values_at p x at i n (get-append_left x.pointers (x.weaks ++ x.held) i (Some n) (e ∙ ap Some q))
 
   weak_value : (p : ℕ) (x : Object) (i : ℕ) (v : Option ℕ) → slice_get g.objects p ≡ Some x → slice_get x.weaks i ≡ Some v → IsValue g v
-  weak_value p x i v at e n q = let t = get-append_right x.pointers x.weaks i (Some n) (e ∙ ap Some q) in values_at p x at t.0 n t.1
+  weak_value p x i v at e n q = let t = weak_field x i n (e ∙ ap Some q) in values_at p x at t.0 n t.1
 
   not : (why : Refusal) → Goes g (refused g why)
   not why = stays (replies.Refused why) (λ v e. cc)
 
   made_goes : (m : ℕ) (to : Register) (counts : Counts) (weaks : ℕ) → Goes g (made g m to counts weaks)
   made_goes m to counts weaks = made_law (Goes g) g m to counts weaks (not refusals.TooBig) (not refusals.NamesSpent)
-      (added _ (register_place g.places m to.number) (λ i n e. fresh_fields counts.pointers weaks i n e))
+      (added _ (register_place g.places m to.number) refl (λ i n e. fresh_fields counts.pointers weaks i n e))
 
   field_goes : {X : Type 0} (m : ℕ) (r : Register) (read : Object → Option X) (f : ℕ → Object → X → Outcome)
       → ((n : ℕ) (x : Object) (v : X) → slice_get g.objects (n - g.first_name) ≡ Some x → read x ≡ Some v → Goes g (f n x v))
@@ -224,11 +270,13 @@ module _ (g : Graph) (k : HoldsNames g) where
   act_goes m (actions.Get to object i) = field_goes m object (λ x. slice_get x.pointers i) _ (λ n x v at e.
       rooted (replies.Named v) (register_place g.places m to.number) v (pointer_value (n - g.first_name) x i v at e) (λ u q. cc))
   act_goes m (actions.Put object i value) = field_goes m object (λ x. slice_get x.pointers i) _ (λ n x v at e.
-      changed n _ (fields_set g x.pointers x.weaks i (stored g m value) (values_at (n - g.first_name) x at) (stored_value g k m value)))
+      changed n _ (none (n - g.first_name) x at)
+      (fields_set g x.pointers (x.weaks ++ x.held) i (stored g m value) (values_at (n - g.first_name) x at) (stored_value g k m value)))
   act_goes m (actions.Read object i) =
       field_goes m object (λ x. slice_get x.values i) _ (λ n x v at e. stays (replies.Word v) (λ u q. cc))
   act_goes m (actions.Write object i value) =
-      field_goes m object (λ x. slice_get x.values i) _ (λ n x v at e. changed n _ (values_at (n - g.first_name) x at))
+      field_goes m object (λ x. slice_get x.values i) _
+      (λ n x v at e. changed n _ (none (n - g.first_name) x at) (values_at (n - g.first_name) x at))
   act_goes m (actions.Move to from) = rooted replies.Done (register_place g.places m to.number)
       (root_at g (register_place g.places m from.number)) (root_value g k (register_place g.places m from.number)) (λ u q. cc)
   act_goes m (actions.Drop register) = rooted replies.Done (register_place g.places m register.number) None (λ n e. cc) (λ u q. cc)
@@ -242,9 +290,11 @@ module _ (g : Graph) (k : HoldsNames g) where
   act_goes m (actions.GetWeak to object i) = field_goes m object (λ x. slice_get x.weaks i) _ (λ n x v at e.
       rooted (replies.Named v) (register_place g.places m to.number) v (weak_value (n - g.first_name) x i v at e) (λ u q. cc))
   act_goes m (actions.PutWeak object i value) = field_goes m object (λ x. slice_get x.weaks i) _ (λ n x v at e.
-      changed n _ (weaks_set g x.pointers x.weaks i (stored g m value) (values_at (n - g.first_name) x at) (stored_value g k m value)))
+      changed n _ (none (n - g.first_name) x at)
+      (weaks_set g x.pointers x.weaks x.held i (stored g m value) (values_at (n - g.first_name) x at) (stored_value g k m value)))
   act_goes m (actions.Scope from) = record {
     holds = nil_roots_hold g (register_place g.places m from.number) (g.places.registers - from.number) k;
+    pairs = no_pairs_nils g (register_place g.places m from.number) (g.places.registers - from.number) none;
     first_name = refl;
     next_name = omega arith;
     replied = λ v q. cc;
@@ -257,7 +307,7 @@ earlier_on : (s : Option Graph) (g h : Graph) → h.first_name ≡ g.first_name 
     → ForSnapshot s (λ t. IsEarlier t g) → ForSnapshot s (λ t. IsEarlier t h)
 earlier_on None g h f l k = tt
 earlier_on (Some s) g h f l k = let a = k.next_name in
-    record { holds = k.holds; first_name = k.first_name ∙ sym f; next_name = omega arith }
+    record { holds = k.holds; pairs = k.pairs; first_name = k.first_name ∙ sym f; next_name = omega arith }
 
 -- the snapshot after a mutator's step is the one before, or the touched one
 pub after_law : (P : Graph → Type 0) (s : Graph) (a : Action) (r : Reply) → P s → ((v : Option ℕ) → r ≡ replies.Named v → P (touched s v))
@@ -273,9 +323,10 @@ touch_on (Some s) g a r k value = after_law (λ t. IsEarlier t g) s a r k (λ v 
 acts_sound : (old new : State) (o : Op) (r : Reply) → IsSoundState old → (r, new.graph) ≡ outcome_of old.graph o
     → new.snapshot ≡ snapshot_after old.snapshot o.action r → IsSoundState new
 acts_sound old new o r k e s =
-    let goes : Goes old.graph (r, new.graph) = subst (Goes old.graph) (sym e) (act_goes old.graph k.graph o.mutator o.action) in
+    let goes : Goes old.graph (r, new.graph) = subst (Goes old.graph) (sym e) (act_goes old.graph k.graph k.pairs o.mutator o.action) in
     record {
       graph = goes.holds;
+      pairs = goes.pairs;
       snapshot = subst (λ (t : Option Graph). ForSnapshot t (λ u. IsEarlier u new.graph)) (sym s)
           (touch_on old.snapshot new.graph o.action r
           (earlier_on old.snapshot old.graph new.graph goes.first_name goes.next_name k.snapshot) goes.replied);
@@ -285,13 +336,22 @@ clears_sound : (s : Option Graph) (g h : Graph) → ClearsBy s g h → HoldsName
 clears_sound None g h c k = subst HoldsNames (sym c) k
 clears_sound (Some s) g h c k = cleared_holds s g h c k
 
+clears_pairs : (s : Option Graph) (g h : Graph) → ClearsBy s g h → HaveNoPairs g → HaveNoPairs h
+clears_pairs None g h c k = subst HaveNoPairs (sym c) k
+clears_pairs (Some s) g h c k = no_pairs_cleared s g h c k
+
 collects_sound : (old new : State) (k : CollectorStep) (r : Reply) → IsSoundState old → ChangesState old k r new → IsSoundState new
 collects_sound old new k r sound c = elim (kind k r) [
   | inl t ↦ subst IsSoundState (sym ((t.0 old new).0 c))
-      (record { graph = sound.graph; snapshot = record { holds = sound.graph; first_name = refl; next_name = omega arith } })
+      (record {
+        graph = sound.graph;
+        pairs = sound.pairs;
+        snapshot = record { holds = sound.graph; pairs = sound.pairs; first_name = refl; next_name = omega arith };
+      })
   | inr u ↦ elim u [
     | inl g ↦ record {
       graph = clears_sound old.snapshot old.graph new.graph ((g.0 old new).0 c).1 sound.graph;
+      pairs = clears_pairs old.snapshot old.graph new.graph ((g.0 old new).0 c).1 sound.pairs;
       snapshot = subst (λ (t : Option Graph). ForSnapshot t (λ u. IsEarlier u new.graph)) (sym ((g.0 old new).0 c).0) tt;
     }
     | inr n ↦ subst IsSoundState (sym ((n.0 old new).0 c)) sound
@@ -308,7 +368,7 @@ run_sound [] first last k run = subst IsSoundState (sym run) k
 run_sound (e ∷ es) first last k run = run_sound es run.0 last (happens_sound first run.0 e.step e.reply k run.1) run.2
 
 pub first_sound : (c : Config) → IsSoundState (first_state c)
-first_sound c = record { graph = λ n o. absurd (nowhere n o); snapshot = tt }
+first_sound c = record { graph = λ n o. absurd (nowhere n o); pairs = λ p x at. cc; snapshot = tt }
   where
     nowhere : (n : ℕ) → Occurs (first_graph c) n → ⊥
     nowhere n (AtRoot j e) = nils (root_places (root_counts_of c)) j n e

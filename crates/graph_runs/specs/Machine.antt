@@ -1,6 +1,6 @@
 -- What a mutator's step replies, and the graph after it. The graph alone gives both: there is no heap here, and
 -- nothing is ever freed or moved.
-use Rattle.std.specs.Prelude.{ℕ, ◌-◌, ◌^◌, Option, Some, None, length, slice_get, slice_set, replicate, nat_lt, ◌==◌, if◌then◌else◌}
+use Rattle.std.specs.Prelude.{ℕ, ◌-◌, ◌^◌, [], Option, Some, None, length, slice_get, slice_set, replicate, nat_lt, ◌==◌, if◌then◌else◌}
 use Rattle.heap_words.specs.Sizes.{size_of}
 use Rattle.heap_model.specs.Graph.{Object, Graph, next_name, with_root, with_object, with_changed}
 use Rattle.graph_runs.specs.State.{register_place, root_at, with_nil_roots}
@@ -54,7 +54,12 @@ made g m to counts weaks =
     else (
       replies.Named (Some (next_name g)),
       with_object g
-          (record { pointers = replicate counts.pointers None; weaks = replicate weaks None; values = replicate counts.values 0 })
+          (record {
+            pointers = replicate counts.pointers None;
+            weaks = replicate weaks None;
+            held = [];
+            values = replicate counts.values 0;
+          })
           (register_place g.places m to.number),
     )
 

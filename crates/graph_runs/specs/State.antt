@@ -64,9 +64,14 @@ pub data Occurs (g : Graph) (n : ℕ) : Type 0 where
 abbrev pub HoldsNames : Graph → Type 0
 HoldsNames g = (n : ℕ) → Occurs g n → IsNameOf g n
 
+-- no object has held slots: no step makes them yet
+abbrev pub HaveNoPairs : Graph → Type 0
+HaveNoPairs g = (k : ℕ) (x : Object) → slice_get g.objects k ≡ Some x → x.held ≡ []
+
 -- the snapshot has the graph's names up to some name
 pub record IsEarlier (s g : Graph) : Type 0 where
   pub holds : HoldsNames s
+  pub pairs : HaveNoPairs s
   pub first_name : s.first_name ≡ g.first_name
   pub next_name : next_name s ≤ next_name g
 
@@ -75,7 +80,8 @@ abbrev pub ForSnapshot : Option Graph → (Graph → Type 0) → Type 0
 ForSnapshot None P = Unit {0}
 ForSnapshot (Some s) P = P s
 
--- no name is anywhere but those that objects have
+-- no name is anywhere but those that objects have, and there are no pairs
 pub record IsSoundState (st : State) : Type 0 where
   pub graph : HoldsNames st.graph
+  pub pairs : HaveNoPairs st.graph
   pub snapshot : ForSnapshot st.snapshot (λ s. IsEarlier s st.graph)

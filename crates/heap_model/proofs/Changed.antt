@@ -3,9 +3,10 @@ use Rattle.std.proofs.Common.{◌≡◌, ◌<◌, ◌≤◌, ◌-◌, ◌⊎◌,
 use Rattle.std.proofs.Common.{arith, slice_set, slice_get}
 use Rattle.std.specs.List.{AllZip}
 use Rattle.std.proofs.lemmas.Bool.{cases_eq, cases_lt}
-use Rattle.heap_model.specs.Graph.{Graph, Object, object_named, next_name, with_root, with_object, with_changed}
+use Rattle.heap_model.specs.Graph.{Graph, Object, object_named, next_name, held_by, with_root, with_object, with_changed}
 use Rattle.heap_model.specs.Heap.{Heap, Stored, IsShown, IsObjectShown, Shows, RootSet, ObjectSet, ObjectAdded, SameHeap}
 use Rattle.heap_model.proofs.Names.{named_below}
+use Rattle.heap_model.proofs.Held.{held_by_bare}
 use Rattle.heap_model.proofs.Lists.{AllZip-get, AllZip-set, AllZip_map, get-set_same, get-set_other, get-push_last, get_kept-append}
 
 pub at_least : (g : Graph) (n : ℕ) (o : Object) → object_named g n ≡ Some o → g.first_name ≤ n
@@ -59,6 +60,8 @@ shown_as g g' h h' x same o named = record {
   values = o.values;
   pointers = AllZip_map (IsShown h) (IsShown h') same x.pointers o.object.pointers o.pointers;
   weaks = AllZip_map (IsShown h) (IsShown h') same x.weaks o.object.weaks o.weaks;
+  held = AllZip_map (IsShown h) (IsShown h') same x.held o.object.held o.held;
+  keyed = o.keyed;
 }
 
 -- one more object: those before, and what there is then
@@ -93,7 +96,7 @@ module _ (g : Graph) (h h' : Heap) (shows : Shows g h) where
 
   module _ (d : ℕ) (x y : Stored) (o p : Object) (step : ObjectSet h h' d x y) (named : object_named g x.name ≡ Some o)
       (pointers : AllZip (IsShown h) y.pointers p.pointers) (weaks : AllZip (IsShown h) y.weaks p.weaks)
-      (values : y.values ≡ p.values) where
+      (held : AllZip (IsShown h) y.held p.held) (keyed : held_by y.weaks y.held ≡ y.held) (values : y.values ≡ p.values) where
     set_same : (w v : Option ℕ) → IsShown h w v → IsShown h' w v
     set_same = shown_in h h' (λ a z at. elim (cases_eq a d) [
       | inl q ↦ (
@@ -125,6 +128,8 @@ module _ (g : Graph) (h h' : Heap) (shows : Shows g h) where
         values = values;
         pointers = AllZip_map (IsShown h) (IsShown h') set_same y.pointers p.pointers pointers;
         weaks = AllZip_map (IsShown h) (IsShown h') set_same y.weaks p.weaks weaks;
+        held = AllZip_map (IsShown h) (IsShown h') set_same y.held p.held held;
+        keyed = keyed;
       })
       | inr q ↦
           let t = shows.objects a z q.1 in
@@ -145,7 +150,7 @@ module _ (g : Graph) (h h' : Heap) (shows : Shows g h) where
 
   module _ (a : ℕ) (x : Stored) (o : Object) (place : ℕ) (step : ObjectAdded h h' a x place) (name : x.name ≡ next_name g)
       (pointers : AllZip (IsShown h) x.pointers o.pointers) (weaks : AllZip (IsShown h) x.weaks o.weaks)
-      (values : x.values ≡ o.values) where
+      (held : AllZip (IsShown h) x.held o.held) (values : x.values ≡ o.values) where
     added_same : (w v : Option ℕ) → IsShown h w v → IsShown h' w v
     added_same = shown_in h h' (λ b z at. (z, added_kept h h' a x place step b z at, refl))
 
@@ -160,6 +165,8 @@ module _ (g : Graph) (h h' : Heap) (shows : Shows g h) where
         values = values;
         pointers = AllZip_map (IsShown h) (IsShown h') added_same x.pointers o.pointers pointers;
         weaks = AllZip_map (IsShown h) (IsShown h') added_same x.weaks o.weaks weaks;
+        held = AllZip_map (IsShown h) (IsShown h') added_same x.held o.held held;
+        keyed = held_by_bare x.weaks x.held step.bare;
       })
       | inr was ↦
           let t = shows.objects b z was in
@@ -211,6 +218,11 @@ module _ (g : Graph) (h h' : Heap) (shows : Shows g h) where
   pub weak_read : (a i : ℕ) (x : Stored) (w : Option ℕ) → h.kept a ≡ Some x → slice_get x.weaks i ≡ Some w
       → (o : Object) × (object_named g x.name ≡ Some o) × (v : Option ℕ) × (slice_get o.weaks i ≡ Some v) × IsShown h w v
   weak_read a i x w at e = let t = shows.objects a x at in let (v, is, s) = AllZip-get (IsShown h) x.weaks t.object.weaks t.weaks i w e in
+      (t.object, t.named, v, is, s)
+
+  pub held_read : (a i : ℕ) (x : Stored) (w : Option ℕ) → h.kept a ≡ Some x → slice_get x.held i ≡ Some w
+      → (o : Object) × (object_named g x.name ≡ Some o) × (v : Option ℕ) × (slice_get o.held i ≡ Some v) × IsShown h w v
+  held_read a i x w at e = let t = shows.objects a x at in let (v, is, s) = AllZip-get (IsShown h) x.held t.object.held t.held i w e in
       (t.object, t.named, v, is, s)
 
   pub word_read : (a : ℕ) (x : Stored) → h.kept a ≡ Some x → (o : Object) × (object_named g x.name ≡ Some o) × (x.values ≡ o.values)

@@ -25,7 +25,7 @@ length_map : (f : ℕ → ℕ) (xs : List ℕ) → length (map f xs) ≡ length 
 length_map f [] = refl
 length_map f (x ∷ xs) = ap suc (length_map f xs)
 
-module _ (s g : Graph) (h : Heap) (m : Marking) (shows : WillShow g h) (inv : KeepsSnapshot s h m) (done : IsDone m)
+module _ (s g : Graph) (h : Heap) (m : Marking) (shows : WillShow g h) (inv : KeepsSnapshot s h m) (done : IsDone h m)
     (marks : List ℕ) (listed : ListsMarked m.marked marks) where
   name_at : ℕ → ℕ
   name_at a = name_in (h.kept a)

@@ -1,6 +1,7 @@
 -- The turns of the copying.
-use Rattle.std.proofs.Common.{◌≡◌, ◌⊎◌, ◌↔◌, ◌∷◌, ◌∙◌, ℕ, zero, suc, Bool, true, false, List, [], length, Option, Some, None, refl, sym, ap}
-use Rattle.std.proofs.Common.{subst, inl, inr, slice_set, slice_get}
+use Rattle.std.proofs.Common.{◌≡◌, ◌⊎◌, ◌↔◌, ◌∷◌, ◌++◌, ◌∙◌, ℕ, zero, suc, Bool, true, false, List, [], length, Option, Some, None, refl}
+use Rattle.std.proofs.Common.{sym}
+use Rattle.std.proofs.Common.{ap, subst, inl, inr, slice_set, slice_get}
 use Rattle.std.specs.List.{AllZip}
 use Rattle.std.proofs.lemmas.Bool.{cases_eq}
 use Rattle.heap_model.specs.Heap.{Heap, Stored, fields, HasField, IsRoot, IsClosed, RootSet, ObjectSet}
@@ -40,7 +41,7 @@ start set h = record {
         let q = placed_outside set (λ a. None) a e in
         let same : a ≡ b = cc in
         let words = same_words (place_after set (λ a. None)) (fields x) in
-        record { part = x; at = ap h.kept (sym same) ∙ at; name = refl; values = refl; shape = refl; words = words }
+        record { part = x; at = ap h.kept (sym same) ∙ at; name = refl; values = refl; shape = refl; slots = refl; words = words }
   ];
   came = λ b y at out. record { from = b; object = y; at = at; placed = placed_outside set (λ a. None) b out };
   untouched = λ a _ _. refl;
@@ -73,9 +74,10 @@ module _ (set : ℕ → Bool) (h : Heap) (forward : ℕ → Option ℕ) (now : H
           let p = v.objects a b x at e in
           let out = out_of a b e in
           let moved = clean_words (fields x) (fields p.part) (done.objects b p.part p.at out) p.words in
-          let (pointers, weaks) = AllZip-split
-          (IsMoved (place_after set forward)) x.pointers p.part.pointers x.weaks p.part.weaks p.shape moved in
-          record { copy = p.part; at = rw out p.at; name = p.name; values = p.values; pointers = pointers; weaks = weaks };
+          let (pointers, behind) = AllZip-split (IsMoved (place_after set forward)) x.pointers p.part.pointers (x.weaks ++ x.held)
+          (p.part.weaks ++ p.part.held) p.shape moved in
+          let (weaks, held) = AllZip-split (IsMoved (place_after set forward)) x.weaks p.part.weaks x.held p.part.held p.slots behind in
+          record { copy = p.part; at = rw out p.at; name = p.name; values = p.values; pointers = pointers; weaks = weaks; held = held };
       came = λ b y e. elim (bool_cases (set b)) [
         | inl k ↦ absurd (let q = rw k at e in cc)
         | inr k ↦ let o = v.came b y (rw k at e) k in record { from = o.from; object = o.object; at = o.at; placed = o.placed }
@@ -125,7 +127,15 @@ module _ (set : ℕ → Bool) (h : Heap) (forward : ℕ → Option ℕ) (now : H
   root_updated now' j w w' at moved step = record {
     roots = subst (λ ws. AllZip (IsWord (place_after set forward)) h.roots ws) (sym step.roots) (set_one h.roots now.roots j v.roots at);
     objects = λ a b x e p. let k = v.objects a b x e p in
-        record { part = k.part; at = step.kept b ∙ k.at; name = k.name; values = k.values; shape = k.shape; words = k.words };
+        record {
+          part = k.part;
+          at = step.kept b ∙ k.at;
+          name = k.name;
+          values = k.values;
+          shape = k.shape;
+          slots = k.slots;
+          words = k.words;
+        };
     came = λ b y e out. v.came b y (sym (step.kept b) ∙ e) out;
     untouched = λ a e u. step.kept a ∙ v.untouched a e u;
     reached = v.reached;
@@ -180,8 +190,8 @@ module _ (set : ℕ → Bool) (h : Heap) (forward : ℕ → Option ℕ) (now : H
   -- a pointer field of an object outside the set is updated
   pub field_updated : (now' : Heap) (b i c d : ℕ) (y y' : Stored) → set b ≡ false → slice_get (fields y) i ≡ Some (Some c) → set c ≡ true
       → forward c ≡ Some d → ObjectSet now now' b y y' → y'.values ≡ y.values → length y'.pointers ≡ length y.pointers
-      → fields y' ≡ slice_set (fields y) i (Some d) → IsEvacuating set h forward now'
-  field_updated now' b i c d y y' out e inside f step values shape words = record {
+      → length y'.weaks ≡ length y.weaks → fields y' ≡ slice_set (fields y) i (Some d) → IsEvacuating set h forward now'
+  field_updated now' b i c d y y' out e inside f step values shape slots words = record {
     roots = subst (λ ws. AllZip (IsWord (place_after set forward)) h.roots ws) (sym step.roots) v.roots;
     objects = λ a b0 x at p.
         let k = v.objects a b0 x at p in
@@ -194,6 +204,7 @@ module _ (set : ℕ → Bool) (h : Heap) (forward : ℕ → Option ℕ) (now : H
                 name = step.name ∙ ap (λ (z : Stored). z.name) (sym same) ∙ k.name;
                 values = values ∙ ap (λ (z : Stored). z.values) (sym same) ∙ k.values;
                 shape = shape ∙ ap (λ (z : Stored). length z.pointers) (sym same) ∙ k.shape;
+                slots = slots ∙ ap (λ (z : Stored). length z.weaks) (sym same) ∙ k.slots;
                 words = subst (λ ws. AllZip (IsWord (place_after set forward)) (fields x) ws) (sym words)
                     (set_one (fields x) (fields y) i
                     (subst (λ (z : Stored). AllZip (IsWord (place_after set forward)) (fields x) (fields z)) same k.words) e);
@@ -205,6 +216,7 @@ module _ (set : ℕ → Bool) (h : Heap) (forward : ℕ → Option ℕ) (now : H
             name = k.name;
             values = k.values;
             shape = k.shape;
+            slots = k.slots;
             words = k.words;
           }
         ];
@@ -281,6 +293,8 @@ module _ (set : ℕ → Bool) (h : Heap) (forward : ℕ → Option ℕ) (now : H
               values = ap (λ (y : Stored). y.values) (sym same);
               shape =
                   ap (λ (y : Stored). length y.pointers) (sym same);
+              slots =
+                  ap (λ (y : Stored). length y.weaks) (sym same);
               words =
                   subst (λ (y : Stored). AllZip (IsWord (place_after set forward')) (fields y) (fields x)) (sym same)
                   (same_words (place_after set forward') (fields x));
@@ -293,6 +307,7 @@ module _ (set : ℕ → Bool) (h : Heap) (forward : ℕ → Option ℕ) (now : H
               name = k.name;
               values = k.values;
               shape = k.shape;
+              slots = k.slots;
               words = AllZip_map (IsWord (place_after set forward)) (IsWord (place_after set forward')) word_grows (fields z)
                   (fields k.part) k.words;
             }

@@ -1,5 +1,6 @@
 -- A field that is set.
-use Rattle.std.proofs.Common.{◌≡◌, ℕ, zero, suc, ◌+◌, ◌-◌, ◌<◌, ◌≤◌, false, List, ◌∷◌, [], ◌++◌, length, Option, refl, ap, inl, inr, arith}
+use Rattle.std.proofs.Common.{◌≡◌, ℕ, zero, suc, ◌+◌, ◌-◌, ◌<◌, ◌≤◌, false, List, ◌∷◌, [], ◌++◌, length, Option, refl, ap, ◌∙◌, inl, inr}
+use Rattle.std.proofs.Common.{arith}
 use Rattle.std.specs.Prelude.{slice_set}
 use Rattle.std.proofs.Math.Dec.{ltb}
 use Rattle.std.proofs.lemmas.Bool.{cases_lt, lt-ltb, ltb-true}
@@ -25,6 +26,7 @@ pub record IsFieldSet (x y : Stored) (i : ℕ) (v : Option ℕ) : Type 0 where
   pub name : y.name ≡ x.name
   pub fields_are : fields y ≡ slice_set (fields x) i v
   pub shape : length y.pointers ≡ length x.pointers
+  pub slots : length y.weaks ≡ length x.weaks
   pub values : y.values ≡ x.values
 
 pub field_set : (x : Stored) (i : ℕ) (v : Option ℕ) → IsFieldSet x (with_field x i v) i v
@@ -33,16 +35,33 @@ field_set x i v = elim (cases_lt i (length x.pointers)) [
       let e = lt-ltb i (length x.pointers) k in
       rw e (record {
         name = refl;
-        fields_are = set-append_front x.pointers x.weaks i v k;
+        fields_are = set-append_front x.pointers (x.weaks ++ x.held) i v k;
         shape = length-set x.pointers i v;
+        slots = refl;
         values = refl;
       })
   | inr k ↦
       let e = ltb_above i (length x.pointers) k in
-      rw e (record {
-        name = refl;
-        fields_are = set-append_back x.pointers x.weaks i (i - length x.pointers) v (omega arith);
-        shape = refl;
-        values = refl;
-      })
+      let behind = set-append_back x.pointers (x.weaks ++ x.held) i (i - length x.pointers) v (omega arith) in
+      elim (cases_lt (i - length x.pointers) (length x.weaks)) [
+        | inl l ↦
+            let f = lt-ltb (i - length x.pointers) (length x.weaks) l in
+            rw (e, f) (record {
+              name = refl;
+              fields_are = ap (λ r. x.pointers ++ r) (set-append_front x.weaks x.held (i - length x.pointers) v l) ∙ behind;
+              shape = refl;
+              slots = length-set x.weaks (i - length x.pointers) v;
+              values = refl;
+            })
+        | inr l ↦
+            let f = ltb_above (i - length x.pointers) (length x.weaks) l in
+            rw (e, f) (record {
+              name = refl;
+              fields_are = ap (λ r. x.pointers ++ r) (set-append_back x.weaks x.held (i - length x.pointers)
+                  (i - length x.pointers - length x.weaks) v (omega arith)) ∙ behind;
+              shape = refl;
+              slots = refl;
+              values = refl;
+            })
+      ]
 ]

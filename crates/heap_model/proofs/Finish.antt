@@ -1,18 +1,20 @@
 -- The end of marking.
 use Rattle.std.proofs.Common.{◌≡◌, ℕ, ◌≤◌, ◌⊎◌, true, false, Some, refl, sym, ap, ◌∙◌, subst, inl, inr, arith, slice_get}
 use Rattle.heap_model.specs.Graph.{Graph, next_name, IsReachable}
-use Rattle.heap_model.specs.Heap.{Heap, Stored}
+use Rattle.heap_model.specs.Heap.{Heap, Stored, Holds}
 use Rattle.heap_model.specs.Clearing.{WillShow}
-use Rattle.heap_model.specs.Marking.{Marking, Pending, FromGrey, FromLogged, Through, IsFound, ByLive, ByNew, KeepsSnapshot, IsDone}
+use Rattle.heap_model.specs.Marking.{Marking, Pending, FromMarked, FromLogged, Through, ThroughHeld, IsKnownAt, IsFound, ByLive, ByNew}
+use Rattle.heap_model.specs.Marking.{ByHeld, KeepsSnapshot, IsDone}
 use Rattle.heap_model.specs.Marking.{IsMarkedName, MarksExactly, kept_after}
-use Rattle.heap_model.proofs.Names.{bool_cases, nothing_in, named_below}
+use Rattle.heap_model.proofs.Names.{bool_cases, nothing_in, named_below, both_ways}
 
-nothing_pending : (h : Heap) (m : Marking) (a : ℕ) → IsDone m → Pending h m a → ⊥
-nothing_pending h m a d (FromGrey c k un) = let e = d.grey c k in cc
-nothing_pending h m a d (FromLogged c e) = nothing_in m.logged c d.logged e
-nothing_pending h m a d (Through c b p _ _ _) = nothing_pending h m c d p
+pending_marked : (h : Heap) (m : Marking) (a : ℕ) → IsDone h m → Pending h m a → m.marked a ≡ true
+pending_marked h m a d (FromMarked c k) = k
+pending_marked h m a d (FromLogged c e) = absurd (nothing_in m.logged c d.logged e)
+pending_marked h m a d (Through c b p _ un _) = absurd (both_ways (m.scanned c) (d.grey c (pending_marked h m c d p)) un)
+pending_marked h m a d (ThroughHeld c k b p q _ _ old e) = d.held c k b (pending_marked h m c d p) (pending_marked h m k d q) e old
 
-module _ (s g : Graph) (h : Heap) (m : Marking) (i : KeepsSnapshot s h m) (done : IsDone m) where
+module _ (s g : Graph) (h : Heap) (m : Marking) (i : KeepsSnapshot s h m) (done : IsDone h m) where
   pub reachable_marked : (n : ℕ) → IsReachable s n → IsMarkedName h m n
   reachable_marked n r =
       let w = i.all n r in
@@ -21,7 +23,7 @@ module _ (s g : Graph) (h : Heap) (m : Marking) (i : KeepsSnapshot s h m) (done 
         object = w.object;
         at = w.at;
         named = w.named;
-        marked = elim w.why [ inl k ↦ k | inr p ↦ absurd (nothing_pending h m w.address done p) ];
+        marked = elim w.why [ inl k ↦ k | inr p ↦ pending_marked h m w.address done p ];
       }
 
   pub marked_reachable : (n : ℕ) → IsMarkedName h m n → IsReachable s n
@@ -69,6 +71,14 @@ module _ (s g : Graph) (h : Heap) (m : Marking) (i : KeepsSnapshot s h m) (done 
         ByLive a b (record { object = x; at = at; field = j; is = e }) (subst (λ (z : Stored). IsReachable s z.name) same r.is_live)
     pointer_found a x j b at (inr n) e = ByNew a b (record { object = x; at = at; field = j; is = e }) n
 
+    known_kept : (a : ℕ) → ((m.marked a ≡ true) ⊎ (m.old a ≡ false)) → IsKnownAt (IsReachable s) h m a
+    known_kept a (inl k) = let r = i.marked a k in inl (r.object, r.at, r.is_live)
+    known_kept a (inr n) = inr n
+
+    pub held_found : (a k b : ℕ) → ((m.marked a ≡ true) ⊎ (m.old a ≡ false)) → ((m.marked k ≡ true) ⊎ (m.old k ≡ false)) → Holds h a k b
+        → IsFound (IsReachable s) h m b
+    held_found a k b why key p = ByHeld a k b (known_kept a why) (known_kept k key) p
+
   -- each kept object was reachable in the snapshot, or was made since
   pub kept_or_new : (a : ℕ) (x : Stored) → kept_after h m a ≡ Some x → IsReachable s x.name ⊎ (next_name s ≤ x.name)
   kept_or_new a x e =
@@ -79,7 +89,7 @@ module _ (s g : Graph) (h : Heap) (m : Marking) (i : KeepsSnapshot s h m) (done 
       ]
 
 -- with no step of a mutator since, the kept names are those that are reachable
-pub quiet_kept : (g : Graph) (h : Heap) (m : Marking) → KeepsSnapshot g h m → IsDone m → WillShow g h → (a : ℕ) (x : Stored)
+pub quiet_kept : (g : Graph) (h : Heap) (m : Marking) → KeepsSnapshot g h m → IsDone h m → WillShow g h → (a : ℕ) (x : Stored)
     → kept_after h m a ≡ Some x → IsReachable g x.name
 quiet_kept g h m i done shows a x e =
     elim (kept_or_new g g h m i done a x e) [
@@ -91,7 +101,7 @@ quiet_kept g h m i done shows a x e =
           absurd (omega arith)
     ]
 
-pub reachable_kept : (s g : Graph) (h : Heap) (m : Marking) → KeepsSnapshot s h m → IsDone m → (n : ℕ) → IsReachable s n
+pub reachable_kept : (s g : Graph) (h : Heap) (m : Marking) → KeepsSnapshot s h m → IsDone h m → (n : ℕ) → IsReachable s n
     → (a : ℕ) × (x : Stored) × (kept_after h m a ≡ Some x) × (x.name ≡ n)
 reachable_kept s g h m i done n r =
     let k = reachable_marked s g h m i done n r in

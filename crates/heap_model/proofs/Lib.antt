@@ -1,4 +1,5 @@
 pub mod Lists
+pub mod Held
 pub mod Names
 pub mod Fields
 pub mod Advance

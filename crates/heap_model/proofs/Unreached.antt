@@ -1,16 +1,19 @@
 -- Names below the next one, and pointers that stay as they were in the snapshot: laws of graphs alone.
-use Rattle.std.proofs.Common.{◌≡◌, ◌<◌, ◌≤◌, ◌-◌, ◌⊎◌, ◌∷◌, ◌∙◌, ℕ, zero, suc, List, false, Option, Some, None, refl, sym, ap, subst, inl}
-use Rattle.std.proofs.Common.{inr, arith, slice_get, lt-ltb, ltb-true}
+use Rattle.std.proofs.Common.{◌≡◌, ◌<◌, ◌≤◌, ◌-◌, ◌⊎◌, ◌∷◌, ◌++◌, ◌∙◌, ℕ, zero, suc, List, false, Option, Some, None, refl, sym, ap, subst}
+use Rattle.std.proofs.Common.{inl, inr, arith, slice_get, lt-ltb, ltb-true}
 use Rattle.std.proofs.lemmas.Bool.{cases_eq, cases_lt}
 use Rattle.std.proofs.Math.Dec.{ltb}
-use Rattle.heap_model.specs.Graph.{Graph, Object, object_named, object_fields, next_name, IsReachable, FromRoot, FromObject, IsSound}
+use Rattle.heap_model.specs.Graph.{Graph, Object, object_named, object_fields, next_name, IsPair, HasPair, IsReachable, FromRoot}
+use Rattle.heap_model.specs.Graph.{FromObject}
+use Rattle.heap_model.specs.Graph.{FromHeld, IsSound}
 use Rattle.heap_model.specs.Graph.{with_root, with_object, with_changed}
-use Rattle.heap_model.specs.Weak.{touched, KeepsUnreached, IsClearedSlot, ClearsObject, Clears}
-use Rattle.heap_model.proofs.Names.{bool_cases}
+use Rattle.heap_model.specs.Weak.{touched, IsKnown, PairsChange, KeepsPairs, KeepsUnreached, IsClearedSlot, ClearsObject, Clears}
+use Rattle.heap_model.proofs.Names.{bool_cases, same_some}
 use Rattle.heap_model.proofs.Lists.{AllZip-get_right, get-append_cases, get-append_left, get-append_right, get-push_cases, get-set_cases}
 use Rattle.heap_model.proofs.Lists.{get-set_other, length-set, length-push, AllZip_length}
-use Rattle.heap_model.proofs.Changed.{named_at, at_least, changed_here}
-use Rattle.heap_model.proofs.Cleared.{cleared_named_back}
+use Rattle.heap_model.proofs.Changed.{named_at, at_least, changed_here, changed_other, added_other}
+use Rattle.heap_model.proofs.Cleared.{cleared_named_back, slot_was}
+use Rattle.heap_model.proofs.Held.{held_by_was}
 
 -- the object of a name after a change
 pub changed_cases : (g : Graph) (n k : ℕ) (o p q : Object) → object_named g n ≡ Some o → object_named (with_changed g n p) k ≡ Some q
@@ -44,10 +47,30 @@ touched_cases s n = elim (cases_lt n (next_name s)) [
     ltb_above : (a b : ℕ) → b ≤ a → ltb a b ≡ false
     ltb_above a b k = elim (bool_cases (ltb a b)) [ inl e ↦ absurd (let below = ltb-true a b e in omega arith) | inr e ↦ e ]
 
+-- weak slots and held slots are fields
+pub weak_field : (o : Object) (i n : ℕ) → slice_get o.weaks i ≡ Some (Some n)
+    → (j : ℕ) × (slice_get (object_fields o) j ≡ Some (Some n))
+weak_field o i n e = get-append_right o.pointers (o.weaks ++ o.held) i (Some n) (get-append_left o.weaks o.held i (Some n) e)
+
+pub held_field : (o : Object) (i n : ℕ) → slice_get o.held i ≡ Some (Some n)
+    → (j : ℕ) × (slice_get (object_fields o) j ≡ Some (Some n))
+held_field o i n e = let (j, is) = get-append_right o.weaks o.held i (Some n) e in
+    get-append_right o.pointers (o.weaks ++ o.held) j (Some n) is
+
+-- what a field holds, by its kind
+pub field_cases : (o : Object) (i n : ℕ) → slice_get (object_fields o) i ≡ Some (Some n)
+    → (slice_get o.pointers i ≡ Some (Some n)) ⊎ (((j : ℕ) × (slice_get o.weaks j ≡ Some (Some n)))
+    ⊎ ((j : ℕ) × (slice_get o.held j ≡ Some (Some n))))
+field_cases o i n e = elim (get-append_cases o.pointers (o.weaks ++ o.held) i (Some n) e) [
+  | inl q ↦ inl q
+  | inr q ↦ elim (get-append_cases o.weaks o.held q.0 (Some n) q.1) [ inl k ↦ inr (inl (q.0, k)) | inr k ↦ inr (inr k) ]
+]
+
 -- a name that a sound graph reaches is below the next one
 pub sound_reaches : (g : Graph) → IsSound g → (n : ℕ) → IsReachable g n → n < next_name g
 sound_reaches g k n (FromRoot j a e) = k.roots j a e
-sound_reaches g k n (FromObject m a i o r e q) = k.fields m i a o e (get-append_left o.pointers o.weaks i (Some a) q)
+sound_reaches g k n (FromObject m a i o r e q) = k.fields m i a o e (get-append_left o.pointers (o.weaks ++ o.held) i (Some a) q)
+sound_reaches g k n (FromHeld m l a i p r key) = let (j, is) = held_field p.object i a p.pair.1 in k.fields m j a p.object p.named is
 
 pub root_sound : (g : Graph) (j : ℕ) (v : Option ℕ) → IsSound g → ((n : ℕ) → v ≡ Some n → n < next_name g) → IsSound (with_root g j v)
 unfolding object_named
@@ -100,12 +123,6 @@ touched_sound s (Some n) k = elim (touched_cases s n) [
     first_root n s k below zero a e = let same : n ≡ a = cc in subst (λ l. l < next_name s) same below
     first_root n s k below (suc j) a e = k.roots j a e
 
--- a slot that is cleared holds what it held, or nil
-slot_was : (s : Graph) (v v' : Option ℕ) (k : ℕ) → IsClearedSlot s v v' → v' ≡ Some k → v ≡ Some k
-slot_was s None (Some l) k c e = absurd c
-slot_was s (Some n) (Some l) k c e = let same = c.0 in cc
-slot_was s _ None k c e = cc
-
 pub cleared_sound : (s g g' : Graph) → Clears s g g' → IsSound g → IsSound g'
 cleared_sound s g g' c k =
     let same : next_name g' ≡ next_name g = let e1 = AllZip_length (ClearsObject s) g.objects g'.objects c.objects in
@@ -114,13 +131,19 @@ cleared_sound s g g' c k =
       roots = λ j n e. subst (λ l. n < l) (sym same) (k.roots j n (ap (λ r. slice_get r j) (sym c.roots) ∙ e));
       fields = λ m i n p e q. subst (λ l. n < l) (sym same) (
           let (o, is, z) = cleared_named_back s g g' c m p e in
-          elim (get-append_cases p.pointers p.weaks i (Some n) q) [
-            | inl at ↦ k.fields m i n o is (get-append_left o.pointers o.weaks i (Some n) (ap (λ l. slice_get l i) (sym z.pointers) ∙ at))
-            | inr at ↦
-                let (v, was, slot) = AllZip-get_right (IsClearedSlot s) o.weaks p.weaks z.weaks at.0 (Some n) at.1 in
-                let (there, holds) = get-append_right o.pointers o.weaks at.0 (Some n)
-                (was ∙ ap Some (slot_was s v (Some n) n slot refl)) in
-                k.fields m there n o is holds
+          elim (field_cases p i n q) [
+            | inl at ↦ k.fields m i n o is (get-append_left o.pointers (o.weaks ++ o.held) i (Some n)
+                (ap (λ l. slice_get l i) (sym z.pointers) ∙ at))
+            | inr b ↦ elim b [
+              | inl at ↦
+                  let (v, was, slot) = AllZip-get_right (IsClearedSlot s) o.weaks p.weaks z.weaks at.0 (Some n) at.1 in
+                  let (there, holds) = weak_field o at.0 n (was ∙ ap Some (slot_was s v (Some n) n slot refl)) in
+                  k.fields m there n o is holds
+              | inr at ↦
+                  let (there, holds) = held_field o at.0 n
+                  (held_by_was p.weaks o.held at.0 n (ap (λ l. slice_get l at.0) (sym z.held) ∙ at.1)) in
+                  k.fields m there n o is holds
+            ]
           ]);
     }
 
@@ -145,6 +168,20 @@ touched_reaches s (Some k) n r = elim (touched_cases s k) [
     on : (s : Graph) (k n : ℕ) → IsReachable s n → IsReachable (record s { roots = Some k ∷ s.roots }) n
     on s k n (FromRoot j a e) = FromRoot (suc j) a e
     on s k n (FromObject m a i o r e q) = FromObject m a i o (on s k m r) e q
+    on s k n (FromHeld m l a i p r key) =
+        FromHeld m l a i (record { object = p.object; named = p.named; pair = p.pair }) (on s k m r) (on s k l key)
+
+-- pairs stay
+pub touched_pair : (s : Graph) (v : Option ℕ) (m i k n : ℕ) → HasPair s m i k n → HasPair (touched s v) m i k n
+touched_pair s v m i k n p = record { object = p.object; named = touched_named s v m ∙ p.named; pair = p.pair }
+
+pub pair_before : (s : Graph) (v : Option ℕ) (m i k n : ℕ) → HasPair (touched s v) m i k n → HasPair s m i k n
+pair_before s v m i k n p = record { object = p.object; named = sym (touched_named s v m) ∙ p.named; pair = p.pair }
+
+-- and so does what is known
+pub known_on : (s : Graph) (v : Option ℕ) (n : ℕ) → IsKnown s n → IsKnown (touched s v) n
+known_on s v n (inl r) = inl (touched_reaches s v n r)
+known_on s v n (inr k) = inr (subst (λ l. l ≤ n) (sym (touched_next s v)) k)
 
 -- a root of a touched snapshot is the touched name, or was one
 pub touched_root_cases : (s : Graph) (v : Option ℕ) (j n : ℕ) → slice_get (touched s v).roots j ≡ Some (Some n)
@@ -167,28 +204,95 @@ touched_reached s n k = elim (touched_cases s n) [
   | inr c ↦ absurd (let above = c.1 in omega arith)
 ]
 
+pub pairs_begin : (g : Graph) → KeepsPairs g g
+pairs_begin g = record { went = λ n i l b p. inl p; came = λ n i l b p. inl p }
+
+-- how pairs go on
+module _ (s g : Graph) (u : KeepsPairs s g) where
+  pub pairs_root : (j : ℕ) (v : Option ℕ) → KeepsPairs s (with_root g j v)
+  unfolding object_named
+  pairs_root j v = record {
+    went = λ n i k b p. elim (u.went n i k b p) [
+      | inl q ↦ inl (record { object = q.object; named = q.named; pair = q.pair })
+      | inr q ↦ inr q
+    ];
+    came = λ n i k b p. u.came n i k b (record { object = p.object; named = p.named; pair = p.pair });
+  }
+
+  pub pairs_object : (o : Object) (j : ℕ) → ((i b : ℕ) → slice_get o.held i ≡ Some (Some b) → ⊥) → KeepsPairs s (with_object g o j)
+  pairs_object o j bare = record {
+    went = λ n i k b p. elim (u.went n i k b p) [
+      | inl q ↦ inl (record { object = q.object; named = added_other g o q.object j n q.named; pair = q.pair })
+      | inr q ↦ inr q
+    ];
+    came = λ n i k b p. elim (added_cases g o p.object j n p.named) [
+      | inl c ↦ absurd (bare i b (subst (λ (z : Object). slice_get z.held i ≡ Some (Some b)) c.1 p.pair.1))
+      | inr c ↦ u.came n i k b (record { object = p.object; named = c; pair = p.pair })
+    ];
+  }
+
+  pub pairs_changed : (n : ℕ) (o p : Object) → object_named g n ≡ Some o → PairsChange s o p → KeepsPairs s (with_changed g n p)
+  pairs_changed n o p e pairs = record { went = went; came = came }
+    where
+      went : (l i k b : ℕ) → HasPair s l i k b → HasPair (with_changed g n p) l i k b ⊎ IsKnown s b
+      went l i k b h = elim (u.went l i k b h) [
+        | inr known ↦ inr known
+        | inl q ↦ elim (cases_eq l n) [
+          | inl same ↦
+              let here = same_some (object_named g n) q.object o (ap (object_named g) (sym same) ∙ q.named) e in
+              elim (pairs.went i k b (subst (λ (z : Object). IsPair z.weaks z.held i k b) here q.pair)) [
+                | inl t ↦
+                    inl (record { object = p; named = ap (object_named (with_changed g n p)) same ∙ changed_here g n o p e; pair = t })
+                | inr known ↦ inr known
+              ]
+          | inr ne ↦ inl (record { object = q.object; named = changed_other g n l o p q.object e ne q.named; pair = q.pair })
+        ]
+      ]
+
+      came : (l i k b : ℕ) → HasPair (with_changed g n p) l i k b → HasPair s l i k b ⊎ IsKnown s b
+      came l i k b h = elim (changed_cases g n l o p h.object e h.named) [
+        | inl c ↦ elim (pairs.came i k b (subst (λ (z : Object). IsPair z.weaks z.held i k b) c.1 h.pair)) [
+          | inl t ↦ u.came l i k b (record { object = o; named = ap (object_named g) c.0 ∙ e; pair = t })
+          | inr known ↦ inr known
+        ]
+        | inr c ↦ u.came l i k b (record { object = h.object; named = c; pair = h.pair })
+      ]
+
+  pub pairs_touched : (v : Option ℕ) → KeepsPairs (touched s v) g
+  pairs_touched v = record {
+    went = λ n i k b p. elim (u.went n i k b (pair_before s v n i k b p)) [ inl q ↦ inl q | inr q ↦ inr (known_on s v b q) ];
+    came = λ n i k b p. elim (u.came n i k b p) [ inl q ↦ inl (touched_pair s v n i k b q) | inr q ↦ inr (known_on s v b q) ];
+  }
+
 pub unreached_begins : (g : Graph) → IsSound g → KeepsUnreached g g
-unreached_begins g k = record { sound = k; each = λ n o e below. inr (o, e, refl) }
+unreached_begins g k = record { sound = k; each = λ n o e below. inr (o, e, refl); pairs = pairs_begin g }
 
 module _ (s g : Graph) (u : KeepsUnreached s g) where
   pub unreached_root : (j : ℕ) (v : Option ℕ) → KeepsUnreached s (with_root g j v)
   unfolding object_named
-  unreached_root j v = record { sound = u.sound; each = λ n o e below. u.each n o e below }
+  unreached_root j v = record {
+    sound = u.sound;
+    each = λ n o e below. u.each n o e below;
+    pairs = pairs_root s g u.pairs j v;
+  }
 
-  pub unreached_object : (o : Object) (j : ℕ) → next_name s ≤ next_name g → KeepsUnreached s (with_object g o j)
-  unreached_object o j earlier = record {
+  pub unreached_object : (o : Object) (j : ℕ) → next_name s ≤ next_name g → ((i b : ℕ) → slice_get o.held i ≡ Some (Some b) → ⊥)
+      → KeepsUnreached s (with_object g o j)
+  unreached_object o j earlier bare = record {
     sound = u.sound;
     each = λ n p e below. elim (added_cases g o p j n e) [
       | inl c ↦ absurd (let same = c.0 in omega arith)
       | inr c ↦ u.each n p c below
     ];
+    pairs = pairs_object s g u.pairs o j bare;
   }
 
   -- an object that was reachable in the snapshot, or is new, may change
-  pub unreached_changed : (n : ℕ) (o p : Object) → object_named g n ≡ Some o → IsReachable s n ⊎ (next_name s ≤ n)
+  pub unreached_changed : (n : ℕ) (o p : Object) → object_named g n ≡ Some o → IsReachable s n ⊎ (next_name s ≤ n) → PairsChange s o p
       → KeepsUnreached s (with_changed g n p)
-  unreached_changed n o p e why = record {
+  unreached_changed n o p e why pairs = record {
     sound = u.sound;
+    pairs = pairs_changed s g u.pairs n o p e pairs;
     each = λ k q f below. elim (changed_cases g n k o p q e f) [
       | inl c ↦ elim why [
         | inl r ↦ inl (subst (IsReachable s) (sym c.0) r)
@@ -199,10 +303,11 @@ module _ (s g : Graph) (u : KeepsUnreached s g) where
   }
 
   -- so may any object but for its pointers
-  pub unreached_written : (n : ℕ) (o p : Object) → object_named g n ≡ Some o → p.pointers ≡ o.pointers
+  pub unreached_written : (n : ℕ) (o p : Object) → object_named g n ≡ Some o → p.pointers ≡ o.pointers → PairsChange s o p
       → KeepsUnreached s (with_changed g n p)
-  unreached_written n o p e same = record {
+  unreached_written n o p e same pairs = record {
     sound = u.sound;
+    pairs = pairs_changed s g u.pairs n o p e pairs;
     each = λ k q f below. elim (changed_cases g n k o p q e f) [
       | inl c ↦ elim (u.each n o e (subst (λ l. l < next_name s) c.0 below)) [
         | inl r ↦ inl (subst (IsReachable s) (sym c.0) r)
@@ -220,4 +325,5 @@ module _ (s g : Graph) (u : KeepsUnreached s g) where
       | inl r ↦ inl (touched_reaches s v n r)
       | inr t ↦ inr (t.0, touched_named s v n ∙ t.1, t.2)
     ];
+    pairs = pairs_touched s g u.pairs v;
   }

@@ -3,15 +3,16 @@ use Rattle.std.proofs.Common.{◌≡◌, ◌<◌, ◌⊎◌, ◌∷◌, ◌∙�
 use Rattle.std.proofs.Common.{arith, slice_set, slice_get, map}
 use Rattle.std.specs.List.{AllZip}
 use Rattle.std.proofs.lemmas.Bool.{cases_eq}
-use Rattle.heap_model.specs.Graph.{Graph, Object, object_named, next_name, with_root, with_object, with_changed}
-use Rattle.heap_model.specs.Heap.{Heap, Stored, Points, IsShown, Shows, RootSet, ObjectSet, ObjectAdded, SameHeap}
+use Rattle.heap_model.specs.Graph.{Graph, Object, object_named, next_name, IsPair, held_by, with_root, with_object, with_changed}
+use Rattle.heap_model.specs.Heap.{Heap, Stored, Points, Holds, IsShown, Shows, RootSet, ObjectSet, ObjectAdded, SameHeap}
 use Rattle.heap_model.specs.Clearing.{IsWeakShown, WillShowObject, WillShow, HasWeak, KeepsAt, IsPassed, IsClearedTo, kept_word, where_kept}
-use Rattle.heap_model.specs.Clearing.{with_kept_weaks, ClearsWeaks}
-use Rattle.heap_model.specs.Marking.{Marking, LeadsOn, MarkingInvariant, IsFound, ByRoot, ByLive, ByNew}
+use Rattle.heap_model.specs.Clearing.{kept_held, with_kept_weaks, ClearsWeaks}
+use Rattle.heap_model.specs.Marking.{Marking, LeadsOn, MarkingInvariant, IsKnownAt, IsFound, ByRoot, ByLive, ByNew, ByHeld}
 use Rattle.heap_model.proofs.Names.{named_below}
 use Rattle.heap_model.proofs.Lists.{AllZip-get, AllZip-set, AllZip_map, AllZip_map_at}
 use Rattle.heap_model.proofs.Changed.{shown_in, changed_here, changed_other, added_here, added_other, rooted_same, added_kept, added_before}
-use Rattle.heap_model.proofs.Shown.{shown_name}
+use Rattle.heap_model.proofs.Shown.{shown_name, held_kept}
+use Rattle.heap_model.proofs.Held.{held_by_get, held_by_was, held_by_again, held_by_bare, kept_both, kept_twice, kept_get}
 use Rattle.heap_model.proofs.Advance.{Stands, invariant_after}
 
 -- a weak slot whose target is kept shows what any word does
@@ -26,14 +27,19 @@ pub shows_cleared_heap : (g : Graph) (h : Heap) → WillShow g h → IsClearedTo
 shows_cleared_heap g h s done = record {
   roots = s.roots;
   distinct = s.distinct;
-  objects = λ a x at. let o = s.objects a x at in record {
-    object = o.object;
-    named = o.named;
-    pointers = o.pointers;
-    weaks = AllZip_map_at (IsWeakShown h) (IsShown h) x.weaks o.object.weaks
-        (λ i w v is z. word_cleared h w v (λ b e. done a b tt (record { object = x; at = at; slot = i; is = is ∙ ap Some e })) z) o.weaks;
-    values = o.values;
-  };
+  objects = λ a x at.
+      let o = s.objects a x at in
+      let weaks : AllZip (IsShown h) x.weaks o.object.weaks = AllZip_map_at (IsWeakShown h) (IsShown h) x.weaks o.object.weaks
+      (λ i w v is z. word_cleared h w v (λ b e. done a b tt (record { object = x; at = at; slot = i; is = is ∙ ap Some e })) z) o.weaks in
+      record {
+        object = o.object;
+        named = o.named;
+        pointers = o.pointers;
+        weaks = weaks;
+        held = subst (λ vs. AllZip (IsShown h) vs o.object.held) (held_kept h x o.object.weaks weaks o.keyed) o.held;
+        keyed = o.keyed;
+        values = o.values;
+      };
 }
 
 -- and where the heap shows the graph, nothing is left
@@ -59,6 +65,15 @@ weak_slot_read g h s a i x w at e =
     let (v, is, shown) = AllZip-get (IsWeakShown h) x.weaks t.object.weaks t.weaks i w e in
     (t.object, t.named, v, is, slot_read h w v shown)
 
+-- and what is read of a held slot, if its key is kept
+pub held_slot_read : (g : Graph) (h : Heap) → WillShow g h → (a i : ℕ) (x : Stored) (w : Option ℕ) → h.kept a ≡ Some x
+    → slice_get (kept_held h.kept x) i ≡ Some w
+    → (o : Object) × (object_named g x.name ≡ Some o) × (v : Option ℕ) × (slice_get o.held i ≡ Some v) × IsShown h w v
+held_slot_read g h s a i x w at e =
+    let t = s.objects a x at in
+    let (v, is, shown) = AllZip-get (IsShown h) (kept_held h.kept x) t.object.held t.held i w e in
+    (t.object, t.named, v, is, shown)
+
 -- a weak slot shows the same where each kept object is kept under its name, and its target is kept if it was
 weak_in : (h h' : Heap) → ((a : ℕ) (x : Stored) → h.kept a ≡ Some x → (y : Stored) × (h'.kept a ≡ Some y) × (y.name ≡ x.name))
     → (w v : Option ℕ) → ((a : ℕ) → w ≡ Some a → h.kept a ≡ None → h'.kept a ≡ None) → IsWeakShown h w v → IsWeakShown h' w v
@@ -66,6 +81,14 @@ weak_in h h' f None None none s = tt
 weak_in h h' f (Some a) None none s = none a refl s
 weak_in h h' f (Some a) (Some n) none s = let (y, at, named) = f a s.0 s.1 in (y, at, named ∙ s.2)
 weak_in h h' f _ _ none s = absurd s
+
+-- so do held slots whose keys show the same
+held_in : (h h' : Heap) (x : Stored) (ks vs : List (Option ℕ)) → ((w v : Option ℕ) → IsShown h w v → IsShown h' w v)
+    → AllZip (IsWeakShown h) x.weaks ks → AllZip (IsWeakShown h') x.weaks ks → AllZip (IsShown h) (kept_held h.kept x) vs
+    → AllZip (IsShown h') (kept_held h'.kept x) vs
+held_in h h' x ks vs same weaks weaks' held =
+    subst (λ us. AllZip (IsShown h') (held_by us x.held) vs) (sym (kept_both h h' x.weaks ks weaks weaks'))
+    (AllZip_map (IsShown h) (IsShown h') same (kept_held h.kept x) vs held)
 
 -- an object will show what it would where its words do, and its name's object is the same
 will_as : (g g' : Graph) (h h' : Heap) (x : Stored) → ((w v : Option ℕ) → IsShown h w v → IsShown h' w v)
@@ -75,8 +98,11 @@ will_as g g' h h' x same weak o named = record {
   object = o.object;
   named = named;
   values = o.values;
+  keyed = o.keyed;
   pointers = AllZip_map (IsShown h) (IsShown h') same x.pointers o.object.pointers o.pointers;
   weaks = AllZip_map_at (IsWeakShown h) (IsWeakShown h') x.weaks o.object.weaks weak o.weaks;
+  held = held_in h h' x o.object.weaks o.object.held same o.weaks
+      (AllZip_map_at (IsWeakShown h) (IsWeakShown h') x.weaks o.object.weaks weak o.weaks) o.held;
 }
 
 module _ (g : Graph) (h h' : Heap) (shows : WillShow g h) where
@@ -101,6 +127,7 @@ module _ (g : Graph) (h h' : Heap) (shows : WillShow g h) where
 
   module _ (d : ℕ) (x y : Stored) (o p : Object) (step : ObjectSet h h' d x y) (named : object_named g x.name ≡ Some o)
       (pointers : AllZip (IsShown h) y.pointers p.pointers) (weaks : AllZip (IsWeakShown h) y.weaks p.weaks)
+      (held : AllZip (IsShown h) (kept_held h.kept y) p.held) (keyed : held_by y.weaks y.held ≡ y.held)
       (values : y.values ≡ p.values) where
     kept_set : (a : ℕ) (z : Stored) → h.kept a ≡ Some z → (u : Stored) × (h'.kept a ≡ Some u) × (u.name ≡ z.name)
     kept_set a z at = elim (cases_eq a d) [
@@ -145,6 +172,9 @@ module _ (g : Graph) (h h' : Heap) (shows : WillShow g h) where
         values = values;
         pointers = AllZip_map (IsShown h) (IsShown h') set_same y.pointers p.pointers pointers;
         weaks = AllZip_map (IsWeakShown h) (IsWeakShown h') weak_set y.weaks p.weaks weaks;
+        held = held_in h h' y p.weaks p.held set_same weaks
+            (AllZip_map (IsWeakShown h) (IsWeakShown h') weak_set y.weaks p.weaks weaks) held;
+        keyed = keyed;
       })
       | inr q ↦
           let t = shows.objects a z q.1 in
@@ -165,7 +195,7 @@ module _ (g : Graph) (h h' : Heap) (shows : WillShow g h) where
 
   module _ (a : ℕ) (x : Stored) (o : Object) (place : ℕ) (step : ObjectAdded h h' a x place) (away : (b : ℕ) → HasWeak h b a → ⊥)
       (name : x.name ≡ next_name g) (pointers : AllZip (IsShown h) x.pointers o.pointers) (weaks : AllZip (IsShown h) x.weaks o.weaks)
-      (values : x.values ≡ o.values) where
+      (held : AllZip (IsShown h) x.held o.held) (values : x.values ≡ o.values) where
     kept_added : (b : ℕ) (z : Stored) → h.kept b ≡ Some z → (u : Stored) × (h'.kept b ≡ Some u) × (u.name ≡ z.name)
     kept_added b z at = (z, added_kept h h' a x place step b z at, refl)
 
@@ -196,6 +226,10 @@ module _ (g : Graph) (h h' : Heap) (shows : WillShow g h) where
         values = values;
         pointers = AllZip_map (IsShown h) (IsShown h') added_same x.pointers o.pointers pointers;
         weaks = AllZip_map (IsShown h) (IsWeakShown h') weak_added x.weaks o.weaks weaks;
+        held = subst (λ vs. AllZip (IsShown h') vs o.held)
+            (sym (held_by_bare (map (kept_word h'.kept) x.weaks) x.held step.bare))
+            (AllZip_map (IsShown h) (IsShown h') added_same x.held o.held held);
+        keyed = held_by_bare x.weaks x.held step.bare;
       })
       | inr was ↦
           let t = shows.objects b z was in
@@ -275,12 +309,21 @@ module _ (g : Graph) (h h' : Heap) (shows : WillShow g h) where
     cleared_slots (w ∷ ws) (v ∷ vs) z = (cleared_slot_shown w v z.0, cleared_slots ws vs z.1)
     cleared_slots _ _ z = absurd z
 
+    held_again : (x : Stored) → kept_held h'.kept (with_kept_weaks h.kept x) ≡ kept_held h.kept x
+    held_again x =
+        ap (λ us. held_by us (kept_held h.kept x)) (kept_twice h.kept h'.kept
+        (λ a y at. let (z, here, _) = kept_cleared a y at in (z, here)) x.weaks)
+        ∙ held_by_again (map (kept_word h.kept) x.weaks) x.held
+
     object_cleared : (x : Stored) → (o : WillShowObject g h x) → WillShowObject g h' (with_kept_weaks h.kept x)
     object_cleared x o = record {
       object = o.object;
       named = o.named;
       pointers = AllZip_map (IsShown h) (IsShown h') shown_cleared x.pointers o.object.pointers o.pointers;
       weaks = cleared_slots x.weaks o.object.weaks o.weaks;
+      held = subst (λ vs. AllZip (IsShown h') vs o.object.held) (sym (held_again x))
+          (AllZip_map (IsShown h) (IsShown h') shown_cleared (kept_held h.kept x) o.object.held o.held);
+      keyed = held_by_again (map (kept_word h.kept) x.weaks) x.held;
       values = o.values;
     }
 
@@ -356,7 +399,7 @@ cleared_further h h' from to clears done on a b passed w =
       | inr q ↦ record { object = with_kept_weaks h.kept q.0; at = q.2 }
     ]
 
--- marking doesn't follow weak slots, so it goes on as before
+-- marking follows neither weak slots nor what is held for a key that isn't kept, so it goes on as before
 module _ (live : ℕ → Type 0) (limit : ℕ) (h h' : Heap) (m : Marking) (clears : ClearsWeaks h h') (i : MarkingInvariant live limit h m) where
   stood : (a : ℕ) (z : Stored) → h.kept a ≡ Some z → Stands h' a z.name
   stood a z at = elim (clears.each a) [
@@ -404,10 +447,57 @@ module _ (live : ℕ → Type 0) (limit : ℕ) (h h' : Heap) (m : Marking) (clea
         )
   ]
 
+  -- pairs whose key is kept stay, and none comes
+  holds_on : (a k b : ℕ) → Holds h a k b → Holds h' a k b
+  holds_on a k b p =
+      let key = stood k p.key p.key_at in
+      elim (clears.each a) [
+        | inl q ↦ record { object = p.object; at = q ∙ p.at; slot = p.slot; is = p.is; key = key.object; key_at = key.at }
+        | inr q ↦
+            let same : q.0 ≡ p.object = let e1 = q.1 in let e2 = p.at in cc in
+            let stays = kept_get h.kept p.object.weaks p.slot k p.key p.is.0 p.key_at in
+            let held = held_by_get (map (kept_word h.kept) p.object.weaks) p.object.held p.slot k stays ∙ p.is.1 in
+            record {
+              object = with_kept_weaks h.kept q.0;
+              at = q.2;
+              slot = p.slot;
+              is = subst (λ (z : Stored). IsPair (with_kept_weaks h.kept z).weaks (with_kept_weaks h.kept z).held p.slot k b) (sym same)
+                  (stays, held);
+              key = key.object;
+              key_at = key.at;
+            }
+      ]
+
+  holds_back : (a k b : ℕ) → Holds h' a k b → Holds h a k b
+  holds_back a k b p =
+      let key = came k p.key p.key_at in
+      elim (clears.each a) [
+        | inl q ↦ record { object = p.object; at = sym q ∙ p.at; slot = p.slot; is = p.is; key = key.object; key_at = key.at }
+        | inr q ↦
+            let same : p.object ≡ with_kept_weaks h.kept q.0 = let e1 = q.2 in let e2 = p.at in cc in
+            let is = subst (λ (z : Stored). IsPair z.weaks z.held p.slot k b) same p.is in
+            record {
+              object = q.0;
+              at = q.1;
+              slot = p.slot;
+              is = (
+                (cleared_target h.kept q.0.weaks p.slot k is.0).0,
+                held_by_was (map (kept_word h.kept) q.0.weaks) q.0.held p.slot b is.1,
+              );
+              key = key.object;
+              key_at = key.at;
+            }
+      ]
+
+  known_back : (a : ℕ) → IsKnownAt live h' m a → IsKnownAt live h m a
+  known_back a (inl p) = let t = came a p.0 p.1 in inl (t.object, t.at, subst live (sym t.named) p.2)
+  known_back a (inr n) = inr n
+
   found_back : (a : ℕ) → IsFound live h' m a → IsFound live h m a
   found_back a (ByRoot c r) = ByRoot c (record { place = r.place; is = sym (ap (λ l. slice_get l r.place) clears.roots) ∙ r.is })
   found_back a (ByLive c b p r) = let (q, e) = points_back c b p in ByLive c b q (subst live (sym e) r)
   found_back a (ByNew c b p n) = ByNew c b (points_back c b p).0 n
+  found_back a (ByHeld c k b pc pk p) = ByHeld c k b (known_back c pc) (known_back k pk) (holds_back c k b p)
 
   pub cleared_invariant : MarkingInvariant live limit h' m
   cleared_invariant = invariant_after live limit h m h' m (record {
@@ -415,6 +505,7 @@ module _ (live : ℕ → Type 0) (limit : ℕ) (h h' : Heap) (m : Marking) (clea
     marked = λ a k. k;
     logged = λ a e. inr e;
     edges = λ a b _ _ un l _. inl (un, leads_on a b l);
+    held = λ a k b _ _ _ p. inl (holds_on a k b p);
     stays = λ a z at o. stood a z at;
     came = λ a z at o. came a z at;
     newly_marked = λ a k. inl k;

@@ -20,13 +20,14 @@ place_after set forward a = if set a then forward a else Some a
 abbrev pub IsWord : (ℕ → Option ℕ) → Option ℕ → Option ℕ → Type 0
 IsWord place w w' = (w' ≡ w) ⊎ IsMoved place w w'
 
--- at b is what x became: the same, with as many pointers, but that some of its fields name new places
+-- at b is what x became: the same, with as many pointers and weak slots, but that some of its fields name new places
 pub record IsPart (place : ℕ → Option ℕ) (now : Heap) (x : Stored) (b : ℕ) : Type 0 where
   pub part : Stored
   pub at : now.kept b ≡ Some part
   pub name : part.name ≡ x.name
   pub values : part.values ≡ x.values
   pub shape : length part.pointers ≡ length x.pointers
+  pub slots : length part.weaks ≡ length x.weaks
   pub words : AllZip (IsWord place) (fields x) (fields part)
 
 -- between two turns of the copying, h being the heap at its start: each placed object is at its place; outside

@@ -3,15 +3,27 @@
 use Rattle.std.specs.Prelude.{◌≡◌, ◌+◌, ◌-◌, ◌*◌, ◌<◌, ◌∷◌, ◌++◌, if◌then◌else◌}
 use Rattle.std.specs.Prelude.{ℕ, zero, suc, List, [], length, Option, Some, None, slice_set, slice_get, nat_le}
 
--- pointers and weak slots are nil or names. Marking and reachability follow the pointers alone
+-- pointers, weak slots and held slots are nil or names. Held slot i belongs to weak slot i, its key. No step makes held slots yet
 pub record Object : Type 0 where
   pub pointers : List (Option ℕ)
   pub weaks : List (Option ℕ)
+  pub held : List (Option ℕ)
   pub values : List ℕ
 
 -- every field of the object that holds a name, in the order in which the heap stores them
 abbrev pub object_fields : Object → List (Option ℕ)
-object_fields o = o.pointers ++ o.weaks
+object_fields o = o.pointers ++ (o.weaks ++ o.held)
+
+-- weak slot i holds k, the key, and held slot i holds b
+abbrev pub IsPair : List (Option ℕ) → List (Option ℕ) → ℕ → ℕ → ℕ → Type 0
+IsPair weaks held i k b = (slice_get weaks i ≡ Some (Some k)) × (slice_get held i ≡ Some (Some b))
+
+-- what is held still: held slots whose weak slot is nil hold nothing
+abbrev pub held_by : List (Option ℕ) → List (Option ℕ) → List (Option ℕ)
+held_by ws [] = []
+held_by [] (v ∷ vs) = None ∷ held_by [] vs
+held_by (None ∷ ws) (v ∷ vs) = None ∷ held_by ws vs
+held_by (Some k ∷ ws) (v ∷ vs) = v ∷ held_by ws vs
 
 -- how many globals a heap has, how many mutators, and how many registers each of them
 pub record RootCounts : Type 0 where
@@ -51,11 +63,19 @@ next_name g = g.first_name + length g.objects
 unfoldable pub object_named : Graph → ℕ → Option Object
 object_named g n = if nat_le g.first_name n then slice_get g.objects (n - g.first_name) else None
 
--- a root place holds the name, or a pointer of an object whose name is reachable
+-- the object named m has the pair
+pub record HasPair (g : Graph) (m i k n : ℕ) : Type 0 where
+  pub object : Object
+  pub named : object_named g m ≡ Some object
+  pub pair : IsPair object.weaks object.held i k n
+
+-- a root place holds the name, or a pointer of an object whose name is reachable, or a held slot of such an object whose key is
+-- reachable too
 pub data IsReachable (g : Graph) : ℕ → Type 0 where
   FromRoot : (j n : ℕ) → slice_get g.roots j ≡ Some (Some n) → IsReachable g n
   FromObject : (m n i : ℕ) (o : Object) → IsReachable g m → object_named g m ≡ Some o → slice_get o.pointers i ≡ Some (Some n)
       → IsReachable g n
+  FromHeld : (m k n i : ℕ) → HasPair g m i k n → IsReachable g m → IsReachable g k → IsReachable g n
 
 -- the graph with another value in a root place
 abbrev pub with_root : Graph → ℕ → Option ℕ → Graph

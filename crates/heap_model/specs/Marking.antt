@@ -1,8 +1,8 @@
 -- Marking from a snapshot: the graph as it was when marking began. What was reachable then is marked in the end,
 -- whatever mutators do meanwhile, since the old value of each pointer that they overwrite is logged.
 use Rattle.std.specs.Prelude.{◌≡◌, ℕ, ◌<◌, ◌≤◌, ◌⊎◌, ◌↔◌, Bool, true, false, List, [], Option, Some, None, Contains, if◌then◌else◌}
-use Rattle.heap_model.specs.Graph.{Graph, IsReachable, next_name}
-use Rattle.heap_model.specs.Heap.{Heap, Stored, Points, IsRoot}
+use Rattle.heap_model.specs.Graph.{Graph, IsReachable, IsPair, next_name}
+use Rattle.heap_model.specs.Heap.{Heap, Stored, Points, Holds, IsHeld, IsRoot}
 
 -- What marking knows of each address. An object is grey when it is marked and not scanned yet
 pub record Marking : Type 0 where
@@ -20,12 +20,14 @@ pub record LeadsOn (h : Heap) (m : Marking) (a b : ℕ) : Type 0 where
   pub points : Points h a b
   pub left : m.done a ≤ points.field
 
--- a path of present pointers, none of which is done, leads to the address from a grey or logged object, and all objects of the path but
--- the last are old and unscanned
+-- present pointers, none of which is done, lead to the address from a marked or logged object, by objects that are old and unscanned; and
+-- so do held slots of such an object whose key is such a one too, scanned or not
 pub data Pending (h : Heap) (m : Marking) : ℕ → Type 0 where
-  FromGrey : (a : ℕ) → m.marked a ≡ true → m.scanned a ≡ false → Pending h m a
+  FromMarked : (a : ℕ) → m.marked a ≡ true → Pending h m a
   FromLogged : (a : ℕ) → Contains m.logged a → Pending h m a
   Through : (a b : ℕ) → Pending h m a → m.old a ≡ true → m.scanned a ≡ false → LeadsOn h m a b → Pending h m b
+  ThroughHeld : (a k b : ℕ) → Pending h m a → Pending h m k → m.old a ≡ true → m.old k ≡ true → m.old b ≡ true → Holds h a k b
+      → Pending h m b
 
 -- a kept object of this name is marked, or will be
 pub record WillBeMarked (h : Heap) (m : Marking) (n : ℕ) : Type 0 where
@@ -42,11 +44,17 @@ pub record IsOldLive (live : ℕ → Type 0) (h : Heap) (m : Marking) (a : ℕ) 
   pub old : m.old a ≡ true
   pub is_live : live object.name
 
--- a root word names the address, or a pointer of an object whose name is to be marked, or of a new object
+-- at a is an object whose name is to be marked, or a new one
+abbrev pub IsKnownAt : (ℕ → Type 0) → Heap → Marking → ℕ → Type 0
+IsKnownAt live h m a = ((x : Stored) × (h.kept a ≡ Some x) × live x.name) ⊎ (m.old a ≡ false)
+
+-- a root word names the address, or a pointer of an object whose name is to be marked, or of a new object, or such an object
+-- holds it for such a key
 pub data IsFound (live : ℕ → Type 0) (h : Heap) (m : Marking) : ℕ → Type 0 where
   ByRoot : (a : ℕ) → IsRoot h a → IsFound live h m a
   ByLive : (a b : ℕ) (p : Points h a b) → live p.object.name → IsFound live h m b
   ByNew : (a b : ℕ) → Points h a b → m.old a ≡ false → IsFound live h m b
+  ByHeld : (a k b : ℕ) → IsKnownAt live h m a → IsKnownAt live h m k → Holds h a k b → IsFound live h m b
 
 -- While marking runs, with the names that are to be marked: each of these is below the limit, and is marked or
 -- will be; what is marked or logged is such an object; an old object that is found is one; and old objects are
@@ -82,13 +90,22 @@ pub record IsTarget (h : Heap) (m : Marking) (b : ℕ) : Type 0 where
   pub points : Points h from b
   pub old : m.old b ≡ true
 
--- a part of marking, large or small: logged addresses and old targets of grey objects may be marked, logged
--- addresses that are marked may go; the pointers that weren't done of what is newly scanned, and those that are newly done, lead to marked
--- objects alone, where they lead to old ones
+-- a marked object holds the old address b for a marked key
+pub record IsHeldTarget (h : Heap) (m : Marking) (b : ℕ) : Type 0 where
+  pub from : ℕ
+  pub key : ℕ
+  pub from_marked : m.marked from ≡ true
+  pub key_marked : m.marked key ≡ true
+  pub holds : Holds h from key b
+  pub old : m.old b ≡ true
+
+-- a part of marking, large or small: logged addresses, old targets of grey objects, and what marked objects hold for marked keys may be
+-- marked, logged addresses that are marked may go; the pointers that weren't done of what is newly scanned, and those that are newly done,
+-- lead to marked objects alone, where they lead to old ones
 pub record MarksMore (h : Heap) (m m' : Marking) : Type 0 where
   pub old : (a : ℕ) → m'.old a ≡ m.old a
   pub marked : (a : ℕ) → m.marked a ≡ true → m'.marked a ≡ true
-  pub newly_marked : (a : ℕ) → m'.marked a ≡ true → (m.marked a ≡ true) ⊎ Contains m.logged a ⊎ IsTarget h m a
+  pub newly_marked : (a : ℕ) → m'.marked a ≡ true → (m.marked a ≡ true) ⊎ Contains m.logged a ⊎ IsTarget h m a ⊎ IsHeldTarget h m a
   pub newly_scanned : (a : ℕ) → m'.scanned a ≡ true → (m.scanned a ≡ true)
       ⊎ ((b : ℕ) → LeadsOn h m a b → m.old b ≡ true → m'.marked b ≡ true)
   pub newly_done : (a b : ℕ) (p : LeadsOn h m a b) → p.points.field < m'.done a → m.old b ≡ true → m'.marked b ≡ true
@@ -113,10 +130,18 @@ pub record SameMarking (m m' : Marking) : Type 0 where
   pub done : (a : ℕ) → m'.done a ≡ m.done a
   pub logged : (a : ℕ) → Contains m.logged a ↔ Contains m'.logged a
 
+-- an object's pairs before and after, whose keys are kept: what it holds no more is marked or logged where it is old, and what it holds
+-- then it held for that key, or a mutator can store
+pub record PairsSet (h : Heap) (m : Marking) (x y : Stored) : Type 0 where
+  pub went : (i k b : ℕ) (z : Stored) → h.kept k ≡ Some z → IsPair x.weaks x.held i k b → IsPair y.weaks y.held i k b
+      ⊎ (m.old b ≡ true → (m.marked b ≡ true) ⊎ Contains m.logged b)
+  pub came : (i k b : ℕ) (z : Stored) → h.kept k ≡ Some z → IsPair y.weaks y.held i k b → IsPair x.weaks x.held i k b ⊎ IsHeld h (Some b)
+
 -- nothing is left to mark
-pub record IsDone (m : Marking) : Type 0 where
+pub record IsDone (h : Heap) (m : Marking) : Type 0 where
   pub grey : (a : ℕ) → m.marked a ≡ true → m.scanned a ≡ true
   pub logged : m.logged ≡ []
+  pub held : (a k b : ℕ) → m.marked a ≡ true → m.marked k ≡ true → Holds h a k b → m.old b ≡ true → m.marked b ≡ true
 
 -- what is kept once marking is over: what is marked or new
 abbrev pub kept_after : Heap → Marking → ℕ → Option Stored

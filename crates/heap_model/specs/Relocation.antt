@@ -18,6 +18,7 @@ pub record IsCopy (place : ℕ → Option ℕ) (h' : Heap) (x : Stored) (b : ℕ
   pub values : copy.values ≡ x.values
   pub pointers : AllZip (IsMoved place) x.pointers copy.pointers
   pub weaks : AllZip (IsMoved place) x.weaks copy.weaks
+  pub held : AllZip (IsMoved place) x.held copy.held
 
 -- a kept object came to b
 pub record Came (place : ℕ → Option ℕ) (h : Heap) (b : ℕ) : Type 0 where

@@ -8,13 +8,12 @@
 
 ghost use Rattle.std.specs.Prelude.{◌≡◌, ℕ, ◌⊎◌, Option, Some, None, slice_get};
 ghost use Rattle.std.specs.List.{AllZip};
-ghost use Rattle.heap_model.specs.Graph.{Graph, Object, next_name, object_named, with_root, with_object, with_changed};
-ghost use Rattle.heap_model.specs.Heap.{Heap, Stored, Shows, IsShown, RootSet, ObjectSet, ObjectAdded, SameHeap};
+ghost use Rattle.heap_model.specs.Graph.{Graph, Object, next_name, object_named, held_by, with_root, with_object, with_changed};
+ghost use Rattle.heap_model.specs.Heap.{Heap, Stored, Holds, Shows, IsShown, RootSet, ObjectSet, ObjectAdded, SameHeap};
 ghost use Rattle.heap_model.specs.Marking.{Marking, KeepsSnapshot, IsDone, kept_after};
 ghost use Rattle.heap_model.specs.Weak.{Clears};
 ghost use Rattle.heap_model.specs.Clearing.{WillShow, IsWeakShown, HasWeak, KeepsAt, IsPassed, IsClearedTo, ClearsWeaks, kept_word};
-ghost use Rattle.heap_model.specs.Clearing.{CanBeFollowed};
-ghost use Rattle.heap_model.specs.Clearing.{with_kept_weaks};
+ghost use Rattle.heap_model.specs.Clearing.{CanBeFollowed, kept_held, with_kept_weaks};
 
 /// A heap shows the graph if and only if it will, and nothing is left to clear.
 pub fn left_law()
@@ -23,22 +22,27 @@ pub fn left_law()
     ensures shows { (g : Graph) (h : Heap) → WillShow g h → IsClearedTo None h → Shows g h }
 {}
 
-/// Roots and pointers lead to kept objects, whatever weak slots hold.
+/// Roots and pointers lead to kept objects, whatever weak slots hold, and so does what is held for a key that is kept.
 pub fn followed_law()
-    ensures { (g : Graph) (h : Heap) → WillShow g h → CanBeFollowed h }
+    ensures pointers { (g : Graph) (h : Heap) → WillShow g h → CanBeFollowed h }
+    ensures held { (g : Graph) (h : Heap) → WillShow g h → (a k b : ℕ) → Holds h a k b → KeepsAt h b }
 {}
 
-/// What is read of a weak slot, but nil where its target isn't kept, is what the graph has.
+/// What is read of a weak slot, but nil where its target isn't kept, is what the graph has; and so is what is read of a held slot, but
+/// nil where its key isn't kept.
 pub fn slot_law()
-    ensures { (g : Graph) (h : Heap) → WillShow g h
+    ensures weak { (g : Graph) (h : Heap) → WillShow g h
         → (a i : ℕ) (x : Stored) (w : Option ℕ) → h.kept a ≡ Some x → slice_get x.weaks i ≡ Some w
         → (o : Object) × (object_named g x.name ≡ Some o) × (v : Option ℕ) × (slice_get o.weaks i ≡ Some v)
         × IsShown h (kept_word h.kept w) v }
+    ensures held { (g : Graph) (h : Heap) → WillShow g h
+        → (a i : ℕ) (x : Stored) (w : Option ℕ) → h.kept a ≡ Some x → slice_get (kept_held h.kept x) i ≡ Some w
+        → (o : Object) × (object_named g x.name ≡ Some o) × (v : Option ℕ) × (slice_get o.held i ≡ Some v) × IsShown h w v }
 {}
 
 /// When marking is over, what is kept will show the graph with its weak slots cleared, and no word has been written.
 pub fn end_law()
-    ensures { (s g g' : Graph) (h : Heap) (m : Marking) → WillShow g h → KeepsSnapshot s h m → IsDone m → Clears s g g'
+    ensures { (s g g' : Graph) (h : Heap) (m : Marking) → WillShow g h → KeepsSnapshot s h m → IsDone h m → Clears s g g'
         → WillShow g' (record { kept = kept_after h m; roots = h.roots }) }
 {}
 
@@ -48,11 +52,13 @@ pub fn meanwhile_law()
         → (place : ℕ) (w v : Option ℕ) → IsShown h w v → RootSet h h' place w → WillShow (with_root g place v) h' }
     ensures object { (g : Graph) (h h' : Heap) → WillShow g h
         → (d : ℕ) (x y : Stored) (o p : Object) → ObjectSet h h' d x y → object_named g x.name ≡ Some o
-        → AllZip (IsShown h) y.pointers p.pointers → AllZip (IsWeakShown h) y.weaks p.weaks → y.values ≡ p.values
+        → AllZip (IsShown h) y.pointers p.pointers → AllZip (IsWeakShown h) y.weaks p.weaks
+        → AllZip (IsShown h) (kept_held h.kept y) p.held → held_by y.weaks y.held ≡ y.held → y.values ≡ p.values
         → WillShow (with_changed g x.name p) h' }
     ensures added { (g : Graph) (h h' : Heap) → WillShow g h
         → (a : ℕ) (x : Stored) (o : Object) (place : ℕ) → ObjectAdded h h' a x place → ((b : ℕ) → HasWeak h b a → ⊥)
-        → x.name ≡ next_name g → AllZip (IsShown h) x.pointers o.pointers → AllZip (IsShown h) x.weaks o.weaks → x.values ≡ o.values
+        → x.name ≡ next_name g → AllZip (IsShown h) x.pointers o.pointers → AllZip (IsShown h) x.weaks o.weaks
+        → AllZip (IsShown h) x.held o.held → x.values ≡ o.values
         → WillShow (with_object g o place) h' }
     ensures same { (g : Graph) (h h' : Heap) → WillShow g h → SameHeap h h' → WillShow g h' }
     ensures left { (h h' : Heap) (place : Option ℕ) → ((a b : ℕ) → HasWeak h' a b → HasWeak h a b ⊎ KeepsAt h' b)

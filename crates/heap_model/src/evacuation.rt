@@ -17,7 +17,7 @@ pub fn turn_law()
     ensures field { (set : ℕ → Bool) (h now now' : Heap) (forward : ℕ → Option ℕ) → IsEvacuating set h forward now
         → (b i c d : ℕ) (y y' : Stored) → set b ≡ false → slice_get (fields y) i ≡ Some (Some c) → set c ≡ true → forward c ≡ Some d
         → ObjectSet now now' b y y' → y'.values ≡ y.values
-        → length y'.pointers ≡ length y.pointers → fields y' ≡ slice_set (fields y) i (Some d)
+        → length y'.pointers ≡ length y.pointers → length y'.weaks ≡ length y.weaks → fields y' ≡ slice_set (fields y) i (Some d)
         → IsEvacuating set h forward now' }
 {}
 

@@ -2,9 +2,10 @@
 
 ghost use Rattle.std.specs.Prelude.{◌≡◌, ℕ, ◌≤◌, ◌⊎◌, Bool, true, false, List, Option, Some, length, slice_get, slice_set};
 ghost use Rattle.heap_model.specs.Graph.{Graph, IsReachable, next_name};
-ghost use Rattle.heap_model.specs.Clearing.{WillShow};
+ghost use Rattle.heap_model.specs.Clearing.{WillShow, HasWeak};
 ghost use Rattle.heap_model.specs.Heap.{Heap, Stored, IsRoot, IsHeld, RootSet, ObjectSet, ObjectAdded, SameHeap};
-ghost use Rattle.heap_model.specs.Marking.{Marking, KeepsSnapshot, Begins, MarksMore, IsSaved, IsDone, MarksExactly, SameMarking};
+ghost use Rattle.heap_model.specs.Marking.{Marking, KeepsSnapshot, Begins, MarksMore, IsSaved, PairsSet, IsDone, MarksExactly};
+ghost use Rattle.heap_model.specs.Marking.{SameMarking};
 ghost use Rattle.heap_model.specs.Weak.{cleared_object, cleared_after};
 ghost use Rattle.heap_model.specs.Kept.{kept_by};
 ghost use Rattle.heap_model.specs.Count.{IsReachableCount, ListsMarked};
@@ -32,19 +33,21 @@ pub fn put_law()
         (d : ℕ) (x y : Stored) (field : ℕ) (was w : Option ℕ)
         → WillShow g h → KeepsSnapshot s h m → IsRoot h d → IsHeld h w
         → slice_get x.pointers field ≡ Some was → ObjectSet h h' d x y → y.pointers ≡ slice_set x.pointers field w
-        → IsSaved m m' was → KeepsSnapshot s h' m' }
+        → y.weaks ≡ x.weaks → y.held ≡ x.held → IsSaved m m' was → KeepsSnapshot s h' m' }
 {}
 
-/// A store into data words or weak slots keeps the invariant.
+/// A store into data words, weak slots or held slots keeps the invariant, where what is held no more is marked or logged, and what
+/// is held then a mutator can store.
 pub fn write_law()
-    ensures { (s : Graph) (h h' : Heap) (m : Marking) (d : ℕ) (x y : Stored)
-        → KeepsSnapshot s h m → ObjectSet h h' d x y → y.pointers ≡ x.pointers → KeepsSnapshot s h' m }
+    ensures { (s g : Graph) (h h' : Heap) (m : Marking) (d : ℕ) (x y : Stored) → WillShow g h
+        → KeepsSnapshot s h m → ObjectSet h h' d x y → y.pointers ≡ x.pointers → PairsSet h m x y → KeepsSnapshot s h' m }
 {}
 
-/// An object made since the snapshot keeps the invariant, at or above the top at mark start.
+/// An object made since the snapshot keeps the invariant, at or above the top at mark start, where no weak slot leads to it.
 pub fn new_law()
     ensures { (s : Graph) (h h' : Heap) (m : Marking) (a : ℕ) (x : Stored) (place : ℕ)
-        → KeepsSnapshot s h m → m.old a ≡ false → next_name s ≤ x.name → ObjectAdded h h' a x place → KeepsSnapshot s h' m }
+        → KeepsSnapshot s h m → m.old a ≡ false → next_name s ≤ x.name → ObjectAdded h h' a x place → ((b : ℕ) → HasWeak h b a → ⊥)
+        → KeepsSnapshot s h' m }
 {}
 
 /// Only what is kept at each address counts, the root words, and the marking of each address.
@@ -55,18 +58,18 @@ pub fn same_marking_law()
 /// At the end marking is exact. What is kept from then on, its weak slots cleared, is all that was reachable in the
 /// snapshot, and what was made since. Where no mutator took a step meanwhile, that is what is reachable.
 pub fn done_law()
-    ensures exact { (s g : Graph) (h : Heap) (m : Marking) → WillShow g h → KeepsSnapshot s h m → IsDone m → MarksExactly s h m }
-    ensures all { (s : Graph) (h : Heap) (m : Marking) → KeepsSnapshot s h m → IsDone m
+    ensures exact { (s g : Graph) (h : Heap) (m : Marking) → WillShow g h → KeepsSnapshot s h m → IsDone h m → MarksExactly s h m }
+    ensures all { (s : Graph) (h : Heap) (m : Marking) → KeepsSnapshot s h m → IsDone h m
         → (n : ℕ) → IsReachable s n → (a : ℕ) × (x : Stored) × (cleared_after h m a ≡ Some x) × (x.name ≡ n) }
-    ensures only { (s : Graph) (h : Heap) (m : Marking) → KeepsSnapshot s h m → IsDone m
+    ensures only { (s : Graph) (h : Heap) (m : Marking) → KeepsSnapshot s h m → IsDone h m
         → (a : ℕ) (x : Stored) → cleared_after h m a ≡ Some x → IsReachable s x.name ⊎ (next_name s ≤ x.name) }
-    ensures quiet { (g : Graph) (h : Heap) (m : Marking) → WillShow g h → KeepsSnapshot g h m → IsDone m
+    ensures quiet { (g : Graph) (h : Heap) (m : Marking) → WillShow g h → KeepsSnapshot g h m → IsDone h m
         → (a : ℕ) (x : Stored) → cleared_after h m a ≡ Some x → IsReachable g x.name }
 {}
 
 /// The number of marked addresses at the end is that of the names that are reachable in the snapshot.
 pub fn count_law()
-    ensures { (s g : Graph) (h : Heap) (m : Marking) → WillShow g h → KeepsSnapshot s h m → IsDone m
+    ensures { (s g : Graph) (h : Heap) (m : Marking) → WillShow g h → KeepsSnapshot s h m → IsDone h m
         → (marks : List ℕ) → ListsMarked m.marked marks → IsReachableCount s (length marks) }
 {}
 

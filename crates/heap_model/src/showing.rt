@@ -2,7 +2,8 @@
 
 ghost use Rattle.std.specs.Prelude.{◌≡◌, ℕ, Option, Some, length, slice_get, slice_set};
 ghost use Rattle.std.specs.List.{AllZip};
-ghost use Rattle.heap_model.specs.Graph.{Graph, Object, IsReachable, next_name, object_named, with_root, with_object, with_changed};
+ghost use Rattle.heap_model.specs.Graph.{Graph, Object, IsReachable, next_name, object_named, held_by, with_root, with_object};
+ghost use Rattle.heap_model.specs.Graph.{with_changed};
 ghost use Rattle.heap_model.specs.Heap.{Heap, Stored, Shows, IsShown, IsClosed, RootSet, ObjectSet, ObjectAdded, SameHeap};
 ghost use Rattle.heap_model.specs.Heap.{fields, with_field};
 ghost use Rattle.heap_model.specs.Clearing.{WillShow, StandsOnce};
@@ -18,7 +19,7 @@ pub fn closed_law()
     ensures { (g : Graph) (h : Heap) → Shows g h → IsClosed h }
 {}
 
-/// What is read of the heap is what the graph has: root places, pointers, weak slots, data words.
+/// What is read of the heap is what the graph has: root places, pointers, weak slots, held slots, data words.
 pub fn read_law()
     ensures root { (g : Graph) (h : Heap) → Shows g h
         → (place : ℕ) (w : Option ℕ) → slice_get h.roots place ≡ Some w
@@ -29,6 +30,9 @@ pub fn read_law()
     ensures weak { (g : Graph) (h : Heap) → Shows g h
         → (a i : ℕ) (x : Stored) (w : Option ℕ) → h.kept a ≡ Some x → slice_get x.weaks i ≡ Some w
         → (o : Object) × (object_named g x.name ≡ Some o) × (v : Option ℕ) × (slice_get o.weaks i ≡ Some v) × IsShown h w v }
+    ensures held { (g : Graph) (h : Heap) → Shows g h
+        → (a i : ℕ) (x : Stored) (w : Option ℕ) → h.kept a ≡ Some x → slice_get x.held i ≡ Some w
+        → (o : Object) × (object_named g x.name ≡ Some o) × (v : Option ℕ) × (slice_get o.held i ≡ Some v) × IsShown h w v }
     ensures values { (g : Graph) (h : Heap) → Shows g h
         → (a : ℕ) (x : Stored) → h.kept a ≡ Some x → (o : Object) × (object_named g x.name ≡ Some o) × (x.values ≡ o.values) }
 {}
@@ -38,6 +42,7 @@ pub fn read_law()
 pub fn field_law()
     ensures field { (x : Stored) (i : ℕ) (v : Option ℕ) → fields (with_field x i v) ≡ slice_set (fields x) i v }
     ensures shape { (x : Stored) (i : ℕ) (v : Option ℕ) → length (with_field x i v).pointers ≡ length x.pointers }
+    ensures slots { (x : Stored) (i : ℕ) (v : Option ℕ) → length (with_field x i v).weaks ≡ length x.weaks }
     ensures name { (x : Stored) (i : ℕ) (v : Option ℕ) → (with_field x i v).name ≡ x.name }
     ensures values { (x : Stored) (i : ℕ) (v : Option ℕ) → (with_field x i v).values ≡ x.values }
 {}
@@ -48,20 +53,20 @@ pub fn root_set_law()
         → (place : ℕ) (w v : Option ℕ) → IsShown h w v → RootSet h h' place w → Shows (with_root g place v) h' }
 {}
 
-/// An object changed in both.
+/// An object changed in both. A held slot that isn't nil has a key then.
 pub fn object_set_law()
     ensures { (g : Graph) (h h' : Heap) → Shows g h
         → (d : ℕ) (x y : Stored) (o p : Object) → ObjectSet h h' d x y → object_named g x.name ≡ Some o
-        → AllZip (IsShown h) y.pointers p.pointers → AllZip (IsShown h) y.weaks p.weaks → y.values ≡ p.values
-        → Shows (with_changed g x.name p) h' }
+        → AllZip (IsShown h) y.pointers p.pointers → AllZip (IsShown h) y.weaks p.weaks
+        → AllZip (IsShown h) y.held p.held → held_by y.weaks y.held ≡ y.held → y.values ≡ p.values → Shows (with_changed g x.name p) h' }
 {}
 
 /// An object added to both, under the graph's next name.
 pub fn object_added_law()
     ensures { (g : Graph) (h h' : Heap) → Shows g h
         → (a : ℕ) (x : Stored) (o : Object) (place : ℕ) → ObjectAdded h h' a x place → x.name ≡ next_name g
-        → AllZip (IsShown h) x.pointers o.pointers → AllZip (IsShown h) x.weaks o.weaks → x.values ≡ o.values
-        → Shows (with_object g o place) h' }
+        → AllZip (IsShown h) x.pointers o.pointers → AllZip (IsShown h) x.weaks o.weaks
+        → AllZip (IsShown h) x.held o.held → x.values ≡ o.values → Shows (with_object g o place) h' }
 {}
 
 /// Only what is kept at each address counts, and the root words.

@@ -4,7 +4,7 @@ use Rattle.std.proofs.Common.{List, [], Option, length}
 use Rattle.std.proofs.Common.{refl, sym, ap, subst, arith, ◌&&◌, map, slice_get, IsSome, if◌then◌else◌}
 use Rattle.std.proofs.lemmas.List.{length-map}
 use Rattle.std.proofs.lemmas.List.Sums.{count_by-le-length}
-use Rattle.heap_model.specs.Graph.{Graph}
+use Rattle.heap_model.specs.Graph.{Graph, held_by}
 use Rattle.heap_model.specs.Heap.{Heap, Stored}
 use Rattle.heap_model.specs.Marking.{Marking, KeepsSnapshot, IsDone, MarksExactly, kept_after}
 use Rattle.heap_model.specs.Weak.{cleared, cleared_word, cleared_object}
@@ -53,12 +53,18 @@ all_scanned true false e k = cc
 all_scanned false scanned e k = cc
 
 -- nothing is left to mark
-pub is_done : (t : Table) (m : Marker) → HasNone (is_grey m.bitmaps.next m.grey) 0 → m.waiting.addresses ≡ []
-    → ((k : ℕ) → k < length m.logs → log_of m.logs k ≡ []) → IsDone (marking_of t m)
-is_done t m none waiting empty = record {
+pub is_done : (t : Table) (m : Marker) → IsShaped t → HasNone (is_grey m.bitmaps.next m.grey) 0 → m.waiting.addresses ≡ []
+    → ((k : ℕ) → k < length m.logs → log_of m.logs k ≡ []) → (roots : List (Option ℕ)) → IsDone (heap_of t roots m) (marking_of t m)
+is_done t m shape none waiting empty roots = record {
   grey = λ a k. all_scanned (is_marked m.bitmaps.next a) (is_marked m.grey.scanned a) (none a (omega arith)) k;
   logged = ap (λ (xs : List ℕ). xs ++ logged m.logs) waiting ∙ none_logged m.logs empty;
+  held = λ a k b _ _ p _. absurd (nowhere p.object.held p.slot b
+      (shape.bare a p.object (kept_object t m.tams m.bitmaps.previous a p.object p.at)) p.is.1);
 }
+  where
+    nowhere : (vs : List (Option ℕ)) (i b : ℕ) → vs ≡ [] → slice_get vs i ≡ Some (Some b) → ⊥
+    nowhere [] i b e at = cc
+    nowhere (v ∷ vs) i b e at = cc
 
 -- lists that are empty together are empty
 both_empty : (xs ys : List ℕ) → xs ++ ys ≡ [] → (xs ≡ []) × (ys ≡ [])
@@ -80,7 +86,7 @@ agree false true f g = g refl
 agree false false f g = refl
 
 -- where nothing is left to mark, as many objects were scanned as are marked
-pub done_count : (t : Table) (m : Marker) → MarkerStands t m → m.running ≡ true → IsDone (marking_of t m)
+pub done_count : (t : Table) (m : Marker) → MarkerStands t m → m.running ≡ true → IsDone (heap_of t [] m) (marking_of t m)
     → m.scans.since ≡ marked_count m.bitmaps.next
 done_count t m st run done =
     st.counted run ∙ ap marked_count
@@ -93,7 +99,7 @@ pub record IsOver (t : Table) (m m' : Marker) : Type 0 where
   pub running : m'.running ≡ true
   pub same : SameRoles m m'
   pub snapshots : KeepsSnapshots t m m'
-  pub done : IsDone (marking_of t m')
+  pub done : (roots : List (Option ℕ)) → IsDone (heap_of t roots m') (marking_of t m')
 
 pub over : (t : Table) (m m' m'' : Marker) (n : ℕ) → IsShaped t → m.running ≡ true → SameRoles m m' → KeepsSnapshots t m m'
     → ((k : ℕ) → k < length m'.logs → log_of m'.logs k ≡ []) → MarkerStands t m'' → SameRoles m' m'' → KeepsSnapshots t m' m''
@@ -105,7 +111,7 @@ over t m m' m'' n shape run same keeps empty st same' keeps' logs taken waiting 
   running = same'.running ∙ same.running ∙ run;
   same = same_trans m m' m'' same same';
   snapshots = snapshots_trans t m m' m'' same keeps keeps';
-  done = is_done t m'' (none (few_scans t m' m'' n shape st count)) (ap (λ (w : Waiting). w.addresses) waiting ∙ taken)
+  done = is_done t m'' shape (none (few_scans t m' m'' n shape st count)) (ap (λ (w : Waiting). w.addresses) waiting ∙ taken)
       (subst (λ (x : List (List ℕ)). (k : ℕ) → k < length x → log_of x k ≡ []) (sym logs) empty);
 }
 
@@ -236,7 +242,7 @@ module _ (t t' : Table) (m : Marker) (roots : List (Option ℕ)) (d : ℕ → Ty
   staying_each a s e x at =
       let here : object_at t a ≡ Some x = sym (staying_kept a s) ∙ at in
       staying_after a s ∙ e ∙ ap (cleared_object told) here
-      ∙ ap (λ ws. Some (record x { weaks = ws }))
+      ∙ ap (λ ws. Some (record x { weaks = ws; held = held_by ws x.held }))
       (words_kept a x at x.weaks (λ i b w. lead a b (record { object = x; at = at; slot = i; is = w })))
 
   some_kept : (a : ℕ) → (o : Option Stored) → before_it.kept a ≡ o
@@ -289,7 +295,8 @@ module _ (t t' : Table) (m : Marker) (roots : List (Option ℕ)) (d : ℕ → Ty
   clears_done a x done at = let s = is_staying a x at in staying_each a s (c.done_is a done s) x at
 
 -- ---- the roles are exchanged
-pub exchanged_stands : (t : Table) (m m' : Marker) → MarkerStands t m → IsDone (marking_of t m) → IsExchanged m m' → MarkerStands t m'
+pub exchanged_stands : (t : Table) (m m' : Marker) → MarkerStands t m → IsDone (heap_of t [] m) (marking_of t m) → IsExchanged m m'
+    → MarkerStands t m'
 exchanged_stands t m m' st done e = record {
   previous = subst (λ (x : Tops). MarksObjects t x.previous m'.bitmaps.previous) (sym e.tams)
       (subst (λ (b : List Bool). MarksObjects t m.tams.next b) (sym e.previous) st.next);
@@ -348,10 +355,13 @@ module _ (t : Table) (m m' m'' : Marker) (count : ℕ) (p : IsOver t m m') (e : 
     kept_now : (a : ℕ) → (heap_of t roots m'').kept a ≡ kept_after h (marking_of t m') a
     kept_now a = same_kept_after s g roots shows keeps a
 
+    done : IsDone h (marking_of t m')
+    done = subst (λ (x : Heap). IsDone x (marking_of t m')) (same_heap t roots m m' p.same) (p.done roots)
+
     was_kept : (a : ℕ) (x : Stored) → kept_after h (marking_of t m') a ≡ Some x → WasKept t roots m a x
     was_kept a x k = record {
       before = x;
-      was = (kept_before_here s g h (marking_of t m') now p.done a x k).0;
+      was = (kept_before_here s g h (marking_of t m') now done a x k).0;
       name = refl;
       pointers = refl;
       values = refl;
@@ -360,32 +370,32 @@ module _ (t : Table) (m m' m'' : Marker) (count : ℕ) (p : IsOver t m m') (e : 
     ends : EndsMarking s g t roots m m'' count
     ends =
         let counted_names = subst (λ (n : ℕ). IsReachableCount s n) (length-marked_from m'.bitmaps.next 0 ∙ sym counts)
-        (counted s g h (marking_of t m') shows now p.done (marked_from 0 m'.bitmaps.next) (listed m'.bitmaps.next)) in
+        (counted s g h (marking_of t m') shows now done (marked_from 0 m'.bitmaps.next) (listed m'.bitmaps.next)) in
         let (after, clears) = clears_exists s count counted_names g in
         record {
           exact =
-              subst (λ (x : Marking). MarksExactly s h x) (sym (exchanged_marking t m' m'' e)) (exact s g h (marking_of t m') now p.done);
+              subst (λ (x : Marking). MarksExactly s h x) (sym (exchanged_marking t m' m'' e)) (exact s g h (marking_of t m') now done);
           count = counted_names;
           after = after;
           clears = clears;
           shows = will_same after (record { kept = kept_after h (marking_of t m'); roots = roots }) (heap_of t roots m'')
-              (will_show_ended s g after h (marking_of t m') now p.done shows clears) (record { kept = kept_now; roots = refl });
+              (will_show_ended s g after h (marking_of t m') now done shows clears) (record { kept = kept_now; roots = refl });
           unlost = λ n r. reached_known s g h (marking_of t m') shows now n r;
-          all = λ n r. let (a, x, k, same) = reachable_kept s g h (marking_of t m') now p.done n r in (a, x, kept_now a ∙ k, same);
+          all = λ n r. let (a, x, k, same) = reachable_kept s g h (marking_of t m') now done n r in (a, x, kept_now a ∙ k, same);
           kept = λ a x k. was_kept a x (sym (kept_now a) ∙ k);
-          only = λ a x k. kept_or_new s g h (marking_of t m') now p.done a x (sym (kept_now a) ∙ k);
+          only = λ a x k. kept_or_new s g h (marking_of t m') now done a x (sym (kept_now a) ∙ k);
         }
 
     -- each weak slot leads to an object of the table, if it did before
     lead_ended : LeadIntoTable t h → LeadIntoTable t (heap_of t roots m'')
     lead_ended lead a b w =
-        let was = (kept_before_here s g h (marking_of t m') now p.done a w.object (sym (kept_now a) ∙ w.at)).0 in
+        let was = (kept_before_here s g h (marking_of t m') now done a w.object (sym (kept_now a) ∙ w.at)).0 in
         lead a b (record { object = w.object; at = was; slot = w.slot; is = w.is })
 
   pub ends_exactly : EndsExactly t m m'' count
   ends_exactly = record {
     ends = λ s g roots shows keeps. ends s g roots shows keeps;
-    quiet = λ g roots shows keeps a x k. quiet_kept g (heap_of t roots m) (marking_of t m') (now g g roots shows keeps) p.done shows a x
-        (sym (kept_now g g roots shows keeps a) ∙ k);
+    quiet = λ g roots shows keeps a x k. quiet_kept g (heap_of t roots m) (marking_of t m') (now g g roots shows keeps)
+        (done g g roots shows keeps) shows a x (sym (kept_now g g roots shows keeps a) ∙ k);
     lead = λ s g roots shows keeps. lead_ended s g roots shows keeps;
   }

@@ -120,7 +120,7 @@ module _ (t : Table) (m : Marker) (object : ℕ) (st : MarkerStands t m) (run : 
       record {
         old = old_same;
         marked = p.marks.stays;
-        newly_marked = λ a marked. elim (p.marks.only a marked) [ inl was ↦ inl was | inr w ↦ inr (inr (target a marked w)) ];
+        newly_marked = λ a marked. elim (p.marks.only a marked) [ inl was ↦ inl was | inr w ↦ inr (inr (inl (target a marked w))) ];
         newly_scanned = λ a now. elim (marked_set m.grey.scanned object a (ap (λ (l : List Bool). is_marked l a) (sym scanned) ∙ now)) [
           | inl was ↦ inl was
           | inr same ↦ inr (λ b l old.
@@ -146,7 +146,7 @@ module _ (t : Table) (m : Marker) (object : ℕ) (st : MarkerStands t m) (run : 
       record {
         old = old_same;
         marked = p.marks.stays;
-        newly_marked = λ a marked. elim (p.marks.only a marked) [ inl was ↦ inl was | inr w ↦ inr (inr (target a marked w)) ];
+        newly_marked = λ a marked. elim (p.marks.only a marked) [ inl was ↦ inl was | inr w ↦ inr (inr (inl (target a marked w))) ];
         newly_scanned = λ a now. inl (ap (λ (l : List Bool). is_marked l a) (sym scanned) ∙ now);
         newly_done = λ a b l now old. elim (cases_eq a object) [
           | inl same ↦ p.marks.each b (on a b same l (omega (arith, now, done_held m''.grey object a still same, up))) old

@@ -2,10 +2,12 @@
 use Rattle.std.proofs.Common.{◌≡◌, ◌+◌, ◌*◌, ◌<◌, ◌≤◌, ◌∷◌, ◌∙◌, ℕ, zero, suc, Bool, true, Option, Some, None, List, [], length, map, set}
 use Rattle.std.proofs.Common.{refl, sym, ap, subst, arith, inl, inr, slice_get, IsSome}
 use Rattle.std.proofs.lemmas.Bool.{cases_eq}
+use Rattle.heap_model.specs.Graph.{held_by}
 use Rattle.heap_model.specs.Heap.{Stored}
 use Rattle.heap_model.specs.Marking.{Marking}
 use Rattle.heap_model.specs.Weak.{cleared_word, cleared_object}
 use Rattle.regions.specs.Table.{Table, object_at, object_weaks, weaks_at, set_weak, used_of, top_of}
+use Rattle.regions.specs.Shaped.{IsShaped}
 use Rattle.regions.proofs.Tiles.Changes.{WritesObject, weak_put, object_same}
 use Rattle.mark_bitmap.specs.Tops.{is_below}
 use Rattle.mark_bitmap.specs.Kept.{MarksObjects}
@@ -123,8 +125,8 @@ partly_next m t u x i j target target' e z p read is =
     let same : j ≡ suc i = omega arith in
     subst (λ (n : ℕ). IsPartly m t (set_weak u x i target') x n) (sym same) (next_slot m t u x i target target' z p read is)
 
-pub partly_last : (m : Marking) (t u : Table) (x i : ℕ) → IsPartly m t u x i → i ≡ length (weaks_at t x) → HasCleared m t u x
-partly_last m t u x i p e =
+pub partly_last : (m : Marking) (t u : Table) (x i : ℕ) → IsShaped t → IsPartly m t u x i → i ≡ length (weaks_at t x) → HasCleared m t u x
+partly_last m t u x i shape p e =
     let w = p.writes in
     let all : partly (cleared_word m) i p.object.weaks ≡ map (cleared_word m) p.object.weaks =
     partly_all (cleared_word m) i p.object.weaks (omega (arith, e, ap length (weaks_are t x _ w.was))) in
@@ -136,9 +138,17 @@ partly_last m t u x i p e =
       kinds = w.kinds;
       tops = λ k. ap (λ (n : ℕ). k * n + used_of u k) w.size ∙ ap (λ (n : ℕ). k * t.words_per_region + n) (w.used k);
       unmoved = w.unmoved;
-      is = w.is ∙ ap (λ l. Some (record p.object { weaks = l })) all ∙ sym (ap (cleared_object m) w.was);
+      is = w.is ∙ ap (λ l. Some (record p.object { weaks = l })) all
+          ∙ ap (λ l. Some (record p.object { weaks = map (cleared_word m) p.object.weaks; held = l })) (still none)
+          ∙ sym (ap (cleared_object m) w.was);
       others = w.others;
     }
+  where
+    none : p.object.held ≡ []
+    none = shape.bare x p.object p.writes.was
+
+    still : p.object.held ≡ [] → p.object.held ≡ held_by (map (cleared_word m) p.object.weaks) p.object.held
+    still e = e ∙ sym (ap (held_by (map (cleared_word m) p.object.weaks)) e)
 
 pub partly_marks : (m : Marking) (t u : Table) (x i : ℕ) (tops : List ℕ) (marks : List Bool) → IsPartly m t u x i
     → MarksObjects t tops marks → MarksObjects u tops marks

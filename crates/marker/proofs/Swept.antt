@@ -4,11 +4,13 @@ use Rattle.std.proofs.lemmas.List.{length-map}
 use Rattle.std.proofs.Common.{ℕ, Bool, Option, Some, None, List, [], length, map, refl, sym, ap, subst, arith, inl, inr}
 use Rattle.std.specs.Prelude.{IsSome, IfSome}
 use Rattle.std.proofs.lemmas.Bool.{cases_eq, cases_lt}
+use Rattle.heap_model.specs.Graph.{held_by}
 use Rattle.heap_model.specs.Heap.{Stored}
 use Rattle.heap_model.specs.Clearing.{IsPassed}
 use Rattle.heap_model.specs.Marking.{Marking}
 use Rattle.heap_model.specs.Weak.{cleared, cleared_word, cleared_object}
 use Rattle.heap_model.proofs.Names.{bool_cases}
+use Rattle.heap_model.proofs.Held.{held_by_again}
 use Rattle.heap_model.proofs.Lists.{get_kept-append, get-push_last, get-push_cases, length-push}
 use Rattle.regions.specs.Tiles.{Tile, Object, Filler, Forwarded}
 use Rattle.regions.specs.Shapes.{tile_shape}
@@ -36,7 +38,9 @@ twice_words m (w ∷ ws) = let e = twice_word m w in let es = twice_words m ws i
 
 twice : (m : Marking) (o : Option Stored) → cleared_object m (cleared_object m o) ≡ cleared_object m o
 twice m None = refl
-twice m (Some s) = ap (λ l. Some (record s { weaks = l })) (twice_words m s.weaks)
+twice m (Some s) =
+    ap (λ l. Some (record s { weaks = l; held = held_by l (held_by (map (cleared_word m) s.weaks) s.held) })) (twice_words m s.weaks)
+    ∙ ap (λ l. Some (record s { weaks = map (cleared_word m) s.weaks; held = l })) (held_by_again (map (cleared_word m) s.weaks) s.held)
 
 -- an object stays one
 module _ (m : Marking) (t u : Table) (d : ℕ → Type 0) (c : ClearsSome m t u d) where
@@ -137,18 +141,25 @@ swept_object m t u x (inr c) = record {
 }
 
 -- ---- what has no weak slots is passed over
+-- no object of the table has held slots
+abbrev pub IsBare : Table → Type 0
+IsBare t = (a : ℕ) (s : Stored) → object_at t a ≡ Some s → s.held ≡ []
+
 no_slots : (m : Marking) (ws : List (Option ℕ)) → (0 < length ws → ⊥) → map (cleared_word m) ws ≡ ws
 no_slots m [] none = refl
 no_slots m (w ∷ ws) none = absurd (none (omega arith))
 
 -- clearing doesn't change an object that has none
-module _ (m : Marking) (t u : Table) (d : ℕ → Type 0) (c : ClearsSome m t u d) (a : ℕ) (none : HasWeaks u a → ⊥) where
+module _ (m : Marking) (t u : Table) (d : ℕ → Type 0) (bare : IsBare t) (c : ClearsSome m t u d) (a : ℕ) (none : HasWeaks u a → ⊥) where
   stored_passed : (s : Stored) → object_at t a ≡ Some s → object_at u a ≡ cleared_object m (object_at t a)
   stored_passed s is = elim (c.each a) [
     | inl same ↦
         let now : object_at u a ≡ Some s = same ∙ is in
         let alike = no_slots m s.weaks (λ some. none (record { object = s; is = now; some = some })) in
-        now ∙ ap (λ ws. Some (record s { weaks = ws })) (sym alike) ∙ sym (ap (cleared_object m) is)
+        let empty = bare a s is in
+        let still = empty ∙ sym (ap (held_by (map (cleared_word m) s.weaks)) empty) in
+        now ∙ ap (λ ws. Some (record s { weaks = ws })) (sym alike)
+        ∙ ap (λ hs. Some (record s { weaks = map (cleared_word m) s.weaks; held = hs })) still ∙ sym (ap (cleared_object m) is)
     | inr x ↦ x.1
   ]
 
@@ -162,6 +173,7 @@ module _ (m : Marking) (t u : Table) (d : ℕ → Type 0) (c : ClearsSome m t u 
 -- ---- as the code goes
 -- what is between is done, and the next one is an object with weak slots
 pub record IsSweep (m : Marking) (t u : Table) (from : ℕ) (left : Option ℕ) : Type 0 where
+  pub bare : IsBare t
   pub some : ClearsSome m t u (IsBetween from left)
   pub next : IfSome left (HasWeaks u)
 
@@ -170,9 +182,9 @@ abbrev pub left_over : Option ℕ → ℕ
 left_over None = 0
 left_over (Some a) = 2 ^ 32 - a
 
-sweep_done : (m : Marking) (t u : Table) (start from : ℕ) (left : Option ℕ) → ClearsSome m t u (IsBetween start (Some from))
+sweep_done : (m : Marking) (t u : Table) (start from : ℕ) (left : Option ℕ) → IsBare t → ClearsSome m t u (IsBetween start (Some from))
     → ((a : ℕ) → from ≤ a → IsPassed left a → HasWeaks u a → ⊥) → ClearsSome m t u (IsBetween start left)
-sweep_done m t u start from left c none = record {
+sweep_done m t u start from left bare c none = record {
   size = c.size;
   count = c.count;
   kinds = c.kinds;
@@ -181,21 +193,27 @@ sweep_done m t u start from left c none = record {
   each = c.each;
   done_is = λ a between s. elim (cases_lt a from) [
     | inl low ↦ c.done_is a (between.0, low) s
-    | inr high ↦ passed m t u (IsBetween start (Some from)) c a (none a high between.1)
+    | inr high ↦ passed m t u (IsBetween start (Some from)) bare c a (none a high between.1)
   ];
   tiles = c.tiles;
 }
 
-sweep_on : (m : Marking) (t u : Table) (start from : ℕ) (left : Option ℕ) → ClearsSome m t u (IsBetween start (Some from))
+sweep_on : (m : Marking) (t u : Table) (start from : ℕ) (left : Option ℕ) → IsBare t → ClearsSome m t u (IsBetween start (Some from))
     → IsNextWithWeaks u from left → IsSweep m t u start left
-sweep_on m t u start from None c next = record { some = sweep_done m t u start from None c (λ a low before h. next a low h); next = tt }
-sweep_on m t u start from (Some n) c next = record {
-  some = sweep_done m t u start from (Some n) c (λ a low before h. next.2 a low before h);
+sweep_on m t u start from None bare c next = record {
+  bare = bare;
+  some = sweep_done m t u start from None bare c (λ a low before h. next a low h);
+  next = tt;
+}
+sweep_on m t u start from (Some n) bare c next = record {
+  bare = bare;
+  some = sweep_done m t u start from (Some n) bare c (λ a low before h. next.2 a low before h);
   next = next.1;
 }
 
-pub sweep_first : (m : Marking) (t : Table) (from : ℕ) (left : Option ℕ) → IsNextWithWeaks t from left → IsSweep m t t from left
-sweep_first m t from left next = sweep_on m t t from from left
+pub sweep_first : (m : Marking) (t : Table) (from : ℕ) (left : Option ℕ) → IsShaped t → IsNextWithWeaks t from left
+    → IsSweep m t t from left
+sweep_first m t from left shape next = sweep_on m t t from from left shape.bare
     (swept_trans m t t t (λ a. ⊥) (λ a. ⊥) (IsBetween from (Some from)) (swept_first m t) (swept_first m t)
     (λ a s. let low = s.0 in let high = s.1 in absurd (omega arith))) next
 
@@ -227,7 +245,7 @@ module _ (m : Marking) (t u : Table) (from : ℕ) (left : Option ℕ) (n : ℕ) 
         | inl lt ↦ inl (between.0, lt)
         | inr ge ↦ inr (let low : a < behind = between.1 in omega arith)
       ]) in
-      sweep_on m t v from behind next now w
+      sweep_on m t v from behind next here.bare now w
 
 -- from the first address on to the end, all are done
 pub sweep_last : (m : Marking) (t u : Table) (from : ℕ) (left : Option ℕ) → left ≡ None → IsSweep m t u from left
@@ -287,10 +305,10 @@ next_low : (t : Table) (from : ℕ) (left : Option ℕ) (x : ℕ) → IsNextWith
 next_low t from None x next e = cc
 next_low t from (Some y) x next e = let low = next.0 in let same : y ≡ x = cc in omega arith
 
-pub looking_first : (m : Marking) (t : Table) (from : ℕ) (left : Option ℕ) → IsNextWithWeaks t from left
+pub looking_first : (m : Marking) (t : Table) (from : ℕ) (left : Option ℕ) → IsShaped t → IsNextWithWeaks t from left
     → IsLooking m t t from left 0
-looking_first m t from left next = record {
-  sweep = sweep_first m t from left next;
+looking_first m t from left shape next = record {
+  sweep = sweep_first m t from left shape next;
   looks = record {
     objects = [];
     count = refl;

@@ -92,6 +92,7 @@ impl Marker {
         requires { MarksObjects table.old self.now.tams.previous self.now.bitmaps.previous }
         ensures { ClearsSome (ended_marking_of table.old self.now) table.old table.new (λ (a : ℕ). from ≤ a) }
     {
+        table.law();
         let mut left = table.next_with_weaks(from);
         while let Some(object) = left {
             table.law();
@@ -110,6 +111,7 @@ impl Marker {
         ensures most { result.looked ≤ units }
         ensures over { result.looked < units → result.left ≡ None }
     {
+        table.law();
         let mut left = table.next_with_weaks(from);
         for looked in 0..units {
             let Some(object) = left else {

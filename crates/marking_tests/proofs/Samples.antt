@@ -172,7 +172,8 @@ linked_closed t roots m linked leads none =
     record {
       root = λ j a e. let h = leads j a e in (h.object, kept a ∙ h.is);
       pointer = λ b i a y e f.
-          let h = linked b i a y (sym (kept b) ∙ e) (get_kept-append y.pointers y.weaks (Some a) i f) in (h.object, kept a ∙ h.is);
+          let h = linked b i a y (sym (kept b) ∙ e) (get_kept-append y.pointers (y.weaks ++ y.held) (Some a) i f) in
+          (h.object, kept a ∙ h.is);
     }
 
 -- an object with nil fields is made where a filler was pushed

@@ -1,10 +1,10 @@
 -- Clearing slot after slot, and object after object, clears them all.
 use Rattle.std.proofs.Common.{◌≡◌, ◌+◌, ◌<◌, ◌∷◌, ◌++◌, ◌∙◌}
-use Rattle.std.proofs.Common.{ℕ, zero, suc, List, [], Option, Some, slice_get, length, set, map, take, drop, refl, sym, ap}
+use Rattle.std.proofs.Common.{ℕ, zero, suc, List, [], Option, Some, slice_get, length, set, map, take, drop, refl, sym, ap, arith}
 use Rattle.std.proofs.lemmas.List.{get_or-set_same}
 use Rattle.std.proofs.lemmas.List.Edits.{map_over_more}
 use Rattle.std.proofs.lemmas.Option.{get_or_from_slice_get, slice_get-get_or}
-use Rattle.heap_model.specs.Graph.{Object}
+use Rattle.heap_model.specs.Graph.{Object, held_by}
 use Rattle.object_graph.specs.Fields.{object_in}
 
 -- the object with its first slots cleared
@@ -37,14 +37,32 @@ part_more f old cur new place slot was value inside field is there given made =
     let read = sym (get_or_from_slice_get (object_in cur place).weaks slot was was there) in
     let more = map_over_more f (object_in old place).weaks (object_in cur place).weaks slot was field weaks read in
     let changed = same_but (object_in cur place) (object_in old place) (ap (λ (x : Object). x.pointers) now)
-    (ap (λ (x : Object). x.values) now) (ap (λ (v : Option ℕ). set (object_in cur place).weaks slot v) given ∙ more) in
+    (ap (λ (x : Object). x.held) now) (ap (λ (x : Object). x.values) now)
+    (ap (λ (v : Option ℕ). set (object_in cur place).weaks slot v) given ∙ more) in
     made ∙ ap (λ (x : Object). set cur place x) changed
     ∙ ap (λ (xs : List Object). set xs place (cleared_part f (slot + 1) (object_in old place))) is
     ∙ set-set old place (cleared_part f slot (object_in old place)) (cleared_part f (slot + 1) (object_in old place))
   where
-    same_but : (x y : Object) {u v : List (Option ℕ)} → x.pointers ≡ y.pointers → x.values ≡ y.values → u ≡ v
+    same_but : (x y : Object) {u v : List (Option ℕ)} → x.pointers ≡ y.pointers → x.held ≡ y.held → x.values ≡ y.values → u ≡ v
         → ◌≡◌ {A = Object} (record x { weaks = u }) (record y { weaks = v })
-    same_but x y a b c = cc
+    same_but x y a b c d = cc
+
+-- all its slots, where it has no held slots
+pub part_all : (f : Option ℕ → Option ℕ) (x : Object) (slot : ℕ) → slot ≡ length x.weaks → x.held ≡ []
+    → cleared_part f slot x ≡ record x { weaks = map f x.weaks; held = held_by (map f x.weaks) x.held }
+part_all f x slot all none =
+    let weaks : map f (take slot x.weaks) ++ drop slot x.weaks ≡ map f x.weaks = whole f x.weaks slot all in
+    let held : x.held ≡ held_by (map f x.weaks) x.held = none ∙ sym (ap (held_by (map f x.weaks)) none) in
+    both x weaks held
+  where
+    whole : (f : Option ℕ → Option ℕ) (ws : List (Option ℕ)) (n : ℕ) → n ≡ length ws → map f (take n ws) ++ drop n ws ≡ map f ws
+    whole f [] n e = rw e refl
+    whole f (w ∷ ws) zero e = absurd (omega arith)
+    whole f (w ∷ ws) (suc n) e = ap (λ (l : List (Option ℕ)). f w ∷ l) (whole f ws n (omega arith))
+
+    both : (x : Object) {u v p : List (Option ℕ)} → u ≡ v → x.held ≡ p
+        → ◌≡◌ {A = Object} (record x { weaks = u }) (record x { weaks = v; held = p })
+    both x a b = cc
 
 -- one object more
 pub object_more : (f : Object → Object) (old cur new : List Object) (place : ℕ) → place < length old → place < length cur

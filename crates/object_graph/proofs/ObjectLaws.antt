@@ -58,7 +58,8 @@ map-zeros (suc n) = ap (λ (xs : List (Option ℕ)). None ∷ xs) (map-zeros n)
 
 -- an object of the same lists
 same_object : {p q u v : List (Option ℕ)} {x y : List ℕ} → p ≡ q → u ≡ v → x ≡ y
-    → ◌≡◌ {A = Object} (record { pointers = p; weaks = u; values = x }) (record { pointers = q; weaks = v; values = y })
+    → ◌≡◌ {A = Object} (record { pointers = p; weaks = u; held = []; values = x })
+    (record { pointers = q; weaks = v; held = []; values = y })
 same_object a b c = cc
 
 object_before : (words : List ℕ) (e : Entry) (p x : ℕ) → start_of e + e.pointers + weaks_of e + e.values ≤ p
@@ -262,7 +263,7 @@ value_set words es objects i k x e view turn inside is entry field =
 pub object_push : (words : List ℕ) (es : List Entry) (n : ℕ) (e : Entry) → AreInTurn es 0 (length words) → start_of e ≡ length words
     → n ≡ e.pointers + weaks_of e + e.values
     → objects_in (words ++ replicate n 0) (es ++ e ∷ []) ≡ objects_in words es
-    ++ record { pointers = replicate e.pointers None; weaks = replicate (weaks_of e) None; values = replicate e.values 0 } ∷ []
+    ++ record { pointers = replicate e.pointers None; weaks = replicate (weaks_of e) None; held = []; values = replicate e.values 0 } ∷ []
 object_push words es n e turn start is =
     let older = objects_more es 0 (length words) words (replicate n 0) turn (omega arith) in
     let one = ap (map pointer_of) (part_zeros words (start_of e) 0 n e.pointers (omega arith) (omega arith)) ∙ map-zeros e.pointers in
@@ -293,14 +294,16 @@ is_last e start pointers weaks values = record { start = start; pointers = point
 pub pushed : (words new : List ℕ) (es after : List Entry) (objects : List Object) (was end p w d : ℕ) (e : Entry)
     → objects_in words es ≡ objects → AreInTurn es 0 (length words) → was ≡ length words → IsLast e was p w d → end ≡ was + p + w + d
     → new ≡ take end words ++ replicate (end - was) 0 → after ≡ es ++ e ∷ []
-    → objects_in new after ≡ objects ++ record { pointers = replicate p None; weaks = replicate w None; values = replicate d 0 } ∷ []
+    → objects_in new after
+    ≡ objects ++ record { pointers = replicate p None; weaks = replicate w None; held = []; values = replicate d 0 } ∷ []
 pushed words new es after objects was end p w d e view turn is last sum made more =
     let l1 = last.start in let l2 = last.pointers in let l3 = last.weaks in let l4 = last.values in
     let now : new ≡ words ++ replicate (e.pointers + weaks_of e + e.values) 0 =
     grown words new was end (e.pointers + weaks_of e + e.values) is (omega arith) made in
     let push = object_push words es (e.pointers + weaks_of e + e.values) e turn (l1 ∙ is) refl in
     let there : objects_in new after ≡ objects
-    ++ record { pointers = replicate e.pointers None; weaks = replicate (weaks_of e) None; values = replicate e.values 0 } ∷ [] = cc in
+    ++ record { pointers = replicate e.pointers None; weaks = replicate (weaks_of e) None; held = []; values = replicate e.values 0 } ∷ []
+    = cc in
     there ∙ ap (λ (x : Object). objects ++ x ∷ [])
     (same_object (ap (λ (n : ℕ). replicate n None) l2) (ap (λ (n : ℕ). replicate n None) l3) (ap (λ (n : ℕ). replicate n 0) l4))
 

@@ -5,6 +5,7 @@ use Rattle.std.proofs.Common.{ℕ, zero, suc, Bool, true, false, cond, List, [],
 use Rattle.std.proofs.Common.{ap, subst, inl, inr, arith}
 use Rattle.std.specs.Prelude.{slice_get, slice_set, slice_index_or, replicate, reverse, IfOk}
 use Rattle.std.proofs.Math.Dec.{leb}
+use Rattle.graph_runs.proofs.SinceLaws.{no_pair}
 use Rattle.std.proofs.lemmas.Bool.{cases_lt, cases_eq, leb-true, leb-false, le-leb}
 use Rattle.std.proofs.lemmas.Option.{get_or_from_slice_get, slice_get_past, slice_get_within}
 use Rattle.heap_model.specs.Graph.{Graph, Object, object_named, next_name, IsReachable, FromRoot, FromObject}
@@ -14,7 +15,7 @@ use Rattle.std.proofs.lemmas.List.{length-replicate, reverse-append, reverse-rev
 use Rattle.heap_model.proofs.Lists.{get_kept-set, get-set_same, get-set_other, get-push_last, get-push_cases, get-append_cases}
 use Rattle.heap_model.proofs.Lists.{get-append_left, get-append_right, length-set, length-push}
 use Rattle.heap_model.proofs.Changed.{named_at, at_least}
-use Rattle.graph_runs.specs.State.{State, AtRoot, AtField, IsNameOf, HoldsNames, IsEarlier, ForSnapshot, IsSoundState}
+use Rattle.graph_runs.specs.State.{State, AtRoot, AtField, IsNameOf, HoldsNames, HaveNoPairs, IsEarlier, ForSnapshot, IsSoundState}
 use Rattle.graph_runs.specs.Run.{ClearsBy}
 use Rattle.object_graph.specs.Reached.{Search, started, flag_of, flagged_at, found, all_found, looked_in, looked_at, looked, searched}
 
@@ -199,7 +200,7 @@ place_name g holds s i p x grows on at j n e =
     let low : g.first_name ≤ g.first_name + p = omega arith in
     let same : g.first_name + p - g.first_name ≡ p = omega arith in
     let named : object_named g (g.first_name + p) ≡ Some x = named_at g (g.first_name + p) low ∙ ap (slice_get g.objects) same ∙ at in (
-      holds n (AtField p j x at (get-append_left x.pointers x.weaks j (Some n) e)),
+      holds n (AtField p j x at (get-append_left x.pointers (x.weaks ++ x.held) j (Some n) e)),
       FromObject (g.first_name + p) n j x (grows.only p on) named e,
     )
 
@@ -304,14 +305,15 @@ flag_on first flags n e = flag_cases (leb first n) refl e
     flag_cases false q e = cc
 
 -- so the flags tell what is reachable
-pub flags_reached : (g : Graph) (s : Search) → Looked g s (length g.objects)
+pub flags_reached : (g : Graph) (s : Search) → HaveNoPairs g → Looked g s (length g.objects)
     → ((j n : ℕ) → slice_get g.roots j ≡ Some (Some n) → IsOn g.first_name s.flags n) → AreReached g (flag_of g.first_name s.flags)
-flags_reached g s l roots = record {
+flags_reached g s none l roots = record {
   roots = λ j n e. on_flag g.first_name s.flags n (roots j n e);
   pointers = λ m n i o fm named e.
       let on = flag_on g.first_name s.flags m fm in
       let at = sym (named_at g m (at_least g m o named)) ∙ named in
       on_flag g.first_name s.flags n (looked_all g s l (m - g.first_name) on.1 o i n at e);
+  held = λ m k n i fm fk p. absurd (no_pair g none m i k n p);
   only = λ n f.
       let on = flag_on g.first_name s.flags n f in
       let low = on.0 in
@@ -396,10 +398,11 @@ of_reverse ts j v e = in_reverse (reverse ts) j v (ap (λ (l : List (Option ℕ)
 
 -- the search from the touched names and the graph's roots finds what is reachable from them
 search_reached : (g : Graph) (ts : List (Option ℕ)) (flags : List Bool) → HoldsNames (record g { roots = reverse ts ++ g.roots })
+    → HaveNoPairs g
     → flags ≡ (searched (all_found (all_found (started g) ts) g.roots) g.objects (length g.objects)).flags
     → AreReached (record g { roots = reverse ts ++ g.roots }) (flag_of g.first_name flags)
-search_reached g ts flags holds is = subst (λ (l : List Bool). AreReached s (flag_of g.first_name l)) (sym is)
-    (flags_reached s last
+search_reached g ts flags holds none is = subst (λ (l : List Bool). AreReached s (flag_of g.first_name l)) (sym is)
+    (flags_reached s last none
     (searched_looked s holds second (record { to = 0; grows = rest.finds.grows; why = inl refl }) (length g.objects)) roots_on)
   where
     s : Graph
@@ -433,11 +436,12 @@ search_reached g ts flags holds is = subst (λ (l : List Bool). AreReached s (fl
     ]
 
 pub view_reached : (g view : Graph) (ts : List (Option ℕ)) (flags : List Bool) → record g { roots = reverse ts ++ g.roots } ≡ view
-    → HoldsNames view
+    → HoldsNames view → HaveNoPairs view
     → flags ≡ (searched (all_found (all_found (started g) ts) g.roots) g.objects (length g.objects)).flags
     → AreReached view (flag_of view.first_name flags)
-view_reached g view ts flags same holds is =
-    subst (λ (v : Graph). AreReached v (flag_of v.first_name flags)) same (search_reached g ts flags (subst HoldsNames (sym same) holds) is)
+view_reached g view ts flags same holds none is =
+    subst (λ (v : Graph). AreReached v (flag_of v.first_name flags)) same (search_reached g ts flags (subst HoldsNames (sym same) holds)
+    (subst HaveNoPairs (sym same) none) is)
 
 -- the loop over a list of names
 found_upto : (s : Search) (vs : List (Option ℕ)) (i : ℕ) (t u : Search) → i < length vs → t ≡ all_found s (take i vs)
@@ -469,11 +473,11 @@ cleared_by_flags st s g new flags limit sound is same reached l e =
 
 -- the same of what a call answered
 pub if_reached : {V E : Type 0} (r : Result V E) (items : V → List Bool) (g view : Graph) (ts others : List (Option ℕ))
-    → record g { roots = reverse ts ++ g.roots } ≡ view → HoldsNames view → others ≡ ts
+    → record g { roots = reverse ts ++ g.roots } ≡ view → HoldsNames view → HaveNoPairs view → others ≡ ts
     → IfOk r (λ v. items v ≡ (searched (all_found (all_found (started g) others) g.roots) g.objects (length g.objects)).flags)
     → IfOk r (λ v. AreReached view (flag_of view.first_name (items v)))
-if_reached (Ok v) items g view ts others same holds given is =
-    view_reached g view ts (items v) same holds
+if_reached (Ok v) items g view ts others same holds none given is =
+    view_reached g view ts (items v) same holds none
     (is ∙ ap (λ (l : List (Option ℕ)).
     (searched (all_found (all_found (started g) l) g.roots) g.objects (length g.objects)).flags) given)
-if_reached (Err e) items g view ts others same holds given is = tt
+if_reached (Err e) items g view ts others same holds none given is = tt

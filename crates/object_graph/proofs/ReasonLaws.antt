@@ -83,7 +83,7 @@ cleared_there st (Some s) is sound =
     let earlier : ForSnapshot (Some s) (λ t. IsEarlier t st.graph) =
     subst (λ (o : Option Graph). ForSnapshot o (λ t. IsEarlier t st.graph)) is sound.snapshot in
     let flags = (searched (all_found (all_found (started s) []) s.roots) s.objects (length s.objects)).flags in
-    let reached = view_reached s s [] flags refl earlier.holds refl in (
+    let reached = view_reached s s [] flags refl earlier.holds earlier.pairs refl in (
       cleared_graph (flag_of st.graph.first_name flags) (next_name s) st.graph,
       cleared_by_flags st s st.graph _ flags (next_name s) sound is refl reached refl refl,
     )

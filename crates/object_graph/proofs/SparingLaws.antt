@@ -5,9 +5,9 @@ use Rattle.std.proofs.Common.{arith}
 use Rattle.std.specs.Prelude.{slice_get, nat_lt}
 use Rattle.std.specs.List.{AllZip}
 use Rattle.std.proofs.lemmas.Bool.{lt-ltb}
-use Rattle.heap_model.specs.Graph.{Graph, Object}
+use Rattle.heap_model.specs.Graph.{Graph, Object, held_by}
 use Rattle.heap_model.specs.Weak.{IsClearedSlot, ClearsObject, Clears}
-use Rattle.graph_runs.specs.State.{State, HoldsNames, IsEarlier, ForSnapshot, IsSoundState}
+use Rattle.graph_runs.specs.State.{State, HoldsNames, HaveNoPairs, IsEarlier, ForSnapshot, IsSoundState}
 use Rattle.graph_runs.specs.Since.{IsKnown, IsSince, IsSinceState}
 use Rattle.graph_runs.specs.Sparing.{have_weaks, kept_snapshot, SparingCollects, SparingHappens, HoldsKnown, Spares, StandsFor}
 use Rattle.graph_runs.specs.Machine.{outcome_of}
@@ -41,13 +41,13 @@ none_slots (y ∷ xs) none (suc k) i x v at e = none_slots xs (rest (nat_lt 0 (l
     rest false none = none
 
 -- where every slot holds a known name, clearing changes nothing
-clears_none : (s g : Graph) → HoldsKnown s g → Clears s g g
-clears_none s g slots = record {
+clears_none : (s g : Graph) → HoldsKnown s g → HaveNoPairs g → Clears s g g
+clears_none s g slots none = record {
   room = refl;
   first_name = refl;
   places = refl;
   roots = refl;
-  objects = each g.objects (λ k i n x at e. slots k i n x at e);
+  objects = each g.objects (λ k i n x at e. slots k i n x at e) none;
 }
   where
     words : (ws : List (Option ℕ)) → ((i n : ℕ) → slice_get ws i ≡ Some (Some n) → IsKnown s n) → AllZip (IsClearedSlot s) ws ws
@@ -56,11 +56,16 @@ clears_none s g slots = record {
     words (Some n ∷ ws) known = ((refl, known 0 n refl), words ws (λ i n e. known (suc i) n e))
 
     each : (xs : List Object) → ((k i n : ℕ) (x : Object) → slice_get xs k ≡ Some x → slice_get x.weaks i ≡ Some (Some n) → IsKnown s n)
-        → AllZip (ClearsObject s) xs xs
-    each [] known = tt
-    each (x ∷ xs) known = (
-      record { pointers = refl; weaks = words x.weaks (λ i n e. known 0 i n x refl e); values = refl },
-      each xs (λ k i n y at e. known (suc k) i n y at e),
+        → ((k : ℕ) (x : Object) → slice_get xs k ≡ Some x → x.held ≡ []) → AllZip (ClearsObject s) xs xs
+    each [] known bare = tt
+    each (x ∷ xs) known bare = (
+      record {
+        pointers = refl;
+        weaks = words x.weaks (λ i n e. known 0 i n x refl e);
+        held = let e = bare 0 x refl in e ∙ sym (ap (held_by x.weaks) e);
+        values = refl;
+      },
+      each xs (λ k i n y at e. known (suc k) i n y at e) (λ k y at. bare (suc k) y at),
     )
 
 spares_same : (g : Graph) (s : Option Graph) → Spares g s s
@@ -92,11 +97,11 @@ spares_taken g = by_weaks (have_weaks g.objects) refl
     by_weaks false is = λ k i n x at e. absurd (none_slots g.objects is k i x (Some n) at e)
 
 -- clearing by the one is clearing by the other
-cleared_back : (t s : Option Graph) (g h : Graph) → Spares g t s → ClearsBy t g h → ClearsBy s g h
-cleared_back None None g h k c = c
-cleared_back None (Some s) g h k c = subst (Clears s g) (sym c) (clears_none s g k)
-cleared_back (Some t) None g h k c = absurd k
-cleared_back (Some t) (Some s) g h k c = subst (λ (u : Graph). Clears u g h) k c
+cleared_back : (t s : Option Graph) (g h : Graph) → HaveNoPairs g → Spares g t s → ClearsBy t g h → ClearsBy s g h
+cleared_back None None g h none k c = c
+cleared_back None (Some s) g h none k c = subst (Clears s g) (sym c) (clears_none s g k none)
+cleared_back (Some t) None g h none k c = absurd k
+cleared_back (Some t) (Some s) g h none k c = subst (λ (u : Graph). Clears u g h) k c
 
 cleared_there : (t s : Option Graph) (g h : Graph) → Spares g t s → ClearsBy s g h → (i : Graph) × ClearsBy t g i
 cleared_there None s g h k c = (g, refl)
@@ -109,9 +114,9 @@ pub record Follows (judge old : State) (k : Step) (r : Reply) (next : State) : T
   pub happens : Happens old k r new
   pub stands : StandsFor next new
 
-collects_follow : (judge old next : State) (c : CollectorStep) (r : Reply) → StandsFor judge old → IsCollectorReply c r
-    → SparingCollects judge c r next → Follows judge old (steps.Collector c) r next
-collects_follow judge old next c r stands reply h = elim (kind c r) [
+collects_follow : (judge old next : State) (c : CollectorStep) (r : Reply) → HaveNoPairs old.graph → StandsFor judge old
+    → IsCollectorReply c r → SparingCollects judge c r next → Follows judge old (steps.Collector c) r next
+collects_follow judge old next c r none stands reply h = elim (kind c r) [
   | inl t ↦ record {
     new = record { graph = old.graph; snapshot = Some old.graph };
     happens = (reply, (t.0 old (record { graph = old.graph; snapshot = Some old.graph })).1 refl);
@@ -131,7 +136,7 @@ collects_follow judge old next c r stands reply h = elim (kind c r) [
           happens = (
             reply,
             (g.0 old (record { graph = next.graph; snapshot = None })).1
-                (refl, cleared_back judge.snapshot old.snapshot old.graph next.graph stands.snapshot clears),
+                (refl, cleared_back judge.snapshot old.snapshot old.graph next.graph none stands.snapshot clears),
           );
           stands = record { graph = refl; snapshot = subst (λ (u : Option Graph). Spares next.graph u None) (sym gone.0) tt };
         })
@@ -162,7 +167,7 @@ follows judge old next (steps.Mutator o) r sound since stands (inr h) =
       happens = inr (subst (λ (g : Graph). Creates g o) stands.graph h.0, h.1, refl);
       stands = subst (λ (t : State). StandsFor t old) (sym h.2) stands;
     }
-follows judge old next (steps.Collector c) r sound since stands h = collects_follow judge old next c r stands h.0 h.1
+follows judge old next (steps.Collector c) r sound since stands h = collects_follow judge old next c r sound.pairs stands h.0 h.1
 
 -- what the machine may do, the judge allows
 pub allowed : (judge old new : State) (k : Step) (r : Reply) → StandsFor judge old → Happens old k r new
@@ -190,6 +195,7 @@ allowed judge old new (steps.Collector c) r stands h = elim (kind c r) [
 pub stands_sound : (judge old : State) → IsSoundState old → StandsFor judge old → IsSoundState judge
 stands_sound judge old sound stands = record {
   graph = subst HoldsNames (sym stands.graph) sound.graph;
+  pairs = subst HaveNoPairs (sym stands.graph) sound.pairs;
   snapshot = subst (λ (g : Graph). ForSnapshot judge.snapshot (λ t. IsEarlier t g)) (sym stands.graph)
       (by_snapshot judge.snapshot old.snapshot stands.snapshot sound.snapshot);
 }

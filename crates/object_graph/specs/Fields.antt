@@ -18,4 +18,4 @@ word_of-pointer_of (suc name) = refl
 
 -- the object in a place, one with no fields where there is none
 abbrev pub object_in : List Object → ℕ → Object
-object_in objects place = slice_index_or objects place (record { pointers = []; weaks = []; values = [] })
+object_in objects place = slice_index_or objects place (record { pointers = []; weaks = []; held = []; values = [] })

@@ -11,11 +11,12 @@ start_of e = e.packed % 2 ^ 56
 unfoldable pub weaks_of : Entry → ℕ
 weaks_of e = e.packed / 2 ^ 56
 
--- the object of an entry: its pointers, its weak slots and its data words, from a word of the list on
+-- the object of an entry: its pointers, its weak slots and its data words, from a word of the list on. It has no held slots
 abbrev pub object_at : List ℕ → Entry → Object
 object_at words e = record {
   pointers = map pointer_of (take e.pointers (drop (start_of e) words));
   weaks = map pointer_of (take (weaks_of e) (drop (start_of e + e.pointers) words));
+  held = [];
   values = take e.values (drop (start_of e + e.pointers + weaks_of e) words);
 }
 

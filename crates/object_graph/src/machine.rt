@@ -3,7 +3,7 @@
 ghost use Rattle.std.specs.Prelude.{◌≡◌, ◌++◌, None, reverse, IfOk, OnOk};
 ghost use Rattle.heap_model.specs.Graph as model;
 ghost use Rattle.heap_model.specs.Weak.{touched, AreReached};
-ghost use Rattle.graph_runs.specs.State.{State, HoldsNames, IsSoundState, first_state};
+ghost use Rattle.graph_runs.specs.State.{State, HoldsNames, HaveNoPairs, IsSoundState, first_state};
 ghost use Rattle.object_graph.specs.Reached.{flag_of};
 ghost use Rattle.heap_steps.specs.Roots.{IsOpAt};
 ghost use Rattle.graph_runs.specs.Run.{IsCollectorReply, ClearsBy, ForMutator, snapshot_after};
@@ -66,7 +66,8 @@ impl Snapshot {
 
     /// A flag for each object: whether it is reachable from a root or a touched name.
     fn reached(&self, alloc: Global) -> Result<Vec<bool>, AllocError>
-        requires { HoldsNames self.now }
+        requires names { HoldsNames self.now }
+        requires pairs { HaveNoPairs self.now }
         ensures { IfOk result (λ flags. AreReached self.now (flag_of self.now.first_name flags.items)) }
     {
         self.graph.search(alloc, self.touched.as_slice())

@@ -123,10 +123,11 @@ impl Objects {
         self.entries[place].pointers
     }
 
-    /// How many weak slots the object in the place has.
+    /// How many weak slots the object in the place has. It has no held slots.
     pub(crate) fn weak_count(&self, place: usize) -> u8
         requires { place < length self.now }
-        ensures { result ≡ length (object_in self.now place).weaks }
+        ensures weaks { result ≡ length (object_in self.now place).weaks }
+        ensures held { (object_in self.now place).held ≡ [] }
     {
         self.entries[place].weaks()
     }
@@ -221,6 +222,7 @@ impl Objects {
             ≡ self.old ++ record {
               pointers = replicate counts.pointers None;
               weaks = replicate weaks None;
+              held = [];
               values = replicate counts.values 0;
             } ∷ []) }
         ensures err { OnErr result (self.new ≡ self.old) }

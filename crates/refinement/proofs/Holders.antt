@@ -1,5 +1,6 @@
 -- The tile of a field, and what is kept of objects.
-use Rattle.std.proofs.Common.{◌≡◌, ◌+◌, ◌*◌, ◌/◌, ◌<◌, ◌≤◌, ◌∙◌, ℕ, Bool, true, false, Option, Some, None, List, length, refl, sym, ap}
+use Rattle.std.proofs.Common.{◌≡◌, ◌+◌, ◌*◌, ◌/◌, ◌<◌, ◌≤◌, ◌++◌, ◌∙◌, ℕ, Bool, true, false, Option, Some, None, List, length, refl, sym}
+use Rattle.std.proofs.Common.{ap}
 use Rattle.std.proofs.Common.{arith, slice_get, IsSome, IsTrue, if◌then◌else◌}
 use Rattle.std.proofs.lemmas.List.{length-append}
 use Rattle.std.proofs.lemmas.Option.{slice_get_within}
@@ -23,20 +24,28 @@ use Rattle.refinement.specs.Refining.{FieldsInside}
 abbrev pub Stands : Table → (ℕ → Option Stored) → Type 0
 Stands t kept = (a : ℕ) (s : Stored) → kept a ≡ Some s → object_at t a ≡ Some s
 
+-- an object has its pointers and weak slots as fields, and no others
+pub fields_are : (t : Table) (a : ℕ) (x : Stored) → IsShaped t → object_at t a ≡ Some x
+    → length (fields x) ≡ length x.pointers + length x.weaks
+fields_are t a x shape at =
+    let none = ap (λ (hs : List (Option ℕ)). length hs) (shape.bare a x at) in
+    omega (arith, length-append x.pointers (x.weaks ++ x.held), length-append x.weaks x.held, none)
+
 -- a field's word belongs to its object's tile
-pub word_holder : (t : Table) (a i : ℕ) (x : Stored) → object_at t a ≡ Some x → i < length (fields x) → IsHolder t a (field_word a i)
+pub word_holder : (t : Table) (a i : ℕ) (x : Stored) → IsShaped t → object_at t a ≡ Some x → i < length (fields x)
+    → IsHolder t a (field_word a i)
 unfolding object_at
-word_holder t a i x at inside = record {
+word_holder t a i x shape at inside = record {
   tile = Object x;
   tile_is = object_tile (tile_in t a) x at;
   low = omega arith;
-  high = omega (arith, inside, length-append x.pointers x.weaks);
+  high = omega (arith, inside, fields_are t a x shape at);
 }
 
-pub field_holder : (t : Table) (kept : ℕ → Option Stored) (a i v : ℕ) → Stands t kept
+pub field_holder : (t : Table) (kept : ℕ → Option Stored) (a i v : ℕ) → IsShaped t → Stands t kept
     → IsCrossing t.words_per_region kept a i v → IsHolder t a (field_word a i)
-field_holder t kept a i v stands x =
-    word_holder t a i x.object (stands a x.object x.kept_is) (slice_get_within (fields x.object) i (Some v) x.field_is)
+field_holder t kept a i v shape stands x =
+    word_holder t a i x.object shape (stands a x.object x.kept_is) (slice_get_within (fields x.object) i (Some v) x.field_is)
 
 pub object_known : (t : Table) (a : ℕ) (s : Stored) → object_at t a ≡ Some s → a / t.words_per_region < length t.regions
 unfolding object_at
@@ -123,7 +132,7 @@ pub field_inside : (t : Table) (a i : ℕ) → IsShaped t → i < length (fields
 field_inside t a i g h =
     let f = field_at t a i h in
     let w = object_within t a f.object g f.is in
-    omega (arith, w, f.within, length-append f.object.pointers f.object.weaks)
+    omega (arith, w, f.within, fields_are t a f.object g f.is)
 
 pub object_small : (t : Table) (a : ℕ) → IsShaped t → IsSome (object_at t a) → a + 2 ≤ length t.regions * t.words_per_region
 object_small t a g h = go (object_at t a) refl h

@@ -4,11 +4,13 @@ use Rattle.std.proofs.Common.{map, length, set, ⊎_elim, refl, sym, ap, subst, 
 use Rattle.std.proofs.Common.{slice_get, if◌then◌else◌}
 use Rattle.std.proofs.lemmas.Bool.{cases_eq}
 use Rattle.std.proofs.lemmas.Option.{slice_get_within, slice_get_read, get_or_from_slice_get}
+use Rattle.heap_model.specs.Graph.{held_by}
 use Rattle.heap_model.specs.Heap.{Heap, Stored, fields}
 use Rattle.heap_model.specs.Marking.{Marking}
 use Rattle.heap_model.specs.Weak.{cleared, cleared_word, cleared_after}
 use Rattle.heap_model.proofs.Cleared.{cleared_was}
 use Rattle.heap_model.proofs.Names.{bool_cases}
+use Rattle.heap_model.proofs.Held.{held_by_was}
 use Rattle.refinement.specs.Remembering.{field_word, field_card, IsCrossing, ClearsFields, LeadsInside, Remembers}
 use Rattle.refinement.specs.Remembering.{KeepsFields, IsNoted, SetsField, AddsNil, NoneLeadsInto}
 
@@ -156,13 +158,17 @@ word_was m (Some a) v e = elim (bool_cases (m.old a)) [
   | inr o ↦ sym (rw o refl) ∙ e
 ]
 
-slot_was : (m : Marking) (ps ws : List (Option ℕ)) (i v : ℕ) → slice_get (ps ++ map (cleared_word m) ws) i ≡ Some (Some v)
-    → slice_get (ps ++ ws) i ≡ Some (Some v)
-slot_was m [] [] i v e = e
-slot_was m [] (w ∷ ws) zero v e = let z : cleared_word m w ≡ Some v = cc in ap Some (word_was m w v z)
-slot_was m [] (w ∷ ws) (suc i) v e = slot_was m [] ws i v e
-slot_was m (p ∷ ps) ws zero v e = e
-slot_was m (p ∷ ps) ws (suc i) v e = slot_was m ps ws i v e
+slots_were : (m : Marking) (ws ks hs : List (Option ℕ)) (i v : ℕ) → slice_get (map (cleared_word m) ws ++ held_by ks hs) i ≡ Some (Some v)
+    → slice_get (ws ++ hs) i ≡ Some (Some v)
+slots_were m [] ks hs i v e = held_by_was ks hs i v e
+slots_were m (w ∷ ws) ks hs zero v e = let z : cleared_word m w ≡ Some v = cc in ap Some (word_was m w v z)
+slots_were m (w ∷ ws) ks hs (suc i) v e = slots_were m ws ks hs i v e
+
+slot_was : (m : Marking) (ps ws ks hs : List (Option ℕ)) (i v : ℕ)
+    → slice_get (ps ++ (map (cleared_word m) ws ++ held_by ks hs)) i ≡ Some (Some v) → slice_get (ps ++ (ws ++ hs)) i ≡ Some (Some v)
+slot_was m [] ws ks hs i v e = slots_were m ws ks hs i v e
+slot_was m (p ∷ ps) ws ks hs zero v e = e
+slot_was m (p ∷ ps) ws ks hs (suc i) v e = slot_was m ps ws ks hs i v e
 
 was_cleared : (h : Heap) (m : Marking) (a : ℕ) (s : Stored) → cleared_after h m a ≡ Some s
     → (before : Stored) × (h.kept a ≡ Some before) × (s ≡ cleared m before)
@@ -179,5 +185,9 @@ was_cleared h m a s e =
 pub clears_after : (h : Heap) (m : Marking) (kept' : ℕ → Option Stored)
     → ((a : ℕ) → kept' a ≡ cleared_after h m a) → ClearsFields h.kept kept'
 clears_after h m kept' same a s e =
-    let w = was_cleared h m a s (sym (same a) ∙ e) in
-    (w.0, w.1, λ i v f. slot_was m w.0.pointers w.0.weaks i v (ap (λ (x : Stored). slice_get (fields x) i) (sym w.2) ∙ f))
+    let w = was_cleared h m a s (sym (same a) ∙ e) in (
+      w.0,
+      w.1,
+      λ i v f. slot_was m w.0.pointers w.0.weaks (map (cleared_word m) w.0.weaks) w.0.held i v
+          (ap (λ (x : Stored). slice_get (fields x) i) (sym w.2) ∙ f),
+    )

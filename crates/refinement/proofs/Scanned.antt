@@ -113,7 +113,7 @@ module _ (t : Table) (g : IsShaped t) (kept : ℕ → Option Stored) (stands : S
             let high = div_high (field_word a i) len card z y in
             let holder : IsHolder t x (field_word a i) =
             record { tile = tile.tile; tile_is = tile.tile_is; low = omega arith; high = omega (arith, high, words) } in
-            let same = one_holder t x a (field_word a i) g holder (field_holder t kept a i v stands c) in
+            let same = one_holder t x a (field_word a i) g holder (field_holder t kept a i v g stands c) in
             (subst (λ (n : ℕ). IsObjectCovered t.words_per_region kept len card new n) same here).each i v c y;
       }) ((turn_next old new left rest x shape h e grows here).done a l d)
 
@@ -128,7 +128,7 @@ module _ (t : Table) (g : IsShaped t) (kept : ℕ → Option Stored) (stands : S
         let high = div_high (field_word a i) len card z y in
         let holder : IsHolder t first (field_word a i) =
         record { tile = tile.tile; tile_is = tile.tile_is; low = omega (arith, low, above); high = omega (arith, high, words, over) } in
-        let same = one_holder t first a (field_word a i) g holder (field_holder t kept a i v stands c) in
+        let same = one_holder t first a (field_word a i) g holder (field_holder t kept a i v g stands c) in
         (subst (λ (n : ℕ). IsObjectCovered t.words_per_region kept len card new n) same here).each i v c y;
   }
 
@@ -152,7 +152,7 @@ module _ (t : Table) (g : IsShaped t) (kept : ℕ → Option Stored) (stands : S
           let a : ℕ = l.at in
           let near = in_region a l.index l.in_card in
           let on = holder_onward t first (card * len) a (field_word a l.index) g s
-          (field_holder t kept a l.index l.target stands l.crossing) near.0 near.1 in
+          (field_holder t kept a l.index l.target g stands l.crossing) near.0 near.1 in
           subst (λ (k : ℕ). covered k card ≡ true) l.into ((h a on.0 on.1).each l.index l.target l.crossing l.in_card);
     }
 
@@ -162,7 +162,7 @@ module _ (t : Table) (g : IsShaped t) (kept : ℕ → Option Stored) (stands : S
     card_empty covered high = record {
       each = λ r l.
           let near = in_region l.at l.index l.in_card in
-          let below = holder_below t l.at (field_word l.at l.index) g (field_holder t kept l.at l.index l.target stands l.crossing) in
+          let below = holder_below t l.at (field_word l.at l.index) g (field_holder t kept l.at l.index l.target g stands l.crossing) in
           let top : top_of t (field_word l.at l.index / t.words_per_region) ≡ top_of t (card * len / t.words_per_region) =
           ap (top_of t) near.1 in
           absurd (omega (arith, near.0, below, top));

@@ -1,9 +1,9 @@
 -- What the value of every table meets beside what its type says.
-use Rattle.std.specs.Prelude.{◌≡◌, ℕ, ◌+◌, ◌-◌, ◌*◌, ◌<◌, ◌≤◌, false, Some, length, min}
+use Rattle.std.specs.Prelude.{◌≡◌, ℕ, ◌+◌, ◌-◌, ◌*◌, ◌<◌, ◌≤◌, false, Some, [], length, min}
 use Rattle.heap_words.specs.Configs.{max_words, max_region_words}
 use Rattle.heap_model.specs.Heap.{Stored}
 use Rattle.regions.specs.Tiles.{Tile, Object, tile_size}
-use Rattle.regions.specs.Table.{Table, First, Rest, nth_region, region_at, is_free, kind_of, tile_in, AreTargetsRight}
+use Rattle.regions.specs.Table.{Table, First, Rest, nth_region, region_at, is_free, kind_of, tile_in, object_at, AreTargetsRight}
 use Rattle.regions.specs.Walks.{AreFitting}
 use Rattle.regions.specs.declared.row.Kind.TheVariants as kinds
 
@@ -31,6 +31,8 @@ pub record IsShaped (t : Table) : Type 0 where
       → kind_of t (k + j) ≡ kinds.Rest
   pub later : (k n : ℕ) → nth_region t k ≡ Rest n → IsLater t k n
   pub targets : AreTargetsRight t
+  -- no object has held slots
+  pub bare : (a : ℕ) (object : Stored) → object_at t a ≡ Some object → object.held ≡ []
 
 -- so many words from an address on lie in regions that aren't free
 abbrev pub AreInUse : Table → ℕ → ℕ → Type 0

@@ -219,9 +219,15 @@ region_with_tile (Rest n) t = Rest n
 unfoldable pub push_tile : Table → ℕ → Tile → Table
 push_tile t k tile = with_region t k (region_with_tile (nth_region t k) tile)
 
--- an object just made, with p nil pointers, so many nil weak slots and d zeros
+-- an object just made, with p nil pointers, so many nil weak slots, no held slots and d zeros
 abbrev pub new_object : ℕ → ℕ → ℕ → ℕ → Stored
-new_object name p weak d = record { name = name; pointers = replicate p None; weaks = replicate weak None; values = replicate d 0 }
+new_object name p weak d = record {
+  name = name;
+  pointers = replicate p None;
+  weaks = replicate weak None;
+  held = [];
+  values = replicate d 0;
+}
 
 -- what a region is
 abbrev pub region_kind : Region → Kind

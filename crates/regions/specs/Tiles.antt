@@ -36,12 +36,13 @@ replace o new [] = []
 replace zero new (t ∷ ts) = new ++ ts
 replace (suc o) new (t ∷ ts) = t ∷ replace (suc o - tile_size t) new ts
 
--- the object of a header with p pointers, so many weak slots and d data words, the rest of its words first in ws
+-- the object of a header with p pointers, so many weak slots, no held slots and d data words, the rest of its words first in ws
 abbrev pub stored_of : ℕ → ℕ → ℕ → List ℕ → Stored
 stored_of p weak d ws = record {
   name = slice_index ws 0;
   pointers = map pointer_of (take p (drop 1 ws));
   weaks = map pointer_of (take weak (drop (suc p) ws));
+  held = [];
   values = take d (drop (suc (p + weak)) ws);
 }
 

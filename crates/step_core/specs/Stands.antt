@@ -4,9 +4,9 @@ use Rattle.std.specs.Prelude.{ℕ, ⊤, List, Option, Some, None, length, slice_
 use Rattle.std.specs.List.{AllZip}
 use Rattle.heap_words.specs.declared.config.Config.{Config}
 use Rattle.heap_words.specs.Configs.{Suits, card_words, object_limit}
-use Rattle.heap_model.specs.Graph.{Graph, Object, RootCounts, next_name, object_named, IsReachable, IsSound}
+use Rattle.heap_model.specs.Graph.{Graph, Object, RootCounts, next_name, object_named, IsReachable, IsSound, held_by}
 use Rattle.heap_model.specs.Heap.{Heap, Stored, IsShown, IsRoot}
-use Rattle.heap_model.specs.Clearing.{WillShow, IsWeakShown, StandsOnce, IsClearedTo}
+use Rattle.heap_model.specs.Clearing.{WillShow, IsWeakShown, StandsOnce, IsClearedTo, kept_held}
 use Rattle.heap_model.specs.Marking.{Marking, KeepsSnapshot}
 use Rattle.heap_model.specs.Weak.{KeepsUnreached}
 use Rattle.regions.specs.Tiles as tiles
@@ -193,6 +193,8 @@ pub record RootNames (g : Graph) (c : CoreState) (place a : ℕ) : Type 0 where
   pub found : slice_get g.objects (stored.name - g.first_name) ≡ Some object
   pub pointers : AllZip (IsShown (heap_of c)) stored.pointers object.pointers
   pub weaks : AllZip (IsWeakShown (heap_of c)) stored.weaks object.weaks
+  pub held : AllZip (IsShown (heap_of c)) (kept_held (kept_of c) stored) object.held
+  pub keyed : held_by stored.weaks stored.held ≡ stored.held
   pub values : stored.values ≡ object.values
 
 -- where a register or global leads

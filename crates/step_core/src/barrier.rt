@@ -157,6 +157,7 @@ impl Core {
         requires noted { HasNoted self.old (field_word object (weak_field self.old object slot)) target }
         ensures { StoresWeak self.old.cards object slot target self.old self.new }
     {
+        self.table.law();
         self.table.set_weak(object, slot, target);
     }
 

@@ -120,6 +120,7 @@ impl Core {
         ensures { FillsField self.old (writing mutator object field value) at self.new }
     {
         self.law_remembers();
+        self.law_shaped();
         self.write_known(mutator, object, at, pointers, field, value);
     }
 }

@@ -23,6 +23,7 @@ impl Core {
         ensures keeps { (s : Graph) → KeepsFrom s self.old → KeepsFrom s self.new }
         ensures refined { RefinesCard result self.old self.new }
     {
+        self.table.law();
         refine_one(
             &self.table,
             &self.marker.tams,

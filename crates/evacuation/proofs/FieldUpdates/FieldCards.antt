@@ -4,12 +4,12 @@ use Rattle.std.proofs.Common.{◌≡◌, ◌+◌, ◌*◌, ◌/◌, ◌<◌, ◌
 use Rattle.std.proofs.Common.{sym, ap, subst, inl, inr, arith, slice_get, slice_set}
 use Rattle.std.proofs.lemmas.Bool.{cases_eq, cases_lt}
 use Rattle.std.proofs.lemmas.Nat.{mul-le}
-use Rattle.std.proofs.lemmas.List.{get_or-set_same, get_or-set_other, length-append, length-set}
+use Rattle.std.proofs.lemmas.List.{get_or-set_same, get_or-set_other, length-set}
 use Rattle.heap_model.specs.Heap.{Stored, fields}
 use Rattle.regions.specs.Table.{Table, fields_at}
 use Rattle.regions.specs.Shaped.{IsShaped}
 use Rattle.regions.proofs.Words.Divides.{div_low, card_has_words}
-use Rattle.refinement.proofs.Holders.{fields_of, object_within}
+use Rattle.refinement.proofs.Holders.{fields_are, fields_of, object_within}
 use Rattle.evacuation.specs.Space.{Layout, IsOutsideSet, IsField, IsFieldClean, IsStill, NotesWord, flag}
 use Rattle.evacuation.specs.Turns.{Pause, IsPause, TableStays, EachCard, kept_now, layout, space}
 use Rattle.evacuation.proofs.Turns.KeptObjects.{kept_object}
@@ -37,10 +37,11 @@ nil_clean p t at i e y w here f =
 pub word_within : (p : Pause) (t : Table) (at i : ℕ) → IsShaped t → TableStays p t → (f : IsField (space p t) at i)
     → at + 2 + i < length p.start.regions * p.start.words_per_region
 word_within p t at i shaped s f =
-    let a = object_within t at f.object shaped (kept_object p t at f.object f.at) in
+    let is = kept_object p t at f.object f.at in
+    let a = object_within t at f.object shaped is in
     let b : length t.regions * t.words_per_region ≡ length p.start.regions * p.start.words_per_region = rw (s.count, s.size) refl in
     let w = f.within in
-    omega (arith, length-append f.object.pointers f.object.weaks)
+    omega (arith, fields_are t at f.object shaped is)
 
 pub all_small : (p : Pause) → IsPause p → length p.start.regions * p.start.words_per_region ≤ max_words
 all_small p q = q.shaped.in_all

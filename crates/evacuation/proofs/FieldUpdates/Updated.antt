@@ -54,7 +54,7 @@ module _ (l : Layout) (p : Plan) (s s' : Space) (d : Destinations) (c : IsCopyin
   updated_copying = record {
     heap = same_evacuating (set_of l) p.heap s.forward s'.forward p.heap.roots s'.object s'.object (λ x. sym (u.forward x)) (λ x. refl)
         (field_updated (set_of l) p.heap s.forward (seen_as s p.heap) c.heap (seen_as s' p.heap) at i a b y updated out names inside f
-        change is_set.values is_set.shape is_set.fields_are);
+        change is_set.values is_set.shape is_set.slots is_set.fields_are);
     free = λ k e. c.free k (sym (u.free k) ∙ e);
     taken = c.taken;
     last = c.last;

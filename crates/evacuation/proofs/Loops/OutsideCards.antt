@@ -51,11 +51,11 @@ visited_field p t d visited b i turn v =
     record { object = y; at = at; within = omega arith }
 
 -- the word of a visited field belongs to its object's tile
-visited_holder : (p : Pause) (t : Table) (d : Destinations) (visited : List Bool) (b i : ℕ) → IsTurn p t d
+visited_holder : (p : Pause) (t : Table) (d : Destinations) (visited : List Bool) (b i : ℕ) → IsShaped t → IsTurn p t d
     → IsVisited (layout p) (plan p) visited b i → IsHolder t b (field_word b i)
-visited_holder p t d visited b i turn v =
+visited_holder p t d visited b i shape turn v =
     let f = visited_field p t d visited b i turn v in
-    word_holder t b i f.object (kept_object p t b f.object f.at) f.within
+    word_holder t b i f.object shape (kept_object p t b f.object f.at) f.within
 
 module _ (p : Pause) (q : IsPause p) (card : ℕ) where
   has_words : 0 < p.card_words
@@ -75,7 +75,7 @@ module _ (p : Pause) (q : IsPause p) (card : ℕ) where
     pub none_there : (card * p.card_words < top_of t (card * p.card_words / t.words_per_region) → ⊥)
         → (visited : List Bool) → IsCardClean p visited t card
     none_there none visited b i v e = absurd (
-        let h = holder_below t b (field_word b i) g (visited_holder p t d visited b i turn v) in
+        let h = holder_below t b (field_word b i) g (visited_holder p t d visited b i g turn v) in
         let r = region (field_word b i) e in
         let s = ap (top_of t) r in
         let l = low (field_word b i) e in
@@ -87,7 +87,7 @@ module _ (p : Pause) (q : IsPause p) (card : ℕ) where
         → IsVisited (layout p) (plan p) visited b i → field_word b i / p.card_words ≡ card
         → (first ≤ b) × (b / t.words_per_region ≡ first / t.words_per_region)
     onward first h visited b i v e = holder_onward t first (card * p.card_words) b (field_word b i) g h
-        (visited_holder p t d visited b i turn v) (low (field_word b i) e) (region (field_word b i) e)
+        (visited_holder p t d visited b i g turn v) (low (field_word b i) e) (region (field_word b i) e)
 
     -- where that starts in a region of the set there is none of them
     pub none_inside : (first : ℕ) → IsHolder t first (card * p.card_words) → in_set p first ≡ true → (visited : List Bool)
@@ -131,7 +131,7 @@ module _ (p : Pause) (q : IsPause p) (card : ℕ) where
         → IsCardClean p visited t' card
     clean_over g u is over b i v e = elim (cases_lt at b) [
       | inl above ↦ absurd (
-          let h = visited_holder p t c.destinations visited b i stands.turn v in
+          let h = visited_holder p t c.destinations visited b i g stands.turn v in
           let l = h.low in
           let w = high (field_word b i) e in
           let here : IsHolder t at (field_word b i) =

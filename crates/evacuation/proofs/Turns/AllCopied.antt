@@ -3,7 +3,6 @@ use Rattle.std.proofs.Common.{◌≡◌, ◌/◌, ◌∷◌, ◌∙◌, ℕ, Boo
 use Rattle.std.proofs.Common.{inr, arith, slice_get}
 use Rattle.std.specs.List.{AllZip}
 use Rattle.std.proofs.lemmas.Bool.{cases_Bool}
-use Rattle.std.proofs.lemmas.List.{length-append}
 use Rattle.heap_model.specs.Heap.{Heap, Stored, fields}
 use Rattle.heap_model.specs.Relocation.{IsMoved, Relocates}
 use Rattle.heap_model.specs.Evacuation.{IsReached, ByRootWord, ByOutside, ByInside, place_after}
@@ -11,7 +10,7 @@ use Rattle.heap_model.specs.Evacuation.{IsWord, IsEvacuating, IsEvacuated, IsCle
 use Rattle.heap_model.proofs.Lists.{AllZip-get_right}
 use Rattle.heap_model.proofs.Evacuated.{evacuated_relocates, word_was, reached_exactly}
 use Rattle.regions.specs.Table.{Table}
-use Rattle.refinement.proofs.Holders.{object_within}
+use Rattle.refinement.proofs.Holders.{fields_are, object_within}
 use Rattle.evacuation.specs.Evacuates.{AreReachedWords}
 use Rattle.refinement.specs.Remembering.{field_word}
 use Rattle.evacuation.specs.Space.{AreClean, IsRegionSettled, IsDestination, seen_as}
@@ -62,7 +61,7 @@ module _ (p : Pause) (visited : List Bool) (t t' : Table) (c c' : Context) (root
   evacuating = let h = turn.copying.heap in record {
     roots = zip_map p.roots roots moved;
     objects = λ a b x e f. let k = h.objects a b x e f in
-        record { part = k.part; at = k.at; name = k.name; values = k.values; shape = k.shape; words = k.words };
+        record { part = k.part; at = k.at; name = k.name; values = k.values; shape = k.shape; slots = k.slots; words = k.words };
     came = h.came;
     untouched = h.untouched;
     reached = h.reached;
@@ -96,9 +95,10 @@ module _ (p : Pause) (visited : List Bool) (t t' : Table) (c c' : Context) (root
         let was = word_was set (plan p).heap forward (seen_as (space p t') (plan p).heap) turn.copying.heap w a v inside in
         let named = is ∙ ap Some was in
         let within = get_below (fields x) i (Some a) named in
-        let big = object_within p.start b x q.shaped (kept_object p p.start b x (start_kept p b ∙ here)) in
+        let first = kept_object p p.start b x (start_kept p b ∙ here) in
+        let big = object_within p.start b x q.shaped first in
         let card =
-        card_within p visited (field_word b i) p.card_words q refl are.each_card (omega (arith, length-append x.pointers x.weaks)) in
+        card_within p visited (field_word b i) p.card_words q refl are.each_card (omega (arith, fields_are p.start b x q.shaped first)) in
         outside b i (record { object = x; at = here; outside = out; within = within; card = are.all b i a x here out named inside }) card
         y (Some a) at e
     | inr k ↦ k

@@ -204,7 +204,7 @@ module _ (h : Layers) (rows : List LiveRow) (cw : ℕ) (can : CanEvacuate h rows
       → slice_get (fields x) i ≡ Some v → flag flags (b / words) ≡ false
       → flag flags (field_word b i / words) ≡ false
   field_outside b i x v at e out =
-      let holder = word_holder h.table b i x (object b x at) (get_below (fields x) i v e) in
+      let holder = word_holder h.table b i x shaped (object b x at) (get_below (fields x) i v e) in
       elim (cases_Bool (flag flags (field_word b i / words))) [ inl q ↦ absurd (apart b (field_word b i) holder out q) | inr q ↦ q ]
 
   module _ (visited : List Bool)
@@ -212,7 +212,7 @@ module _ (h : Layers) (rows : List LiveRow) (cw : ℕ) (can : CanEvacuate h rows
       → flag visited card ≡ list_any (λ row. may_lead h.sets row.region card) rows) where
     all_visited : AllVisited (layout pause) (plan pause) visited
     all_visited b i a x at out e inside =
-        let holder = word_holder h.table b i x (object b x at) (get_below (fields x) i (Some a) e) in
+        let holder = word_holder h.table b i x shaped (object b x at) (get_below (fields x) i (Some a) e) in
         let leaves : a / words ≢ field_word b i / words =
         λ same. apart b (field_word b i) holder out (ap (flag flags) (sym same) ∙ inside) in
         let crossing : IsCrossing words kept b i a = record { object = x; kept_is = at; field_is = e; leaves = leaves } in

@@ -1,6 +1,6 @@
 -- What a write to an object changes, with no word in it.
 use Rattle.regions.proofs.Common.{◌≡◌, ◌≢◌, ℕ, ◌+◌, ◌/◌, ◌%◌, ◌<◌, Option, Some, length, get_or, arith, refl, sym, ◌∙◌, ap, subst, inl, inr}
-use Rattle.regions.proofs.Common.{get_or-set_same, get_or-set_other, length-set, length-append, cases_eq, Object, tile_size, Stored, fields}
+use Rattle.regions.proofs.Common.{get_or-set_same, get_or-set_other, length-set, cases_eq, Object, tile_size, Stored}
 use Rattle.regions.proofs.Common.{with_field, Region, Free, Ordinary, First, Rest, Table, region_at, nth_region, tile_in, tile_object}
 use Rattle.regions.proofs.Common.{object_at, with_object, put_object, set_pointer, set_weak, set_field, set_value, kind_of, region_kind}
 use Rattle.regions.proofs.Common.{used_of, HasNoForwarded}
@@ -76,12 +76,7 @@ weak_put t x i v s z h =
 
 -- a field that is set leaves as many weak slots
 pub field_weaks : (s : Stored) (i : ℕ) (v : Option ℕ) → length (with_field s i v).weaks ≡ length s.weaks
-field_weaks s i v =
-    let f = field_set s i v in
-    let long = length-set (fields s) i v in
-    let was = length-append s.pointers s.weaks in
-    let now = length-append (with_field s i v).pointers (with_field s i v).weaks in
-    omega (arith, ap length f.fields_are, f.shape, long, was, now)
+field_weaks s i v = (field_set s i v).slots
 
 pub field_size : (s : Stored) (i : ℕ) (v : Option ℕ) → tile_size (Object (with_field s i v)) ≡ tile_size (Object s)
 field_size s i v = let f = field_set s i v in let w = field_weaks s i v in omega (arith, f.shape, ap length f.values, w)

@@ -2,7 +2,8 @@
 use Rattle.regions.proofs.Common.{get_or_from_slice_get, get_or-replicate, length-replicate, slice_get_within, replace_tile, tile_object, ℕ}
 use Rattle.regions.proofs.Common.{new_object, replicate, slice_get, tile_size, object_at, push_tile, remainder, cases_lt, cases_eq, tile_in}
 use Rattle.regions.proofs.Common.{IsShaped, IsHolder, used_of, kind_of, Option, length, get_or, IsSome, Stored, fields, Object, Filler, ◌≡◌}
-use Rattle.regions.proofs.Common.{top_of, subst, arith, Table, Some, None, refl, ◌≢◌, ◌+◌, ◌-◌, ◌<◌, ◌≤◌, ◌∷◌, ◌∙◌, sym, inl, inr, [], ap}
+use Rattle.regions.proofs.Common.{top_of, subst, arith, Table, Some, None, refl, ◌≢◌, ◌+◌, ◌-◌, ◌<◌, ◌≤◌, ◌∷◌, ◌++◌, ◌∙◌, sym, inl, inr}
+use Rattle.regions.proofs.Common.{[], ap}
 use Rattle.heap_model.proofs.Lists.{get-append_cases}
 use Rattle.regions.proofs.Tiles.Placing.{Pushed, filler_push, Replaces, filler_replaced, tile_at-alone}
 use Rattle.regions.specs.declared.row.Kind.TheVariants as kinds
@@ -17,9 +18,9 @@ nil_alone n i b e =
     cc
 
 pub nil_fields : (name n weak i b : ℕ) → slice_get (fields (new_object name n weak 0)) i ≡ Some (Some b) → ⊥
-nil_fields name n weak i b e = elim (get-append_cases (replicate n None) (replicate weak None) i (Some b) e) [
+nil_fields name n weak i b e = elim (get-append_cases (replicate n None) (replicate weak None ++ []) i (Some b) e) [
   | inl q ↦ nil_alone n i b q
-  | inr q ↦ nil_alone weak q.0 b q.1
+  | inr q ↦ elim (get-append_cases (replicate weak None) [] q.0 (Some b) q.1) [ inl r ↦ nil_alone weak q.0 b r | inr r ↦ cc ]
 ]
 
 -- an object is at a, where none was, and the other objects are where they were

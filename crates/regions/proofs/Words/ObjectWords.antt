@@ -1,5 +1,6 @@
 -- The words of an object of the table.
-use Rattle.regions.proofs.Common.{◌≡◌, ◌+◌, ◌≤◌, ◌∷◌, ◌++◌, ◌∙◌, Option, None, ℕ, suc, Some, List, length, take, drop, get_or, refl, sym}
+use Rattle.regions.proofs.Common.{◌≡◌, ◌+◌, ◌≤◌, ◌∷◌, ◌++◌, ◌∙◌, Option, None, ℕ, suc, Some, List, [], length, take, drop, get_or, refl}
+use Rattle.regions.proofs.Common.{sym}
 use Rattle.regions.proofs.Common.{ap, subst, arith, drop-cons, length-take, length-drop, take-append-drop, get_or-drop, Stored, Object}
 use Rattle.regions.proofs.Common.{tile_size, stored_of, Table, object_at, object_words, stored_size, object_pointers, object_weaks}
 use Rattle.regions.proofs.Common.{object_values, pointers_at, weaks_at, values_at, IsSome, header_of, pointer_count, counts_of, object_size}
@@ -42,6 +43,10 @@ there size words rows t x s g e h =
       fits = omega (arith, i.fits);
       large = omega arith;
     }
+
+-- an object in words has no held slots
+pub none_held : (words : List ℕ) (t : Table) (x : ℕ) (s : Stored) → IsThere words t x s → s.held ≡ []
+none_held words t x s i = ap (λ (r : Stored). r.held) i.is_in.stored_is
 
 pub some_object : (o : Option Stored) → IsSome o → (s : Stored) × (o ≡ Some s)
 some_object None h = cc

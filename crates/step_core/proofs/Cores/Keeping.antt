@@ -1,11 +1,14 @@
 -- What each part of a step keeps: k is the core by its fields, c the same by its value.
 use Rattle.std.proofs.Common.{◌≡◌, ℕ, ◌+◌, ◌<◌, ◌⊎◌, Option, Some, None, List, length, get_or, inl, refl, sym, ◌∙◌, ap, subst, arith}
+use Rattle.std.proofs.Common.{[], ◌∷◌}
 use Rattle.std.specs.Prelude.{slice_get, slice_set, unwrap_or, IsSome, IfSome}
 use Rattle.std.proofs.lemmas.List.{length-set}
 use Rattle.heap_words.specs.declared.config.Config.{Config}
 use Rattle.heap_words.specs.Configs.{registers_of}
 use Rattle.root_table.proofs.Rows.{register_within}
 use Rattle.std.specs.List.{AllZip}
+use Rattle.heap_model.specs.Weak.{PairsChange}
+use Rattle.heap_model.specs.Marking.{Marking, PairsSet}
 use Rattle.heap_model.specs.Graph.{Graph, Object, RootCounts, object_named, with_changed}
 use Rattle.heap_model.specs.Heap.{Heap, Stored, IsShown, IsRoot, IsHeld, ObjectSet}
 use Rattle.regions.specs.Tiles as tiles
@@ -25,8 +28,8 @@ use Rattle.step_core.specs.Parts.{DoesAction, HoldsRegister, HoldsRoot, NamesAt}
 use Rattle.step_core.specs.Answers.{Acts}
 use Rattle.step_core.proofs.Cores.Sizes.{some_words}
 use Rattle.step_core.proofs.Cores.Slots.{slots_same, slots_set, object_stays}
-use Rattle.heap_model.specs.Clearing.{IsWeakShown, KeepsAt, kept_word}
-use Rattle.step_core.specs.Stands.{IsClearing}
+use Rattle.heap_model.specs.Clearing.{IsWeakShown, KeepsAt, kept_word, kept_held}
+use Rattle.step_core.specs.Stands.{IsClearing, marking_of}
 use Rattle.step_core.proofs.Cores.Resting.{core_over, root_rests, object_rests}
 use Rattle.step_core.proofs.Cores.Layers.{layers_writes, follows_of, still_there}
 use Rattle.step_core.proofs.Mutating.Written.{object_written, write_keeps, root_keeps}
@@ -160,19 +163,52 @@ pub object_led : (k c : CoreState) (place a : ℕ) → k ≡ c → IsCore k → 
 object_led k c place a e core l =
     subst (λ (d : CoreState). IsSome (object_at d.table a)) (sym e) (led_object c place a (core_of k c e core) l)
 
+-- the same weak slots and held slots make the same pairs
+pub same_pairs : (h : Heap) (m : Marking) (x y : Stored) → y.weaks ≡ x.weaks → y.held ≡ x.held → PairsSet h m x y
+same_pairs h m x y weaks held = record {
+  went = λ i k b z at p. inl (ap (λ l. slice_get l i) weaks ∙ p.0, ap (λ l. slice_get l i) held ∙ p.1);
+  came = λ i k b z at p. inl (ap (λ l. slice_get l i) (sym weaks) ∙ p.0, ap (λ l. slice_get l i) (sym held) ∙ p.1);
+}
+
+pub no_change : (s : Graph) (o p : Object) → p.weaks ≡ o.weaks → p.held ≡ o.held → PairsChange s o p
+no_change s o p weaks held = record {
+  went = λ i k b e. inl (ap (λ l. slice_get l i) weaks ∙ e.0, ap (λ l. slice_get l i) held ∙ e.1);
+  came = λ i k b e. inl (ap (λ l. slice_get l i) (sym weaks) ∙ e.0, ap (λ l. slice_get l i) (sym held) ∙ e.1);
+}
+
+-- and where there are no held slots there are no pairs
+pub nothing_there : (vs : List (Option ℕ)) (i b : ℕ) → vs ≡ [] → slice_get vs i ≡ Some (Some b) → ⊥
+nothing_there [] i b e at = cc
+nothing_there (v ∷ vs) i b e at = cc
+
+pub bare_pairs : (h : Heap) (m : Marking) (x y : Stored) → x.held ≡ [] → y.held ≡ [] → PairsSet h m x y
+bare_pairs h m x y none none' = record {
+  went = λ i k b z at p. absurd (nothing_there x.held i b none p.1);
+  came = λ i k b z at p. absurd (nothing_there y.held i b none' p.1);
+}
+
+pub bare_change : (s : Graph) (o p : Object) → o.held ≡ [] → p.held ≡ [] → PairsChange s o p
+bare_change s o p none none' = record {
+  went = λ i k b e. absurd (nothing_there o.held i b none e.1);
+  came = λ i k b e. absurd (nothing_there p.held i b none' e.1);
+}
+
 -- an object is written over by one with the same pointers, and the graph's object with it
 pub written_kept : (k : CoreState) (core : IsCore k) (a : ℕ) (x y : Stored) (o p : Object) (t : Table) → kept_of k a ≡ Some x
     → WritesObject k.table t a x y → y.name ≡ x.name → y.pointers ≡ x.pointers → tiles.tile_size (tiles.Object y) ≡ tiles.tile_size
     (tiles.Object x) → object_named core.footing.graph x.name ≡ Some o → p.pointers ≡ o.pointers
     → AllZip (IsShown (heap_of k)) y.pointers p.pointers → AllZip (IsWeakShown (heap_of k)) y.weaks p.weaks
-    → ShowsGraph (with_changed core.footing.graph x.name p) (record k { table = t }) → RemembersFields (record k { table = t })
+    → AllZip (IsShown (heap_of k)) (kept_held (kept_of k) y) p.held → PairsSet (heap_of k) (marking_of k) x y
+    → PairsChange core.footing.snapshot o p → ShowsGraph (with_changed core.footing.graph x.name p) (record k { table = t })
+    → RemembersFields (record k { table = t })
     → ((i b : ℕ) → slice_get y.weaks i ≡ Some (Some b) → (slice_get x.weaks i ≡ Some (Some b)) ⊎ KeepsAt (heap_of k) b)
     → IsCore (record k { table = t })
-written_kept k core a x y o p t at writes name same long named stay pointers weaks shows remembers slots =
+written_kept k core a x y o p t at writes name same long named stay pointers weaks held pairs change shows remembers slots =
     let set = object_written k (record k { table = t }) a x y writes name at (record { tams = refl; previous = refl; roots = refl }) in
     let lead = slots_set k (record k { table = t }) a x y set core.slots refl slots
     (object_stays k (record k { table = t }) (λ b z e. still_there k.table t a b x y z writes e)) in
-    let keeps = write_keeps core.footing.snapshot k t a x y writes name at same core.rests.keeps in
+    let keeps =
+    write_keeps core.footing.graph core.footing.snapshot k t a x y core.rests.shows writes name at same pairs core.rests.keeps in
     core_over k core t k.buffers k.marker k.cards k.sets k.roots refl
     (layers_writes k.config k.table t k.buffers k.marker a x y writes core.layers
     (follows_of (record k { table = t }) _ core.footing.snapshot shows keeps) long
@@ -180,8 +216,9 @@ written_kept k core a x y o p t at writes name same long named stay pointers wea
     (record { graph = with_changed core.footing.graph x.name p; snapshot = core.footing.snapshot }) (record {
       shows = shows;
       keeps = keeps;
-      sound = object_rests core.footing.graph k x.name o p y.pointers y.weaks core.rests.shows named pointers weaks core.rests.sound;
-      unreached = unreached_written core.footing.snapshot core.footing.graph core.rests.unreached x.name o p named stay;
+      sound = object_rests core.footing.graph k x.name o p y.pointers y.weaks (kept_held (kept_of k) y) core.rests.shows named pointers
+          weaks held core.rests.sound;
+      unreached = unreached_written core.footing.snapshot core.footing.graph core.rests.unreached x.name o p named stay change;
     })
 
 module _ (k c : CoreState) (e : k ≡ c) (core : IsCore k) (m : ℕ) (object : Register) (a i v : ℕ) (t : Table)
@@ -207,7 +244,8 @@ module _ (k c : CoreState) (e : k ≡ c) (core : IsCore k) (m : ℕ) (object : R
       (record { tams = refl; previous = refl; roots = refl })
 
   keeps_by : (s : Graph) → KeepsFrom s k → KeepsFrom s (record k { table = t })
-  keeps_by s f = write_keeps s k t a h.stored (with_value h.stored i v) writes refl h.at refl f
+  keeps_by s f = write_keeps core.footing.graph s k t a h.stored (with_value h.stored i v) core.rests.shows writes refl h.at refl
+      (same_pairs (heap_of k) (marking_of k) h.stored (with_value h.stored i v) refl refl) f
 
   -- the step `write` is done
   pub write_does : DoesAction m (actions.Write object i v) replies.Done c (record k { table = t })
@@ -230,9 +268,11 @@ module _ (k c : CoreState) (e : k ≡ c) (core : IsCore k) (m : ℕ) (object : R
       let p : Object = record h.object { values = slice_set h.object.values i v } in
       written_kept k core a h.stored (with_value h.stored i v) h.object p t h.at writes refl refl
       (ap (λ (n : ℕ). 2 + length h.stored.pointers + length h.stored.weaks + n) (length-set h.stored.values i v)) h.named refl
-      h.pointers h.weaks
+      h.pointers h.weaks h.held (same_pairs (heap_of k) (marking_of k) h.stored (with_value h.stored i v) refl refl)
+      (no_change core.footing.snapshot h.object p refl refl)
       (object_shows core.footing.graph k d a h.stored (with_value h.stored i v) h.object p core.rests.shows
-      (record { config = refl; next = refl }) write_set h.named h.pointers h.weaks (ap (λ (vs : List ℕ). slice_set vs i v) h.values))
+      (record { config = refl; next = refl }) write_set h.named h.pointers h.weaks h.held h.keyed
+      (ap (λ (vs : List ℕ). slice_set vs i v) h.values))
       (remembers_on k d refl writes.size refl refl (written_fields (heap_of k) (heap_of d) a h.stored (with_value h.stored i v) write_set
       refl) core.remembers) (λ n b q. inl q)
 

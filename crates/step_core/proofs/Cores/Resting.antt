@@ -1,6 +1,7 @@
 -- A core whose layers and roots change is one still: names are below the next one, and what the snapshot doesn't reach has the pointers
 -- that it had.
 use Rattle.std.proofs.Common.{◌≡◌, ℕ, ◌<◌, ◌≤◌, ◌⊎◌, Option, Some, None, List, length, refl, sym, ◌∙◌, ap, subst, inl, inr, slice_get}
+use Rattle.std.proofs.Common.{◌++◌}
 use Rattle.std.specs.List.{AllZip}
 use Rattle.heap_model.specs.Graph.{Graph, Object, IsReachable, FromRoot, IsSound, next_name, object_named, with_root, with_changed}
 use Rattle.heap_model.specs.Heap.{Stored, IsShown, IsRoot}
@@ -122,12 +123,16 @@ pub root_rests : (g : Graph) (c : CoreState) (place : ℕ) (w v : Option ℕ) �
 root_rests g c place w v s shown sound = root_sound g place v sound (λ n e. shown_below g c w v n s shown e)
 
 -- an object has other fields, which words show
-pub object_rests : (g : Graph) (c : CoreState) (n : ℕ) (o p : Object) (ps ws : List (Option ℕ)) → ShowsGraph g c → object_named g n ≡ Some o
-    → AllZip (IsShown (heap_of c)) ps p.pointers → AllZip (IsWeakShown (heap_of c)) ws p.weaks → IsSound g → IsSound (with_changed g n p)
-object_rests g c n o p ps ws s named pointers weaks sound =
-    changed_sound g n o p sound named (λ i k e. elim (get-append_cases p.pointers p.weaks i (Some k) e) [
+pub object_rests : (g : Graph) (c : CoreState) (n : ℕ) (o p : Object) (ps ws hs : List (Option ℕ)) → ShowsGraph g c
+    → object_named g n ≡ Some o → AllZip (IsShown (heap_of c)) ps p.pointers → AllZip (IsWeakShown (heap_of c)) ws p.weaks
+    → AllZip (IsShown (heap_of c)) hs p.held → IsSound g → IsSound (with_changed g n p)
+object_rests g c n o p ps ws hs s named pointers weaks held sound =
+    changed_sound g n o p sound named (λ i k e. elim (get-append_cases p.pointers (p.weaks ++ p.held) i (Some k) e) [
       | inl q ↦ fields_below g c ps p.pointers s pointers i k q
-      | inr q ↦ slots_below g c ws p.weaks s weaks q.0 k q.1
+      | inr q ↦ elim (get-append_cases p.weaks p.held q.0 (Some k) q.1) [
+        | inl r ↦ slots_below g c ws p.weaks s weaks q.0 k r
+        | inr r ↦ fields_below g c hs p.held s held r.0 k r.1
+      ]
     ])
 
 -- the object that a root names was reachable in the snapshot, or is newer

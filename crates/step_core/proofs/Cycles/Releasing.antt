@@ -274,7 +274,7 @@ module _ (k : CoreState) (core : IsCore k) (shaped : IsShaped k.table) (n m : �
   field_stays at index x v kept_is field_is =
       let here : kept_of k at ≡ Some x = sym (kept_same at) ∙ kept_is in
       let o = kept_object k.table k.marker.tams k.marker.bitmaps.previous at x here in
-      let holder = word_holder k.table at index x o (get_below (fields x) index v field_is) in
+      let holder = word_holder k.table at index x shaped o (get_below (fields x) index v field_is) in
       let s = holder_start k.table at (field_word at index) shaped holder in
       let below = s.run.below in
       elim (block_cases n m (field_word at index / size)) [

@@ -2,7 +2,7 @@
 use Rattle.std.proofs.Common.{◌≡◌, ◌+◌, ◌<◌, ◌≤◌, ◌⊎◌, ◌∷◌, ◌++◌, ◌∙◌, ℕ, zero, suc, List, [], Option, Some, None, length}
 use Rattle.std.proofs.Common.{map, refl, sym, ap, subst, arith, inl, inr, slice_get, slice_index}
 use Rattle.std.proofs.lemmas.List.{length-map}
-use Rattle.heap_model.specs.Graph.{Graph, IsReachable, next_name}
+use Rattle.heap_model.specs.Graph.{Graph, IsReachable, next_name, held_by}
 use Rattle.heap_model.specs.Heap.{Stored, fields}
 use Rattle.heap_model.specs.Marking.{Marking, KeepsSnapshot}
 use Rattle.heap_model.specs.Weak.{cleared, cleared_object, cleared_word}
@@ -24,16 +24,24 @@ use Rattle.step_core.specs.Cycle.{HasSettled, HasLooked, IsAhead}
 use Rattle.step_core.proofs.Cores.Added.{stand_same, object_none}
 use Rattle.step_core.proofs.Mutating.Small.{IsHalf, IsOver, sizes_same, words_are, words_none}
 use Rattle.heap_model.specs.Clearing.{ClearsWeaks, IsPassed, kept_word, with_kept_weaks}
+use Rattle.heap_model.proofs.Held.{held_by_was}
 use Rattle.heap_model.proofs.Waiting.{will_cleared, cleared_further, cleared_target, cleared_invariant}
 use Rattle.marker.proofs.Ended.{cleared_stands, clears_weaks, clears_done, lead_cleared}
 use Rattle.step_core.proofs.Cores.Layers.{follows_of}
 use Rattle.step_core.proofs.Mutating.Written.{marking_same}
 
-slots_were : (kept : ℕ → Option Stored) (ps ws : List (Option ℕ)) (i v : ℕ)
-    → slice_get (ps ++ map (kept_word kept) ws) i ≡ Some (Some v) → slice_get (ps ++ ws) i ≡ Some (Some v)
-slots_were kept [] ws i v e = (cleared_target kept ws i v e).0
-slots_were kept (p ∷ ps) ws zero v e = e
-slots_were kept (p ∷ ps) ws (suc i) v e = slots_were kept ps ws i v e
+-- what weak slots and held slots hold once they are cleared they held
+behind_were : (kept : ℕ → Option Stored) (ws ks hs : List (Option ℕ)) (i v : ℕ)
+    → slice_get (map (kept_word kept) ws ++ held_by ks hs) i ≡ Some (Some v) → slice_get (ws ++ hs) i ≡ Some (Some v)
+behind_were kept [] ks hs i v e = held_by_was ks hs i v e
+behind_were kept (w ∷ ws) ks hs zero v e = (cleared_target kept (w ∷ []) zero v e).0
+behind_were kept (w ∷ ws) ks hs (suc i) v e = behind_were kept ws ks hs i v e
+
+slots_were : (kept : ℕ → Option Stored) (ps ws ks hs : List (Option ℕ)) (i v : ℕ)
+    → slice_get (ps ++ (map (kept_word kept) ws ++ held_by ks hs)) i ≡ Some (Some v) → slice_get (ps ++ (ws ++ hs)) i ≡ Some (Some v)
+slots_were kept [] ws ks hs i v e = behind_were kept ws ks hs i v e
+slots_were kept (p ∷ ps) ws ks hs zero v e = e
+slots_were kept (p ∷ ps) ws ks hs (suc i) v e = slots_were kept ps ws ks hs i v e
 
 -- the object at an address after the clearing: as it was, or with its slots cleared
 record WasObject (m : Marking) (t : Table) (a : ℕ) (y : Stored) : Type 0 where
@@ -137,7 +145,7 @@ module _ (k : CoreState) (core : IsCore k) (t : Table) (to : Option ℕ) (d : �
         record {
           object = q.0;
           kept_is = q.1;
-          field_is = slots_were (kept_of k) q.0.pointers q.0.weaks i v
+          field_is = slots_were (kept_of k) q.0.pointers q.0.weaks (map (kept_word (kept_of k)) q.0.weaks) q.0.held i v
               (ap (λ (z : Stored). slice_get (fields z) i) same ∙ x.field_is);
           leaves = x.leaves;
         }

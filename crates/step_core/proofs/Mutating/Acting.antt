@@ -2,12 +2,12 @@
 use Rattle.std.proofs.Common.{◌≡◌, ℕ, ◌+◌, ◌-◌, ◌<◌, ◌≤◌, Option, Some, None, List, length, get_or, refl, sym, ◌∙◌, ap, subst}
 use Rattle.std.specs.Prelude.{slice_get, slice_set}
 use Rattle.std.specs.List.{AllZip}
-use Rattle.heap_model.specs.Graph.{Graph, Object, RootCounts, object_named, with_changed}
+use Rattle.heap_model.specs.Graph.{Graph, Object, RootCounts, object_named, with_changed, held_by}
 use Rattle.heap_model.specs.Heap.{Stored, IsShown, ObjectSet}
 use Rattle.heap_words.specs.Configs.{object_limit}
 use Rattle.std.proofs.lemmas.List.{length-set}
 use Rattle.std.proofs.lemmas.Option.{slice_get-get_or}
-use Rattle.heap_model.specs.Clearing.{IsWeakShown, kept_word}
+use Rattle.heap_model.specs.Clearing.{IsWeakShown, kept_word, kept_held}
 use Rattle.heap_model.proofs.Waiting.{will_root_set, will_object_set}
 use Rattle.regions.specs.Table.{Table, pointers_at, weaks_at, values_at, object_values, set_value}
 use Rattle.regions.proofs.Tiles.Changes.{WritesObject, value_put}
@@ -98,13 +98,13 @@ slot_word c place a i w k l e =
 -- the core with another object of the same name at an address
 pub object_shows : (g : Graph) (c c' : CoreState) (a : ℕ) (x y : Stored) (o p : Object) → ShowsGraph g c → SamePlaces c c'
     → ObjectSet (heap_of c) (heap_of c') a x y → object_named g x.name ≡ Some o → AllZip (IsShown (heap_of c)) y.pointers p.pointers
-    → AllZip (IsWeakShown (heap_of c)) y.weaks p.weaks → y.values ≡ p.values
-    → ShowsGraph (with_changed g x.name p) c'
-object_shows g c c' a x y o p s same set named pointers weaks values = record {
+    → AllZip (IsWeakShown (heap_of c)) y.weaks p.weaks → AllZip (IsShown (heap_of c)) (kept_held (kept_of c) y) p.held
+    → held_by y.weaks y.held ≡ y.held → y.values ≡ p.values → ShowsGraph (with_changed g x.name p) c'
+object_shows g c c' a x y o p s same set named pointers weaks held keyed values = record {
   room = s.room ∙ sym (ap object_limit same.config);
   places = s.places ∙ sym (ap root_counts_of same.config);
   next = ap (λ n. g.first_name + n) (length-set g.objects (x.name - g.first_name) p) ∙ s.next ∙ sym same.next;
-  shows = will_object_set g (heap_of c) (heap_of c') s.shows a x y o p set named pointers weaks values;
+  shows = will_object_set g (heap_of c) (heap_of c') s.shows a x y o p set named pointers weaks held keyed values;
 }
 
 -- the same of an object that is known by its name: by what was shown of it the other one is shown
@@ -112,8 +112,10 @@ pub named_shows : (g : Graph) (c c' : CoreState) (a : ℕ) (x y z : Stored) (o p
     → ObjectSet (heap_of c) (heap_of c') a x y → kept_of c a ≡ Some z → object_named g z.name ≡ Some o
     → (AllZip (IsShown (heap_of c)) x.pointers o.pointers → AllZip (IsShown (heap_of c)) y.pointers p.pointers)
     → (AllZip (IsWeakShown (heap_of c)) x.weaks o.weaks → AllZip (IsWeakShown (heap_of c)) y.weaks p.weaks)
+    → (AllZip (IsShown (heap_of c)) (kept_held (kept_of c) x) o.held → AllZip (IsShown (heap_of c)) (kept_held (kept_of c) y) p.held)
+    → (held_by x.weaks x.held ≡ x.held → held_by y.weaks y.held ≡ y.held)
     → (x.values ≡ o.values → y.values ≡ p.values) → ShowsGraph (with_changed g z.name p) c'
-named_shows g c c' a x y z o p s same set at named pointers weaks values =
+named_shows g c c' a x y z o p s same set at named pointers weaks held keyed values =
     let was : kept_of c a ≡ Some x = set.was in
     let here : z ≡ x = cc in
     let named' : object_named g x.name ≡ Some o = ap (λ (u : Stored). object_named g u.name) (sym here) ∙ named in
@@ -123,6 +125,7 @@ named_shows g c c' a x y z o p s same set at named pointers weaks values =
     (object_shows g c c' a x y o p s same set named'
     (pointers (subst (λ (q : Object). AllZip (IsShown (heap_of c)) x.pointers q.pointers) is shown.pointers))
     (weaks (subst (λ (q : Object). AllZip (IsWeakShown (heap_of c)) x.weaks q.weaks) is shown.weaks))
+    (held (subst (λ (q : Object). AllZip (IsShown (heap_of c)) (kept_held (kept_of c) x) q.held) is shown.held)) (keyed shown.keyed)
     (values (shown.values ∙ ap (λ (q : Object). q.values) is)))
 
 module _ (g : Graph) (c : CoreState) (s : ShowsGraph g c) (m : ℕ) (object : Register) where
@@ -281,5 +284,5 @@ module _ (g : Graph) (c : CoreState) (s : ShowsGraph g c) (m : ℕ) (object : Re
         (write_is i v h k) refl
         (object_shows g c (record c { table = t }) a h.stored (with_value h.stored i v) h.object p s (record { config = refl; next = refl })
         (object_written c (record c { table = t }) a h.stored (with_value h.stored i v) writes refl h.at
-        (record { tams = refl; previous = refl; roots = refl })) h.named h.pointers h.weaks
+        (record { tams = refl; previous = refl; roots = refl })) h.named h.pointers h.weaks h.held h.keyed
         (ap (λ (ps : List ℕ). slice_set ps i v) h.values))

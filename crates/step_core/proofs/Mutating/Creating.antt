@@ -41,7 +41,7 @@ use Rattle.step_core.proofs.Cores.Layers.{follows_of, stands_over}
 use Rattle.step_core.proofs.Cores.Slots.{slots_added, leads_elsewhere, object_stays}
 
 abbrev fresh : ℕ → ℕ → ℕ → Object
-fresh p weak d = record { pointers = replicate p None; weaks = replicate weak None; values = replicate d 0 }
+fresh p weak d = record { pointers = replicate p None; weaks = replicate weak None; held = []; values = replicate d 0 }
 
 not_below : (a b : ℕ) → b ≤ a → nat_lt a b ≡ false
 not_below a b le = grind (arith, common_steps, nat_tests)
@@ -120,6 +120,7 @@ module _ (k : CoreState) (m : ℕ) (to : Register) (t2 : Table) (b1 : Buffers) (
         ∙ kept_above (object_at t2) (is_below k.table.words_per_region k.marker.tams.previous) (is_marked k.marker.bitmaps.previous) a below
         ∙ makes.is;
     nil = λ i b e. nil_get p i b e;
+    bare = λ i b e. cc;
     others = λ y ne. kept_new place y ∙ kept_same (object_at k.table) (object_at t2)
         (is_below k.table.words_per_region k.marker.tams.previous) (is_marked k.marker.bitmaps.previous) y (makes.others y ne)
         ∙ sym (kept_is k y);
@@ -139,7 +140,7 @@ module _ (k : CoreState) (m : ℕ) (to : Register) (t2 : Table) (b1 : Buffers) (
     shows = will_object_added g (heap_of k) (heap_of (with_new k t2 b1 (register_place (root_counts_of k.config) m to.number) a)) s.shows a
         (new_object k.next p weak d) (fresh p weak d) (register_place (root_counts_of k.config) m to.number)
         (added (register_place (root_counts_of k.config) m to.number)) (leads_elsewhere k a core.slots makes.was) (sym s.next)
-        (nil_shown (heap_of k) p) (nil_shown (heap_of k) weak) refl;
+        (nil_shown (heap_of k) p) (nil_shown (heap_of k) weak) tt refl;
   }
 
   -- the graph has its roots in the same places
@@ -169,7 +170,7 @@ module _ (k : CoreState) (m : ℕ) (to : Register) (t2 : Table) (b1 : Buffers) (
         (object_added (IsReachable s) (next_name s) (heap_of k) (marking_of k) (f.marking run)
         (heap_of (new (register_place (root_counts_of k.config) m to.number))) a (new_object k.next p weak d)
         (register_place (root_counts_of k.config) m to.number) (new_below k.marker.tams.next core.layers.above_next) f.earlier
-        (added (register_place (root_counts_of k.config) m to.number)));
+        (added (register_place (root_counts_of k.config) m to.number)) (leads_elsewhere k a core.slots makes.was));
   }
 
   new_leaves_by : LeavesRegions k (with_new k t2 b1 (register_place (root_counts_of k.config) m to.number) a)
@@ -235,7 +236,8 @@ module _ (k : CoreState) (m : ℕ) (to : Register) (t2 : Table) (b1 : Buffers) (
               (λ i n e. nil_fields k.next p weak d i n e);
           unreached = unreached_object core.footing.snapshot g core.rests.unreached (fresh p weak d)
               (register_place (root_counts_of k.config) m to.number)
-              (let next = core.rests.shows.next in let early = core.rests.keeps.earlier in omega (arith, next, early));
+              (let next = core.rests.shows.next in let early = core.rests.keeps.earlier in omega (arith, next, early))
+              (λ i b e. cc);
         };
       }
     where

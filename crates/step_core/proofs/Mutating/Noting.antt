@@ -10,7 +10,6 @@ use Rattle.cards.specs.Cards.{Cards, is_dirty, dirtied}
 use Rattle.cards.proofs.Laws.{dirty_after}
 use Rattle.heap_model.specs.Graph.{Graph}
 use Rattle.std.proofs.lemmas.Grind.{common_steps}
-use Rattle.std.proofs.lemmas.List.{length-append}
 use Rattle.std.proofs.lemmas.Bool.Decides.{nat_tests}
 use Rattle.remembered_sets.specs.Sets.{may_lead}
 use Rattle.refinement.proofs.Remembered as remembered
@@ -19,6 +18,7 @@ use Rattle.heap_words.proofs.Limits.{card_between}
 use Rattle.std.proofs.Math.Nat.{mul_assoc, mul-div_cancel, div-lt_iff_lt-mul}
 use Rattle.step_core.specs.Stands.{CoreState, kept_of, heap_of, ShowsGraph, KeepsFrom, IsCore, IsWordOf}
 use Rattle.step_core.specs.Storing.{CanStore}
+use Rattle.refinement.proofs.Holders.{fields_are}
 use Rattle.step_core.proofs.Mutating.Reading.{object_kept, fields_there}
 use Rattle.step_core.proofs.Cores.Slots.{slots_same}
 use Rattle.step_core.proofs.Cores.Resting.{core_stays}
@@ -35,9 +35,9 @@ pub field_inside : (k c : CoreState) (a i : ℕ) → k ≡ c → IsCore k → Is
 field_inside k c a i e core shaped root within =
     let r = rooted k a core (subst (λ (d : CoreState). IsRoot (heap_of d) a) (sym e) root) in
     let here : i < length (fields_at k.table a) = subst (λ (d : CoreState). i < length (fields_at d.table a)) (sym e) within in
-    let whole = tile_of k.table a r.stored shaped (object_kept k a r.stored r.at) in
-    let count =
-    ap (λ (ps : List (Option ℕ)). length ps) (fields_there k a r.stored r.at) ∙ length-append r.stored.pointers r.stored.weaks in
+    let is = object_kept k a r.stored r.at in
+    let whole = tile_of k.table a r.stored shaped is in
+    let count = ap (λ (ps : List (Option ℕ)). length ps) (fields_there k a r.stored r.at) ∙ fields_are k.table a r.stored shaped is in
     omega (arith, whole, count, here)
 
 -- a card has a word

@@ -1,6 +1,6 @@
 -- What is read of a core, in the words of its graph.
 use Rattle.std.proofs.Common.{◌≡◌, ◌<◌, ◌≤◌, ◌∷◌, ◌∙◌, ℕ, zero, suc, Option, Some, None, List, [], length, get_or, refl, sym, ap, subst}
-use Rattle.std.proofs.Common.{arith, inr, slice_get, IsSome}
+use Rattle.std.proofs.Common.{arith, inl, inr, slice_get, IsSome}
 use Rattle.std.specs.List.{AllZip}
 use Rattle.std.proofs.lemmas.Option.{slice_get-get_or}
 use Rattle.heap_model.specs.Graph.{Graph}
@@ -57,6 +57,8 @@ object_there g c place a s shown =
       found = sym (named_at g x.name (at_least g x.name o.object o.named)) ∙ o.named;
       pointers = o.pointers;
       weaks = o.weaks;
+      held = o.held;
+      keyed = o.keyed;
       values = o.values;
     }
 
@@ -100,7 +102,7 @@ fields_there c a x e = ap object_fields (object_kept c a x e)
 pub field_held : (c : CoreState) (b i : ℕ) (x : Stored) (w : Option ℕ) → IsRoot (heap_of c) b → kept_of c b ≡ Some x
     → slice_get x.pointers i ≡ Some w → IsHeld (heap_of c) w
 field_held c b i x None root at is = tt
-field_held c b i x (Some a) root at is = inr (b, root, record { object = x; at = at; field = i; is = is })
+field_held c b i x (Some a) root at is = inr (inl (b, root, record { object = x; at = at; field = i; is = is }))
 
 -- what stands in the graph in a place of a list, which a word shows
 pub record FieldRead (c : CoreState) (vs : List (Option ℕ)) (i : ℕ) (w : Option ℕ) : Type 0 where

@@ -2,13 +2,15 @@
 use Rattle.std.proofs.lemmas.List.{length-set}
 use Rattle.std.proofs.Common.{◌≡◌, ℕ, ◌+◌, ◌<◌, true, false, List, Option, Some, None, length, refl, sym, ◌∙◌, ap, subst, inl, inr, arith}
 use Rattle.std.specs.Prelude.{slice_get, slice_set}
+use Rattle.step_core.proofs.Cores.Keeping.{no_change}
+use Rattle.heap_model.specs.Clearing.{kept_held}
 use Rattle.heap_model.specs.Graph.{Graph, Object, IsReachable, IsSound, next_name, object_named, with_changed}
 use Rattle.heap_model.specs.Heap.{Stored, IsRoot, IsHeld, IsShown, ObjectSet}
 use Rattle.heap_model.specs.Marking.{Marking, KeepsSnapshot, IsSaved}
 use Rattle.heap_model.specs.Weak.{KeepsUnreached}
 use Rattle.heap_model.proofs.Lists.{AllZip-set}
 use Rattle.heap_model.proofs.Unreached.{unreached_begins, unreached_changed}
-use Rattle.heap_model.proofs.Shown.{followed}
+use Rattle.heap_model.proofs.Shown.{followed, held_shown}
 use Rattle.heap_model.proofs.Mutate.{object_set}
 use Rattle.regions.specs.Tiles as tiles
 use Rattle.regions.specs.Table.{Table, pointers_at, set_pointer}
@@ -98,7 +100,7 @@ module _ (k : CoreState) (core : IsCore k) (a i : ℕ) (w : Option ℕ) (t : Tab
         → ShowsGraph (with_changed g y.name (record o { pointers = slice_set o.pointers i v })) after
     store_shows g y o v s aty named shown = named_shows g k after a x (with_pointer x i w) y o
         (record o { pointers = slice_set o.pointers i v }) s (record { config = refl; next = refl }) set_in aty named
-        (λ ps. AllZip-set (IsShown (heap_of k)) x.pointers o.pointers ps i w v shown) (λ ws. ws) (λ vs. vs)
+        (λ ps. AllZip-set (IsShown (heap_of k)) x.pointers o.pointers ps i w v shown) (λ ws. ws) (λ hs. hs) (λ e. e) (λ vs. vs)
 
     -- the old value was saved, so what is to be marked still will be
     pub store_keeps : (was : Option ℕ) → slice_get (pointers_at k.table a) i ≡ Some was
@@ -110,7 +112,7 @@ module _ (k : CoreState) (core : IsCore k) (a i : ℕ) (w : Option ℕ) (t : Tab
           (object_set (IsReachable s) (next_name s) core.footing.graph (heap_of k) (marking_of k) core.rests.shows.shows
           (f.marking (sym same.running ∙ run)) (heap_of after) (views.marking_of k.table m)
           a x (with_pointer x i w) i was w can.rooted can.held
-          (ap (λ (ps : List (Option ℕ)). slice_get ps i) (sym (pointers_there k a x at)) ∙ there) set_in refl saved);
+          (ap (λ (ps : List (Option ℕ)). slice_get ps i) (sym (pointers_there k a x at)) ∙ there) set_in refl refl refl saved);
     }
 
   inside : i < length x.pointers
@@ -140,7 +142,10 @@ module _ (k : CoreState) (core : IsCore k) (a i : ℕ) (w : Option ℕ) (t : Tab
       name : (u : Option ℕ) → IsHeld (heap_of k) u → (v : Option ℕ) × IsShown (heap_of k) u v
       name None h = (None, tt)
       name (Some b) (inl r) = let o = rooted k b core r in all b o.stored o.at
-      name (Some b) (inr p) =
+      name (Some b) (inr (inr p)) =
+          let t = held_shown core.footing.graph (heap_of k) core.rests.shows.shows p.0 p.1 b p.4 in
+          all b t.object t.at
+      name (Some b) (inr (inl p)) =
           let (z, e) = (followed core.footing.graph (heap_of k) core.rests.shows.shows).pointer p.0 p.2.field b p.2.object p.2.at p.2.is in
           all b z e
 
@@ -162,8 +167,8 @@ module _ (k : CoreState) (core : IsCore k) (a i : ℕ) (w : Option ℕ) (t : Tab
   sound_after =
       let o = core.rests.shows.shows.objects a x at in
       object_rests core.footing.graph k x.name o.object (record o.object { pointers = slice_set o.object.pointers i held_name.0 })
-      (slice_set x.pointers i w) x.weaks core.rests.shows o.named
-      (AllZip-set (IsShown (heap_of k)) x.pointers o.object.pointers o.pointers i w held_name.0 held_name.1) o.weaks core.rests.sound
+      (slice_set x.pointers i w) x.weaks (kept_held (kept_of k) x) core.rests.shows o.named
+      (AllZip-set (IsShown (heap_of k)) x.pointers o.object.pointers o.pointers i w held_name.0 held_name.1) o.weaks o.held core.rests.sound
 
   -- the core after a store while marking doesn't run
   pub idle_kept : k.marker.running ≡ false → IsCore (with_store k t k.marker)
@@ -207,6 +212,7 @@ module _ (k : CoreState) (core : IsCore k) (a i : ℕ) (w : Option ℕ) (t : Tab
         unreached_changed core.footing.snapshot core.footing.graph core.rests.unreached x.name o.object
         (record o.object { pointers = slice_set o.object.pointers i held_name.0 }) o.named
         (rooted_known core.footing.graph core.footing.snapshot k a x core.rests.shows (core.rests.keeps.marking run) can.rooted at)
+        (no_change core.footing.snapshot o.object (record o.object { pointers = slice_set o.object.pointers i held_name.0 }) refl refl)
 
     -- a log of eight was taken, or none was full
     module _ (m2 : Marker) (then : SameRoles m m2) (snapshots : KeepsSnapshots t m m2) (st2 : MarkerStands t m2)

@@ -1,26 +1,28 @@
 -- A store into a weak slot of an object that a root names: the field's card is noted, and marking isn't concerned.
-use Rattle.std.proofs.Common.{◌≡◌, ℕ, ◌+◌, ◌<◌, List, ◌++◌, Option, Some, length, refl, sym, ◌∙◌, ap, subst, arith, inl, inr, ◌⊎◌}
+use Rattle.std.proofs.Common.{◌≡◌, ℕ, ◌+◌, ◌<◌, List, [], ◌∷◌, Option, Some, length, map, refl, sym, ◌∙◌, ap, subst, arith, inl, inr, ◌⊎◌}
 use Rattle.std.proofs.Common.{slice_set, slice_get, IsSome}
 use Rattle.std.proofs.lemmas.List.{length-set}
-use Rattle.heap_model.specs.Graph.{Graph, Object, object_named, with_changed}
-use Rattle.heap_model.specs.Heap.{Stored, IsRoot, IsShown, ObjectSet}
+use Rattle.heap_model.specs.Graph.{Graph, Object, object_named, held_by, with_changed}
+use Rattle.std.specs.List.{AllZip}
+use Rattle.heap_model.specs.Heap.{Stored, IsRoot, IsShown, ObjectSet, fields}
 use Rattle.heap_model.proofs.Lists.{AllZip-set, get-set_cases}
 use Rattle.heap_model.proofs.Shown.{weak_shown}
-use Rattle.heap_model.specs.Clearing.{IsWeakShown, KeepsAt}
+use Rattle.heap_model.specs.Clearing.{IsWeakShown, KeepsAt, kept_held, kept_word}
 use Rattle.regions.specs.Table.{Table, object_at, weaks_at, fields_at, set_weak}
+use Rattle.regions.specs.Shaped.{IsShaped}
 use Rattle.regions.proofs.Tiles.Changes.{WritesObject, weak_put}
 use Rattle.regions.proofs.Words.Fields.{with_weak}
 use Rattle.cards.specs.Cards.{Cards}
 use Rattle.refinement.specs.Remembering.{field_word}
-use Rattle.step_core.specs.Stands.{CoreState, kept_of, heap_of, RemembersFields, ShowsGraph, KeepsFrom, IsCore, IsWordOf}
+use Rattle.step_core.specs.Stands.{CoreState, kept_of, heap_of, marking_of, RemembersFields, ShowsGraph, KeepsFrom, IsCore, IsWordOf}
 use Rattle.step_core.specs.Mutators.{weak_field}
 use Rattle.step_core.specs.Cycle.{LeavesRegions}
 use Rattle.step_core.specs.Storing.{HasNoted, StoresWeak}
 use Rattle.step_core.proofs.Cores.Sizes.{some_words}
-use Rattle.step_core.proofs.Cores.Keeping.{written_kept}
+use Rattle.step_core.proofs.Cores.Keeping.{written_kept, bare_pairs, bare_change}
 use Rattle.step_core.proofs.Cores.Remembering.{remembers_stored}
 use Rattle.step_core.proofs.Mutating.Fields.{weak_fields, fields_count}
-use Rattle.step_core.proofs.Mutating.Reading.{shown_there, object_kept, pointers_there}
+use Rattle.step_core.proofs.Mutating.Reading.{shown_there, object_kept, pointers_there, weaks_there}
 use Rattle.step_core.proofs.Mutating.Written.{object_written, write_keeps}
 use Rattle.step_core.proofs.Mutating.Acting.{named_shows}
 use Rattle.step_core.proofs.Mutating.Noting.{keeps_noted, kept_noted, shown_noted, shows_noted}
@@ -38,7 +40,7 @@ slot_within c a i within = let count = fields_count c.table a in omega (arith, c
 
 module _ (k : CoreState) (core : IsCore k) (a i : ℕ) (w : Option ℕ) (t : Table) (root : IsRoot (heap_of k) a)
     (within : i < length (weaks_at k.table a)) (word : IsWordOf (heap_of k) w)
-    (noted : HasNoted k (field_word a (weak_field k a i)) w) (is : t ≡ set_weak k.table a i w) where
+    (noted : HasNoted k (field_word a (weak_field k a i)) w) (shape : IsShaped k.table) (is : t ≡ set_weak k.table a i w) where
   r : Rooted k a
   r = rooted k a core root
 
@@ -47,6 +49,27 @@ module _ (k : CoreState) (core : IsCore k) (a i : ℕ) (w : Option ℕ) (t : Tab
 
   abbrev after : CoreState
   after = record k { table = t }
+
+  -- it has no held slots
+  none : x.held ≡ []
+  none = shape.bare a x (object_kept k a x r.at)
+
+  none_shown : (ws vs : List (Option ℕ)) → AllZip (IsShown (heap_of k)) (held_by ws x.held) vs → vs ≡ []
+  none_shown ws vs z = nothing vs (subst (λ hs. AllZip (IsShown (heap_of k)) (held_by ws hs) vs) none z)
+    where
+      nothing : (vs : List (Option ℕ)) → AllZip (IsShown (heap_of k)) [] vs → vs ≡ []
+      nothing [] z = refl
+      nothing (v ∷ vs) z = absurd z
+
+  held_by_slots : (vs : List (Option ℕ)) → AllZip (IsShown (heap_of k)) (kept_held (kept_of k) x) vs
+      → AllZip (IsShown (heap_of k)) (kept_held (kept_of k) (with_weak x i w)) vs
+  held_by_slots vs z =
+      subst (λ us. AllZip (IsShown (heap_of k)) (held_by (map (kept_word (kept_of k)) (slice_set x.weaks i w)) x.held) us)
+      (sym (none_shown (map (kept_word (kept_of k)) x.weaks) vs z))
+      (subst (λ hs. AllZip (IsShown (heap_of k)) (held_by (map (kept_word (kept_of k)) (slice_set x.weaks i w)) hs) []) (sym none) tt)
+
+  keyed_by_slots : held_by (slice_set x.weaks i w) x.held ≡ x.held
+  keyed_by_slots = ap (held_by (slice_set x.weaks i w)) none ∙ sym none
 
   writes : WritesObject k.table t a x (with_weak x i w)
   writes = subst (λ (u : Table). WritesObject k.table u a x (with_weak x i w)) (sym is)
@@ -61,10 +84,12 @@ module _ (k : CoreState) (core : IsCore k) (a i : ℕ) (w : Option ℕ) (t : Tab
       → ShowsGraph (with_changed g y.name (record o { weaks = slice_set o.weaks i v })) after
   shows_by g y o v s aty named shown = named_shows g k after a x (with_weak x i w) y o (record o { weaks = slice_set o.weaks i v }) s
       (record { config = refl; next = refl }) set_in aty named (λ ps. ps)
-      (λ ws. AllZip-set (IsWeakShown (heap_of k)) x.weaks o.weaks ws i w v (weak_shown (heap_of k) w v shown)) (λ vs. vs)
+      (λ ws. AllZip-set (IsWeakShown (heap_of k)) x.weaks o.weaks ws i w v (weak_shown (heap_of k) w v shown))
+      (λ hs. held_by_slots o.held hs) (λ e. keyed_by_slots) (λ vs. vs)
 
   keeps_by : (s : Graph) → KeepsFrom s k → KeepsFrom s after
-  keeps_by s f = write_keeps s k t a x (with_weak x i w) writes refl r.at refl f
+  keeps_by s f = write_keeps core.footing.graph s k t a x (with_weak x i w) core.rests.shows writes refl r.at refl
+      (bare_pairs (heap_of k) (marking_of k) x (with_weak x i w) none none) f
 
   leaves_by : LeavesRegions k after
   leaves_by = record { config = refl; in_use = λ j n u. n (sym (writes.kinds j) ∙ u) }
@@ -73,7 +98,8 @@ module _ (k : CoreState) (core : IsCore k) (a i : ℕ) (w : Option ℕ) (t : Tab
   remembers_by =
       let field : weak_field k a i ≡ length x.pointers + i = ap (λ (ps : List (Option ℕ)). length ps + i) (pointers_there k a x r.at) in
       remembers_stored k after a (weak_field k a i) w x (with_weak x i w) refl writes.size refl refl set_in
-      (weak_fields x i w ∙ ap (λ (n : ℕ). slice_set (x.pointers ++ x.weaks) n w) (sym field)) noted core.remembers
+      (weak_fields x i w (subst (λ (ws : List (Option ℕ)). i < length ws) (weaks_there k a x r.at) within)
+      ∙ ap (λ (n : ℕ). slice_set (fields x) n w) (sym field)) noted core.remembers
 
   -- the slot leads to a kept object, and the others are as they were
   slots_by : (j b : ℕ) → slice_get (slice_set x.weaks i w) j ≡ Some (Some b) → (slice_get x.weaks j ≡ Some (Some b)) ⊎ KeepsAt (heap_of k) b
@@ -90,12 +116,15 @@ module _ (k : CoreState) (core : IsCore k) (a i : ℕ) (w : Option ℕ) (t : Tab
       written_kept k core a x (with_weak x i w) o.object (record o.object { weaks = slice_set o.object.weaks i word.name }) t r.at writes
       refl refl (ap (λ (n : ℕ). 2 + length x.pointers + n + length x.values) (length-set x.weaks i w)) o.named refl o.pointers
       (AllZip-set (IsWeakShown (heap_of k)) x.weaks o.object.weaks o.weaks i w word.name (weak_shown (heap_of k) w word.name word.shown))
+      (held_by_slots o.object.held o.held) (bare_pairs (heap_of k) (marking_of k) x (with_weak x i w) none none)
+      (let bare = none_shown (map (kept_word (kept_of k)) x.weaks) o.object.held o.held in
+      bare_change core.footing.snapshot o.object (record o.object { weaks = slice_set o.object.weaks i word.name }) bare bare)
       (shows_by core.footing.graph x o.object word.name core.rests.shows r.at o.named word.shown) remembers_by slots_by
 
 -- the same by the core's value c: k is the core by its fields
 module _ (k c : CoreState) (e : k ≡ c) (core : IsCore k) (a i : ℕ) (w : Option ℕ) (root : IsRoot (heap_of c) a)
     (within : i < length (weaks_at c.table a)) (word : IsWordOf (heap_of c) w) (noted : HasNoted c (field_word a (weak_field c a i)) w)
-    (t : Table) (is : t ≡ set_weak k.table a i w) where
+    (shape : IsShaped k.table) (t : Table) (is : t ≡ set_weak k.table a i w) where
   root' : IsRoot (heap_of k) a
   root' = subst (λ (d : CoreState). IsRoot (heap_of d) a) (sym e) root
 
@@ -109,18 +138,18 @@ module _ (k c : CoreState) (e : k ≡ c) (core : IsCore k) (a i : ℕ) (w : Opti
   noted' = subst (λ (d : CoreState). HasNoted d (field_word a (weak_field d a i)) w) (sym e) noted
 
   pub weak_kept : IsCore (record k { table = t })
-  weak_kept = kept_by_store k core a i w t root' within' word' noted' is
+  weak_kept = kept_by_store k core a i w t root' within' word' noted' shape is
 
   pub weak_stores : StoresWeak c.cards a i w c (record k { table = t })
   weak_stores = record {
     shows = subst (λ (d : CoreState). (g : Graph) (y : Stored) (o : Object) (v : Option ℕ) → ShowsGraph g d → kept_of d a ≡ Some y
         → object_named g y.name ≡ Some o → IsShown (heap_of d) w v
         → ShowsGraph (with_changed g y.name (record o { weaks = slice_set o.weaks i v })) (record k { table = t })) e
-        (shows_by k core a i w t root' within' word' noted' is);
-    keeps = λ s f. keeps_by k core a i w t root' within' word' noted' is s (subst (λ (d : CoreState). KeepsFrom s d) (sym e) f);
+        (shows_by k core a i w t root' within' word' noted' shape is);
+    keeps = λ s f. keeps_by k core a i w t root' within' word' noted' shape is s (subst (λ (d : CoreState). KeepsFrom s d) (sym e) f);
     after = ap (λ (u : Table). record k { table = u }) is ∙ ap (λ (d : CoreState). record d { table = set_weak d.table a i w }) e;
     leaves = subst (λ (d : CoreState). LeavesRegions d (record k { table = t })) e
-        (leaves_by k core a i w t root' within' word' noted' is);
+        (leaves_by k core a i w t root' within' word' noted' shape is);
   }
 
 -- with the card noted before

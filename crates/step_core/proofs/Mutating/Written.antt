@@ -3,7 +3,7 @@ use Rattle.std.proofs.Common.{◌≡◌, ℕ, Bool, true, false, List, Option, S
 use Rattle.heap_model.specs.Graph.{Graph, IsReachable, next_name}
 use Rattle.heap_model.specs.Heap.{Stored, IsHeld, ObjectSet}
 use Rattle.heap_model.specs.Kept.{kept_by}
-use Rattle.heap_model.specs.Marking.{Marking, KeepsSnapshot}
+use Rattle.heap_model.specs.Marking.{Marking, KeepsSnapshot, PairsSet}
 use Rattle.heap_model.proofs.Mutate.{values_set, root_set}
 use Rattle.regions.specs.Table.{Table, object_at}
 use Rattle.regions.proofs.Tiles.Changes.{WritesObject, object_same}
@@ -83,13 +83,15 @@ root_keeps g s c place w roots shows held is k = record {
       (heap_of (record c { roots = roots })) place w held (record { kept = λ a. refl; roots = is });
 }
 
--- a write to data words
-pub write_keeps : (s : Graph) (c : CoreState) (t : Table) (a : ℕ) (x y : Stored) → WritesObject c.table t a x y → y.name ≡ x.name
-    → kept_of c a ≡ Some x → y.pointers ≡ x.pointers → KeepsFrom s c → KeepsFrom s (record c { table = t })
-write_keeps s c t a x y w name at pointers k = record {
+-- a write to data words or weak slots
+pub write_keeps : (g s : Graph) (c : CoreState) (t : Table) (a : ℕ) (x y : Stored) → ShowsGraph g c → WritesObject c.table t a x y
+    → y.name ≡ x.name → kept_of c a ≡ Some x → y.pointers ≡ x.pointers → PairsSet (heap_of c) (marking_of c) x y → KeepsFrom s c
+    → KeepsFrom s (record c { table = t })
+write_keeps g s c t a x y shows w name at pointers pairs k = record {
   earlier = k.earlier;
   marking =
       λ run. subst (λ (m : Marking). KeepsSnapshot s (heap_of (record c { table = t })) m) (sym (marking_same c.table t c.marker w.size))
-      (values_set (IsReachable s) (next_name s) (heap_of c) (heap_of (record c { table = t })) (marking_of c) (k.marking run) a x y
-      (object_written c (record c { table = t }) a x y w name at (record { tams = refl; previous = refl; roots = refl })) pointers);
+      (values_set (IsReachable s) (next_name s) g (heap_of c) (heap_of (record c { table = t })) (marking_of c) shows.shows
+      (k.marking run) a x y
+      (object_written c (record c { table = t }) a x y w name at (record { tams = refl; previous = refl; roots = refl })) pointers pairs);
 }

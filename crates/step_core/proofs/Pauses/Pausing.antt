@@ -46,7 +46,7 @@ use Rattle.heap_words.specs.declared.config.Config.{Config}
 use Rattle.step_core.proofs.Pauses.CopiedNames.{copied_names}
 use Rattle.step_core.proofs.Cores.Layers.{follows_of}
 use Rattle.step_core.proofs.Pauses.Ready.{ready_config, ready_table, ready_marker, ready_roots, ready_next, ready_ages}
-use Rattle.step_core.proofs.Pauses.Refined.{can_scan}
+use Rattle.step_core.proofs.Pauses.Refined.{sets_fit}
 use Rattle.step_core.proofs.Cores.Resting.{aged_stays}
 use Rattle.step_core.proofs.Cores.Sizes.{some_words}
 use Rattle.step_core.proofs.Mutating.Small.{pointers_are, words_are, ordinary_known}
@@ -80,7 +80,7 @@ module _ (k : CoreState) (core : IsCore k) (which : Choice) (budget : ℕ) (chos
     next = core.layers.marker.next;
     closed = all_closed k core none;
     halves = core.layers.halves;
-    fit = (can_scan k core).fit;
+    fit = sets_fit k core;
     each_card = core.cards.each_card;
     clean = clean;
     remembers = core.remembers;

@@ -1,19 +1,21 @@
 -- Cards are refined in a core, one after another: k is the core by its fields.
-use Rattle.std.proofs.Common.{◌≡◌, ◌+◌, ◌/◌, ◌<◌, ◌≤◌, ◌⊎◌, ◌∷◌, ◌∙◌, ℕ, zero, suc, Bool, true, false, Option, Some, None, List, []}
+use Rattle.std.proofs.Common.{◌≡◌, ◌+◌, ◌/◌, ◌<◌, ◌≤◌, ◌⊎◌, ◌∷◌, ◌++◌, ◌∙◌, ℕ, zero, suc, Bool, true, false, Option, Some, None, List, []}
 use Rattle.std.proofs.Common.{length, take, drop, IsSome}
 use Rattle.std.proofs.Common.{min, get_or, refl, sym, ap, subst, arith, inl, inr, Contains, slice_get}
 use Rattle.heap_model.specs.Graph.{Graph}
 use Rattle.heap_model.specs.Heap.{Stored, fields}
 use Rattle.heap_model.proofs.Shown.{followed}
 use Rattle.heap_model.proofs.Lists.{get-append_cases}
+use Rattle.regions.specs.Shaped.{IsShaped}
 use Rattle.regions.specs.Table.{Table, object_at}
+use Rattle.step_core.proofs.Cores.Keeping.{nothing_there}
 use Rattle.step_core.proofs.Mutating.Reading.{object_kept}
 use Rattle.step_core.proofs.Cores.Slots.{slots_same}
 use Rattle.mark_bitmap.specs.Kept.{kept_in}
 use Rattle.cards.specs.Cards.{Cards, is_dirty}
 use Rattle.remembered_sets.specs.Sets.{Sets, covers, may_lead, card_count}
 use Rattle.refinement.specs.Remembering.{Remembers, LeadsInto, LeadsInside}
-use Rattle.refinement.specs.Refining.{CanScan, Refines, AddsCard}
+use Rattle.refinement.specs.Refining.{CanScan, SetsFit, Refines, AddsCard}
 use Rattle.refinement.proofs.Holders.{object_known}
 use Rattle.refinement.proofs.Entered.{adds_gains}
 use Rattle.marker.proofs.Logs.{contained}
@@ -28,13 +30,16 @@ abbrev pub with_cards : CoreState → Cards → Sets → CoreState
 with_cards c cs ss = record c { cards = cs; sets = ss }
 
 -- a field leads to an object of the table
-field_leads : (k : CoreState) → IsCore k → (a i b : ℕ) (x : Stored) → kept_of k a ≡ Some x → slice_get (fields x) i ≡ Some (Some b)
-    → (y : Stored) × (object_at k.table b ≡ Some y)
-field_leads k core a i b x at e = elim (get-append_cases x.pointers x.weaks i (Some b) e) [
+field_leads : (k : CoreState) → IsCore k → IsShaped k.table → (a i b : ℕ) (x : Stored) → kept_of k a ≡ Some x
+    → slice_get (fields x) i ≡ Some (Some b) → (y : Stored) × (object_at k.table b ≡ Some y)
+field_leads k core shape a i b x at e = elim (get-append_cases x.pointers (x.weaks ++ x.held) i (Some b) e) [
   | inl q ↦
       let (y, here) = (followed core.footing.graph (heap_of k) core.rests.shows.shows).pointer a i b x at q in
       (y, object_kept k b y here)
-  | inr q ↦ some_object k b (core.slots.lead a b (record { object = x; at = at; slot = q.0; is = q.1 }))
+  | inr q ↦ elim (get-append_cases x.weaks x.held q.0 (Some b) q.1) [
+    | inl r ↦ some_object k b (core.slots.lead a b (record { object = x; at = at; slot = q.0; is = r }))
+    | inr r ↦ absurd (nothing_there x.held r.0 b (shape.bare a x (object_kept k a x at)) r.1)
+  ]
 ]
   where
     some_object : (k : CoreState) (b : ℕ) → IsSome (object_at k.table b) → (y : Stored) × (object_at k.table b ≡ Some y)
@@ -48,15 +53,19 @@ object_inside : (t : Table) (b : ℕ) → ((y : Stored) × (object_at t b ≡ So
 object_inside t b there = object_known t b there.0 there.1
 
 -- cards can be scanned
-pub can_scan : (k : CoreState) → IsCore k → CanScan k.table k.marker.tams k.marker.bitmaps.previous (card_words k.config) k.sets
+pub sets_fit : (k : CoreState) → IsCore k → SetsFit k.table (card_words k.config) k.sets
+sets_fit k core = record {
+  whole_cards = core.layers.region_size ∙ core.cards.whole_cards;
+  each_region = core.cards.each_region ∙ sym core.layers.region_count;
+}
+
+pub can_scan : (k : CoreState) → IsCore k → IsShaped k.table
+    → CanScan k.table k.marker.tams k.marker.bitmaps.previous (card_words k.config) k.sets
 unfolding kept_of
-can_scan k core = record {
-  fit = record {
-    whole_cards = core.layers.region_size ∙ core.cards.whole_cards;
-    each_region = core.cards.each_region ∙ sym core.layers.region_count;
-  };
+can_scan k core shape = record {
+  fit = sets_fit k core;
   each_word = core.layers.marker.previous.each_word;
-  inside = record { each = λ a i v s at e. let there = field_leads k core a i v s at e in object_inside k.table v there };
+  inside = record { each = λ a i v s at e. let there = field_leads k core shape a i v s at e in object_inside k.table v there };
 }
 
 module _ (k : CoreState) (core : IsCore k) (result : Bool) (cs : Cards) (ss : Sets)
@@ -96,7 +105,7 @@ module _ (k : CoreState) (core : IsCore k) (result : Bool) (cs : Cards) (ss : Se
   unfolding kept_of
   gains card adds =
       let inside = subst (λ (n : ℕ). LeadsInside k.table.words_per_region n (kept_in k.table k.marker.tams k.marker.bitmaps.previous))
-      (core.layers.region_count ∙ sym core.cards.each_region) (can_scan k core).inside in
+      (core.layers.region_count ∙ sym core.cards.each_region) scan.inside in
       let g = adds_gains k.table.words_per_region (kept_in k.table k.marker.tams k.marker.bitmaps.previous)
       (card_words k.config) card k.sets ss inside adds in
       record {

@@ -11,5 +11,5 @@ pub returns-clause-root : goal.returns-clause-root
 returns-clause-root c = λ set h now now' forward v j w w' at moved step. root_updated set h forward now v now' j w w' at moved step
 
 pub returns-clause-field : goal.returns-clause-field
-returns-clause-field c = λ set h now now' forward v b i c d y y' out e inside f step values shape words. field_updated set h forward now v
-    now' b i c d y y' out e inside f step values shape words
+returns-clause-field c = λ set h now now' forward v b i c d y y' out e inside f step values shape slots words.
+    field_updated set h forward now v now' b i c d y y' out e inside f step values shape slots words

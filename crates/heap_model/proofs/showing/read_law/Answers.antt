@@ -1,4 +1,4 @@
-use Rattle.heap_model.proofs.Changed.{root_read, pointer_read, weak_read, word_read}
+use Rattle.heap_model.proofs.Changed.{root_read, pointer_read, weak_read, held_read, word_read}
 use Rattle.heap_model.proofs.showing.read_law.Goals as goal
 
 pub returns-clause-root : goal.returns-clause-root
@@ -9,6 +9,9 @@ returns-clause-pointer c = λ g h shows a i x w at e. pointer_read g h h shows a
 
 pub returns-clause-weak : goal.returns-clause-weak
 returns-clause-weak c = λ g h shows a i x w at e. weak_read g h h shows a i x w at e
+
+pub returns-clause-held : goal.returns-clause-held
+returns-clause-held c = λ g h shows a i x w at e. held_read g h h shows a i x w at e
 
 pub returns-clause-values : goal.returns-clause-values
 returns-clause-values c = λ g h shows a x at. word_read g h h shows a x at

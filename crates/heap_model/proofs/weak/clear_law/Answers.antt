@@ -11,7 +11,10 @@ pub returns-clause-exists : goal.returns-clause-exists
 returns-clause-exists c = λ s g n count. clears_exists s n count g
 
 pub returns-clause-reachable : goal.returns-clause-reachable
-returns-clause-reachable c = λ s g g' clears n. (reach_on s g g' clears n, reach_back s g g' clears n)
+returns-clause-reachable c = λ s g g' clears known n. (reach_on s g g' clears known n, reach_back s g g' clears n)
+
+pub returns-clause-after : goal.returns-clause-after
+returns-clause-after c = λ s g g' clears n r. reach_back s g g' clears n r
 
 pub returns-clause-computed : goal.returns-clause-computed
 returns-clause-computed c = λ s g flag reached. cleared_by s flag reached g

@@ -9,13 +9,13 @@ pub returns-clause-root : goal.returns-clause-root
 returns-clause-root c = λ s g place v u. unreached_root s g u place v
 
 pub returns-clause-object : goal.returns-clause-object
-returns-clause-object c = λ s g o place u earlier. unreached_object s g u o place earlier
+returns-clause-object c = λ s g o place u earlier bare. unreached_object s g u o place earlier bare
 
 pub returns-clause-changed : goal.returns-clause-changed
-returns-clause-changed c = λ s g n o p u e why. unreached_changed s g u n o p e why
+returns-clause-changed c = λ s g n o p u e why pairs. unreached_changed s g u n o p e why pairs
 
 pub returns-clause-written : goal.returns-clause-written
-returns-clause-written c = λ s g n o p u e same. unreached_written s g u n o p e same
+returns-clause-written c = λ s g n o p u e same pairs. unreached_written s g u n o p e same pairs
 
 pub returns-clause-touches : goal.returns-clause-touches
 returns-clause-touches c = λ s g v u. unreached_touched s g u v

@@ -8,5 +8,5 @@ pub loop-slot-preserved : goal.loop-slot-preserved
 loop-slot-preserved c =
     part_more (cleared_slot (flag_of c.args.first_name c.args.flags.now) c.args.limit) c.args.objects.now c.loop-slot.objects
     c.set_weak.new.self c.args.place c.loop-slot.slot c.in-Some.was c.cleared.result
-    c.requires (omega (arith, c.loop-slot-test.true, c.from-slot-end.ensures, c.weak_count.ensures)) c.loop-slot.invariant
+    c.requires (omega (arith, c.loop-slot-test.true, c.from-slot-end.ensures, c.weak_count.ensures.weaks)) c.loop-slot.invariant
     (sym c.in-Some.ensures) c.cleared.ensures c.set_weak.ensures

@@ -6,11 +6,11 @@ use Rattle.marker.proofs.Swept.{looking_first, looking_next, looking_over, sweep
 use Rattle.marker.proofs.marker.Marker.clear.Goals as goal
 
 pub loop-looked-init : goal.loop-looked-init
-loop-looked-init c = looking_first _ _ _ _ c.next_with_weaks-left.ensures
+loop-looked-init c = looking_first _ _ _ _ c.law.ensures c.next_with_weaks-left.ensures
 
 pub overflow_add-word : goal.overflow_add-word
 overflow_add-word c =
-    let small = sweep_small _ _ _ _ _ _ c.in-Some.is c.loop-looked.invariant.sweep c.law.ensures in
+    let small = sweep_small _ _ _ _ _ _ c.in-Some.is c.loop-looked.invariant.sweep c.law-in-loop-looked.ensures in
     omega (arith, small, c.word.ensures)
 
 pub clear_staying-requires-clause-object : goal.clear_staying-requires-clause-object

@@ -28,4 +28,4 @@ loop-slot-preserved c =
     rw c.set_weak.ensures (partly_next _ _ _ _ _ _ _ _ refl c.law.ensures.positive p c.get_weak.ensures value)
 
 pub returns : goal.returns
-returns c = partly_last _ _ _ _ _ c.loop-slot.invariant (omega (arith, c.weak_count-count.ensures))
+returns c = partly_last _ _ _ _ _ c.law.ensures c.loop-slot.invariant (omega (arith, c.weak_count-count.ensures))

@@ -5,11 +5,11 @@ use Rattle.marker.proofs.Swept.{sweep_first, sweep_object, sweep_small, sweep_ma
 use Rattle.marker.proofs.marker.Marker.clear_rest.Goals as goal
 
 pub loop-left-init : goal.loop-left-init
-loop-left-init c = sweep_first _ _ _ _ c.next_with_weaks-left.ensures
+loop-left-init c = sweep_first _ _ _ _ c.law.ensures c.next_with_weaks-left.ensures
 
 pub overflow_add-word : goal.overflow_add-word
 overflow_add-word c =
-    let small = sweep_small _ _ _ _ _ _ c.in-Some.is c.loop-left.invariant c.law.ensures in
+    let small = sweep_small _ _ _ _ _ _ c.in-Some.is c.loop-left.invariant c.law-in-Some.ensures in
     omega (arith, small, c.word.ensures)
 
 pub clear_staying-requires-clause-object : goal.clear_staying-requires-clause-object

@@ -9,14 +9,14 @@ returns-in_default c = no_object c.args.self.now _ _ (sym c.place.ensures ∙ c.
 
 pub returns-then-slot-from : goal.returns-then-slot-from
 returns-then-slot-from c = past_fields _ c.args.self.now c.args.mutator c.args.object c.in-Some.place c.args.slot c.weak_count.result
-    (λ x. x.weaks) _ c.self.view_is (sym c.place.ensures ∙ c.in-Some.is) c.weak_count.ensures
+    (λ x. x.weaks) _ c.self.view_is (sym c.place.ensures ∙ c.in-Some.is) c.weak_count.ensures.weaks
     (omega (arith, c.from.ensures, c.if-slot-from.true))
 
 pub returns : goal.returns
 returns c =
     changed_object _ c.args.self.now c.args.mutator c.args.object c.in-Some.place c.args.slot c.weak_count.result (λ x. x.weaks)
     (λ x. record x { weaks = slice_set x.weaks c.args.slot (stored c.args.self.now c.args.mutator c.args.value) }) _ c.self.view_is
-    (sym c.place.ensures ∙ c.in-Some.is) c.weak_count.ensures (omega (arith, c.from.ensures, c.if-slot-from.false))
+    (sym c.place.ensures ∙ c.in-Some.is) c.weak_count.ensures.weaks (omega (arith, c.from.ensures, c.if-slot-from.false))
     (c.set_weak.ensures ∙ ap (λ (v : Option ℕ). slice_set c.self.inside.objects c.in-Some.place
     (record (object_in c.self.inside.objects c.in-Some.place) {
       weaks = slice_set

@@ -9,7 +9,7 @@ pub refine_one-requires-clause-stands : goal.refine_one-requires-clause-stands
 refine_one-requires-clause-stands c =
     let words : c.args.words ≡ card_words c.self.inside.config =
     c.requires ∙ ap (λ (d : CoreState). card_words d.config) (sym c.self.view_is) in
-    rw words (can_scan _ c.self.invariant)
+    rw words (can_scan _ c.self.invariant c.law.ensures)
 
 pub refine_one-requires-clause-cards : goal.refine_one-requires-clause-cards
 refine_one-requires-clause-cards c = c.self.invariant.cards.each_card
