@@ -305,8 +305,9 @@ public:
     Reply compact(Number budget) {
         make_ready();
         choose_highest(budget);
-        if (chosen_.empty()) return reply(Form::Moved);
-        return evacuate();
+        if (!chosen_.empty()) return evacuate();
+        Number run = marking_ ? no_region : run_to_move(budget);
+        return run == no_region ? reply(Form::Moved) : move_run(run);
     }
 
     Reply pause_within(Number budget, Number cards) {
@@ -458,13 +459,18 @@ protected:
                 if (first == nowhere) return nowhere;
             }
         }
+        take_run(first, size);
+        return bottom(first);
+    }
+
+    // The regions from `first` on hold one object.
+    void take_run(Number first, Number size) {
         Address at = bottom(first);
-        for (Number region = first; region < end; ++region) {
+        for (Number region = first; region < first + regions_for(size); ++region) {
             take(region, region == first ? Kind::First : Kind::Rest);
             regions_[region].top = std::min(bottom(region) + sizes_.words, at + size);
         }
         note_tile(at, size);
-        return at;
     }
 
     // Stores, cards, remembered sets.
@@ -860,11 +866,51 @@ protected:
         }
         for (Number number : chosen_) release(number);
         for (Number number : destinations_) regions_[number].role = Role::None;
+        dirty_noted();
+        return reply(Form::Moved, chosen_.size(), copied_);
+    }
+
+    void dirty_noted() {
         noted_.drain([&](Number card) {
             dirty_[card] = 1;
             enqueue(card);
         });
-        return reply(Form::Moved, chosen_.size(), copied_);
+    }
+
+    // The lowest run with a free region directly below it whose object is kept and has at most so many words.
+    Number run_to_move(Number words) const {
+        for (Number number = 1; number < sizes_.regions; ++number) {
+            bool is_above_free = regions_[number].kind == Kind::First && regions_[number - 1].kind == Kind::Free;
+            if (is_above_free && is_kept(bottom(number)) && object_size(words_[bottom(number)]) <= words) return number;
+        }
+        return no_region;
+    }
+
+    // Moves a run to the lowest of the free regions directly below it, over its own words where it is longer than the way.
+    Reply move_run(Number first) {
+        Number place = first;
+        while (place != 0 && regions_[place - 1].kind == Kind::Free) --place;
+        Address from = bottom(first), to = bottom(place);
+        Number size = object_size(words_[from]), end = first + regions_for(size);
+        find_leading(first);
+        std::memmove(&words_[to], &words_[from], size * sizeof(Word));
+        for (Number region = first; region < end; ++region) release(region);
+        take_run(place, size);
+        if (weak_count(words_[to]) != 0) weak_regions_.add(place);
+        auto redirect = [&](Word& pointer) { return pointer == Word(from) + 1 ? (pointer = Word(to) + 1, true) : false; };
+        roots_.each(redirect);
+        covered_.drain([&](Number card) {
+            // The run's own fields aren't outside. What is at their old place now is free, or the object itself.
+            Number region = region_of(card << card_shift_);
+            if (first <= region && region < end) return;
+            visit_fields(card, [&](Word& field) { if (redirect(field)) noted_.add(card); });
+        });
+        for (Address field = to + 2; field < to + 2 + field_count(words_[to]); ++field) {
+            redirect(words_[field]);
+            if (words_[field] != 0 && region_of(Address(words_[field] - 1)) != region_of(field)) noted_.add(field >> card_shift_);
+        }
+        dirty_noted();
+        return reply(Form::Moved, end - first, size);
     }
 
     // Leads the fields of a copy to the new places of what they name.

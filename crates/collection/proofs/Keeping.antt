@@ -12,6 +12,7 @@ use Rattle.step_core.specs.declared.candidates.Choice.{Choice}
 use Rattle.step_core.specs.declared.candidates.Choice.TheVariants as choices
 use Rattle.step_core.specs.Pause.{HasMoved}
 use Rattle.collection.proofs.Packed.{two_free}
+use Rattle.collection.proofs.Slides.{compacted_free, compacted_next}
 use Rattle.collection.proofs.Cycles.{begin_free, remark_free, clean_free}
 
 pub same_length : (c d : CoreState) → IsCore c → IsCore d → d.config ≡ c.config → length d.table.regions ≡ length c.table.regions
@@ -45,7 +46,10 @@ module _ (c d : CoreState) (shape : IsShaped c.table) (len : length d.table.regi
   )
   leaves (collector.Refine k) r h = same_table (ap (λ (x : CoreState). x.table) h.2.same) (ap (λ (x : CoreState). x.next) h.2.same)
   leaves (collector.Pause b) r h = moved choices.Best b h.0 h.1 h.3.0 h.3.1 h.3.2
-  leaves (collector.Compact b) r h = moved choices.Highest b h.0 h.1 h.3.0 h.3.1 h.3.2
+  leaves (collector.Compact b) r h = (
+    λ two. compacted_free b h.0 h.1 h.3.0 d h.3.1.core h.3.1.shaped h.3.2 (let f = free_settled c h.3.0 h.3.1 in omega (arith, two, f)),
+    compacted_next b h.0 h.1 h.3.0 d h.3.1.core h.3.1.shaped h.3.2 ∙ next_settled c h.3.0 h.3.1,
+  )
   leaves (collector.PauseWithin limits) r h = moved (choices.Within limits.cards) limits.words h.0 h.1 h.3.0 h.3.1 h.3.2
   leaves (collector.Young limits) r h = moved (choices.Youngest limits.cards) limits.words h.0 h.1 h.3.0 h.3.1 h.3.2
   leaves (collector.Clear k) r h = (

@@ -14,6 +14,7 @@ pub mod Placed
 pub mod Made
 pub mod Reached
 pub mod Runs
+pub mod Slides
 pub mod Keeping
 pub mod Took
 pub mod Inside

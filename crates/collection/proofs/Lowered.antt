@@ -22,7 +22,8 @@ use Rattle.region_choice.specs.Choice.{copy_limit}
 use Rattle.evacuation.specs.Evacuates.{RegionsAfter, is_chosen}
 use Rattle.step_core.specs.Stands.{CoreState, IsCore}
 use Rattle.step_core.specs.Measures.{sum_below}
-use Rattle.step_core.specs.Pause.{AreHighest, GoesDown, HasCompacted, IsRowOf, free_below}
+use Rattle.step_core.specs.Pause.{AreHighest, GoesDown, HasMoved, IsRowOf, free_below}
+use Rattle.step_core.specs.declared.candidates.Choice.TheVariants as choices
 use Rattle.step_core.proofs.Pauses.Highest.{below_free, fewer_free, free_found}
 use Rattle.step_core.proofs.Pauses.Rows.{All_one}
 use Rattle.collection.specs.Space.{IsExact, LieBelowFree, ordinary_end, ordinary_end_of, is_ordinary}
@@ -136,7 +137,7 @@ ones : (rows : List LiveRow) → sum_by (λ (row : LiveRow). 1) rows ≡ length 
 ones [] = refl
 ones (r ∷ rs) = let a = sum_by-cons (λ (row : LiveRow). 1) r rs in let b = ones rs in omega (arith, a, b)
 
-module _ (budget n w : ℕ) (c c' : CoreState) (core : IsCore c) (shape : IsShaped c.table) (p : HasCompacted budget n w c c') where
+module _ (budget n w : ℕ) (c c' : CoreState) (core : IsCore c) (shape : IsShaped c.table) (p : HasMoved choices.Highest budget n w c c') where
   abbrev t : Table
   t = c.table
 

@@ -19,7 +19,7 @@ use Rattle.step_core.specs.Stands.{CoreState, IsCore, Stands, kept_of}
 use Rattle.step_core.specs.Measures.{sum_below}
 use Rattle.step_core.specs.declared.candidates.Choice.{Choice}
 use Rattle.step_core.specs.declared.candidates.Choice.TheVariants as choices
-use Rattle.step_core.specs.Pause.{HasCompacted, HasMoved, HasPaused}
+use Rattle.step_core.specs.Pause.{HasMoved, HasPaused}
 use Rattle.step_core.proofs.Pauses.Chosen.{chosen_rows, set_moves}
 use Rattle.collection.specs.Space.{run_one, run_count, ordinary_count, kept_sum, kept_by_kind, bound_by_kind, bound_sum}
 use Rattle.collection.specs.Space.{FillHalf, IsDense, IsExact, IsQuiet, IsPacked}
@@ -302,9 +302,9 @@ module _ (g : Graph) (c c' : CoreState) (size : c'.table.words_per_region ≡ c.
   }
 
 -- a compaction of a region of words takes one destination at most
-pub compacted_packed : (budget n w : ℕ) (c c' : CoreState) (shape : IsShaped c.table) → HasCompacted budget n w c c'
+pub set_packed : (budget n w : ℕ) (c c' : CoreState) (shape : IsShaped c.table) → HasMoved choices.Highest budget n w c c'
     → budget ≤ c.table.words_per_region → (g : Graph) → IsPacked g c → IsPacked g c'
-compacted_packed budget n w c c' shape p few g packed =
+set_packed budget n w c c' shape p few g packed =
     let words : ℕ = c.table.words_per_region in
     let d : ℕ = p.evacuates.evacuated.spares.taken in
     let t = moved_taken choices.Highest budget n w c c' shape p in

@@ -1,35 +1,51 @@
 //! Compactions, until an object of more than half a region has a run of free regions, or nothing is left to move down.
 
-ghost use Rattle.std.specs.Prelude.{◌≡◌, ◌+◌, ◌*◌, ◌<◌, ◌≤◌, true, false, ℕ};
+ghost use Rattle.std.specs.Prelude.{◌≡◌, ◌+◌, ◌*◌, ◌<◌, ◌≤◌, true, false, ℕ, length};
 ghost use Rattle.heap_steps.specs.Actors.{IsThird, IsOp};
-ghost use Rattle.heap_steps.specs.declared.step.Reply.TheVariants as replies;
 ghost use Rattle.heap_model.specs.Graph.{Graph};
-ghost use Rattle.regions.specs.Table.{free_count};
+ghost use Rattle.regions.specs.Table.{free_count, kind_of};
 ghost use Rattle.graph_runs.specs.State.{State};
 ghost use Rattle.graph_runs.specs.Run.{IsNew};
-ghost use Rattle.collection.specs.Space.{IsPacked, IsQuiet, LieBelowFree, ordinary_end};
+ghost use Rattle.collection.specs.Space.{IsPacked, IsQuiet, LieBelowFree, is_ordinary, ordinary_end};
 ghost use Rattle.collection.specs.Steps.{CollectsWithin, FitsLeavingTwo, AsksWithin};
 ghost use Rattle.collection.specs.Rooms.{HasRun, IsSpared};
 
 use crate::numbers::Policy;
 use crate::room::is_spared;
 use crate::steps::{Watch, take};
-use heap_steps::{CollectorStep, Op, Reply};
+use heap_steps::{CollectorStep, Op};
+use heap_words::addr::RegionNo;
+use regions::{Kind, RegionTable};
 use step_core::Core;
 
-/// Whether a compaction took a region, by its reply.
-fn took_some(reply: Reply) -> bool
-    ensures some { result ≡ true → (n w : ℕ) → reply ≡ replies.Moved n w → 0 < n }
-    ensures none { result ≡ false → (n w : ℕ) → reply ≡ replies.Moved n w → n ≡ 0 }
+/// Whether a region is an ordinary one.
+fn is_ordinary(table: &RegionTable, region: RegionNo) -> bool
+    requires { region < length table.now.regions }
+    ensures { result ≡ is_ordinary (kind_of table.now region) }
 {
-    match reply {
-        Reply::Moved { regions, .. } => regions != 0,
-        _ => false,
+    match table.kind(region) {
+        Kind::Ordinary => true,
+        Kind::Free | Kind::First | Kind::Rest => false,
     }
 }
 
-/// A compaction of a region of words, which takes one destination at most. Answers whether it took any region: then no ordinary region is
-/// as high as the highest was, else each is below each free one.
+/// The number above the highest ordinary region, 0 where there is none.
+fn end_of_ordinary(core: &Core) -> u32
+    ensures { result ≡ ordinary_end core.now.table }
+{
+    let table = core.table();
+    let mut number = table.region_count();
+    while number > 0 {
+        if is_ordinary(table, RegionNo::new(number - 1)) {
+            return number;
+        }
+        number -= 1;
+    }
+    0
+}
+
+/// A compaction of a region of words, which takes one destination at most. Answers whether the highest ordinary region is lower then: else
+/// each is below each free one, and a run may have moved.
 fn compact_once<W: Watch>(core: &mut Core, policy: &mut Policy, watch: &mut W) -> bool
     requires third { IsThird core.old.config.format }
     ensures collects { CollectsWithin W.sees 1 core.old watch.old core.new watch.new }
@@ -39,8 +55,9 @@ fn compact_once<W: Watch>(core: &mut Core, policy: &mut Policy, watch: &mut W) -
     ensures below { result ≡ false → (s : State) → IsQuiet s core.old → 2 ≤ free_count core.old.table → LieBelowFree core.new.table }
 {
     let words = core.config().words;
-    let reply = take(core, policy, CollectorStep::Compact(words), watch);
-    took_some(reply)
+    let end = end_of_ordinary(core);
+    take(core, policy, CollectorStep::Compact(words), watch);
+    end_of_ordinary(core) < end
 }
 
 /// Compactions until the object has a run of free regions, or one takes no region. Answers whether it has.

@@ -4,3 +4,4 @@ pub mod Copies
 pub mod FieldUpdates
 pub mod Loops
 pub mod WholePause
+pub mod Slides

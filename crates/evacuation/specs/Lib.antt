@@ -4,3 +4,4 @@ pub mod Turns
 pub mod Cursors
 pub mod Rooms
 pub mod Releasing
+pub mod Sliding

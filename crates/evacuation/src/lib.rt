@@ -32,7 +32,9 @@ mod pause;
 mod release;
 pub mod room;
 mod roots;
+mod slide;
 mod visited;
 
 pub use pause::{Moved, evacuate};
 pub use room::PauseRoom;
+pub use slide::redirect_run;

@@ -15,6 +15,7 @@ pub mod Touched
 pub mod Changed
 pub mod Relocated
 pub mod Evacuated
+pub mod Redirected
 pub mod Walks
 pub mod Kept
 pub mod Counted

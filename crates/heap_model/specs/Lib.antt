@@ -8,3 +8,4 @@ pub mod Clearing
 pub mod Kept
 pub mod Relocation
 pub mod Evacuation
+pub mod Redirection

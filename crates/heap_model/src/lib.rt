@@ -39,6 +39,7 @@ pub mod clearing;
 pub mod evacuation;
 pub mod marking;
 pub mod reaching;
+pub mod redirection;
 pub mod relocation;
 pub mod showing;
 pub mod weak;

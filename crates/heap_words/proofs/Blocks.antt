@@ -2,7 +2,8 @@
 use Rattle.std.proofs.Common.{◌≡◌, ◌+◌, ◌-◌, ◌<◌, ◌≤◌, ◌∷◌, ◌++◌, ◌∙◌, ℕ, zero, suc, List, [], length, take, drop, get_or, set, refl, sym}
 use Rattle.std.proofs.Common.{ap, ap₂, arith, add-zero, zero-add, replicate, drop-cons}
 use Rattle.std.proofs.lemmas.List.{length-append, length-take, length-drop, append_assoc, set_at, replicate_more, take-append-drop}
-use Rattle.std.proofs.lemmas.List.{drop-drop, length-replicate, take_at, take-append-le, drop-append-le}
+use Rattle.std.proofs.lemmas.List.{drop-drop, length-replicate, take_at, drop_at, take-append-le, drop-append-le}
+use lib.Seq.{paste}
 use Rattle.heap_words.specs.Contents.{put}
 use Rattle.heap_words.specs.Memory.{Memory, memory}
 
@@ -151,3 +152,79 @@ copied_in ws new block at n h n_is is =
     let rest : drop n (drop at ws) ≡ drop (at + length block) ws =
     ap (λ (m : ℕ). drop m (drop at ws)) n_is ∙ drop-drop (length block) at ws in
     rw (is, rest) (sym (put_whole ws at block (omega arith)))
+
+-- ---- words that move down over their own
+put_after : (ws : List ℕ) (n : ℕ) (block : List ℕ) → n ≤ length ws → drop (n + length block) (put ws n block) ≡ drop (n + length block) ws
+put_after ws zero block h = rw (zero-add (length block)) (drop_at block _ (length block) refl)
+put_after [] (suc n) block h = absurd (omega arith)
+put_after (w ∷ ws) (suc n) block h =
+    let e : suc n + length block ≡ suc (n + length block) = omega arith in
+    rw e (put_after ws n block (omega arith))
+
+put_before : (ws : List ℕ) (n : ℕ) (block : List ℕ) → n ≤ length ws → take (n + length block) (put ws n block) ≡ take n ws ++ block
+put_before ws zero block h = rw (zero-add (length block)) (take_at block _ (length block) refl)
+put_before [] (suc n) block h = absurd (omega arith)
+put_before (w ∷ ws) (suc n) block h =
+    let e : suc n + length block ≡ suc (n + length block) = omega arith in
+    rw e (ap (λ xs. w ∷ xs) (put_before ws n block (omega arith)))
+
+take_more : (a b : ℕ) (ws : List ℕ) → take (a + b) ws ≡ take a ws ++ take b (drop a ws)
+take_more zero b ws = rw (zero-add b) refl
+take_more (suc a) b [] = take_nil (suc a + b) ∙ sym (take_nil b)
+  where
+    take_nil : (n : ℕ) → take n (let e : List ℕ = [] in e) ≡ []
+    take_nil zero = refl
+    take_nil (suc n) = refl
+take_more (suc a) b (w ∷ ws) =
+    let e : suc a + b ≡ suc (a + b) = omega arith in
+    rw e (ap (λ xs. w ∷ xs) (take_more a b ws))
+
+-- the words of which the first `done` have moved
+pub record IsMovedDown (old now : List ℕ) (from to size done : ℕ) : Type 0 where
+  pub within : done ≤ size
+  pub is : now ≡ put old to (take done (drop from old))
+
+pub none_moved : (ws : List ℕ) (from to size : ℕ) → IsMovedDown ws ws from to size 0
+none_moved ws from to size = record { within = omega arith; is = sym (put_none ws to) }
+
+-- one piece more, of words that none has moved over yet
+pub more_moved : (old now new : List ℕ) (from to size done more next : ℕ) → to < from → from + size ≤ length old → done + more ≤ size
+    → next ≡ done + more → IsMovedDown old now from to size done → new ≡ put now (to + done) (take more (drop (from + done) now))
+    → IsMovedDown old new from to size next
+more_moved old now new from to size done more next below fits less next_is m is =
+    let a : List ℕ = take done (drop from old) in
+    let len : length a ≡ done = simp (length-take, length-drop) (omega arith) in
+    let after : drop (to + done) now ≡ drop (to + done) old =
+    ap (drop (to + done)) m.is ∙ rw len at (put_after old to a (omega arith)) in
+    let later : (n : ℕ) → to + done ≤ n → drop n now ≡ drop n old = λ n h.
+    let at : to + done + (n - (to + done)) ≡ n = omega arith in
+    sym (drop-drop (n - (to + done)) (to + done) now ∙ ap (λ j. drop j now) at) ∙ ap (drop (n - (to + done))) after
+    ∙ (drop-drop (n - (to + done)) (to + done) old ∙ ap (λ j. drop j old) at) in
+    let before : take (to + done) now ≡ take to old ++ a = ap (take (to + done)) m.is ∙ rw len at (put_before old to a (omega arith)) in
+    let b : List ℕ = take more (drop (from + done) old) in
+    let b_is : take more (drop (from + done) now) ≡ b = ap (take more) (later (from + done) (omega arith)) in
+    let b_len : length b ≡ more = simp (length-take, length-drop) (omega arith) in
+    let long : length now ≡ length old = ap (λ (xs : List ℕ). length xs) m.is ∙ put_length old to a (omega arith) in
+    let both : take (done + more) (drop from old) ≡ a ++ b =
+    take_more done more (drop from old) ∙ ap (λ (xs : List ℕ). a ++ take more xs) (drop-drop done from old) in
+    let both_len : length (a ++ b) ≡ done + more = simp length-append (omega arith) in
+    let end : to + done + more ≡ to + (done + more) = omega arith in
+    record {
+      within = omega arith;
+      is = is ∙ ap (λ (xs : List ℕ). put now (to + done) xs) b_is
+          ∙ put_whole now (to + done) b (omega arith)
+          ∙ ap (λ (n : ℕ). take (to + done) now ++ (b ++ drop (to + done + n) now)) b_len
+          ∙ ap (λ (xs : List ℕ). take (to + done) now ++ (b ++ xs)) (later (to + done + more) (omega arith) ∙ ap (λ n. drop n old) end)
+          ∙ ap (λ (xs : List ℕ). xs ++ (b ++ drop (to + (done + more)) old)) before
+          ∙ append_assoc (take to old) a (b ++ drop (to + (done + more)) old)
+          ∙ ap (λ (xs : List ℕ). take to old ++ xs) (sym (append_assoc a b (drop (to + (done + more)) old)))
+          ∙ ap (λ (n : ℕ). take to old ++ ((a ++ b) ++ drop (to + n) old)) (sym both_len)
+          ∙ sym (put_whole old to (a ++ b) (omega arith))
+          ∙ ap (λ (xs : List ℕ). put old to xs) (sym both ∙ ap (λ n. take n (drop from old)) (sym next_is));
+    }
+
+pub all_moved : (old now : List ℕ) (from to size done : ℕ) → size ≤ done → IsMovedDown old now from to size done
+    → now ≡ put old to (take size (drop from old))
+all_moved old now from to size done h m =
+    let same : done ≡ size = let w = m.within in omega arith in
+    m.is ∙ ap (λ n. put old to (take n (drop from old))) same

@@ -89,6 +89,22 @@ fn copy_within(words: &mut [u64], from: usize, to: usize, size: usize)
     }
 }
 
+/// Copies words within a slice to a place below their own, which they may reach into: in pieces as long as the way, of which each lies
+/// apart from its new place, so that each is one copy of memory.
+fn copy_down(words: &mut [u64], from: usize, to: usize, size: usize)
+    requires below { to < from }
+    requires source { from + size ≤ length words.old }
+    ensures { words.new ≡ put words.old to (take size (drop from words.old)) }
+{
+    let way = from - to;
+    let mut done = 0;
+    while done < size {
+        let more = way.min(size - done);
+        copy_within(words, from + done, to + done, more);
+        done += more;
+    }
+}
+
 /// Copies words into a slice, in place of those from one on.
 fn copy_to(words: &mut [u64], at: usize, block: &[u64])
     requires { at + length block.now ≤ length words.old }
@@ -365,6 +381,21 @@ impl Words {
         ensures written { self.new.written ≡ self.old.written }
     {
         copy_within(
+            &mut self.items,
+            from.word() as usize,
+            to.word() as usize,
+            size as usize,
+        );
+    }
+
+    /// Copies so many words to a place below, which may be nearer than they are many.
+    pub fn copy_down(&mut self, from: Addr, to: Addr, size: u32)
+        requires source { from + size ≤ self.old.written }
+        requires below { to < from }
+        ensures all { self.new.all ≡ put self.old.all to (take size (drop from self.old.all)) }
+        ensures written { self.new.written ≡ self.old.written }
+    {
+        copy_down(
             &mut self.items,
             from.word() as usize,
             to.word() as usize,

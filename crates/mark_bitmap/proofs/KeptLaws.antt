@@ -1,7 +1,8 @@
 -- What is kept when regions lose their objects, and when marking is over.
-use Rattle.regions.proofs.Common.{◌≡◌, ◌⊎◌, ◌/◌, ◌<◌, ◌≤◌, ◌∙◌, inl, inr, ℕ, Bool, true, false, List, Option, None, get_or, refl, ap, arith}
-use Rattle.regions.proofs.Common.{⊎_elim, if◌then◌else◌, cases_lt, cases_Bool, le-ltb, lt-ltb, Stored, Table, object_at}
+use Rattle.regions.proofs.Common.{◌≡◌, ◌≢◌, ◌⊎◌, ◌/◌, ◌<◌, ◌≤◌, ◌∙◌, inl, inr, ℕ, Bool, true, false, List, Option, Some, None, get_or, refl}
+use Rattle.regions.proofs.Common.{sym, ap, arith, ⊎_elim, if◌then◌else◌, cases_lt, cases_Bool, le-ltb, lt-ltb, Stored, Table, object_at}
 use Rattle.heap_model.specs.Graph.{Graph, IsReachable, next_name}
+use Rattle.heap_model.specs.Redirection.{ObjectMoved}
 use Rattle.heap_model.specs.Marking.{KeepsSnapshot}
 use Rattle.heap_model.specs.Weak.{cleared_object, cleared_after}
 use Rattle.heap_model.proofs.Kept.{kept_by_marks}
@@ -63,3 +64,25 @@ swap_kept s t t' tops previous next scans logged roots newer i words clears a =
     ap (λ (w : ℕ). if is_below w tops.next a then (if is_marked next a then object_at t' a else None) else object_at t' a) words
     ∙ (kept_by_marks (IsReachable s) (next_name s) (object_at t) (object_at t') (below_previous t tops) (is_marked previous)
     roots (marking_in t tops next scans logged) i (λ b h. newer_below t tops b newer h) clears a)
+
+pub object_moved : (t t' : Table) (tops tops' : Tops) (previous previous' : List Bool) (roots : List (Option ℕ)) (from to : ℕ)
+    (object : Stored) (touched : ℕ → Bool) → kept_in t tops previous from ≡ Some object → object_at t to ≡ None
+    → object_at t' to ≡ Some object → object_at t' from ≡ None → ((a : ℕ) → a ≢ from → a ≢ to → object_at t' a ≡ object_at t a)
+    → ((a : ℕ) → touched a ≡ true → a ≢ from → object_at t a ≡ None) → below_previous t' tops' to ≡ false
+    → ((a : ℕ) → touched a ≡ false → below_previous t' tops' a ≡ below_previous t tops a)
+    → ((a : ℕ) → touched a ≡ false → is_marked previous' a ≡ is_marked previous a)
+    → ObjectMoved (heap_in t tops previous roots) (heap_in t' tops' previous' roots) from to object
+object_moved t t' tops tops' previous previous' roots from to object touched was room is gone others alone above below marks = record {
+  was = was;
+  room = none_either_way (object_at t to) (below_previous t tops to) (is_marked previous to) room;
+  is = rw above is;
+  gone = none_either_way (object_at t' from) (below_previous t' tops' from) (is_marked previous' from) gone;
+  others = λ a n m. elim (cases_Bool (touched a)) [
+    | inl g ↦
+        let none : object_at t a ≡ None = alone a g n in
+        none_either_way (object_at t' a) (below_previous t' tops' a) (is_marked previous' a) (others a n m ∙ none)
+        ∙ sym (none_either_way (object_at t a) (below_previous t tops a) (is_marked previous a) none)
+    | inr g ↦ rw (others a n m, below a g, marks a g) refl
+  ];
+  roots = refl;
+}

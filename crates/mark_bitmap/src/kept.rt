@@ -9,6 +9,7 @@
 ghost use Rattle.std.specs.Prelude.{◌≡◌, ◌≢◌, ◌⊎◌, ◌<◌, if◌then◌else◌, ℕ, Bool, true, false, List, Option, Some, None, length, slice_set};
 ghost use Rattle.heap_model.specs.Graph.{Graph};
 ghost use Rattle.heap_model.specs.Heap.{Stored};
+ghost use Rattle.heap_model.specs.Redirection.{ObjectMoved};
 ghost use Rattle.heap_model.specs.Marking.{KeepsSnapshot};
 ghost use Rattle.heap_model.specs.Weak.{cleared_object, cleared_after};
 ghost use Rattle.regions.specs.Table.{Table, object_at};
@@ -45,6 +46,18 @@ pub fn gone_law()
         → ((a : ℕ) → gone a ≡ false → below_previous t' tops' a ≡ below_previous t tops a)
         → ((a : ℕ) → gone a ≡ false → is_marked previous' a ≡ is_marked previous a)
         → (a : ℕ) → kept_in t' tops' previous' a ≡ (if gone a then None else kept_in t tops previous a) }
+{}
+
+/// An object that moved is kept at its new place, where that lies above its region's top at mark start. Of the regions whose marks and
+/// tops changed, none had another object. What is kept elsewhere stays.
+pub fn moved_law()
+    ensures { (t t' : Table) (tops tops' : Tops) (previous previous' : List Bool) (roots : List (Option ℕ)) (from to : ℕ) (object : Stored)
+        (touched : ℕ → Bool) → kept_in t tops previous from ≡ Some object → object_at t to ≡ None → object_at t' to ≡ Some object
+        → object_at t' from ≡ None → ((a : ℕ) → a ≢ from → a ≢ to → object_at t' a ≡ object_at t a)
+        → ((a : ℕ) → touched a ≡ true → a ≢ from → object_at t a ≡ None) → below_previous t' tops' to ≡ false
+        → ((a : ℕ) → touched a ≡ false → below_previous t' tops' a ≡ below_previous t tops a)
+        → ((a : ℕ) → touched a ≡ false → is_marked previous' a ≡ is_marked previous a)
+        → ObjectMoved (heap_in t tops previous roots) (heap_in t' tops' previous' roots) from to object }
 {}
 
 /// A region that is taken or released, its marks cleared and its tops reset: nothing of it is kept, and of the other

@@ -5,3 +5,4 @@ pub mod RunMade
 pub mod RunGone
 pub mod Blocks
 pub mod RunLaws
+pub mod RunMoved

@@ -327,6 +327,17 @@ released_as _ t k = t
 unfoldable pub released : Table → ℕ → Table
 released t k = released_as (nth_region t k) t k
 
+abbrev pub moved_as : Region → Table → ℕ → ℕ → Table
+moved_as Free t k to = t
+moved_as (Ordinary ts) t k to = t
+moved_as (First s) t k to =
+    with_regions (released t k) to (run_length t k) (run_regions t.words_per_region s (run_length t k))
+moved_as (Rest n) t k to = t
+
+-- the table once the run that begins at k begins at `to`
+unfoldable pub moved_run : Table → ℕ → ℕ → Table
+moved_run t k to = moved_as (nth_region t k) t k to
+
 -- the address behind the words of a region that are handed out
 abbrev pub top_of : Table → ℕ → ℕ
 top_of t k = k * t.words_per_region + used_of t k

@@ -1,14 +1,16 @@
 //! Runs: adjacent regions that hold one humongous object.
-ghost use Rattle.std.specs.Prelude.{◌≡◌, ◌+◌, ◌*◌, ◌<◌, ◌≤◌, length, Some};
+ghost use Rattle.std.specs.Prelude.{◌≡◌, ◌≢◌, ◌+◌, ◌*◌, ◌/◌, ◌<◌, ◌≤◌, ℕ, length, replicate, Some};
 ghost use Rattle.heap_words.specs.Sizes.{size_of};
 ghost use lib.Seq.{paste};
 ghost use Rattle.regions.specs.Table.{first_run, is_free as region_is_free, new_object, run_length, run_regions, with_regions, with_run};
-ghost use Rattle.regions.specs.Rows.{kind_is_free, run_rows, AreUsedBelow};
+ghost use Rattle.regions.specs.Table.{kind_of, moved_run, EachForwardedIn};
+ghost use Rattle.regions.specs.Rows.{free_row, kind_is_free, run_rows, AreUsedBelow};
+ghost use Rattle.regions.specs.declared.row.Kind.TheVariants as kinds;
 ghost use Rattle.heap_words.specs.Configs.{max_words};
 
 use crate::row::{Kind, Row, is_free};
 use crate::table::RegionTable;
-use crate::updates::rests_from;
+use crate::updates::{rests_from, write_free};
 use heap_words::addr::{Addr, RegionNo};
 use heap_words::header::HeaderCounts;
 
@@ -45,6 +47,17 @@ fn write_run(rows: &mut [Row], at: usize, count: u32, size: u32, words: u32)
             used: size.min(words.saturating_sub(before)),
         };
     }
+}
+
+/// The rows of a run become free, and then those from `to` on are its rows.
+fn move_rows(rows: &mut [Row], from: usize, to: usize, count: u32, size: u32, words: u32)
+    requires source { from + count ≤ length rows.old }
+    requires target { to + count ≤ length rows.old }
+    requires small { count * size ≤ max_words }
+    ensures { rows.new ≡ paste (paste rows.old from (replicate count free_row) count) to (run_rows size words 0 count) count }
+{
+    write_free(rows, from, count as usize);
+    write_run(rows, to, count, size, words);
 }
 
 impl RegionTable {
@@ -111,5 +124,36 @@ impl RegionTable {
         let first = self.free_run(count)?;
         self.make_run(first, count, name, counts);
         Some(first)
+    }
+
+    /// Moves a run down, to the regions from `to` on: those between are free, and its object's words come over their own where the way is
+    /// shorter than they are. What isn't used any more is free.
+    pub fn move_run(&mut self, first: RegionNo, to: RegionNo)
+        requires known { first < length self.old.regions }
+        requires run { kind_of self.old first ≡ kinds.First }
+        requires below { to < first }
+        requires free { (k : ℕ) → to ≤ k → k < first → kind_of self.old k ≡ kinds.Free }
+        requires untargeted { EachForwardedIn (λ a. first ≢ a / self.old.words_per_region) self.old.regions }
+        ensures { self.new ≡ moved_run self.old first to }
+    {
+        let number = first.number();
+        let place = to.number();
+        let from = Addr::new(number * self.words_per_region);
+        let at = Addr::new(place * self.words_per_region);
+        let size = self.object_size(from);
+        let weaks = self.weak_count(from);
+        let count = self.run_length(first);
+        self.words.copy_down(from, at, size);
+        move_rows(
+            &mut self.rows,
+            number as usize,
+            place as usize,
+            count,
+            self.words_per_region,
+            size,
+        );
+        self.first_tiles.put_tile(at.word(), size);
+        self.weak_starts.release(number);
+        self.weak_starts.add(at.word(), weaks);
     }
 }

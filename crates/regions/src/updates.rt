@@ -43,7 +43,7 @@ pub(crate) fn rests_from(rows: &[Row], from: usize) -> usize
 }
 
 /// Makes rows free.
-fn write_free(rows: &mut [Row], at: usize, count: usize)
+pub(crate) fn write_free(rows: &mut [Row], at: usize, count: usize)
     requires { at + count ≤ length rows.old }
     ensures { rows.new ≡ paste rows.old at (replicate count free_row) count }
 {

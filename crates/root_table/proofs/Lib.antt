@@ -1,3 +1,4 @@
 pub mod Rows
 pub mod Nils
 pub mod Apart
+pub mod Redirected

@@ -1,13 +1,14 @@
 //! The table of roots.
 
-ghost use Rattle.std.specs.Prelude.{◌≡◌, ◌<◌, ◌≤◌, ◌+◌, ◌-◌, ◌^◌, ℕ};
+ghost use Rattle.std.specs.Prelude.{◌≡◌, ◌≢◌, ◌<◌, ◌≤◌, ◌+◌, ◌-◌, ◌^◌, ℕ, true, false, map, Some};
 ghost use Rattle.std.specs.Prelude.{None, IfOk, IfSome, IsSome, length, MatchOption, replicate, slice_index_or, slice_set};
 ghost use Rattle.heap_model.specs.Graph.{register_place, root_places, with_nils};
+ghost use Rattle.heap_model.specs.Redirection.{redirected};
 ghost use Rattle.root_table.specs.Roots.{AreNil, IsNextNamed};
 
 use crate::held::Held;
 use crate::root_counts::RootCounts;
-use heap_words::addr::Ptr;
+use heap_words::addr::{Addr, Ptr};
 use std::alloc::{AllocError, Global};
 use std::marker::Model;
 
@@ -244,6 +245,31 @@ impl Roots {
             self.globals[place] = held;
         } else {
             self.registers[place - globals] = held;
+        }
+    }
+
+    /// Each place that holds one address holds another from now on. It looks at no place above its row's bound.
+    pub fn redirect(&mut self, from: Addr, to: Addr)
+        ensures { self.new ≡ record self.old { words = map (redirected from to) self.old.words } }
+    {
+        let mut place = 0;
+        'places: while let Some(named) = self.next_named(place) {
+            if self.names(named, from) {
+                self.update(named, Some(to));
+            }
+            place = named + 1;
+        }
+    }
+
+    /// Whether a place holds an address.
+    fn names(&self, place: usize, at: Addr) -> bool
+        requires { place < length self.now.words }
+        ensures yes { result ≡ true → slice_index_or self.now.words place None ≡ Some at }
+        ensures no { result ≡ false → slice_index_or self.now.words place None ≢ Some at }
+    {
+        match self.get(place) {
+            Some(held) => held.word() == at.word(),
+            None => false,
         }
     }
 

@@ -9,3 +9,6 @@ pub mod Ready
 pub mod CopiedNames
 pub mod Wide
 pub mod Pausing
+pub mod Slid
+pub mod Lowest
+pub mod Empty

@@ -38,7 +38,8 @@ use Rattle.step_core.specs.Reclaimed.{IsReclaimed}
 use Rattle.step_core.specs.Refining.{HasRefined}
 use Rattle.step_core.specs.declared.candidates.Choice.{Choice}
 use Rattle.step_core.specs.declared.candidates.Choice.TheVariants as choices
-use Rattle.step_core.specs.Pause.{HasPaused, HasPausedWithin, HasPausedYoung, HasCompacted, IsReady, IsSetOf}
+use Rattle.step_core.specs.Pause.{HasPaused, HasPausedWithin, HasPausedYoung, IsReady, IsSetOf}
+use Rattle.step_core.specs.Sliding.{HasCompacted, MayLeave}
 
 -- an ordinary region of which nothing is live, and from which no objects are cut now
 pub record IsDeadRegion (c : CoreState) (k : ℕ) : Type 0 where
@@ -239,12 +240,13 @@ pub record IsInSet (which : Choice) (budget : ℕ) (c : CoreState) (k : ℕ) : T
   pub choice : IsSetOf which c.table c.marker.tams c.marker.bitmaps.previous c.marker.running ready.sets c.ages budget chosen
   pub inside : is_chosen chosen k ≡ true
 
--- what a step may reclaim once clearing is over: a cleanup dead regions, a pause of any kind and a compaction their collection sets, any
--- other step nothing
+-- what a step may reclaim once clearing is over: a cleanup dead regions, a pause of any kind and a compaction their collection sets, a
+-- compaction whose set is empty what the run that it moves leaves, any other step nothing
 abbrev pub MayReclaim : Step → CoreState → ℕ → Type 0
 MayReclaim (steps.Collector collector.Cleanup) c k = (d : CoreState) × HasSettled c d × IsDead d k
 MayReclaim (steps.Collector (collector.Pause budget)) c k = (d : CoreState) × HasSettled c d × IsInSet choices.Best budget d k
-MayReclaim (steps.Collector (collector.Compact budget)) c k = (d : CoreState) × HasSettled c d × IsInSet choices.Highest budget d k
+MayReclaim (steps.Collector (collector.Compact budget)) c k = (d : CoreState) × HasSettled c d
+    × (IsInSet choices.Highest budget d k ⊎ MayLeave budget d k)
 MayReclaim (steps.Collector (collector.PauseWithin limits)) c k = (d : CoreState) × HasSettled c d
     × IsInSet (choices.Within limits.cards) limits.words d k
 MayReclaim (steps.Collector (collector.Young limits)) c k = (d : CoreState) × HasSettled c d

@@ -10,6 +10,8 @@ pub mod Reclaimed
 pub mod Refining
 pub mod Within
 pub mod Pause
+pub mod Forgetting
+pub mod Sliding
 pub mod Cycle
 pub mod Cleaning
 pub mod Parts

@@ -232,16 +232,13 @@ pub record HasMoved (which : Choice) (budget n w : ℕ) (c c' : CoreState) : Typ
   pub is_ready : IsReady c ready
   pub evacuates : EvacuatesSet which budget n w c ready c'
 
--- a pause moves the best regions, one within so many cards those of them that few cards lead into, a compaction the highest, a young pause
--- those that were taken for new objects first
+-- a pause moves the best regions, one within so many cards those of them that few cards lead into, a young pause those that were taken for
+-- new objects first
 abbrev pub HasPaused : ℕ → ℕ → ℕ → CoreState → CoreState → Type 0
 HasPaused budget n w c c' = HasMoved choices.Best budget n w c c'
 
 abbrev pub HasPausedWithin : ℕ → ℕ → ℕ → ℕ → CoreState → CoreState → Type 0
 HasPausedWithin budget cards n w c c' = HasMoved (choices.Within cards) budget n w c c'
-
-abbrev pub HasCompacted : ℕ → ℕ → ℕ → CoreState → CoreState → Type 0
-HasCompacted budget n w c c' = HasMoved choices.Highest budget n w c c'
 
 abbrev pub HasPausedYoung : ℕ → ℕ → ℕ → ℕ → CoreState → CoreState → Type 0
 HasPausedYoung budget cards n w c c' = HasMoved (choices.Youngest cards) budget n w c c'

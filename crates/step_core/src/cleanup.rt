@@ -30,7 +30,7 @@ use regions::{Kind, RegionTable};
 use remembered_sets::RememberedSets;
 
 /// Forgets the marks, the tops at mark start, the remembered sets and the ages of so many regions from one on.
-fn forget(
+pub(crate) fn forget(
     table: &RegionTable,
     marker: &mut Marker,
     sets: &mut RememberedSets,

@@ -65,6 +65,7 @@ mod pause;
 mod readers;
 mod refine;
 mod runs;
+mod slide;
 mod step;
 mod within;
 mod words;

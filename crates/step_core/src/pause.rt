@@ -17,8 +17,9 @@ ghost use Rattle.cards.specs.Cards.{is_dirty};
 ghost use Rattle.step_core.specs.Stands.{ShowsGraph, KeepsFrom};
 ghost use Rattle.region_choice.specs.Ages.{AgesAfter};
 ghost use Rattle.evacuation.specs.Evacuates.{is_chosen};
-ghost use Rattle.step_core.specs.Pause.{AreForgotten, IsReady, EvacuatesSet, HasCompacted, HasMoved, HasPaused, HasPausedWithin};
+ghost use Rattle.step_core.specs.Pause.{AreForgotten, IsReady, EvacuatesSet, HasMoved, HasPaused, HasPausedWithin};
 ghost use Rattle.step_core.specs.Pause.{HasPausedYoung};
+ghost use Rattle.step_core.specs.Sliding.{HasCompacted};
 
 use crate::candidates::{Choice, choose_set};
 use crate::heap::Core;
@@ -139,7 +140,13 @@ impl Core {
         ensures compacted { HasCompacted budget result.regions result.words self.old self.new }
         ensures few { result.regions < 2 ^ 32 }
     {
-        self.move_set(Choice::Highest, budget)
+        let moved = self.move_set(Choice::Highest, budget);
+        if moved.regions > 0 {
+            return moved;
+        }
+        self.law_shaped();
+        self.law_remembers();
+        self.slide(budget)
     }
 
     /// A young pause within so many cards, where none is either.

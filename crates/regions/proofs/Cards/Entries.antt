@@ -22,7 +22,7 @@ use Rattle.regions.proofs.Words.FieldAccess.{has_field}
 use Rattle.regions.proofs.Words.Values.{has_value}
 use Rattle.regions.proofs.Tiles.Placing.{remainder_total, remainder_positive, remainder_unmoved, Replaces, filler_replaced, filler_push}
 use Rattle.regions.proofs.Tiles.Placing.{region_taken}
-use Rattle.regions.proofs.LongRuns.RunLaws.{frees, Releases, ordinary_released, run_released, run_made}
+use Rattle.regions.proofs.LongRuns.RunLaws.{frees, Releases, ordinary_released, run_released, TakesRun, run_made}
 use Rattle.regions.proofs.Tiles.TileLaws.{Forwards, object_forwarded}
 use Rattle.regions.proofs.Words.ObjectWords.{words_of}
 use Rattle.regions.proofs.Tiles.Within.{within_fewer, within_added, within_cut}
@@ -281,17 +281,16 @@ module _ (size shift lowest free : ℕ) (entries : Entries) (starts : Starts) (m
       (λ y apart. push.others y (λ z. apart (z ∙ sym there))) long put
       (none_there t at (ap (tile_in t) there ∙ push.was)) n' used counted more fits w
 
-  pub run_sound : (new : Entries) (starts' : Starts) (memory' : Memory) (rows' : List Row) (low free' k m at n weaks : ℕ) (o : Stored)
-      → 0 < m → first_run is_free m t.regions ≡ Some k → at ≡ k * t.words_per_region → n ≡ tile_size (Object o)
-      → AreEntriesPut (IsPut at (at + n)) entries new
+  pub run_sound_at : (new : Entries) (starts' : Starts) (memory' : Memory) (rows' : List Row) (low free' k m at n weaks : ℕ) (o : Stored)
+      → 0 < m → TakesRun t (with_regions t k m (run_regions t.words_per_region o m)) k m o → at ≡ k * t.words_per_region
+      → n ≡ tile_size (Object o) → AreEntriesPut (IsPut at (at + n)) entries new
       → length o.weaks ≡ weaks → starts' ≡ start_added starts at weaks → AreUsedBelow low rows' → free' ≡ free_row_count rows'
       → memory.written ≤ memory'.written → at + n ≤ memory'.written
       → IsWrittenTable size memory'.all rows' (with_regions t k m (run_regions t.words_per_region o m))
       → IsRegionTable size shift low free' new starts' memory' rows'
-  run_sound new starts' memory' rows' low free' k m at n weaks o some first there long put slots flags_are used counted
+  run_sound_at new starts' memory' rows' low free' k m at n weaks o some made there long put slots flags_are used counted
       more fits w =
       let t' : Table = with_regions t k m (run_regions t.words_per_region o m) in
-      let made = run_made t k m o shaped.positive some first in
       let here : tile_in t' (k * t.words_per_region) ≡ Some (Object o) =
       tile_of t' (k * t.words_per_region) o (first_object t' k o shaped.positive made.first) in
       let now : tile_in t' at ≡ Some (Object o) = ap (tile_in t') there ∙ here in
@@ -303,6 +302,16 @@ module _ (size shift lowest free : ℕ) (entries : Entries) (starts : Starts) (m
       added_sound new starts' memory' rows' low free' t' at n (Object o) made.count now
       (λ y apart. made.others y (λ z. apart (z ∙ sym there))) long put (none_there t at void)
       (notes starts starts' at weaks (Object o) known slots flags_are) used counted more fits w
+
+  pub run_sound : (new : Entries) (starts' : Starts) (memory' : Memory) (rows' : List Row) (low free' k m at n weaks : ℕ) (o : Stored)
+      → 0 < m → first_run is_free m t.regions ≡ Some k → at ≡ k * t.words_per_region → n ≡ tile_size (Object o)
+      → AreEntriesPut (IsPut at (at + n)) entries new
+      → length o.weaks ≡ weaks → starts' ≡ start_added starts at weaks → AreUsedBelow low rows' → free' ≡ free_row_count rows'
+      → memory.written ≤ memory'.written → at + n ≤ memory'.written
+      → IsWrittenTable size memory'.all rows' (with_regions t k m (run_regions t.words_per_region o m))
+      → IsRegionTable size shift low free' new starts' memory' rows'
+  run_sound new starts' memory' rows' low free' k m at n weaks o some first =
+      run_sound_at new starts' memory' rows' low free' k m at n weaks o some (run_made t k m o shaped.positive some first)
 
   pub front_sound : (new : Entries) (starts' : Starts) (memory' : Memory) (x n r at end weaks : ℕ) (tile : Tile)
       → tile_in t x ≡ Some (Filler n) → 0 < tile_size tile → tile_size tile + r ≡ n → EachForwarded (λ _. ⊥) (tile ∷ [])

@@ -68,6 +68,7 @@ pub record Releases (t t' : Table) (k m : ℕ) : Type 0 where
   pub free : (q : ℕ) → k ≤ q → q < k + m → kind_of t' q ≡ kinds.Free
   pub gone : (y : ℕ) → k ≤ y / t.words_per_region → y / t.words_per_region < k + m → tile_in t' y ≡ None
   pub kinds_same : (q : ℕ) → IsOutside k m q → kind_of t' q ≡ kind_of t q
+  pub same : (q : ℕ) → IsOutside k m q → nth_region t' q ≡ nth_region t q
   pub others : (y : ℕ) → IsOutside k m (y / t.words_per_region) → tile_in t' y ≡ tile_in t y
   pub unmoved : HasNoForwarded t → HasNoForwarded t'
 
@@ -90,6 +91,7 @@ regions_released t k m h =
       free = λ q low high. kind_at (with_regions t k m (replicate m Free)) q Free (is q low high);
       gone = λ y low high. tile_of_region (with_regions t k m (replicate m Free)) y Free (is (y / t.words_per_region) low high);
       kinds_same = λ q out. kinds_of t (with_regions t k m (replicate m Free)) q (s.outside q out);
+      same = s.outside;
       others = λ y out. same_tile t (with_regions t k m (replicate m Free)) y s.size (s.outside (y / t.words_per_region) out);
       unmoved = λ none. s.unmoved (no_targets (λ _. ⊥) m) none;
     }
@@ -130,6 +132,7 @@ pub record TakesRun (t t' : Table) (k m : ℕ) (s : Stored) : Type 0 where
   pub first : nth_region t' k ≡ First s
   pub later : (q : ℕ) → k < q → q < k + m → kind_of t' q ≡ kinds.Rest
   pub kinds_same : (q : ℕ) → IsOutside k m q → kind_of t' q ≡ kind_of t q
+  pub same : (q : ℕ) → IsOutside k m q → nth_region t' q ≡ nth_region t q
   pub others : (y : ℕ) → y ≢ k * t.words_per_region → tile_in t' y ≡ tile_in t y
   pub unmoved : HasNoForwarded t → HasNoForwarded t'
 
@@ -166,20 +169,17 @@ pub number_is : (t : Table) (q : ℕ) → nth_region t q ≡ get_or t.regions q 
 unfolding nth_region
 number_is t q = refl
 
-pub run_made : (t : Table) (k m : ℕ) (s : Stored) → 0 < t.words_per_region → 0 < m → first_run is_free m t.regions ≡ Some k
+-- the regions from k on are free, m of them
+abbrev pub AreFreeAt : Table → ℕ → ℕ → Type 0
+AreFreeAt t k m = (q : ℕ) → k ≤ q → q < k + m → nth_region t q ≡ Free
+
+pub run_made_at : (t : Table) (k m : ℕ) (s : Stored) → 0 < t.words_per_region → 0 < m → k + m ≤ length t.regions → AreFreeAt t k m
     → TakesRun t (with_regions t k m (run_regions t.words_per_region s m)) k m s
-run_made t k m s z y h =
+run_made_at t k m s z y fits free =
     let size : ℕ = t.words_per_region in
     let block : List Region = run_regions size s m in
     let t' : Table = with_regions t k m block in
-    let found = run_passes is_free m k t.regions h in
-    let front = front_le is_free (drop k t.regions) in
-    let fits : k + m ≤ length t.regions = omega (arith, found.0, found.1, front, length-drop k t.regions) in
     let w = regions_spliced t k m block (length-run_regions size m s) fits in
-    let free : (q : ℕ) → k ≤ q → q < k + m → nth_region t q ≡ Free = λ q low high.
-    let at : k + (q - k) ≡ q = omega arith in
-    let p = front_passes is_free (drop k t.regions) Free (q - k) (omega (arith, found.1)) in
-    number_is t q ∙ sym (get_or-drop k t.regions (q - k) Free ∙ ap (λ (j : ℕ). get_or t.regions j Free) at) ∙ free_is _ p in
     record {
       size = w.size;
       count = w.count;
@@ -189,6 +189,7 @@ run_made t k m s z y h =
       later = λ q low high. kind_of_number t' q ∙ ap region_kind (w.inside (q - k) q (omega arith) (omega arith))
           ∙ run_later size m (q - k) s (omega arith) (omega arith);
       kinds_same = λ q out. kinds_of t t' q (w.outside q out);
+      same = w.outside;
       others = λ y apart.
           let q : ℕ = y / size in
           let whole : q * size + y % size ≡ y = omega arith in
@@ -211,3 +212,15 @@ run_made t k m s z y h =
   where
     bottom : (y k size q o : ℕ) → q * size + o ≡ y → q ≡ k → o ≡ 0 → y ≡ k * size
     bottom y k size q o w e f = sym w ∙ rw (e, f) (omega arith)
+
+-- and so in the lowest run of free regions
+pub run_made : (t : Table) (k m : ℕ) (s : Stored) → 0 < t.words_per_region → 0 < m → first_run is_free m t.regions ≡ Some k
+    → TakesRun t (with_regions t k m (run_regions t.words_per_region s m)) k m s
+run_made t k m s z y h =
+    let found = run_passes is_free m k t.regions h in
+    let front = front_le is_free (drop k t.regions) in
+    let fits : k + m ≤ length t.regions = omega (arith, found.0, found.1, front, length-drop k t.regions) in
+    run_made_at t k m s z y fits (λ q low high.
+    let at : k + (q - k) ≡ q = omega arith in
+    let p = front_passes is_free (drop k t.regions) Free (q - k) (omega (arith, found.1)) in
+    number_is t q ∙ sym (get_or-drop k t.regions (q - k) Free ∙ ap (λ (j : ℕ). get_or t.regions j Free) at) ∙ free_is _ p)

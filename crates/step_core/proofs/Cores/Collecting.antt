@@ -1,5 +1,5 @@
 -- A step of the collector as one of the state's.
-use Rattle.std.proofs.Common.{◌≡◌, ℕ, true, false, Option, Some, None, refl, sym, ◌∙◌, ap, subst}
+use Rattle.std.proofs.Common.{◌≡◌, ◌≢◌, ◌⊎◌, ℕ, true, false, Option, Some, None, inl, inr, refl, sym, ◌∙◌, ap, subst}
 use Rattle.heap_model.specs.Graph.{Graph}
 use Rattle.graph_runs.specs.State.{State}
 use Rattle.graph_runs.specs.Run.{IsCollectorReply, ChangesState, ClearsBy}
@@ -12,7 +12,12 @@ use Rattle.step_core.specs.Stands.{CoreState, ShowsGraph, KeepsFrom, KeepsFor, S
 use Rattle.step_core.specs.Reclaimed.{IsReclaimed}
 use Rattle.step_core.specs.Cycle.{IsInSet, ShowsCleared}
 use Rattle.step_core.specs.declared.candidates.Choice.{Choice}
+use Rattle.step_core.specs.declared.candidates.Choice.TheVariants as choices
 use Rattle.step_core.specs.Pause.{HasMoved}
+use Rattle.step_core.specs.Sliding.{HasCompacted, IsLeft, MayLeave, Slides}
+use Rattle.step_core.proofs.Pauses.Empty.{still_used}
+use Rattle.regions.specs.Table.{kind_of}
+use Rattle.regions.specs.declared.row.Kind.TheVariants as kinds
 use Rattle.step_core.specs.Answers.{Follows}
 use Rattle.step_core.proofs.Cores.Following.{follows_by}
 use Rattle.step_core.proofs.Cores.Snapshots.{keeps_for}
@@ -61,3 +66,35 @@ module _ (which : Choice) (budget n w : ℕ) (c c' : CoreState) (h : HasMoved wh
     choice = h.evacuates.choice;
     inside = (h.evacuates.reclaimed i).0 x;
   }
+
+-- a run moves, or none does: marking runs on as before, and what the run leaves alone is reclaimed
+slides_running : (budget n w : ℕ) (c c' : CoreState) → Slides budget n w c c' → c'.marker.running ≡ c.marker.running
+slides_running budget n w c c' (inl still) = ap (λ (d : CoreState). d.marker.running) still.same
+slides_running budget n w c c' (inr (first, to, idle, lowest, moves)) = ap (λ (m : Marker). m.running) moves.forgotten.same
+
+module _ (budget n w : ℕ) (c c' : CoreState) where
+  pub compacted_running : HasCompacted budget n w c c' → c'.marker.running ≡ c.marker.running
+  compacted_running (inl h) = moved_running choices.Highest budget n w c c' h.1
+  compacted_running (inr q) = slides_running budget n w q.after c' q.slides ∙ moved_running choices.Highest budget 0 0 c q.after q.empty
+
+  pub compacted_reclaims : HasCompacted budget n w c c' → (i : ℕ) → IsReclaimed c.table c'.table i
+      → IsInSet choices.Highest budget c i ⊎ MayLeave budget c i
+  compacted_reclaims (inl h) i x = inl (moved_reclaims choices.Highest budget n w c c' h.1 i x)
+  compacted_reclaims (inr q) i x = go q.slides
+    where
+      used : kind_of q.after.table i ≢ kinds.Free
+      used = still_used choices.Highest budget 0 c q.after q.empty i x.used
+
+      go : Slides budget n w q.after c' → IsInSet choices.Highest budget c i ⊎ MayLeave budget c i
+      go (inl still) = absurd (used (ap (λ (k : CoreState). kind_of k.table i) (sym still.same) ∙ x.free))
+      go (inr (first, to, idle, lowest, moves)) =
+          let left = (moves.reclaimed i).0 (record { used = used; free = x.free }) in
+          inr (record {
+            after = q.after;
+            empty = q.empty;
+            idle = idle;
+            first = first;
+            to = to;
+            lowest = lowest;
+            left = subst (λ (k : ℕ). IsLeft first to k i) moves.regions left;
+          })

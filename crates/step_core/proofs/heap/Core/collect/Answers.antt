@@ -3,7 +3,7 @@ use Rattle.heap_steps.specs.declared.step.CollectorStep.TheVariants as collector
 use Rattle.marker.specs.declared.marker.Marker.{Marker}
 use Rattle.step_core.specs.Stands.{CoreState}
 use Rattle.step_core.proofs.Cores.Collected.{refused, running_is, table_stays, takes, takes_same}
-use Rattle.step_core.proofs.Cores.Collecting.{begins, ends, moved_reclaims, moved_running}
+use Rattle.step_core.proofs.Cores.Collecting.{begins, ends, compacted_reclaims, compacted_running, moved_reclaims, moved_running}
 use Rattle.step_core.proofs.Cores.Settled.{looked_reclaims, settled_running, settled_idle, settled_none}
 use Rattle.step_core.proofs.Cores.Settled.{settled_reclaimed, settled_reclaims}
 use Rattle.step_core.proofs.Cores.Settled.{remark_by_format, remark_over, remark_reclaims, remark_shows}
@@ -96,9 +96,9 @@ pub returns-in-Compact : goal.returns-in-Compact
 returns-in-Compact c = let m = c.compact-moved.ensures in
     let z = c.settle-in-Compact.ensures in
     takes_same _ (collector.Compact c.in-Compact.budget) _ _ _ c.in-Compact.is tt (λ s. refl)
-    (moved_running _ _ _ _ _ _ m.compacted ∙ settled_running _ _ z)
+    (compacted_running _ _ _ _ _ m.compacted ∙ settled_running _ _ z)
     (λ g x. m.shows g (z.shows g x)) (λ g x. m.keeps g (z.keeps g x)) (_, _, refl, (_, z, m.compacted))
-    (λ i x. (_, z, moved_reclaims _ _ _ _ _ _ m.compacted i (settled_reclaimed _ _ z c.compact-moved.new.self i x)))
+    (λ i x. (_, z, compacted_reclaims _ _ _ _ _ m.compacted i (settled_reclaimed _ _ z c.compact-moved.new.self i x)))
 
 pub returns-in-Clear : goal.returns-in-Clear
 returns-in-Clear c = let m = c.clear.ensures in

@@ -1,0 +1,6 @@
+pub mod KeptObjects
+pub mod Redirecting
+pub mod Written
+pub mod Cards
+pub mod Own
+pub mod Whole
