@@ -26,8 +26,9 @@ pub first_below : (rows source : ℕ) → 0 < rows → first_row rows source < 2
 first_below rows source some = omega arith
 
 pub second_below : (rows source : ℕ) → 0 < rows → second_row rows source < 3 * rows
+unfolding second_row
 second_below rows source some =
-    let r : source / (2 * rows) % rows < rows = omega arith in
+    let r : (source % rows + source / (2 * rows)) % rows < rows = omega arith in
     omega arith
 
 -- a place in a row that there is is a flag's
