@@ -577,7 +577,7 @@ protected:
     std::size_t first_place(Number card, Number source) const { return filter_place(source % (2 * filter_rows_), card); }
 
     std::size_t second_place(Number card, Number source) const {
-        return filter_place(2 * filter_rows_ + source / (2 * filter_rows_) % filter_rows_, card);
+        return filter_place(2 * filter_rows_ + (source + source / (2 * filter_rows_)) % filter_rows_, card);
     }
 
     // The words of the row of a region's first card.

@@ -5,7 +5,7 @@
    - while more regions are free than are kept in reserve, a look takes one pause at most, which copies at most `pause_words`; it ends a
      cycle or takes a pause, and not both; and two looks in turn don't both refine alone
    - at 20 and 50 percent live no look finds as few regions free, and no whole collection comes
-   - trees, lists and entries of which nine of ten words die at once, at 50 percent live: at most 0.25 words are copied and 0.04 objects
+   - trees, lists and entries of which nine of ten words die at once, at 50 percent live: at most 0.15 words are copied and 0.04 objects
      scanned for each word made
 
      short_looks
@@ -140,7 +140,7 @@ static void run(const char *name, element one, uint32_t average, uint32_t percen
     for (int fault = BOTH; fault < SHORT; fault++) is_none(name, percent, fault);
     if (percent <= 50) is_none(name, percent, SHORT), is_none(name, percent, WHOLE);
     if (dying < 90) return;
-    is_at_most(name, "words copied", (double)(policy.copied - before.copied) / (double)made, 0.25);
+    is_at_most(name, "words copied", (double)(policy.copied - before.copied) / (double)made, 0.15);
     is_at_most(name, "objects scanned", (double)(policy.scanned - before.scanned) / (double)made, 0.04);
 }
 

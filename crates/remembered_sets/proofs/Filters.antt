@@ -3,7 +3,7 @@ use Rattle.std.proofs.Common.{◌≡◌, ◌+◌, ◌-◌, ◌*◌, ◌/◌, ◌
 use Rattle.std.proofs.Common.{⊎_elim, refl, sym, ap, ap₂, subst, arith, get_or-set_same, get_or-set_other, length-set, ◌||◌, ◌&&◌}
 use Rattle.std.proofs.Common.{if◌then◌else◌, eq-eqb, ne_eqb, eqb-true}
 use Rattle.std.proofs.lemmas.Bool.{cases_lt, cases_eq, eqb-false, false≢true, and_from, and_parts, or_left, or_right}
-use Rattle.std.proofs.lemmas.List.{get_or_past, length-replicate}
+use Rattle.std.proofs.lemmas.List.{get_or_past, length-replicate, set-get_or}
 use Rattle.std.proofs.lemmas.Nat.{mul-add-lt, div-mul-add}
 use Rattle.std.proofs.Math.Nat.{pos_of_ne-zero}
 use Rattle.bit_sets.specs.Bits.{has, is_between}
@@ -26,8 +26,9 @@ pub first_below : (rows source : ℕ) → 0 < rows → first_row rows source < 2
 first_below rows source some = omega arith
 
 pub second_below : (rows source : ℕ) → 0 < rows → second_row rows source < 3 * rows
+unfolding second_row
 second_below rows source some =
-    let r : source / (2 * rows) % rows < rows = omega arith in
+    let r : (source % rows + source / (2 * rows)) % rows < rows = omega arith in
     omega arith
 
 -- a place in a row that there is is a flag's
@@ -176,3 +177,18 @@ one_more start upto next card old cur new member passing lets h e before after s
         (between_no_above start upto card from ∙ sym (between_no_above start next card (omega arith)))
   ]
 ]
+
+-- ---- a card that passes already
+pub set_again : (flags : List Bool) (i : ℕ) → has flags i ≡ true → set flags i true ≡ flags
+set_again flags i e = subst (λ b. set flags i b ≡ flags) e (set-get_or flags i false)
+
+pub filter_again : (f : CardFilter) (w card : ℕ) → lets_through f w card ≡ true → filter_with f w card ≡ f
+filter_again f w card =
+    let i : ℕ = place_in (first_row f.rows (card / w)) w card in
+    let j : ℕ = place_in (second_row f.rows (card / w)) w card in
+    filter_cases (λ g. lets_through f w card ≡ true → g ≡ f) f w card (λ none e. refl)
+    (λ some e.
+    let (first, second) = and_parts (has f.flags i) (has f.flags j)
+    (sym (ap (λ b. b || (has f.flags i && has f.flags j)) (ne_eqb f.rows 0 (λ z. absurd (omega (arith, some, z))))) ∙ e) in
+    ap (λ (flags : List Bool). record { rows = f.rows; flags = set flags j true }) (set_again f.flags i first)
+    ∙ ap (λ (flags : List Bool). record { rows = f.rows; flags = flags }) (set_again f.flags j second))

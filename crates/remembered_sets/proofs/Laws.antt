@@ -5,17 +5,17 @@ use Rattle.std.proofs.Common.{◌&&◌, eq-eqb, ne_eqb}
 use Rattle.std.proofs.Math.Nat.{lt_of_mul-lt-mul_right, lt_irrefl}
 use Rattle.std.proofs.lemmas.Bool.{cases_eq, cases_lt, and_from, and_parts}
 use Rattle.std.proofs.lemmas.List.Elements.{All-head, All-tail, All-set}
-use Rattle.std.proofs.lemmas.List.{get_or_past}
+use Rattle.std.proofs.lemmas.List.{get_or_past, set-get_or}
 use Rattle.std.proofs.lemmas.List.FromFn.{fill_by_all, length-map-range_with_len, get_or-map-range_with_len}
 use Rattle.bit_sets.specs.Bits.{has, is_between}
 use Rattle.bit_sets.proofs.BitRanges.{between_yes, between_no_below, between_no_above}
 use Rattle.remembered_sets.specs.Sets.{Sets, CardSet, set_of, set_after, set_covers, set_leads, emptied, no_set, covers, may_lead, added}
 use Rattle.remembered_sets.specs.Sets.{cleared, letting, lets_through, without_region, card_count, IsSet, AreSets, Change, changed}
-use Rattle.remembered_sets.specs.Sets.{after_all, LeavesSet}
+use Rattle.remembered_sets.specs.Sets.{CardFilter, after_all, LeavesSet, set_with}
 use Rattle.remembered_sets.specs.Sets.Change.{Add, Clear}
-use Rattle.remembered_sets.proofs.Filters.{marks_grow, region_of}
+use Rattle.remembered_sets.proofs.Filters.{filter_again, marks_grow, region_of, set_again}
 use Rattle.remembered_sets.proofs.Covered.{set_grows, set_covers-with, set_only, set_only_card, emptied_covers, IsSet-after, IsSet-emptied}
-use Rattle.remembered_sets.proofs.Covered.{set_lets_after, set_lets_still}
+use Rattle.remembered_sets.proofs.Covered.{set_lets_after, set_lets_still, with_cases}
 
 -- a card lies in one of the regions
 pub source_known : (card w n : ℕ) → 0 < w → card < n * w → card / w < n
@@ -196,6 +196,25 @@ leads_grow s region card r c known was =
         ∙ set_lets_still (set_of s region) s.cards_per_region card c here
     still_through (inr differs) e =
         ap (λ (t : CardSet). lets_through t.filter s.cards_per_region c) (added_other s region card r differs) ∙ e
+
+-- a card that may lead there already changes nothing
+after_again : (s : CardSet) (w card : ℕ) → set_covers s card (card / w) ≡ true → lets_through s.filter w card ≡ true
+    → set_after s w card ≡ s
+after_again s w card covered through =
+    let same : letting s w card ≡ s =
+    ap (λ (f : CardFilter). record { inline = s.inline; sources = s.sources; filter = f }) (filter_again s.filter w card through) in
+    ap (λ (t : CardSet). set_with t card (card / w)) same
+    ∙ with_cases (λ t. t ≡ s) s card (card / w) (λ was. refl) (λ missing short. absurd cc) (λ missing full. absurd cc)
+
+pub added_again : (s : Sets) (region card : ℕ) → may_lead s region card ≡ true → added s region card ≡ s
+added_again s region card was =
+    let (covered, (is_in, through)) = leads_parts s region card was in
+    let made : List CardSet → List Bool → Sets =
+    λ sets entered. record { sets = sets; cards_per_region = s.cards_per_region; entered = entered } in
+    ap (λ (x : CardSet). made (set s.sets region x) (set s.entered card true))
+    (after_again (set_of s region) s.cards_per_region card covered through)
+    ∙ ap (λ (xs : List CardSet). made xs (set s.entered card true)) (set-get_or s.sets region no_set)
+    ∙ ap (λ (xs : List Bool). made s.sets xs) (set_again s.entered card is_in)
 
 -- what is covered anew is the card, or lies in its region
 pub covers_only : (s : Sets) (region card c : ℕ) → region < length s.sets → covers (added s region card) region c ≡ true

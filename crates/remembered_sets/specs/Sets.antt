@@ -24,12 +24,13 @@ pub record Sets : Type 0 where
   pub entered : List Bool
 
 -- ---- one filter
--- the rows of a region's cards, one of each kind
+-- the rows of a region's cards, one of each kind: regions that share one of the first kind have others of the second, as long as there are
+-- some
 abbrev pub first_row : ℕ → ℕ → ℕ
 first_row rows source = source % (2 * rows)
 
-abbrev pub second_row : ℕ → ℕ → ℕ
-second_row rows source = 2 * rows + source / (2 * rows) % rows
+unfoldable pub second_row : ℕ → ℕ → ℕ
+second_row rows source = 2 * rows + (source % rows + source / (2 * rows)) % rows
 
 -- a card's place in a row, where a row has so many cards
 abbrev pub place_in : ℕ → ℕ → ℕ → ℕ

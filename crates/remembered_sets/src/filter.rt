@@ -6,7 +6,7 @@
 //!
 //!   region            0 1 2 3   4 5 6 7   8 9 ..        a card is added:  its place in each of its two rows is taken
 //!   first row         0 1 2 3   0 1 2 3   0 1 ..        a card passes:    both its places are taken
-//!   second row        4 4 4 4   5 5 5 5   4 4 ..        card 130, place 2 of region 2: rows 2 and 4
+//!   second row        4 5 4 5   5 4 5 4   4 5 ..        card 130, place 2 of region 2: rows 2 and 4
 //!
 //!   a table of four, one request of memory
 //!
@@ -85,6 +85,7 @@ fn row_of_first(rows: u32, source: u32) -> u32
 }
 
 /// The row of the second kind that a region's cards have.
+#[tactic(auto, unfolding(crate::specs::Sets::second_row))]
 #[inline(always)]
 fn row_of_second(rows: u32, source: u32) -> u32
     requires some { 0 < rows }
@@ -92,7 +93,7 @@ fn row_of_second(rows: u32, source: u32) -> u32
     ensures row { result ≡ second_row rows source }
     ensures below { result < 3 * rows }
 {
-    2 * rows + source / (2 * rows) % rows
+    2 * rows + (source % rows + source / (2 * rows)) % rows
 }
 
 /// The places of a card of the region `source` in both its rows, from the filter's first flag on.
