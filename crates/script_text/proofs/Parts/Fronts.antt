@@ -1,8 +1,9 @@
 -- A word that is in a line from a place on.
-use Rattle.std.proofs.Common.{◌≡◌, ◌+◌, ◌-◌, ◌*◌, ◌<◌, ◌≤◌, ◌∷◌, ◌++◌, ◌∙◌, ℕ, suc, Bool, true, false, cond}
+use Rattle.std.proofs.Common.{◌≡◌, ◌+◌, ◌-◌, ◌*◌, ◌<◌, ◌≤◌, ◌∷◌, ◌++◌, ◌∙◌, ℕ, zero, suc, Bool, true, false, cond}
 use Rattle.std.proofs.Common.{List, [], length, take, drop, get_or, refl, ap, sym, arith, inl, inr}
 use Rattle.std.specs.List.{All}
 use Rattle.std.specs.Char.{digit_value}
+use Rattle.std.specs.Fmt.{decimal}
 use Rattle.std.specs.Str.Parse.{AllDigits, digits_value, digits_value_after}
 use Rattle.std.proofs.Math.Seq.{drop-cons, take-suc}
 use Rattle.std.proofs.lemmas.Bool.{cases_lt}
@@ -10,6 +11,8 @@ use Rattle.std.proofs.lemmas.List.{ext_get_or, get_or-take, get_or-drop, length-
 use Rattle.script_text.specs.Feeds.{end_of}
 use Rattle.script_text.specs.Lines.{words_of}
 use Rattle.script_text.specs.Fronts.{part, IsClear, IsNext, IsLastWord}
+use Rattle.script_text.specs.Reading.{small}
+use Rattle.script_text.proofs.Parts.Numbers.{digit_is, spells}
 use Rattle.script_text.proofs.Parts.Splitting.{here_ends, not_yet, word_then, word_last}
 
 -- a space ends it
@@ -132,3 +135,27 @@ value_more ds b = value_after_more 0 ds b
 pub digits_more : (ds : List ℕ) (b : ℕ) → AllDigits 10 ds → digit_value b < 10 → AllDigits 10 (ds ++ b ∷ [])
 digits_more [] b digits digit = (digit, tt)
 digits_more (d ∷ ds) b digits digit = (digits.0, digits_more ds b digits.1 digit)
+
+-- a digit that isn't zero
+pub not_zero : (b x : ℕ) → (b ≡ 48 → ⊥) → b ≡ 48 + x → 0 < x
+not_zero b zero other e = absurd (other e)
+not_zero b (suc x) other e = omega arith
+
+-- two digits, the first of them not zero, spell a number
+pub two_digits : (text : List ℕ) (at x y : ℕ) → at + 1 < length text → 0 < x → x < 10 → y < 10 → get_or text at 0 ≡ 48 + x
+    → get_or text (at + 1) 0 ≡ 48 + y → (part text at (at + 2) ≡ decimal (x * 10 + y)) × (x * 10 + y ≤ small)
+two_digits text at x y inside some one two first second =
+    let a = get_or text at 0 in
+    let b = get_or text (at + 1) 0 in
+    let past : at + 2 ≡ at + 1 + 1 = omega arith in
+    let word : part text at (at + 2) ≡ (a ∷ []) ++ b ∷ [] =
+    ap (part text at) past ∙ part_more text at (at + 1) (omega arith) inside
+    ∙ ap (λ (w : List ℕ). w ++ b ∷ []) (part_one text at (omega arith)) in
+    let first_is : digit_value a ≡ x = digit_is a (omega arith) (omega arith) ∙ omega arith in
+    let second_is : digit_value b ≡ y = digit_is b (omega arith) (omega arith) ∙ omega arith in
+    let digits : AllDigits 10 ((a ∷ []) ++ b ∷ []) = digits_more (a ∷ []) b (omega arith, tt) (omega arith) in
+    let value : digits_value 10 ((a ∷ []) ++ b ∷ []) ≡ x * 10 + y =
+    value_more (a ∷ []) b ∙ ap (λ (n : ℕ). n * 10 + digit_value b) (value_more [] a ∙ omega arith)
+    ∙ ap (λ (d : ℕ). x * 10 + d) second_is in
+    let lone : get_or ((a ∷ []) ++ b ∷ []) 0 0 ≡ 48 → length ((a ∷ []) ++ b ∷ []) ≡ 1 = λ zero. absurd (omega (arith, zero)) in
+    (word ∙ spells ((a ∷ []) ++ b ∷ []) (x * 10 + y) digits value (omega arith) (omega arith) lone, omega arith)

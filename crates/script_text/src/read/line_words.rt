@@ -26,8 +26,8 @@ pub(crate) struct Found<T> {
     pub(crate) past: usize,
 }
 
-/// A number of digits that are in a line from a place on, and where they end; no digit, where it has ten digits or more. It is a
-/// function of its own, and answers no option, which would be written to memory.
+/// A number of digits that are in a line from a place on, and where they end; no digit, where it has ten digits or more. Most have two,
+/// which take no turn of the loop. It is a function of its own, and answers no option, which would be written to memory.
 #[inline(never)]
 fn long_number(text: &[u8], at: usize) -> Found<u32>
     requires ended { end_of text.now < length text.now }
@@ -36,6 +36,18 @@ fn long_number(text: &[u8], at: usize) -> Found<u32>
         → (part text.now at result.past ≡ decimal result.value) × (result.value ≤ small) }
     ensures clear { IsClear text.now at result.past }
 {
+    let first = digit(text[at]);
+    if first < 10 {
+        let second = digit(text[at + 1]);
+        if second < 10 {
+            if digit(text[at + 2]) >= 10 {
+                return Found {
+                    value: first * 10 + second,
+                    past: at + 2,
+                };
+            }
+        }
+    }
     let mut number = 0u32;
     let mut past = at;
     'digits: loop {

@@ -77,10 +77,19 @@ fn short_digit_count(number: u64) -> usize
     }
 }
 
-/// How many digits a number has.
+/// How many digits a number has. Most names have five or six, which two comparisons tell.
 fn digit_count(number: u64) -> usize
     ensures { result ≡ length (decimal number) }
 {
+    if number < 10_000 {
+        return short_digit_count(number);
+    }
+    if number < 100_000 {
+        return 5;
+    }
+    if number < 1_000_000 {
+        return 6;
+    }
     let mut count = 0;
     let mut left = number;
     while left >= 10_000 {

@@ -1,9 +1,9 @@
 use Rattle.std.proofs.Common.{◌≡◌, ◌∙◌, ◌+◌, ◌*◌, ◌<◌, ◌++◌, ◌∷◌, [], ℕ, List, sym, ap, get_or, subst, length, arith}
 use Rattle.std.specs.Char.{digit_value}
 use Rattle.std.specs.Str.Parse.{AllDigits, digits_value}
-use Rattle.script_text.specs.Fronts.{part}
+use Rattle.script_text.specs.Fronts.{part, IsClear}
 use Rattle.script_text.proofs.Parts.Numbers.{spells, digit_is}
-use Rattle.script_text.proofs.Parts.Fronts.{clear_more, part_more, value_more, digits_more, part_front}
+use Rattle.script_text.proofs.Parts.Fronts.{clear_more, clear_none, part_more, value_more, digits_more, part_front, two_digits, not_zero}
 use Rattle.script_text.proofs.read.line_words.long_number.Goals as goal
 
 pub returns-then-next-ge10-clause-number : goal.returns-then-next-ge10-clause-number
@@ -37,3 +37,19 @@ digits-preserved c =
           ∙ ap (λ (d : ℕ). c.digits.number * 10 + d) digit;
       small = omega arith;
     }
+
+pub returns-then-digit-ge10-clause-number : goal.returns-then-digit-ge10-clause-number
+returns-then-digit-ge10-clause-number c = λ some front.
+    let first = c.digit-first.ensures.value c.if-first-lt10.true in
+    let one = clear_more c.args.text.now c.args.at c.args.at c.requires.ended (clear_none c.args.text.now c.args.at c.requires.within)
+    (omega (arith, first)) in
+    two_digits c.args.text.now c.args.at c.digit-first.result c.digit-second.result (omega (arith, one.within, c.requires.ended))
+    (not_zero _ _ front first) c.if-first-lt10.true c.if-second-lt10.true first (c.digit-second.ensures.value c.if-second-lt10.true)
+
+pub returns-then-digit-ge10-clause-clear : goal.returns-then-digit-ge10-clause-clear
+returns-then-digit-ge10-clause-clear c =
+    let text = c.args.text.now in
+    let one = clear_more text c.args.at c.args.at c.requires.ended (clear_none text c.args.at c.requires.within)
+    (omega (arith, c.digit-first.ensures.value c.if-first-lt10.true)) in
+    subst (IsClear text c.args.at) (let e : c.args.at + 1 + 1 ≡ c.args.at + 2 = omega arith in e)
+    (clear_more text c.args.at (c.args.at + 1) c.requires.ended one (omega (arith, c.digit-second.ensures.value c.if-second-lt10.true)))
