@@ -187,3 +187,11 @@ not_kept kept a r f e = go (kept a) refl
     go : (o : Option Stored) → kept a ≡ o → kept a ≡ None
     go None h = h
     go (Some s) h = absurd (let y : r ≡ true = f (rw h refl) in cc)
+
+-- where no object is, none is kept
+pub no_kept : (t : Table) (tops : Tops) (previous : List Bool) (a : ℕ) → object_at t a ≡ None → kept_in t tops previous a ≡ None
+no_kept t tops previous a e = go (kept_in t tops previous a) refl
+  where
+    go : (o : Option Stored) → kept_in t tops previous a ≡ o → kept_in t tops previous a ≡ None
+    go None f = f
+    go (Some s) f = absurd (let k = kept_object t tops previous a s f in cc)
