@@ -228,22 +228,6 @@ impl FirstTiles {
         write_tile(&mut self.starts, shift, at, at + size);
     }
 
-    /// The words from `at` up to `middle` become an object, and those behind it, up to `end`, are what is left of a filler. It is a call,
-    /// so that who makes an object in which no card begins keeps no registers free for this.
-    #[cold]
-    #[inline(never)]
-    fn cut_cards(&mut self, at: u32, middle: u32, end: u32)
-        requires order { at ≤ middle }
-        requires rest { middle ≤ end }
-        requires within { end ≤ length self.old.starts * self.old.card_words }
-        requires small { end ≤ max_words }
-        ensures { AreEntriesPut (IsCutOff self.old.card_words at middle end) self.old self.new }
-    {
-        let shift = self.shift;
-        zero_below(&mut self.starts, card_from(shift, end), self.cards);
-        write_cut(&mut self.starts, shift, at, middle, end);
-    }
-
     /// An object takes the front of a filler of `filler` words. Where no card begins in it nothing is written: then its last word is in one
     /// card with the word before the object, and the two differ in no bit above those of a card's words.
     #[inline(always)]
@@ -255,7 +239,9 @@ impl FirstTiles {
     {
         let middle = at + size;
         if (at.wrapping_sub(1) ^ middle.wrapping_sub(1)) >= self.card_words {
-            self.cut_cards(at, middle, at + filler);
+            let end = at + filler;
+            zero_below(&mut self.starts, card_from(self.shift, end), self.cards);
+            write_cut(&mut self.starts, self.shift, at, middle, end);
         }
     }
 
