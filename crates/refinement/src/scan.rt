@@ -14,7 +14,7 @@
 ghost use Rattle.std.specs.Prelude.{◌≡◌, ◌≢◌, ◌↔◌, ◌+◌, ◌-◌, ◌*◌, ◌/◌, ◌^◌, ◌<◌, ◌≤◌, true, false, ℕ, Option, Some, IsSome, IsTrue};
 ghost use Rattle.std.specs.Prelude.{length, min, slice_get};
 ghost use Rattle.heap_model.specs.Heap.{Stored};
-ghost use Rattle.regions.specs.Table.{object_at, fields_at};
+ghost use Rattle.regions.specs.Table.{object_at, fields_at, tile_in};
 ghost use Rattle.regions.specs.Walks.{IsHolder, IsPlacedTile};
 ghost use Rattle.mark_bitmap.specs.Kept.{kept_in};
 ghost use Rattle.remembered_sets.specs.Sets.{card_count, covers, may_lead};
@@ -166,7 +166,7 @@ fn scan_tile(
     before
 }
 
-/// The same, as a call.
+/// The same, as a call. What the tile is it looks up anew: so who goes over many tiles keeps none of it for this.
 #[cold]
 #[inline(never)]
 fn scan_apart(
@@ -177,13 +177,12 @@ fn scan_apart(
     card_words: u32,
     card: Card,
     at: Addr,
-    shape: Shape,
     home: u32,
     before: u32,
 ) -> u32
     requires stands { CanScan table.now tams.now marks.now card_words sets.old }
     requires card { card < card_count sets.old }
-    requires tile { IsPlacedTile table.now at shape }
+    requires tile { IsSome (tile_in table.now at) }
     requires home { card / sets.old.cards_per_region ≡ home }
     requires last { before ≢ home → may_lead sets.old before card ≡ true }
     ensures adds { AddsCard table.now.words_per_region (kept_in table.now tams.now marks.now) card_words card sets.old sets.new }
@@ -191,6 +190,7 @@ fn scan_apart(
         (may_lead sets.new) at }
     ensures last { result ≢ home → may_lead sets.new result card ≡ true }
 {
+    let shape = table.tile(at);
     scan_tile(
         table, tams, marks, sets, card_words, card, at, shape, home, before,
     )
@@ -226,9 +226,7 @@ fn scan_small(
         Shape::Object { .. } => {
             let (start, end) = fields_in(card_words, card, at, table.field_count(at));
             if leads_elsewhere(table, at, start, end, home, before) {
-                return scan_apart(
-                    table, tams, marks, sets, card_words, card, at, shape, home, before,
-                );
+                return scan_apart(table, tams, marks, sets, card_words, card, at, home, before);
             }
             before
         }

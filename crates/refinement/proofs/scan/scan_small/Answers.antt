@@ -27,6 +27,9 @@ fields_in-start-requires-clause-card c =
     let e = card_end c.args.table.now c.args.card_words c.args.card c.args.sets.now c.requires.stands.fit c.requires.card in
     omega (arith, e, c.law.ensures.in_all)
 
+pub scan_apart-requires-clause-tile : goal.scan_apart-requires-clause-tile
+scan_apart-requires-clause-tile c = rw c.requires.tile.tile_is refl
+
 pub returns-else-leads_elsewhere-clause-covered : goal.returns-else-leads_elsewhere-clause-covered
 returns-else-leads_elsewhere-clause-covered c =
     let t = c.args.table.now in
