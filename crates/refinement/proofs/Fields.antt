@@ -1,17 +1,17 @@
 -- What is covered as a scan goes over the fields of an object.
-use Rattle.std.proofs.Common.{◌≡◌, ◌≢◌, ◌+◌, ◌-◌, ◌*◌, ◌/◌, ◌<◌, ◌≤◌, ◌∙◌, inl, inr, ℕ, true, Option, Some, None, List, length, min}
+use Rattle.std.proofs.Common.{◌≡◌, ◌≢◌, ◌+◌, ◌-◌, ◌*◌, ◌/◌, ◌<◌, ◌≤◌, ◌∙◌, inl, inr, ℕ, Bool, true, Option, Some, None, List, length, min}
 use Rattle.std.proofs.Common.{get_or, refl, sym, ap, subst, arith, slice_get}
-use Rattle.std.proofs.lemmas.Bool.{cases_lt}
+use Rattle.std.proofs.lemmas.Bool.{cases_eq, cases_lt}
 use Rattle.std.proofs.lemmas.Option.{slice_get_within, slice_get-get_or}
 use Rattle.std.proofs.Math.Nat.{mul-div-mul_right}
 use Rattle.heap_model.specs.Heap.{Stored, fields}
 use Rattle.regions.specs.Table.{Table, object_at, fields_at}
 use Rattle.remembered_sets.specs.Sets.{Sets, may_lead, card_count}
 use Rattle.refinement.specs.Remembering.{field_word, field_card, IsCrossing}
-use Rattle.refinement.specs.Refining.{AddsCard, IsScanned, FieldsInside, SetsFit, with_field}
+use Rattle.refinement.specs.Refining.{AddsCard, IsObjectCovered, IsScanned, FieldsInside, LeadInto, SetsFit, with_field}
 use Rattle.regions.proofs.Words.Divides.{card_has_words, card_region, card_within, div_is, div_low, div_high}
 use Rattle.refinement.proofs.Entered.{adds_more, adds_sets, field_adds, field_grows}
-use Rattle.refinement.proofs.Holders.{field_at, fields_of}
+use Rattle.refinement.proofs.Holders.{Stands, field_at, fields_of}
 
 -- the fields of an object from one on up to another are done
 pub record IsPartly (words : ℕ) (kept : ℕ → Option Stored) (len card at start field : ℕ) (old new : Sets) : Type 0 where
@@ -130,3 +130,24 @@ pub adds_fit : (t : Table) (kept : ℕ → Option Stored) (len card : ℕ) (old 
 adds_fit t kept len card old new f a =
     let e = adds_sets t.words_per_region kept len card old new a in
     (record { whole_cards = f.whole_cards ∙ ap (λ (q : ℕ). q * len) (sym e.1); each_region = e.0 ∙ f.each_region }, rw (e.0, e.1) refl)
+
+-- where the fields that are in the card lead into two regions, the card's own and one whose set has the card, they are covered
+pub covered_near : (t : Table) (kept : ℕ → Option Stored) (len card at count start end home last : ℕ) (covered : ℕ → ℕ → Bool)
+    → Stands t kept → AreInCard len card at count start end → count ≡ length (fields_at t at) → LeadInto t at start end home last
+    → ((w : ℕ) → w / len ≡ card → w / t.words_per_region ≡ home) → (last ≢ home → covered last card ≡ true)
+    → IsObjectCovered t.words_per_region kept len card covered at
+covered_near t kept len card at count start end home last covered stands r e near own known = record {
+  each = λ i v x y.
+      let inside = slice_get_within (fields x.object) i (Some v) x.field_is in
+      let pointers = fields_of t at x.object (stands at x.object x.kept_is) in
+      let now : slice_get (fields_at t at) i ≡ Some (Some v) = ap (λ (l : List (Option ℕ)). slice_get l i) pointers ∙ x.field_is in
+      let q = r.all i (omega (arith, inside, e, ap (λ (l : List (Option ℕ)). length l) pointers)) y in
+      let here = own (field_word at i) y in
+      elim (near i v q.0 q.1 now) [
+        | inl home_is ↦ absurd (x.leaves (home_is ∙ sym here))
+        | inr last_is ↦ elim (cases_eq last home) [
+          | inl same ↦ absurd (x.leaves (last_is ∙ same ∙ sym here))
+          | inr differs ↦ ap (λ (k : ℕ). covered k card) last_is ∙ known differs
+        ]
+      ];
+}

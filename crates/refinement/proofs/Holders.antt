@@ -1,7 +1,7 @@
 -- The tile of a field, and what is kept of objects.
 use Rattle.std.proofs.Common.{◌≡◌, ◌+◌, ◌*◌, ◌/◌, ◌<◌, ◌≤◌, ◌++◌, ◌∙◌, ℕ, Bool, true, false, Option, Some, None, List, length, refl, sym}
 use Rattle.std.proofs.Common.{ap}
-use Rattle.std.proofs.Common.{arith, slice_get, IsSome, IsTrue, if◌then◌else◌}
+use Rattle.std.proofs.Common.{arith, slice_get, IfSome, IsSome, IsTrue, if◌then◌else◌}
 use Rattle.std.proofs.lemmas.List.{length-append}
 use Rattle.std.proofs.lemmas.Option.{slice_get_within}
 use Rattle.heap_model.specs.Heap.{Stored, IsClosed, fields}
@@ -10,6 +10,7 @@ use Rattle.regions.specs.Table.{Table, tile_in, tile_object, object_at, object_f
 use Rattle.regions.specs.Shapes.{tile_shape}
 use Rattle.regions.specs.Walks.{IsHolder, IsPlacedTile}
 use Rattle.regions.specs.Shaped.{IsShaped}
+use Rattle.regions.specs.declared.row.Shape.{Shape}
 use Rattle.regions.specs.declared.row.Shape.TheVariants as shapes
 use Rattle.regions.proofs.Tiles.Laws.{object_tile}
 use Rattle.regions.proofs.Walks.WalkFrom.{tile_listed}
@@ -196,3 +197,20 @@ not_kept kept a r f e = go (kept a) refl
     go : (o : Option Stored) → kept a ≡ o → kept a ≡ None
     go None h = h
     go (Some s) h = absurd (let y : r ≡ true = f (rw h refl) in cc)
+
+-- where no object is, none is kept
+pub no_kept : (t : Table) (tops : Tops) (previous : List Bool) (a : ℕ) → object_at t a ≡ None → kept_in t tops previous a ≡ None
+no_kept t tops previous a e = go (kept_in t tops previous a) refl
+  where
+    go : (o : Option Stored) → kept_in t tops previous a ≡ o → kept_in t tops previous a ≡ None
+    go None f = f
+    go (Some s) f = absurd (let k = kept_object t tops previous a s f in cc)
+
+-- a tile is placed as what it is
+pub placed_as : (t : Table) (a : ℕ) (shape : Shape) → IsSome (tile_in t a) → IfSome (tile_in t a) (λ u. shape ≡ tile_shape u)
+    → IsPlacedTile t a shape
+placed_as t a shape h is = go (tile_in t a) refl h is
+  where
+    go : (o : Option Tile) → tile_in t a ≡ o → IsSome o → IfSome o (λ u. shape ≡ tile_shape u) → IsPlacedTile t a shape
+    go None e x y = cc
+    go (Some u) e x y = record { tile = u; tile_is = e; shape_is = y }

@@ -1,5 +1,5 @@
 -- What scanning a card and refining one do.
-use Rattle.std.specs.Prelude.{◌≡◌, ◌*◌, ◌/◌, ◌<◌, ◌≤◌, ◌==◌, ◌∷◌, if◌then◌else◌}
+use Rattle.std.specs.Prelude.{◌≡◌, ◌⊎◌, ◌*◌, ◌/◌, ◌<◌, ◌≤◌, ◌==◌, ◌∷◌, if◌then◌else◌}
 use Rattle.std.specs.Prelude.{ℕ, Bool, true, false, All, List, [], length, Option, Some, None, slice_get, slice_set}
 use Rattle.heap_model.specs.Heap.{Stored}
 use Rattle.regions.specs.Table.{Table, fields_at}
@@ -66,6 +66,12 @@ AreObjectsCovered t kept card_words card covered first =
 abbrev pub FieldsInside : Table → ℕ → Type 0
 FieldsInside t at =
     (index target : ℕ) → slice_get (fields_at t at) index ≡ Some (Some target) → target / t.words_per_region < length t.regions
+
+-- each of an object's fields from one on, below another, is nil or leads into one of two regions
+abbrev pub LeadInto : Table → ℕ → ℕ → ℕ → ℕ → ℕ → Type 0
+LeadInto t at start end one other =
+    (index target : ℕ) → start ≤ index → index < end → slice_get (fields_at t at) index ≡ Some (Some target)
+    → (target / t.words_per_region ≡ one) ⊎ (target / t.words_per_region ≡ other)
 
 -- the sets once a field was looked at: the card is added where the field leads into another region than its word's
 abbrev pub with_field : ℕ → ℕ → ℕ → Option ℕ → Sets → Sets

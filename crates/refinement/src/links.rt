@@ -1,7 +1,8 @@
-//! The fields of an object that aren't nil.
+//! The fields of an object that aren't nil, and those that lead elsewhere.
 
-ghost use Rattle.std.specs.Prelude.{◌≡◌, ◌<◌, ◌≤◌, ℕ, IfSome, Some, None, length, slice_get};
+ghost use Rattle.std.specs.Prelude.{◌≡◌, ◌<◌, ◌≤◌, ℕ, false, IfSome, Some, None, length, slice_get};
 ghost use Rattle.regions.specs.Table.{fields_at};
+ghost use Rattle.refinement.specs.Refining.{LeadInto};
 
 use heap_words::addr::Addr;
 use regions::RegionTable;
@@ -29,6 +30,38 @@ pub fn next_link(table: &RegionTable, object: Addr, start: u32, end: u32) -> Opt
         field += 1;
         if field >= end {
             return None;
+        }
+    }
+}
+
+/// Whether one of an object's fields from `start` on, below `end`, leads into a region that is neither of two.
+#[inline(always)]
+pub(crate) fn leads_elsewhere(
+    table: &RegionTable,
+    object: Addr,
+    start: u32,
+    end: u32,
+    home: u32,
+    last: u32,
+) -> bool
+    requires { end ≤ length (fields_at table.now object) }
+    ensures { result ≡ false → LeadInto table.now object start end home last }
+{
+    if start >= end {
+        return false;
+    }
+    let mut field = start;
+    // The end is looked for after each field: so what the table keeps is read once for all of them.
+    'fields: loop {
+        if let Some(target) = table.get_field(object, field) {
+            let region = table.region_of(target).number();
+            if region != home && region != last {
+                return true;
+            }
+        }
+        field += 1;
+        if field >= end {
+            return false;
         }
     }
 }

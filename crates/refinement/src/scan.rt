@@ -11,9 +11,10 @@
 //! Of the fields, those marked `*` are in the card; those of a dead object aren't looked at. In a run of regions A is the
 //! run's one object, however far below the card it starts.
 
-ghost use Rattle.std.specs.Prelude.{◌≡◌, ◌≢◌, ◌↔◌, true, ℕ, ◌*◌, ◌/◌, ◌<◌, ◌≤◌, Option, Some, IsSome, IsTrue, length, slice_get};
+ghost use Rattle.std.specs.Prelude.{◌≡◌, ◌≢◌, ◌↔◌, ◌+◌, ◌-◌, ◌*◌, ◌/◌, ◌^◌, ◌<◌, ◌≤◌, true, false, ℕ, Option, Some, IsSome, IsTrue};
+ghost use Rattle.std.specs.Prelude.{length, min, slice_get};
 ghost use Rattle.heap_model.specs.Heap.{Stored};
-ghost use Rattle.regions.specs.Table.{object_at, fields_at};
+ghost use Rattle.regions.specs.Table.{object_at, fields_at, tile_in};
 ghost use Rattle.regions.specs.Walks.{IsHolder, IsPlacedTile};
 ghost use Rattle.mark_bitmap.specs.Kept.{kept_in};
 ghost use Rattle.remembered_sets.specs.Sets.{card_count, covers, may_lead};
@@ -21,7 +22,7 @@ ghost use Rattle.refinement.specs.Remembering.{field_word, Gains, IsCovered};
 ghost use Rattle.refinement.specs.Refining.{with_field, AddsCard, AreObjectsCovered, CanScan, FieldsInside, IsObjectCovered, IsScanned};
 ghost use Rattle.refinement.specs.Refining.{SetsFit};
 
-use crate::links::next_link;
+use crate::links::{leads_elsewhere, next_link};
 use heap_words::addr::{Addr, Card, RegionNo};
 use mark_bitmap::marks::Marks;
 use mark_bitmap::tams::Tams;
@@ -29,6 +30,7 @@ use regions::{RegionTable, Shape};
 use remembered_sets::RememberedSets;
 
 /// Whether the tile at an address is a kept object.
+#[inline(always)]
 pub fn is_kept(table: &RegionTable, tams: &Tams, marks: &Marks, at: Addr, shape: Shape) -> bool
     requires tile { IsPlacedTile table.now at shape }
     requires marks { length marks.now ≡ length table.now.regions * table.now.words_per_region }
@@ -46,9 +48,27 @@ pub fn is_kept(table: &RegionTable, tams: &Tams, marks: &Marks, at: Addr, shape:
     }
 }
 
+/// Which fields of an object, of so many, are in the card: those from the first number on, below the second.
+#[inline(always)]
+fn fields_in(card_words: u32, card: Card, object: Addr, count: u32) -> (u32, u32)
+    requires object { object + 2 < 2 ^ 32 }
+    requires card { card * card_words + card_words < 2 ^ 32 }
+    ensures start { result.0 ≡ card * card_words - (object + 2) }
+    ensures end { result.1 ≡ min (card * card_words + card_words - (object + 2)) count }
+{
+    let first = object.word() + 2;
+    let from = card.number() * card_words;
+    let to = from + card_words;
+    (
+        from.saturating_sub(first),
+        to.saturating_sub(first).min(count),
+    )
+}
+
 /// Adds the card to the set of the region that a field leads into, which names `target`, if that isn't `home`, the region of the
 /// field's word. `last` is a region that needs no look: `home`, or one whose set has the card. So fields in turn that lead into one
 /// region cost one look at its set; the result is such a region too.
+#[inline(always)]
 fn scan_field(
     table: &RegionTable,
     sets: &mut RememberedSets,
@@ -83,6 +103,7 @@ fn scan_field(
 }
 
 /// Adds the card for the fields of an object that are in it. `home` is the card's region.
+#[inline(always)]
 fn scan_object(
     table: &RegionTable,
     sets: &mut RememberedSets,
@@ -103,12 +124,8 @@ fn scan_object(
     ensures last { result ≢ home → may_lead sets.new result card ≡ true }
 {
     table.law();
-    let first = object.word() + 2;
-    let from = card.number() * card_words;
-    let to = from + card_words;
     let count = table.field_count(object);
-    let start = from.saturating_sub(first);
-    let end = to.saturating_sub(first).min(count);
+    let (start, end) = fields_in(card_words, card, object, count);
     let mut last = before;
     let mut next = start;
     'fields: while let Some(link) = next_link(table, object, next, end) {
@@ -149,6 +166,74 @@ fn scan_tile(
     before
 }
 
+/// The same, as a call. What the tile is it looks up anew: so who goes over many tiles keeps none of it for this.
+#[cold]
+#[inline(never)]
+fn scan_apart(
+    table: &RegionTable,
+    tams: &Tams,
+    marks: &Marks,
+    sets: &mut RememberedSets,
+    card_words: u32,
+    card: Card,
+    at: Addr,
+    home: u32,
+    before: u32,
+) -> u32
+    requires stands { CanScan table.now tams.now marks.now card_words sets.old }
+    requires card { card < card_count sets.old }
+    requires tile { IsSome (tile_in table.now at) }
+    requires home { card / sets.old.cards_per_region ≡ home }
+    requires last { before ≢ home → may_lead sets.old before card ≡ true }
+    ensures adds { AddsCard table.now.words_per_region (kept_in table.now tams.now marks.now) card_words card sets.old sets.new }
+    ensures covered { IsObjectCovered table.now.words_per_region (kept_in table.now tams.now marks.now) card_words card
+        (may_lead sets.new) at }
+    ensures last { result ≢ home → may_lead sets.new result card ≡ true }
+{
+    let shape = table.tile(at);
+    scan_tile(
+        table, tams, marks, sets, card_words, card, at, shape, home, before,
+    )
+}
+
+/// The same for one of many tiles. Most of them have no field in the card that leads elsewhere than into its own region or into that of
+/// the last such field: whether such an object is kept isn't asked.
+#[inline(always)]
+fn scan_small(
+    table: &RegionTable,
+    tams: &Tams,
+    marks: &Marks,
+    sets: &mut RememberedSets,
+    card_words: u32,
+    card: Card,
+    at: Addr,
+    shape: Shape,
+    home: u32,
+    before: u32,
+) -> u32
+    requires stands { CanScan table.now tams.now marks.now card_words sets.old }
+    requires card { card < card_count sets.old }
+    requires tile { IsPlacedTile table.now at shape }
+    requires home { card / sets.old.cards_per_region ≡ home }
+    requires last { before ≢ home → may_lead sets.old before card ≡ true }
+    ensures adds { AddsCard table.now.words_per_region (kept_in table.now tams.now marks.now) card_words card sets.old sets.new }
+    ensures covered { IsObjectCovered table.now.words_per_region (kept_in table.now tams.now marks.now) card_words card
+        (may_lead sets.new) at }
+    ensures last { result ≢ home → may_lead sets.new result card ≡ true }
+{
+    table.law();
+    match shape {
+        Shape::Object { .. } => {
+            let (start, end) = fields_in(card_words, card, at, table.field_count(at));
+            if leads_elsewhere(table, at, start, end, home, before) {
+                return scan_apart(table, tams, marks, sets, card_words, card, at, home, before);
+            }
+            before
+        }
+        Shape::Filler { .. } | Shape::Forwarded { .. } => before,
+    }
+}
+
 /// Adds the card for the fields of kept objects that are in it, over the tiles of a region from the one on that holds the
 /// card's first word. Answers how many tiles it looked at.
 #[inline(never)]
@@ -179,7 +264,7 @@ fn scan_walk(
             return looked;
         }
         looked += 1;
-        last = scan_tile(
+        last = scan_small(
             table, tams, marks, sets, card_words, card, at, shape, home, last,
         );
         if at.word() + shape.size() >= end {

@@ -1,4 +1,4 @@
-use Rattle.std.proofs.Common.{◌≡◌, ◌≢◌, ◌+◌, ◌/◌, ◌<◌, ◌≤◌, ◌∙◌, ap, refl, sym, subst, true, ℕ, Option, Some, arith, slice_get}
+use Rattle.std.proofs.Common.{◌≡◌, ◌≢◌, ◌+◌, ◌-◌, ◌*◌, ◌/◌, ◌<◌, ◌≤◌, ◌∙◌, ap, refl, sym, subst, true, ℕ, Option, Some, arith, slice_get}
 use Rattle.regions.specs.Table.{fields_at, object_at}
 use Rattle.remembered_sets.specs.Sets.{may_lead}
 use Rattle.refinement.specs.Refining.{with_field}
@@ -9,25 +9,18 @@ use Rattle.refinement.proofs.Fields.{adds_fit, card_end, fields_in_card, partly_
 use Rattle.refinement.proofs.Holders.{object_small}
 use Rattle.refinement.proofs.scan.scan_object.Goals as goal
 
-pub overflow_add-first : goal.overflow_add-first
-overflow_add-first c =
+pub fields_in-start-requires-clause-object : goal.fields_in-start-requires-clause-object
+fields_in-start-requires-clause-object c =
     let s = object_small c.args.table.now c.args.object c.law.ensures c.requires.object in
-    omega (arith, s, c.word-first.ensures, c.law.ensures.in_all)
+    omega (arith, s, c.law.ensures.in_all)
 
-pub overflow_mul-from : goal.overflow_mul-from
-overflow_mul-from c =
+pub fields_in-start-requires-clause-card : goal.fields_in-start-requires-clause-card
+fields_in-start-requires-clause-card c =
     let e = card_end c.args.table.now c.args.card_words c.args.card c.args.sets.now c.requires.fit c.requires.card in
-    let small = c.law.ensures.in_all in
-    rw c.number.ensures (omega (arith, e, small))
-
-pub overflow_add-to : goal.overflow_add-to
-overflow_add-to c =
-    let e = card_end c.args.table.now c.args.card_words c.args.card c.args.sets.now c.requires.fit c.requires.card in
-    let small = c.law.ensures.in_all in
-    rw c.number.ensures (omega (arith, e, small))
+    omega (arith, e, c.law.ensures.in_all)
 
 pub next_link-requires : goal.next_link-requires
-next_link-requires c = omega (arith, c.min-end.ensures, c.field_count-count.ensures)
+next_link-requires c = omega (arith, c.fields_in-start.ensures.end, c.field_count-count.ensures)
 
 pub fields-init : goal.fields-init
 fields-init c =
@@ -39,9 +32,9 @@ fields-init c =
         done = λ i v l h. absurd (omega arith);
       };
       last = c.requires.last;
-      lie = fields_in_card c.args.card_words c.args.card c.args.object c.field_count-count.result c.word-first.result c.number.result
-          c.saturating_sub-start.result c.saturating_sub.result c.min-end.result z c.word-first.ensures c.number.ensures
-          c.saturating_sub-start.ensures c.saturating_sub.ensures c.min-end.ensures;
+      lie = fields_in_card c.args.card_words c.args.card c.args.object c.field_count-count.result c.args.object c.args.card
+          c.fields_in-start.result.0 (c.args.card * c.args.card_words + c.args.card_words - (c.args.object + 2))
+          c.fields_in-start.result.1 z refl refl c.fields_in-start.ensures.start refl c.fields_in-start.ensures.end;
       low = omega arith;
     }
 
@@ -60,7 +53,7 @@ scan_field-last-requires-clause-card c =
 
 pub scan_field-last-requires-clause-home : goal.scan_field-last-requires-clause-home
 scan_field-last-requires-clause-home c =
-    let low : c.saturating_sub-start.result ≤ c.in-Some.link.0 = omega (arith, c.fields.invariant.low, c.in-Some.ensures.low) in
+    let low : c.fields_in-start.result.0 ≤ c.in-Some.link.0 = omega (arith, c.fields.invariant.low, c.in-Some.ensures.low) in
     let in_card = c.fields.invariant.lie.in_card c.in-Some.link.0 low c.in-Some.ensures.high in
     sym (region_of_card c.args.table.now.words_per_region c.args.card_words c.args.sets.now.cards_per_region
     (field_word c.args.object c.in-Some.link.0) c.law.ensures.positive c.requires.fit.whole_cards)
@@ -76,7 +69,7 @@ scan_field-last-requires-clause-source c =
 pub fields-preserved : goal.fields-preserved
 fields-preserved c =
     let found = c.in-Some.ensures in
-    let low : c.saturating_sub-start.result ≤ c.in-Some.link.0 = omega (arith, c.fields.invariant.low, found.low) in
+    let low : c.fields_in-start.result.0 ≤ c.in-Some.link.0 = omega (arith, c.fields.invariant.low, found.low) in
     record {
       partly = λ kept same.
           let p = c.fields.invariant.partly kept same in
@@ -85,7 +78,7 @@ fields-preserved c =
           → Some c.in-Some.link.1 ≡ target = λ target e. let both = sym found.link ∙ e in cc in
           let last : (target : ℕ) → slice_get (fields_at c.args.table.now c.args.object) c.in-Some.link.0 ≡ Some (Some target)
           → c.in-Some.link.1 ≡ target = λ target e. let both = named (Some target) e in cc in
-          partly_next c.args.table.now kept c.args.card_words c.args.card c.args.object c.saturating_sub-start.result c.in-Some.link.0
+          partly_next c.args.table.now kept c.args.card_words c.args.card c.args.object c.fields_in-start.result.0 c.in-Some.link.0
           (c.in-Some.link.0 + 1) c.args.sets.now c.fields.sets c.scan_field-last.new.sets same c.requires.inside fit.each_region
           (omega (arith, c.fields.invariant.lie.within, c.field_count-count.ensures, found.high))
           (c.fields.invariant.lie.in_card c.in-Some.link.0 low found.high) refl
@@ -95,7 +88,7 @@ fields-preserved c =
           ≢ field_word c.args.object c.in-Some.link.0 / c.args.table.now.words_per_region
           → may_lead c.scan_field-last.new.sets (n / c.args.table.now.words_per_region) c.args.card ≡ true) (last target e)
           c.scan_field-last.ensures.covered)
-          (partly_nil c.args.table.now kept c.args.card_words c.args.card c.args.object c.saturating_sub-start.result c.fields.next
+          (partly_nil c.args.table.now kept c.args.card_words c.args.card c.args.object c.fields_in-start.result.0 c.fields.next
           c.in-Some.link.0 c.args.sets.now c.fields.sets same (λ i l h. found.nil i l (omega (arith, h, found.high)) h) p);
       last = c.scan_field-last.ensures.last;
       lie = c.fields.invariant.lie;
@@ -106,10 +99,10 @@ pub returns-clause-scanned : goal.returns-clause-scanned
 returns-clause-scanned c = λ kept same.
     let r = c.fields.invariant.lie in
     partly_last c.args.table.now kept c.args.card_words c.args.card c.args.object c.field_count-count.result
-    c.saturating_sub-start.result c.min-end.result c.min-end.result c.args.sets.now c.fields.sets same c.field_count-count.ensures
-    r (omega arith)
-    (partly_nil c.args.table.now kept c.args.card_words c.args.card c.args.object c.saturating_sub-start.result c.fields.next
-    c.min-end.result c.args.sets.now c.fields.sets same (λ i l h. c.in_default.ensures.nil i l h tt)
+    c.fields_in-start.result.0 c.fields_in-start.result.1 c.fields_in-start.result.1 c.args.sets.now c.fields.sets same
+    c.field_count-count.ensures r (omega arith)
+    (partly_nil c.args.table.now kept c.args.card_words c.args.card c.args.object c.fields_in-start.result.0 c.fields.next
+    c.fields_in-start.result.1 c.args.sets.now c.fields.sets same (λ i l h. c.in_default.ensures.nil i l h tt)
     (c.fields.invariant.partly kept same))
 
 pub returns-clause-last : goal.returns-clause-last

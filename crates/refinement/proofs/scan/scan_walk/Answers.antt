@@ -53,29 +53,29 @@ returns-then-word-end-clause-covered c =
     ap (λ (n : ℕ). n * c.args.card_words) c.number.ensures in
     omega (arith, end, c.word.ensures, c.if-word-end.true))
 
-pub scan_tile-last-requires-clause-tile : goal.scan_tile-last-requires-clause-tile
-scan_tile-last-requires-clause-tile c =
+pub scan_small-last-requires-clause-tile : goal.scan_small-last-requires-clause-tile
+scan_small-last-requires-clause-tile c =
     turn_placed c.args.table.now c.law.ensures (kept_in c.args.table.now c.args.tams.now c.args.marks.now)
     (kept_object c.args.table.now c.args.tams.now c.args.marks.now)
     c.args.card_words c.args.card c.args.first (may_lead c.loop-at.sets) c.loop-at.at-iterator c.next.new.self c.in-Some.at c.in-Some.shape
     c.loop-at.invariant.turn c.in-Some.ensures.steps
 
-pub scan_tile-last-requires-clause-stands : goal.scan_tile-last-requires-clause-stands
-scan_tile-last-requires-clause-stands c = record {
+pub scan_small-last-requires-clause-stands : goal.scan_small-last-requires-clause-stands
+scan_small-last-requires-clause-stands c = record {
   fit = (adds_fit c.args.table.now (kept_in c.args.table.now c.args.tams.now c.args.marks.now) c.args.card_words c.args.card
       c.args.sets.now c.loop-at.sets c.requires.stands.fit c.loop-at.invariant.adds).0;
   each_word = c.requires.stands.each_word;
   inside = c.requires.stands.inside;
 }
 
-pub scan_tile-last-requires-clause-card : goal.scan_tile-last-requires-clause-card
-scan_tile-last-requires-clause-card c =
+pub scan_small-last-requires-clause-card : goal.scan_small-last-requires-clause-card
+scan_small-last-requires-clause-card c =
     let e = (adds_fit c.args.table.now (kept_in c.args.table.now c.args.tams.now c.args.marks.now) c.args.card_words c.args.card
     c.args.sets.now c.loop-at.sets c.requires.stands.fit c.loop-at.invariant.adds).1 in
     subst (λ (n : ℕ). c.args.card < n) (sym e) c.requires.card
 
-pub scan_tile-last-requires-clause-home : goal.scan_tile-last-requires-clause-home
-scan_tile-last-requires-clause-home c =
+pub scan_small-last-requires-clause-home : goal.scan_small-last-requires-clause-home
+scan_small-last-requires-clause-home c =
     let same = (adds_sets c.args.table.now.words_per_region (kept_in c.args.table.now c.args.tams.now c.args.marks.now) c.args.card_words
     c.args.card c.args.sets.now c.loop-at.sets c.loop-at.invariant.adds).1 in
     let home : c.number-home.result ≡ c.args.card * c.args.card_words / c.args.table.now.words_per_region =
@@ -97,7 +97,7 @@ overflow_add-word c =
 pub returns-then-word-size-clause-adds : goal.returns-then-word-size-clause-adds
 returns-then-word-size-clause-adds c =
     adds_more c.args.table.now.words_per_region (kept_in c.args.table.now c.args.tams.now c.args.marks.now) c.args.card_words c.args.card
-    c.args.sets.now c.loop-at.sets c.scan_tile-last.new.sets c.loop-at.invariant.adds c.scan_tile-last.ensures.adds
+    c.args.sets.now c.loop-at.sets c.scan_small-last.new.sets c.loop-at.invariant.adds c.scan_small-last.ensures.adds
 
 pub returns-then-word-size-clause-covered : goal.returns-then-word-size-clause-covered
 returns-then-word-size-clause-covered c =
@@ -112,10 +112,10 @@ returns-then-word-size-clause-covered c =
     let from : c.number.result * c.args.card_words ≡ c.args.card * c.args.card_words =
     ap (λ (n : ℕ). n * c.args.card_words) c.number.ensures in
     turn_over c.args.table.now c.law.ensures kept (kept_object c.args.table.now c.args.tams.now c.args.marks.now)
-    c.args.card_words c.args.card c.args.first (may_lead c.loop-at.sets) (may_lead c.scan_tile-last.new.sets)
+    c.args.card_words c.args.card c.args.first (may_lead c.loop-at.sets) (may_lead c.scan_small-last.new.sets)
     c.loop-at.at-iterator c.next.new.self c.in-Some.at c.in-Some.shape c.size.result z p.turn c.in-Some.ensures.steps
-    (adds_lead words kept c.args.card_words c.args.card c.loop-at.sets c.scan_tile-last.new.sets inside c.scan_tile-last.ensures.adds)
-    c.scan_tile-last.ensures.covered c.size.ensures (omega (arith, from, c.word-in-loop-at.ensures, c.if-word-size.true))
+    (adds_lead words kept c.args.card_words c.args.card c.loop-at.sets c.scan_small-last.new.sets inside c.scan_small-last.ensures.adds)
+    c.scan_small-last.ensures.covered c.size.ensures (omega (arith, from, c.word-in-loop-at.ensures, c.if-word-size.true))
 
 pub loop-at-preserved : goal.loop-at-preserved
 loop-at-preserved c =
@@ -127,16 +127,16 @@ loop-at-preserved c =
     (adds_fit c.args.table.now kept c.args.card_words c.args.card c.args.sets.now c.loop-at.sets c.requires.stands.fit p.adds).0 in
     let inside = subst (λ (n : ℕ). LeadsInside words n kept) (sym fit.each_region) c.requires.stands.inside in
     record {
-      adds = adds_more words kept c.args.card_words c.args.card c.args.sets.now c.loop-at.sets c.scan_tile-last.new.sets p.adds
-          c.scan_tile-last.ensures.adds;
+      adds = adds_more words kept c.args.card_words c.args.card c.args.sets.now c.loop-at.sets c.scan_small-last.new.sets p.adds
+          c.scan_small-last.ensures.adds;
       turn = turn_next c.args.table.now c.law.ensures kept stands c.args.card_words c.args.card c.args.first (may_lead c.loop-at.sets)
-          (may_lead c.scan_tile-last.new.sets) c.loop-at.at-iterator c.next.new.self c.in-Some.at c.in-Some.shape
+          (may_lead c.scan_small-last.new.sets) c.loop-at.at-iterator c.next.new.self c.in-Some.at c.in-Some.shape
           p.turn c.in-Some.ensures.steps
-          (adds_lead words kept c.args.card_words c.args.card c.loop-at.sets c.scan_tile-last.new.sets inside
-          c.scan_tile-last.ensures.adds) c.scan_tile-last.ensures.covered;
+          (adds_lead words kept c.args.card_words c.args.card c.loop-at.sets c.scan_small-last.new.sets inside
+          c.scan_small-last.ensures.adds) c.scan_small-last.ensures.covered;
       count = count_next c.args.card_words c.args.card c.loop-at.looked c.in-Some.at c.in-Some.shape c.loop-at.at-iterator c.next.new.self
           p.count c.in-Some.ensures.steps c.word.result c.number.result c.word.ensures c.number.ensures c.if-word-end.false;
-      last = c.scan_tile-last.ensures.last;
+      last = c.scan_small-last.ensures.last;
     }
 
 pub returns-clause-adds : goal.returns-clause-adds
