@@ -115,6 +115,7 @@ pub record IsSameBut (x y : Stored) : Type 0 where
   pub values : y.values ≡ x.values
   pub pointers : length y.pointers ≡ length x.pointers
   pub weaks : length y.weaks ≡ length x.weaks
+  pub held : length y.held ≡ length x.held
 
 -- Chosen regions are free, and free ones free or ordinary; what was free and is ordinary lies below what was free and still is, isn't
 -- empty, and holds live objects alone. A region in use that isn't chosen is of its kind still, as many of its words are handed out, and

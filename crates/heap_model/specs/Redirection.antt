@@ -16,6 +16,7 @@ pub record IsRedirected (from to : ℕ) (x y : Stored) : Type 0 where
   pub name : y.name ≡ x.name
   pub values : y.values ≡ x.values
   pub shape : length y.pointers ≡ length x.pointers
+  pub slots : length y.weaks ≡ length x.weaks
   pub fields_are : fields y ≡ map (redirected from to) (fields x)
 
 -- each root and each field of a kept object that named the old place names the new one, and nothing else changed

@@ -1,7 +1,9 @@
 -- A field is written, as copying sees it.
-use Rattle.std.proofs.Common.{◌≡◌, ℕ, ◌*◌, ◌/◌, ◌<◌, ◌≤◌, ◌≢◌, false, None, Option, Some, length, sym, ap, ◌∙◌, subst, inl, inr, arith}
+use Rattle.std.proofs.Common.{◌≡◌, ℕ, ◌*◌, ◌/◌, ◌<◌, ◌≤◌, ◌≢◌, ◌++◌, false, None, List, Option, Some, length, sym, ap, ◌∙◌, subst, inl, inr}
+use Rattle.std.proofs.Common.{arith}
 use Rattle.std.proofs.lemmas.Bool.{cases_eq}
-use Rattle.heap_model.specs.Heap.{Stored, with_field}
+use Rattle.std.proofs.lemmas.List.{length-append, length-set}
+use Rattle.heap_model.specs.Heap.{Stored, fields, with_field}
 use Rattle.heap_model.proofs.Fields.{field_set}
 use Rattle.regions.specs.Tiles.{Object, tile_size}
 use Rattle.regions.specs.Table.{Table, kind_of, moved_to, object_at, set_field, tile_in, EachForwardedIn}
@@ -18,6 +20,15 @@ use Rattle.evacuation.specs.Space.{WritesField, IsDestination}
 use Rattle.evacuation.specs.Turns.{Pause, IsPause, IsTurn, TableStays, all_words, in_set, kept_now, space}
 use Rattle.evacuation.proofs.Copies.LeftWords.{left_same}
 use Rattle.evacuation.proofs.Turns.KeptObjects.{kept_as, kept_object, kept_some}
+
+-- as many held slots
+pub field_held : (s : Stored) (i : ℕ) (v : Option ℕ) → length (with_field s i v).held ≡ length s.held
+field_held s i v =
+    let f = field_set s i v in
+    let y : Stored = with_field s i v in
+    let all = ap (λ (l : List (Option ℕ)). length l) f.fields_are ∙ length-set (fields s) i v in
+    omega (arith, all, f.shape, f.slots, length-append s.pointers (s.weaks ++ s.held), length-append s.weaks s.held,
+    length-append y.pointers (y.weaks ++ y.held), length-append y.weaks y.held)
 
 module _ (p : Pause) (q : IsPause p) (t t' : Table) (d : Destinations) (turn : IsTurn p t d)
     (positive : 0 < t.words_per_region) (at i : ℕ) (v : Option ℕ) (y : Stored)
@@ -58,7 +69,8 @@ module _ (p : Pause) (q : IsPause p) (t t' : Table) (d : Destinations) (turn : I
   same : (x : Stored) → IsSameBut x y → IsSameBut x (with_field y i v)
   same x s =
       let f = field_set y i v in
-      record { name = f.name ∙ s.name; values = f.values ∙ s.values; pointers = f.shape ∙ s.pointers; weaks = field_weaks y i v ∙ s.weaks }
+      record { name = f.name ∙ s.name; values = f.values ∙ s.values; pointers = f.shape ∙ s.pointers; weaks = field_weaks y i v ∙ s.weaks;
+          held = field_held y i v ∙ s.held }
 
   pub write_stays : TableStays p t'
   write_stays =

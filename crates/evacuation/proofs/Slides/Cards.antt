@@ -25,9 +25,9 @@ abbrev pub AreUnnamedBelow : Slide → Table → ℕ → ℕ → Type 0
 AreUnnamedBelow s t card at = (b : ℕ) → b < at → IsObjectUnnamed s t card b
 
 -- a field's word belongs to its object's tile
-pub names_holder : (s : Slide) (t : Table) (b i target : ℕ) → Names s t b i target → IsHolder t b (field_word b i)
-names_holder s t b i target n =
-    word_holder t b i n.object (kept_object s t b n.object n.is) (slice_get_within (fields n.object) i (Some target) n.field)
+pub names_holder : (s : Slide) (t : Table) (b i target : ℕ) → IsShaped t → Names s t b i target → IsHolder t b (field_word b i)
+names_holder s t b i target g n =
+    word_holder t b i n.object g (kept_object s t b n.object n.is) (slice_get_within (fields n.object) i (Some target) n.field)
 
 names_tile : (s : Slide) (t : Table) (b i target : ℕ) → Names s t b i target → (x : Stored) × (tile_in t b ≡ Some (Object x))
 names_tile s t b i target n = (n.object, tile_of_object t b n.object (kept_object s t b n.object n.is))
@@ -65,7 +65,7 @@ module _ (s : Slide) (t : Table) (noted : List Bool) (stands : SlideStands s t n
   -- no tile holds the card's first word: none of its words are handed out
   pub none_there : (card * s.card_words < top_of t (card * s.card_words / t.words_per_region) → ⊥) → IsCardUnnamed s t card
   none_there none b i n e =
-      let h = holder_below t b (field_word b i) g (names_holder s t b i s.from n) in
+      let h = holder_below t b (field_word b i) g (names_holder s t b i s.from g n) in
       let top = ap (top_of t) (region (field_word b i) e) in
       let l = low (field_word b i) e in
       none (omega arith)
@@ -73,7 +73,7 @@ module _ (s : Slide) (t : Table) (noted : List Bool) (stands : SlideStands s t n
   -- the objects with fields in the card start at the first tile or behind it, in its region
   pub onward : (first : ℕ) → IsHolder t first (card * s.card_words) → (b i target : ℕ) → Names s t b i target
       → field_card s.card_words b i ≡ card → (first ≤ b) × (b / t.words_per_region ≡ first / t.words_per_region)
-  onward first h b i target n e = holder_onward t first (card * s.card_words) b (field_word b i) g h (names_holder s t b i target n)
+  onward first h b i target n e = holder_onward t first (card * s.card_words) b (field_word b i) g h (names_holder s t b i target g n)
       (low (field_word b i) e) (region (field_word b i) e)
 
   -- none below the first tile
@@ -111,7 +111,7 @@ module _ (s : Slide) (t : Table) (card at : ℕ) (here : IsObjectUnnamed s t car
     pub none_over : (u : Tile) → tile_in was at ≡ Some u → card * s.card_words + s.card_words ≤ at + tile_size u → IsCardUnnamed s t card
     none_over u is over b i n e = elim (cases_lt at b) [
       | inl above ↦
-          let h = names_holder s was b i s.from (names_before s stands.apart was t r b i n) in
+          let h = names_holder s was b i s.from g (names_before s stands.apart was t r b i n) in
           let l = h.low in
           let w = high s was noted stands g card (field_word b i) e in
           let same = one_holder was b at (field_word b i) g h (record { tile = u; tile_is = is; low = omega arith; high = omega arith }) in

@@ -10,7 +10,7 @@ use Rattle.evacuation.specs.Space.{NotesWord, flag}
 use Rattle.evacuation.specs.Sliding.{Slide, SlideStands, RedirectsSome, Names, LeadsOut, OwnGoesOn, kept_at, sizes}
 use Rattle.evacuation.proofs.Slides.KeptObjects.{kept_object, some_kept}
 use Rattle.regions.specs.Shaped.{IsShaped}
-use Rattle.refinement.proofs.Holders.{fields_of, object_within}
+use Rattle.refinement.proofs.Holders.{fields_are, fields_of, object_within}
 use Rattle.evacuation.proofs.Slides.Redirecting.{none_redirected, redirected_then, names_before, names_on}
 use Rattle.evacuation.proofs.Slides.Written.{names_by, names_nil, names_other_than, write_redirects, write_others, names_now, names_same, written_unnamed}
 
@@ -190,7 +190,7 @@ room_below s t noted stands g object below i less =
     let count = ap (λ (l : List (Option ℕ)). length l) (fields_of t s.from y is) in
     let all : length t.regions * t.words_per_region ≡ s.regions * s.words =
     ap (λ (n : ℕ). n * t.words_per_region) stands.count ∙ ap (λ (n : ℕ). s.regions * n) stands.size in
-    omega (arith, within, count, less, all, below, length-append y.pointers y.weaks)
+    omega (arith, within, count, less, all, below, fields_are t s.from y g is)
 
 pub settled_all : (s : Slide) (n m : ℕ) (t t' : Table) (noted noted' : List Bool) → n ≡ m → OwnGoesOn s n t t' noted noted'
     → OwnGoesOn s m t t' noted noted'

@@ -1,6 +1,6 @@
 -- Fields that are redirected, one after another.
 use Rattle.std.proofs.Common.{◌≡◌, ◌≢◌, ◌⊎◌, ◌<◌, ◌∷◌, ◌∙◌, ℕ, zero, suc, Bool, true, List, [], Option, Some, None, length, refl, sym, ap}
-use Rattle.std.proofs.Common.{subst, inl, inr, arith, slice_get, IsSome}
+use Rattle.std.proofs.Common.{subst, inl, inr, arith, slice_get, IsSome, ◌++◌}
 use Rattle.std.proofs.lemmas.List.{length-append}
 use Rattle.evacuation.proofs.Lists.{get_below}
 use Rattle.heap_model.specs.Heap.{Stored, fields}
@@ -16,7 +16,7 @@ use Rattle.evacuation.proofs.Slides.KeptObjects.{kept_as, kept_some, kept_object
 use Rattle.refinement.proofs.Holders.{fields_of}
 
 same_but : (x : Stored) → IsSameBut x x
-same_but x = record { name = refl; values = refl; pointers = refl; weaks = refl }
+same_but x = record { name = refl; values = refl; pointers = refl; weaks = refl; held = refl }
 
 same_then : (x y z : Stored) → IsSameBut x y → IsSameBut y z → IsSameBut x z
 same_then x y z a b = record {
@@ -24,6 +24,7 @@ same_then x y z a b = record {
   values = b.values ∙ a.values;
   pointers = b.pointers ∙ a.pointers;
   weaks = b.weaks ∙ a.weaks;
+  held = b.held ∙ a.held;
 }
 
 pub get_at : (xs : List (Option ℕ)) (i : ℕ) → i < length xs → (w : Option ℕ) × (slice_get xs i ≡ Some w)
@@ -33,8 +34,9 @@ get_at (x ∷ xs) (suc i) h = get_at xs i (omega arith)
 
 -- as many fields
 pub as_many : (x y : Stored) → IsSameBut x y → length (fields y) ≡ length (fields x)
-as_many x y s = let p = s.pointers in let w = s.weaks in
-    omega (arith, length-append x.pointers x.weaks, length-append y.pointers y.weaks)
+as_many x y s = let p = s.pointers in let w = s.weaks in let h = s.held in
+    omega (arith, length-append x.pointers (x.weaks ++ x.held), length-append x.weaks x.held, length-append y.pointers (y.weaks ++ y.held),
+    length-append y.weaks y.held)
 
 pub as_large : (x y : Stored) → IsSameBut x y → tile_size (Object y) ≡ tile_size (Object x)
 as_large x y s =

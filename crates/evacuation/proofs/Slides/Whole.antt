@@ -225,7 +225,7 @@ module _ (t : Table) (tams : Tops) (marks : List Bool) (cards : Cards) (sets : S
 
   -- the words of another object are in other regions, and so are their cards
   pub elsewhere : (a i target : ℕ) → Names s t a i target → a ≢ s.from → first ≤ field_word a i / words → field_word a i / words < first + m → ⊥
-  elsewhere a i target n other low high = other (own_word t g first can.known can.run a (field_word a i) (names_holder s t a i target n) low high)
+  elsewhere a i target n other low high = other (own_word t g first can.known can.run a (field_word a i) (names_holder s t a i target g n) low high)
 
   other_card : (a i target : ℕ) → Names s t a i target → a ≢ s.from → in_run (card_of a i) ≡ false
   other_card a i target n other = elim (cases_lt (field_word a i / words) first) [
@@ -238,7 +238,7 @@ module _ (t : Table) (tams : Tops) (marks : List Bool) (cards : Cards) (sets : S
 
   own_card : (i target : ℕ) → Names s t s.from i target → in_run (card_of s.from i) ≡ true
   own_card i target n =
-      let r = own_region t g first can.known can.run (field_word s.from i) (names_holder s t s.from i target n) in
+      let r = own_region t g first can.known can.run (field_word s.from i) (names_holder s t s.from i target g n) in
       inside (card_of s.from i) (field_word s.from i / words) (card_region_is s.from i) r.0 r.1
 
   -- and in a region that is in use
@@ -247,7 +247,7 @@ module _ (t : Table) (tams : Tops) (marks : List Bool) (cards : Cards) (sets : S
       let w : ℕ = field_word a i in
       let region : w / words ≡ card_of a i * card_words / words =
       card_region w card_words words (words / card_words) (card_of a i) g.positive whole refl in
-      let top = holder_below t a w g (names_holder s t a i target n) in
+      let top = holder_below t a w g (names_holder s t a i target g n) in
       let none = free_used t (w / words) (ap (kind_of t) region ∙ free) in
       let low = div_low w words (w / words) g.positive refl in
       omega (arith, top, none, low)

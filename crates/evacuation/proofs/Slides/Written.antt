@@ -14,6 +14,7 @@ use Rattle.evacuation.specs.Space.{flag}
 use Rattle.evacuation.specs.Sliding.{Slide, SlideStands, SlideGoesOn, RedirectsSome, IsRedirectedInPart, Names, IsChanged, kept_at}
 use Rattle.evacuation.proofs.Lists.{get_below}
 use Rattle.evacuation.proofs.FieldUpdates.FieldCards.{flag_set, flag_only}
+use Rattle.evacuation.proofs.FieldUpdates.Written.{field_held}
 use Rattle.evacuation.proofs.Slides.KeptObjects.{kept_as, kept_some, kept_object}
 use Rattle.evacuation.proofs.Slides.Redirecting.{none_redirected, stays_on}
 
@@ -81,7 +82,7 @@ module _ (s : Slide) (t t' : Table) (at i : ℕ) (y : Stored) (positive : 0 < t.
 
   part : IsRedirectedInPart s y z
   part = let f = field_set y i (Some s.to) in record {
-    same = record { name = f.name; values = f.values; pointers = f.shape; weaks = field_weaks y i (Some s.to) };
+    same = record { name = f.name; values = f.values; pointers = f.shape; weaks = field_weaks y i (Some s.to); held = field_held y i (Some s.to) };
     each = λ j v e. elim (cases_eq j i) [
       | inl q ↦
           let was = ap (slice_get (fields y)) q in
@@ -105,7 +106,7 @@ module _ (s : Slide) (t t' : Table) (at i : ℕ) (y : Stored) (positive : 0 < t.
         x,
         object_same t t' a (w.others a n) ∙ e,
         record {
-          same = record { name = refl; values = refl; pointers = refl; weaks = refl };
+          same = record { name = refl; values = refl; pointers = refl; weaks = refl; held = refl };
           each = λ j v f. inl f;
         },
       )

@@ -78,7 +78,7 @@ module _ (p : Pause) (q : IsPause p) (room : 2 * (space p p.start).left ≤ free
     lowest = λ j k fj free f o. absurd (free_ordinary (sym f ∙ o));
     kinds_same = λ k e m. refl;
     used = λ k e m. refl;
-    objects = λ a x o e. (x, e, record { name = refl; values = refl; pointers = refl; weaks = refl });
+    objects = λ a x o e. (x, e, record { name = refl; values = refl; pointers = refl; weaks = refl; held = refl });
     none = λ a o m e. e;
     unkept = λ a o m e. refl;
     filled = λ k f o. absurd (free_ordinary (sym f ∙ o));

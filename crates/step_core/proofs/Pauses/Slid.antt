@@ -206,6 +206,7 @@ module _ (k : CoreState) (core : IsCore k) (shaped : IsShaped k.table) (first to
               name = same.name;
               values = same.values;
               shape = same.pointers;
+              slots = same.weaks;
               fields_are = list_redirected from place (fields x) (fields y) (as_many x y same) (field_redirected a x y is part);
             },
           );
