@@ -337,7 +337,7 @@ typedef struct g1_policy {
     uint64_t scanned;      /* and the objects that they marked */
     uint64_t pauses;       /* pauses, those of whole collections too, */
     uint64_t copied;       /* and the words that they copied */
-    uint64_t compactions;  /* compactions, for objects of more than half a region that found no room, */
+    uint64_t compactions;  /* compactions, by g1_shrink and for larger objects that found no room, */
     uint64_t compacted;    /* and the words that they copied */
 } g1_policy;
 

@@ -201,7 +201,7 @@ pub struct Counts {
     pub pauses: u64,
     /// Words that these copied.
     pub copied: u64,
-    /// Compactions, for objects of more than half a region that found no room.
+    /// Compactions, by [`Heap::shrink`] and for objects of more than half a region that found no room.
     pub compactions: u64,
     /// Words that these copied.
     pub compacted: u64,
