@@ -20,8 +20,8 @@
    calls the collector's steps itself.
 
    OWNERSHIP. A g1_heap is the caller's, and begins as G1_HEAP_NONE, all zeros. g1_new puts a heap into it, whose memory comes from malloc,
-   all of it then; no other call takes memory, but g1_give_back asks for some meanwhile. g1_free takes the heap out again and frees it.
-   Don't write to its fields, nor use a copy of them: two copies are two owners.
+   all of it then; no other call takes memory, but g1_give_back and g1_shrink ask for some meanwhile. g1_free takes the heap out again and
+   frees it. Don't write to its fields, nor use a copy of them: two copies are two owners.
 
    ARGUMENTS. Any numbers will do. Those that name no step of this heap are answered G1_NO_STEP, and nothing changes. What names a step goes
    to the heap, which does it or refuses it; a refused step changes nothing either. Only the pointers are the caller's duty: `heap` points
@@ -116,7 +116,7 @@ enum {
     G1_BAD_WORDS = 42,
     G1_BAD_BUFFER = 43,
     G1_BAD_MUTATORS = 44,
-    G1_NO_MEMORY = 45, /* g1_new, g1_give_back: malloc refused */
+    G1_NO_MEMORY = 45, /* g1_new, g1_give_back, g1_shrink: malloc refused */
     G1_BAD_CARD = 46,
     G1_BAD_GLOBALS = 47,
     G1_BAD_REGISTERS = 48,
@@ -269,11 +269,8 @@ g1_answer g1_name(const g1_heap *heap, uint32_t mutator, uint32_t of);
 /* Memory goes back to the system. A word of the heap takes memory when it is first written, and keeps it when its object is gone. This call
    gives back the memory of all words above the highest region in use, and what marks, dirty cards and the queue of cards took beyond what
    they hold now. Their room in the heap stays, so no later step wants for memory: the heap is as it was, each later answer is what it would
-   be without the call, and a record has no line for it. A free region below one in use keeps its memory. To give back as much as can be:
-
-       g1_collect_all(&heap, &policy);
-       while (g1_compact(&heap, sizes.words).second != 0) {}    // regions in use go down, below the free ones
-       g1_give_back(&heap);
+   be without the call, and a record has no line for it. A free region below one in use keeps its memory: before the call g1_shrink moves
+   regions in use down, which gives back as much as can be.
 
    DONE, NO_HEAP, or NO_MEMORY: meanwhile it asks malloc for as much as the words may take, and touches none of it. Where that is refused,
    less goes back or nothing. It takes time for what goes back, some 0.2 ms for 1 MB. docs/EMBEDDING.md says for which heaps it pays. */
@@ -287,7 +284,7 @@ g1_answer g1_give_back(g1_heap *heap);
        g1_make(&heap, &policy, 0, 0, 2, 0, 1);           // register 0 of mutator 0: a new object of 2 pointers, 0 weak slots, 1 data word
 
    A policy is the caller's, like the heap, and calls on both go under one lock. It holds plain numbers, and any will do: they decide when
-   the collector works, and how much at a time. The first eight may be set at any time.
+   the collector works, and how much at a time. The first nine may be set at any time.
 
    TWO REGIONS ARE KEPT, since live objects are copied into free regions alone. No region is taken for an object where fewer than 2 would
    stay free. Before that comes a whole collection: a marking from begin to remark with nothing between, a cleanup, and pauses for as long
@@ -312,6 +309,7 @@ typedef struct g1_policy {
     uint32_t cards_left;   /* cards: where more are queued at a look, it refines all but half as many */
     uint32_t visit_cards;  /* cards: as many may lead into the regions of a pause, and more only after one that gained little for them */
     uint32_t clear_objects;/* objects with weak slots: so many are cleared at a look after marking */
+    uint32_t least;        /* regions: so many are in play at least */
     uint32_t look, left;   /* words that may be asked for before the next look, as it was set, and what is left of them */
     uint32_t begin_at;     /* regions: where so many are free, or fewer, a cycle begins */
     uint32_t young_at;     /* regions: where so many are free, or fewer, new regions are evacuated; 0 where that brings little */
@@ -319,6 +317,9 @@ typedef struct g1_policy {
     uint32_t young;        /* regions: so many of them are to be evacuated still */
     uint32_t gained;       /* regions: so many that brought */
     uint32_t wanted;       /* regions: after a cycle regions are evacuated until so many are free; 0 where that is over */
+    uint32_t held;         /* regions: so many are held back, the others are in play */
+    uint32_t most;         /* regions: the most that were in play since g1_shrink, or since the program set this to 0 */
+    uint32_t idle;         /* 1 if no more than half of these are in play since the last cycle: memory may go back; else 0 */
     uint32_t pace;         /* words that marking looks at, at each look of a cycle */
     uint32_t visits;       /* cards that may lead into the regions of the next pause, if more than visit_cards */
     uint32_t clears;       /* looks at which weak slots were cleared since the last marking, */
@@ -336,7 +337,7 @@ typedef struct g1_policy {
     uint64_t scanned;      /* and the objects that they marked */
     uint64_t pauses;       /* pauses, those of whole collections too, */
     uint64_t copied;       /* and the words that they copied */
-    uint64_t compactions;  /* compactions, for objects of more than half a region that found no room, */
+    uint64_t compactions;  /* compactions, by g1_shrink and for larger objects that found no room, */
     uint64_t compacted;    /* and the words that they copied */
 } g1_policy;
 
@@ -361,6 +362,13 @@ g1_answer g1_collect(g1_heap *heap, g1_policy *policy);
 /* A whole collection, as above: only what roots reach is kept then, and a weak slot that held anything else is nil. What is kept isn't
    always moved together: the regions of objects may be little more than half full. DONE, or NO_HEAP. */
 g1_answer g1_collect_all(g1_heap *heap, g1_policy *policy);
+
+/* Gives back as much memory as can be: a whole collection, compactions until one takes no region, so that regions in use are below the free
+   ones, and g1_give_back. For a moment at which the program is idle: it takes as long as these. DONE, NO_HEAP, or NO_MEMORY, where less
+   goes back or nothing, but the collection is done.
+
+       if (policy.idle) g1_shrink(&heap, &policy);              // half of the regions that were in play are held back again */
+g1_answer g1_shrink(g1_heap *heap, g1_policy *policy);
 
 #ifdef __cplusplus
 }

@@ -276,4 +276,12 @@ g1_answer g1_collect_all(g1_heap* heap, g1_policy* policy) {
     return answer(G1_DONE);
 }
 
+g1_answer g1_shrink(g1_heap* heap, g1_policy* policy) {
+    if (!heap->live) return answer(G1_NO_HEAP);
+    g1_sizes sizes = sizes_of(in(heap));
+    policy_of of = policy_for(heap, policy, sizes);
+    policy_down(&of);
+    return g1_give_back(heap);
+}
+
 }  // extern "C"

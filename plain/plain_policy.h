@@ -4,6 +4,7 @@
 #define PLAIN_POLICY_H
 
 #include "../include/g1heap.h"
+#include <string.h>
 
 static inline uint32_t policy_least(uint32_t one, uint32_t other) { return one < other ? one : other; }
 static inline uint32_t policy_most(uint32_t one, uint32_t other) { return one > other ? one : other; }
@@ -29,17 +30,34 @@ static inline uint32_t policy_pause_budget(const g1_sizes *sizes)
     uint32_t share = policy_within((uint64_t)sizes->regions * sizes->words / 32);
     return policy_most(policy_within((uint64_t)4 * sizes->words), policy_most(98304, policy_least(262144, share)));
 }
+/* How many regions are in play, and how many of a number of regions are beyond those held back. */
+static inline uint32_t policy_in_play(const g1_policy *policy, const g1_sizes *sizes) { return policy_above(sizes->regions, policy->held); }
+static inline uint32_t policy_free_in_play(const g1_policy *policy, uint32_t free) { return policy_above(free, policy->held); }
+/* Where too few in play are free, so many of those held back are used before another cycle begins. */
+static inline uint32_t policy_borrowed(const g1_policy *policy, const g1_sizes *sizes, uint32_t free)
+{
+    return policy_least(policy_in_play(policy, sizes), policy_least(policy->held, free)) / 8;
+}
+/* The reserve of the regions in play. */
+static inline uint32_t policy_reserve(const g1_policy *policy, const g1_sizes *sizes)
+{
+    uint32_t share = (uint32_t)((uint64_t)policy->reserve * policy_in_play(policy, sizes) / policy_most(sizes->regions, 1));
+    return policy_least(policy->reserve, policy_most(3, share));
+}
 static inline void policy_start(g1_policy *policy, const g1_sizes *sizes)
 {
-    g1_policy start = {0, 0, 0, 0, 0, 0, 0, 0, 0, 0, 0, 0, 0, 0, 0, 0, 0, 0, 0, 0, 0, 0, 0, 0, 0, 0, 0, 0, 0, 0, 0, 0, 0, 0, 0};
+    g1_policy start;
+    memset(&start, 0, sizeof start);
     start.reserve = policy_most(3, sizes->regions / 24);
     start.pause_words = policy_pause_budget(sizes);
     start.mark_words = policy_least(524288, policy_most(131072, policy_within((uint64_t)16 * sizes->words)));
     start.cycle_words = policy_within((uint64_t)4 * policy_within((uint64_t)sizes->regions * sizes->words));
     start.young_words = 131072, start.cards_left = 4096, start.clear_objects = 16384, start.packed_next = UINT64_MAX;
     start.visit_cards = policy_most(16384, policy_least(65536, sizes->words));
-    start.begin_at = start.reserve + sizes->regions / 8;
-    start.span = policy_least(policy_regions(sizes, start.young_words), policy_most(1, sizes->regions / 4));
+    start.least = start.most = policy_least(sizes->regions, policy_most(64, 16777216 / policy_most(1, sizes->words)));
+    start.held = sizes->regions - start.least;
+    start.begin_at = start.held + policy_reserve(&start, sizes) + start.least / 8;
+    start.span = policy_least(policy_regions(sizes, start.young_words), policy_most(1, start.least / 4));
     start.young_at = policy_above(sizes->regions, start.span);
     *policy = start;
 }
@@ -85,16 +103,27 @@ static inline void policy_plan_young(policy_of *of, uint32_t free, uint32_t span
     uint32_t way = policy_above(free, of->policy->begin_at) / 2;
     of->policy->young = 0;
     of->policy->span = policy_least(way, policy_most(span, policy_regions(of->sizes, of->policy->young_words)));
-    of->policy->young_at = way <= of->sizes->regions / 64 ? 0 : free - of->policy->span;
+    of->policy->young_at = way <= policy_in_play(of->policy, of->sizes) / 64 ? 0 : free - of->policy->span;
+}
+/* Sets how many regions are in play: where 40 to 50 percent of them live they stay, else so many that 40 percent do. */
+static inline void policy_plan_size(policy_of *of, uint64_t live)
+{
+    g1_policy *policy = of->policy;
+    uint64_t all = live / of->sizes->words, full = (all < of->sizes->regions ? all : of->sizes->regions) + 1;
+    uint64_t apt = policy_in_play(policy, of->sizes);
+    if (apt * 2 > full * 5 || apt < full * 2) apt = full * 5 / 2;
+    apt = policy_least(of->sizes->regions, policy_most(policy->least, (uint32_t)apt));
+    policy->held = of->sizes->regions - (uint32_t)apt;
+    policy->most = policy_most(policy->most, (uint32_t)apt), policy->idle = apt <= policy->most / 2;
 }
 static inline void policy_plan_cycle(policy_of *of, uint32_t free)
 {
-    uint32_t room = policy_above(free, of->policy->reserve), needed;
+    uint32_t kept = of->policy->held + policy_reserve(of->policy, of->sizes), room = policy_above(free, kept), needed;
     uint64_t words = policy_within(of->policy->marked), marking = words * 3 / 2 / policy_most(of->policy->mark_words, 1) + of->policy->cleared;
     needed = policy_least(policy_within(marking), room / 4 * 3);
     of->policy->wanted = 0;
-    of->policy->begin_at = room < 2 ? policy_above(free, 1)
-        : policy_within((uint64_t)of->policy->reserve + policy_most(policy_least(room / 4, of->sizes->regions / 8), needed));
+    of->policy->begin_at = room < 2 ? policy_above(free, policy_most(1, policy_borrowed(of->policy, of->sizes, free)))
+        : policy_within((uint64_t)kept + policy_most(policy_least(room / 4, policy_in_play(of->policy, of->sizes) / 8), needed));
     policy_plan_young(of, free, of->policy->span);
 }
 static inline int policy_is_young_due(g1_policy *policy, uint32_t free)
@@ -127,13 +156,18 @@ static inline void policy_pause_young(policy_of *of)
 static inline void policy_reclaim(policy_of *of)
 {
     g1_policy *policy = of->policy;
-    uint64_t all = (uint64_t)of->sizes->regions * of->sizes->words, live;
+    uint64_t all, live;
     uint32_t most, free;
     g1_cleanup(of->heap);
     free = policy_free(of->heap), live = g1_live_words(of->heap).first;
+    policy_plan_size(of, live > policy->asked ? live - policy->asked : 0);
+    all = (uint64_t)policy_in_play(policy, of->sizes) * of->sizes->words;
     most = (uint32_t)((all > live ? all - live : 0) / of->sizes->words);
-    policy->wanted = policy_most(1, policy_most(most - most / 4, policy_within((uint64_t)2 * policy->reserve)));
-    policy->begin_at = policy_least(policy->begin_at, (uint32_t)((uint64_t)3 * free / 4));
+    policy->wanted = policy_most(1, policy_most(most - most / 4, policy_within((uint64_t)2 * policy_reserve(policy, of->sizes))));
+    policy->wanted += policy->held;
+    most = policy_free_in_play(policy, free);
+    most = policy_most(policy_borrowed(policy, of->sizes, free), most - (uint32_t)((uint64_t)3 * most / 4));
+    policy->begin_at = policy_least(policy->begin_at, policy_above(free, most));
     policy->visits /= 2, policy->cleared = policy->clears, policy->clears = 0;
 }
 static inline void policy_end(policy_of *of)
@@ -162,7 +196,7 @@ static inline int policy_evacuate_some(policy_of *of, uint32_t *left, int is_wit
     is_cut_short = budget == *left && *left < policy->pause_words;
     if (is_within) {
         moved = policy_moved(of, g1_pause_within(of->heap, (uint32_t)budget, policy_visits(of)));
-        is_cut_short |= moved.second == 0 && policy_visits(of) < policy_cards(of);
+        is_cut_short |= (moved.second == 0 || moved.first < budget / 2) && policy_visits(of) < policy_cards(of);
         policy_note_pause(of, before, moved);
     } else moved = policy_pause(of, (uint32_t)budget);
     copied = moved.first, after = policy_free(of->heap);
@@ -182,9 +216,10 @@ static inline int policy_begin(policy_of *of)
     g1_policy *policy = of->policy;
     uint32_t free = policy_free(of->heap);
     uint64_t words, pace;
-    if (free > policy->begin_at && policy->asked < policy->cycle_words) return 0;
+    uint64_t most = (uint64_t)policy->cycle_words * policy_in_play(policy, of->sizes) / of->sizes->regions;
+    if (free > policy->begin_at && policy->asked < most) return 0;
     words = policy->cycles == 0 ? g1_used_words(of->heap).first / 2 : policy->marked;
-    pace = 64 + policy_within(words) * 3ull / 2 / policy_most(1, policy_above(free, policy->reserve));
+    pace = 64 + policy_within(words) * 3ull / 2 / policy_most(1, policy_above(free, policy->held + policy_reserve(policy, of->sizes)));
     policy->pace = pace < policy->mark_words ? (uint32_t)pace : policy->mark_words, policy->asked = 0, policy->wanted = 0;
     policy->looked = 0;
     g1_begin(of->heap);
@@ -227,7 +262,9 @@ static inline uint32_t policy_work(policy_of *of)
 {
     g1_policy *policy = of->policy;
     uint32_t free = policy_free(of->heap), left = policy->pause_words;
-    int rests = policy->rest != 0 && free > policy_most(policy_within((uint64_t)2 * policy->reserve), policy->wanted / 3);
+    uint32_t reserve = policy_within((uint64_t)2 * policy_reserve(policy, of->sizes));
+    int rests = policy->rest != 0
+        && free > policy_within((uint64_t)policy->held + policy_most(reserve, policy_free_in_play(policy, policy->wanted) / 3));
     if (policy_refine(of)) return 1;
     if (g1_clearing(of->heap).first == 1) {
         g1_clear(of->heap, policy->clear_objects), policy->clears++;
@@ -260,22 +297,46 @@ static inline int policy_packed(policy_of *of)
     if (words >= 2 * bounds && regions >= 2) return 0;
     return words < bounds + of->sizes->words || policy_left_so(of);
 }
-static inline void policy_pause_all(policy_of *of)
+/* Pauses for as long as each frees a region; to the end, or while they have something to gain. */
+static inline void policy_pause_all(policy_of *of, int to_end)
 {
-    for (uint32_t before, free = policy_free(of->heap); free < of->sizes->regions && !policy_packed(of);) {
+    for (uint32_t before, free = policy_free(of->heap); free < of->sizes->regions && (to_end || !policy_packed(of));) {
         before = free, policy_pause(of, UINT32_MAX), free = policy_free(of->heap);
         if (free <= before) return;
     }
 }
-static inline void policy_whole(policy_of *of)
+/* What a whole collection left. */
+static inline void policy_note_packed(policy_of *of)
+{
+    of->policy->packed_free = policy_free(of->heap), of->policy->packed_live = g1_live_words(of->heap).first;
+    of->policy->packed_next = of->next_name(of->heap);
+    policy_plan_size(of, of->policy->packed_live);
+    policy_plan_cycle(of, of->policy->packed_free);
+}
+/* A cycle of marking, in which no mutator takes a step. */
+static inline void policy_mark_all(policy_of *of)
 {
     if (g1_marking(of->heap).first == 1) policy_remark(of);
     g1_begin(of->heap);
     policy_remark(of);
     g1_cleanup(of->heap);
-    policy_pause_all(of);
-    of->policy->packed_free = policy_free(of->heap), of->policy->packed_live = g1_live_words(of->heap).first;
-    of->policy->packed_next = of->next_name(of->heap);
+}
+static inline void policy_whole(policy_of *of)
+{
+    policy_mark_all(of);
+    policy_pause_all(of, 0);
+    policy_note_packed(of);
+}
+/* The same, two cycles more where half of the regions are free, pauses for as long as each frees a region, and compactions until one takes
+   no region. */
+static inline void policy_down(policy_of *of)
+{
+    policy_whole(of);
+    if (policy_free(of->heap) >= of->sizes->regions / 2) policy_mark_all(of), policy_mark_all(of);
+    policy_pause_all(of, 1);
+    policy_note_packed(of);
+    of->policy->most = policy_in_play(of->policy, of->sizes), of->policy->idle = 0;
+    while (policy_compact(of)) {}
 }
 static inline int policy_spared(policy_of *of, uint32_t mutator, uint64_t size)
 {
@@ -303,10 +364,9 @@ static inline int policy_room(policy_of *of, uint32_t mutator, uint64_t size)
     if (policy_spared(of, mutator, size)) return 1;
     if (g1_marking(of->heap).first == 1) policy_end(of);
     else if (g1_clearing(of->heap).first == 1) policy_reclaim(of);
-    if (policy->wanted != 0) policy_pause_all(of), policy_plan_cycle(of, policy_free(of->heap));
+    if (policy->wanted != 0) policy_pause_all(of, 0), policy_plan_cycle(of, policy_free(of->heap));
     if (policy_spared(of, mutator, size)) return 1;
     policy_whole(of);
-    policy_plan_cycle(of, policy_free(of->heap));
     if (policy_spared(of, mutator, size)) return 1;
     if (2 * size > of->sizes->words) {
         while (policy_compact(of))

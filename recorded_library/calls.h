@@ -49,6 +49,7 @@ g1_answer g1_make_filled_noted(g1_heap *heap, g1_policy *policy, uint32_t mutato
                                const uint64_t *words, size_t values, entry *entries, size_t room, uint32_t *count);
 g1_answer g1_collect_noted(g1_heap *heap, g1_policy *policy, entry *entries, size_t room, uint32_t *count);
 g1_answer g1_collect_all_noted(g1_heap *heap, g1_policy *policy, entry *entries, size_t room, uint32_t *count);
+g1_answer g1_shrink_noted(g1_heap *heap, g1_policy *policy, entry *entries, size_t room, uint32_t *count);
 
 /* The lines of the collector's steps, by the numbers of entries. */
 static const char *const collector_forms[] = {"gc begin", "gc mark %", "gc remark", "gc cleanup", "gc refine %", "gc pause %",

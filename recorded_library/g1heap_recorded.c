@@ -294,3 +294,12 @@ g1_answer g1_collect_all(g1_heap *heap, g1_policy *policy)
     note_all(in, count);
     return done;
 }
+
+g1_answer g1_shrink(g1_heap *heap, g1_policy *policy)
+{
+    box *in = box_of(heap);
+    uint32_t count = 0;
+    g1_answer done = g1_shrink_noted(&in->heap, policy, in->entries, in->room, &count);
+    note_all(in, count);
+    return done;
+}

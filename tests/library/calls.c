@@ -49,6 +49,7 @@ static void refuse_sizes(void)
     is("no heap", g1_free_run(&heap), G1_NO_HEAP, 0, 0);
     is("no heap", g1_name(&heap, 0, 0), G1_NO_HEAP, 0, 0);
     is("no heap", g1_give_back(&heap), G1_NO_HEAP, 0, 0);
+    is("no heap", g1_shrink(&heap, &(g1_policy){0}), G1_NO_HEAP, 0, 0);
     g1_free(&heap);
 }
 
@@ -192,6 +193,7 @@ static void made_filled(g1_heap *h, const g1_sizes *sizes)
     is("make_filled", g1_make_filled(h, &policy, 1, 0, none, 1, in, 0), G1_NO_STEP, 0, 0);
     is("make_filled", g1_make_filled(h, &policy, 1, 4, from, 1, in, 0), G1_NO_STEP, 0, 0);
     is("make_filled", g1_make_filled(h, &policy, 2, 0, from, 1, in, 0), G1_NO_STEP, 0, 0);
+    is("shrink", g1_shrink(h, &policy), G1_DONE, 0, 0);
     is("name", g1_name(h, 1, 0), G1_NAME, name + 1, 0);
     g1_scope(h, 1, 0);
 }

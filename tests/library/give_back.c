@@ -1,7 +1,10 @@
-/* Memory that goes back to the system by g1_give_back, by what /proc/self/statm tells of the process: so it needs Linux.
+/* Memory that goes back to the system by g1_shrink and g1_give_back, by what /proc/self/statm tells of the process: so it needs Linux.
 
-     give_back               heaps of 64 MiB and of 1 GiB: most of what fills them is dropped, they are compacted, and memory goes back;
-                             then all of it is used once more. A heap that grows and shrinks 100 times
+     give_back               heaps of 64 MiB, 1 GiB and 4 GiB, in which a program makes objects of which up to 50 MB live: while it does it
+                             holds at most 3 times these and 48 MiB. Then heaps that are filled, with up to 1 GB, and all but 50 MB of that
+                             dropped: the policy's hint comes, after g1_shrink the process holds at most 1.5 times what lives and 16 MiB,
+                             and while the program goes on 3 times and 48 MiB; then all is filled once more. A heap that grows and shrinks
+                             100 times
      give_back same COUNT    a drawn program, which gives back COUNT times: its record is the same whatever COUNT is
 
    Prints what the process holds. The status is 1 where that is too much, or an object isn't as it was. */
@@ -11,7 +14,7 @@
 #include <string.h>
 #include <unistd.h>
 
-enum { LISTS = 1024, NEW = LISTS, AT = LISTS + 1, REGISTERS = LISTS + 2, MEBIBYTE = 1 << 20 };
+enum { LISTS = 1024, NEW = LISTS, AT = LISTS + 1, REGISTERS = LISTS + 2, MEBIBYTE = 1 << 20, GIGABYTE = 1000000000 };
 
 static g1_heap heap = G1_HEAP_NONE;
 static g1_policy policy;
@@ -53,9 +56,9 @@ static int begin(uint32_t regions, uint32_t words, uint32_t registers)
 }
 
 /* Makes an object of 1 pointer and so many data words, at the front of a list. Returns the code. */
-static uint32_t add(uint32_t values)
+static uint32_t add_to(uint32_t list, uint32_t values)
 {
-    uint32_t list = draw(LISTS), value = draw(1000000), code = g1_make(&heap, &policy, 0, NEW, 1, 0, values).code;
+    uint32_t value = draw(1000000), code = g1_make(&heap, &policy, 0, NEW, 1, 0, values).code;
     if (code != G1_NAME) return code;
     g1_put(&heap, 0, NEW, 0, list), g1_write(&heap, 0, NEW, 0, value), g1_write(&heap, 0, NEW, values - 1, value);
     g1_move(&heap, 0, list, NEW);
@@ -63,6 +66,8 @@ static uint32_t add(uint32_t values)
     counts[list]++, sums[list] += value;
     return code;
 }
+
+static uint32_t add(uint32_t values) { return add_to(draw(LISTS), values); }
 
 /* Makes so many bytes of them. */
 static int grow(uint64_t bytes, uint32_t values)
@@ -102,27 +107,58 @@ static int are_whole(void)
 
 static int shrink(void)
 {
-    g1_collect_all(&heap, &policy);
-    while (g1_compact(&heap, sizes.words).second != 0) continue;
-    return g1_give_back(&heap).code == G1_DONE ? 0 : fails("memory was refused");
+    if (g1_shrink(&heap, &policy).code != G1_DONE) return fails("memory was refused");
+    return policy.idle == 0 && policy.most == sizes.regions - policy.held ? 0 : fails("what was in play isn't counted from here on");
 }
 
-/* A heap of so many mebibytes, three quarters of which are filled and dropped but for so many; and again. */
-static int in_heap(uint32_t mebibytes, uint32_t left)
+/* Makes an object in one of so many lists, which are dropped by chance, so that they have as many bytes together as should live. */
+static uint32_t renew(uint64_t live, uint32_t lists)
 {
-    uint64_t bytes = (uint64_t)mebibytes * MEBIBYTE;
-    if (begin(1024, mebibytes * 128, REGISTERS)) return 1;
+    uint32_t list = draw(lists);
+    if (draw((uint32_t)(live / lists / (8 * 64))) == 0) g1_drop(&heap, 0, list), counts[list] = sums[list] = 0;
+    return add_to(list, 61);
+}
+
+/* Makes so many bytes of them. While it runs the process holds 3 times what lives and 48 MiB at most. */
+static int run_on(uint64_t bytes, uint64_t live, uint32_t lists)
+{
+    uint64_t most = 0, held;
+    for (uint64_t i = 0; i < bytes / (8 * 64); i++) {
+        if (renew(live, lists) != G1_NAME) return fails("the heap is full too early");
+        if (i % 20000 == 0 && (held = resident()) > most) most = held;
+    }
+    printf("%llu bytes made, of which %llu live: %llu held at most, %u regions in play\n", (unsigned long long)bytes,
+           (unsigned long long)live, (unsigned long long)most, sizes.regions - policy.held);
+    return most <= 3 * live + 48 * MEBIBYTE ? 0 : fails("too much is held");
+}
+
+/* Makes such objects until the policy says that memory could go back, which comes before so many bytes. */
+static int wait_for_hint(uint64_t bytes, uint64_t live, uint32_t lists)
+{
+    for (uint64_t i = 0; policy.idle == 0; i++)
+        if (i > bytes / (8 * 64) || renew(live, lists) != G1_NAME) return fails("no hint");
+    return 0;
+}
+
+/* A heap of so many mebibytes, of which so many live; then three quarters of it are filled, 1 GB at most, and dropped but for so many; and
+   again. */
+static int in_heap(uint32_t mebibytes, uint32_t regions, uint32_t left)
+{
+    uint64_t bytes = (uint64_t)mebibytes * MEBIBYTE, filled = bytes / 4 * 3 < GIGABYTE ? bytes / 4 * 3 : GIGABYTE;
+    uint32_t lists = (uint32_t)(LISTS * ((uint64_t)left * MEBIBYTE) / filled);
+    if (begin(regions, mebibytes * (131072 / regions), REGISTERS) || run_on(filled * 2, (uint64_t)left * MEBIBYTE, lists)) return 1;
     for (int turn = 0; turn < 2; turn++) {
-        if (grow(bytes / 4 * 3 - 8 * g1_live_words(&heap).first, 61)) return 1;
+        if (grow(filled - 8 * g1_live_words(&heap).first, 61)) return 1;
         uint64_t most = resident();
-        drop_lists(LISTS * left / (mebibytes / 4 * 3));
+        drop_lists(lists);
+        if (policy.most > policy.least && wait_for_hint(4 * filled, (uint64_t)left * MEBIBYTE, lists)) return 1;
         if (shrink()) return 1;
         uint64_t live = 8 * g1_live_words(&heap).first, held = resident();
         printf("%u MiB: %llu bytes live, %llu held, %llu before\n", mebibytes, (unsigned long long)live, (unsigned long long)held,
                (unsigned long long)most);
-        /* The marks of the marking before the last one keep up to a 64th of the heap. */
-        if (held > live + live / 2 + 16 * MEBIBYTE + bytes / 64 || most < bytes / 2) return fails("too much is held, or too little was");
-        if (!are_whole()) return fails("objects are lost");
+        if (held > live + live / 2 + 16 * MEBIBYTE || most < filled) return fails("too much is held, or too little was");
+        if (live < (uint64_t)left * MEBIBYTE) live = (uint64_t)left * MEBIBYTE;
+        if (!are_whole() || run_on(filled, live, lists) || !are_whole()) return fails("objects are lost, or too much is held");
     }
     if (mebibytes <= 64 && (fill(61) || !are_whole())) return fails("the heap can't be used whole");
     g1_free(&heap);
@@ -161,6 +197,7 @@ static int same(uint32_t given)
         case 6: g1_drop(&heap, 0, a); break;
         default:
             if (draw(40) == 0) g1_collect_all(&heap, &policy);
+            else if (draw(40) == 0) g1_shrink(&heap, &policy);
             else if (draw(10) == 0) g1_compact(&heap, sizes.words);
             else g1_get(&heap, 0, a, b, draw(4));
         }
@@ -173,6 +210,6 @@ static int same(uint32_t given)
 int main(int count, char **words)
 {
     if (count == 3 && strcmp(words[1], "same") == 0) return same((uint32_t)atoi(words[2]));
-    if (g1_give_back(&heap).code != G1_NO_HEAP) return fails("nothing gives memory back");
-    return in_heap(64, 20) || in_heap(1024, 50) || in_turns();
+    if (g1_give_back(&heap).code != G1_NO_HEAP || g1_shrink(&heap, &policy).code != G1_NO_HEAP) return fails("nothing gives memory back");
+    return in_heap(64, 1024, 20) || in_heap(1024, 1024, 50) || in_heap(4096, 2048, 50) || in_turns();
 }

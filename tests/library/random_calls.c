@@ -36,6 +36,7 @@ static void start_policy(const g1_sizes *s)
     policy.reserve = below(4), policy.pause_words = below(600), policy.mark_words = below(30);
     policy.cycle_words = below(3 * s->words), policy.young_words = below(4 * s->words), policy.cards_left = below(40);
     policy.visit_cards = below(60), policy.clear_objects = below(20);
+    policy.least = below(20), policy.held = draw() % 2 == 0 ? 0 : s->regions / 2;
 }
 static void note_policy(void)
 {
@@ -44,6 +45,7 @@ static void note_policy(void)
     note(policy.scanned), note(policy.pauses), note(policy.copied), note(policy.compactions), note(policy.compacted);
     note(policy.packed_free), note(policy.packed_live), note(policy.packed_next);
     note(policy.visits), note(policy.clears), note(policy.cleared), note(policy.last), note(policy.rest);
+    note(policy.held), note(policy.most), note(policy.idle);
 }
 
 static g1_answer asked(g1_heap *h, const g1_sizes *s, uint32_t m, uint32_t a)
@@ -138,7 +140,10 @@ static g1_answer step_of_mutator(g1_heap *h, const g1_sizes *s)
 
 static g1_answer step_of_collector(g1_heap *h)
 {
-    if (by_policy && draw() % 16 == 0) return draw() % 4 == 0 ? g1_collect_all(h, &policy) : g1_collect(h, &policy);
+    if (by_policy && draw() % 16 == 0) {
+        if (draw() % 8 == 0) return g1_shrink(h, &policy);
+        return draw() % 4 == 0 ? g1_collect_all(h, &policy) : g1_collect(h, &policy);
+    }
     switch (draw() % 12) {
     case 0: return g1_begin(h);
     case 1: return g1_mark(h, below(20));

@@ -1,6 +1,6 @@
 /* Each request for memory of g1_new refused in turn: it answers G1_NO_MEMORY, leaves no heap, and gives back what it took. The same of
-   g1_give_back: the heap is as it was, which a second heap tells that takes the same steps. No other call asks for memory. It comes before
-   the C library's malloc, and so needs glibc. */
+   g1_give_back and of g1_shrink: the heap is as where none is refused, which a second heap tells that takes the same steps. No other call
+   asks for memory. It comes before the C library's malloc, and so needs glibc. */
 #include <errno.h>
 #include <g1heap.h>
 #include <stdio.h>
@@ -70,20 +70,23 @@ static uint64_t use(g1_heap *heap, uint64_t seed, int steps)
     return hash;
 }
 
-/* Refuses each request of g1_give_back in turn, and tells how many there are, or 0 where something is wrong. */
-static long give_back_refused(void)
+/* Refuses each request of g1_give_back, or of g1_shrink, in turn, and tells how many there are, or 0 where something is wrong. */
+static long give_back_refused(int shrinks)
 {
     g1_heap heap = G1_HEAP_NONE, other = G1_HEAP_NONE;
+    g1_policy policy, same;
+    g1_policy_start(&policy, &sizes), g1_policy_start(&same, &sizes);
     if (g1_new(&heap, &sizes) != G1_DONE || g1_new(&other, &sizes) != G1_DONE) return 0;
     for (long turn = 1;; turn++) {
         uint64_t seed = 77 + (uint64_t)turn;
         long before = held;
         if (use(&heap, seed, 3000) != use(&other, seed, 3000)) return 0;
         requests = 0, refused = turn;
-        g1_answer got = g1_give_back(&heap);
+        g1_answer got = shrinks ? g1_shrink(&heap, &policy) : g1_give_back(&heap);
         refused = 0;
+        if (shrinks && (g1_shrink(&other, &same).code != G1_DONE || policy.copied != same.copied)) return 0;
         if (held != before || (got.code != G1_DONE && got.code != G1_NO_MEMORY) || (requests < turn && got.code != G1_DONE)) {
-            fprintf(stderr, "give back, request %ld refused: code %u, %ld pieces of memory kept\n", turn, got.code, held - before);
+            fprintf(stderr, "memory goes back, request %ld refused: code %u, %ld pieces of memory kept\n", turn, got.code, held - before);
             return 0;
         }
         if (requests < turn) {
@@ -119,7 +122,7 @@ int main(void)
         fprintf(stderr, "%ld requests for memory after g1_new, %ld within\n", requests - first, made);
         return 1;
     }
-    if (give_back_refused() < 2 || held != start) {
+    if (give_back_refused(0) < 2 || give_back_refused(1) < 2 || held != start) {
         fprintf(stderr, "a refused request changed a heap, or %ld pieces of memory are left\n", held - start);
         return 1;
     }

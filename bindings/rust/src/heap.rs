@@ -201,7 +201,7 @@ pub struct Counts {
     pub pauses: u64,
     /// Words that these copied.
     pub copied: u64,
-    /// Compactions, for objects of more than half a region that found no room.
+    /// Compactions, by [`Heap::shrink`] and for objects of more than half a region that found no room.
     pub compactions: u64,
     /// Words that these copied.
     pub compacted: u64,
@@ -244,11 +244,13 @@ pub struct Pace {
     pub visit_cards: u32,
     /// Objects with weak slots: so many are cleared at a look after marking.
     pub clear_objects: u32,
+    /// Regions: so many are in play at least. More are while more live; the others are held back, and take no memory.
+    pub least: u32,
 }
 
 with! { Pace {
     reserve: u32, pause_words: u32, mark_words: u32, cycle_words: u32, young_words: u32, cards_left: u32, visit_cards: u32,
-    clear_objects: u32
+    clear_objects: u32, least: u32
 } }
 
 /// A heap. It may go to another thread. Threads that are in it at once share a [`Shared`](crate::Shared), or a `Mutex<Heap>`.
@@ -325,7 +327,22 @@ impl Heap {
 
     /// Gives memory back to the system: that of all words above the highest region in use, and what marks and cards took beyond what they
     /// hold now. Its room in the heap stays, so nothing else changes. False where the system refuses what this asks for meanwhile, as much
-    /// as the words may take; then less goes back or nothing. Within a run there is [`Steps::give_back`](crate::Steps::give_back).
+    /// as the words may take; then less goes back or nothing. Within a run there is [`Steps::give_back`](crate::Steps::give_back), and
+    /// [`shrink`](Heap::shrink) gives back as much as can be.
+    ///
+    /// ```
+    /// # use g1heap::*;
+    /// let mut heap = Heap::new(&Sizes::mebibytes(64))?;
+    /// assert!(heap.give_back());
+    /// # Ok::<_, BadSizes>(())
+    /// ```
+    pub fn give_back(&mut self) -> bool {
+        self.core.raw.give_back().code == sys::DONE
+    }
+
+    /// Gives back as much memory as can be, for a moment at which the program is idle: a whole collection, which moves what lives down
+    /// into the lowest regions, and then [`give_back`](Heap::give_back). False where the system refuses what that asks for; the collection
+    /// is done then. [`is_idle`](Heap::is_idle) tells when it pays.
     ///
     /// ```
     /// # use g1heap::*;
@@ -334,15 +351,27 @@ impl Heap {
     ///     for _ in 0..5000 {
     ///         f.scope(|g| g.alloc_any(0, 0, 1000).map(drop))?;
     ///     }
-    ///     f.collect(); // and then regions in use go down, below the free ones
-    ///     while f.steps().compact(8192).regions > 0 {}
     ///     Ok::<_, Error>(())
     /// })?;
-    /// assert!(heap.give_back());
+    /// assert!(heap.shrink());
+    /// heap.run(|f| assert_eq!(f.steps().used_words(), 0));
     /// # Ok::<_, Box<dyn std::error::Error>>(())
     /// ```
-    pub fn give_back(&mut self) -> bool {
-        self.core.raw.give_back().code == sys::DONE
+    pub fn shrink(&mut self) -> bool {
+        self.core.raw.shrink().code == sys::DONE
+    }
+
+    /// Whether the policy has held back, since the last [`shrink`](Heap::shrink), at least half of the regions that were in play before: so
+    /// that half of the memory could go back.
+    ///
+    /// ```
+    /// # use g1heap::*;
+    /// let heap = Heap::new(&Sizes::mebibytes(64))?;
+    /// assert!(!heap.is_idle());
+    /// # Ok::<_, BadSizes>(())
+    /// ```
+    pub fn is_idle(&self) -> bool {
+        self.core.raw.policy().idle != 0
     }
 
     /// What the policy did so far.
@@ -369,8 +398,8 @@ impl Heap {
         let it = self.core.raw.policy();
         let (reserve, pause_words, mark_words) = (it.reserve, it.pause_words, it.mark_words);
         let (cycle_words, young_words, cards_left) = (it.cycle_words, it.young_words, it.cards_left);
-        let (visit_cards, clear_objects) = (it.visit_cards, it.clear_objects);
-        Pace { reserve, pause_words, mark_words, cycle_words, young_words, cards_left, visit_cards, clear_objects }
+        let (visit_cards, clear_objects, least) = (it.visit_cards, it.clear_objects, it.least);
+        Pace { reserve, pause_words, mark_words, cycle_words, young_words, cards_left, visit_cards, clear_objects, least }
     }
 
     /// Sets how much the policy does at once.
@@ -385,7 +414,7 @@ impl Heap {
         let mut it = self.core.raw.policy();
         (it.reserve, it.pause_words, it.mark_words) = (pace.reserve, pace.pause_words, pace.mark_words);
         (it.cycle_words, it.young_words, it.cards_left) = (pace.cycle_words, pace.young_words, pace.cards_left);
-        (it.visit_cards, it.clear_objects) = (pace.visit_cards, pace.clear_objects);
+        (it.visit_cards, it.clear_objects, it.least) = (pace.visit_cards, pace.clear_objects, pace.least);
         self.core.raw.set_policy(it);
     }
 

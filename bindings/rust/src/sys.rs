@@ -113,6 +113,10 @@ impl Raw {
         // SAFETY: as for `make`.
         unsafe { g1_collect_all(self.heap.get(), self.policy.get()) };
     }
+    pub fn shrink(&self) -> g1_answer {
+        // SAFETY: as for `make`.
+        unsafe { g1_shrink(self.heap.get(), self.policy.get()) }
+    }
     /// The policy's numbers as they are.
     pub fn policy(&self) -> g1_policy {
         // SAFETY: no call goes on, and the numbers are copied.

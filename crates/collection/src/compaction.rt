@@ -6,14 +6,16 @@ ghost use Rattle.heap_model.specs.Graph.{Graph};
 ghost use Rattle.regions.specs.Table.{free_count, kind_of};
 ghost use Rattle.graph_runs.specs.State.{State};
 ghost use Rattle.graph_runs.specs.Run.{IsNew};
-ghost use Rattle.collection.specs.Space.{IsPacked, IsQuiet, LieBelowFree, is_ordinary, ordinary_end};
+ghost use Rattle.step_core.specs.Stands.{Stands};
+ghost use Rattle.collection.specs.Space.{IsCollected, IsPacked, IsQuiet, LieBelowFree, is_ordinary, ordinary_end};
 ghost use Rattle.collection.specs.Steps.{CollectsWithin, FitsLeavingTwo, AsksWithin};
 ghost use Rattle.collection.specs.Rooms.{HasRun, IsSpared};
 
 use crate::numbers::Policy;
 use crate::room::is_spared;
 use crate::steps::{Watch, take};
-use heap_steps::{CollectorStep, Op};
+use crate::whole::collect_dense;
+use heap_steps::{CollectorStep, Op, is_third};
 use heap_words::addr::RegionNo;
 use regions::{Kind, RegionTable};
 use step_core::Core;
@@ -88,4 +90,41 @@ pub(crate) fn compact_for<W: Watch>(
             return true;
         }
     }
+}
+
+/// Compactions until one takes no region: no free region is below an ordinary one then.
+fn compact_down<W: Watch>(core: &mut Core, policy: &mut Policy, watch: &mut W)
+    requires third { IsThird core.old.config.format }
+    ensures collects { CollectsWithin W.sees (core.old.config.regions + 1) core.old watch.old core.new watch.new }
+    ensures quiet { (s : State) → IsQuiet s core.old → IsQuiet s core.new }
+    ensures packed { (g : Graph) → IsPacked g core.old → IsPacked g core.new }
+    ensures below { (s : State) → IsQuiet s core.old → 2 ≤ free_count core.old.table → LieBelowFree core.new.table }
+{
+    core.law_remembers();
+    'compactions: loop {
+        if !compact_once(core, policy, watch) {
+            return;
+        }
+    }
+}
+
+/// A whole collection, pauses for as long as each frees a region, and in the third format compactions until one takes no region: then each
+/// ordinary region is below each free one, if two regions were free. What is kept is what roots reach, as after `collect`.
+///
+/// ```rust
+/// collect_down(&mut core, &mut policy, &mut Unwatched);
+/// assert_eq!(rt; core.free_regions(), 4);
+/// ```
+pub fn collect_down<W: Watch>(core: &mut Core, policy: &mut Policy, watch: &mut W)
+    ensures collects { CollectsWithin W.sees (13 + 3 * core.old.config.regions) core.old watch.old core.new watch.new }
+    ensures quiet { (s : State) → Stands s core.old → IsCollected s.graph core.new }
+    ensures packed { (s : State) → Stands s core.old → 2 ≤ free_count core.old.table → IsPacked s.graph core.new }
+    ensures below { IsThird core.old.config.format → 2 ≤ free_count core.old.table → (s : State) → Stands s core.old
+        → LieBelowFree core.new.table }
+{
+    collect_dense(core, policy, watch);
+    if !is_third(core.config().format) {
+        return;
+    }
+    compact_down(core, policy, watch);
 }

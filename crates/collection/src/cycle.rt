@@ -144,7 +144,7 @@ fn pause_some<W: Watch>(
 }
 
 /// Evacuates some of the regions in which little is live, so many words at most, which are fewer then; within the policy's cards, or
-/// within any. Answers whether it paid. If what is left of a look cut it short, or no region had so few cards, that says nothing: the
+/// within any. Answers whether it paid. If what is left of a look cut it short, or few regions had so few cards, that says nothing: the
 /// next look goes on.
 fn evacuate_some<W: Watch>(
     core: &mut Core,
@@ -170,7 +170,8 @@ fn evacuate_some<W: Watch>(
     let reply = pause_some(core, policy, budget, is_within, watch);
     let after = core.free_regions();
     let (regions, copied) = moved(reply);
-    let is_cut_short = budget == *left && budget < policy.pause_words || is_bounded && regions == 0;
+    let is_few = regions == 0 || copied < u64::from(budget / 2);
+    let is_cut_short = budget == *left && budget < policy.pause_words || is_bounded && is_few;
     *left = u64::from(*left).saturating_sub(copied) as u32;
     if policy.pays(&config, before, after, copied) {
         return true;
@@ -201,7 +202,8 @@ fn begin_cycle<W: Watch>(core: &mut Core, policy: &mut Policy, watch: &mut W) ->
     ensures some { free_count core.old.table ≤ policy.old.begin_at → CollectsSome W.sees 3 core.old watch.old core.new watch.new }
 {
     let free = core.free_regions();
-    if free > policy.begin_at && policy.asked < u64::from(policy.cycle_words) {
+    let most = policy.most_asked(&core.config());
+    if free > policy.begin_at && policy.asked < most {
         return false;
     }
     let words = if policy.cycles == 0 {
@@ -209,7 +211,7 @@ fn begin_cycle<W: Watch>(core: &mut Core, policy: &mut Policy, watch: &mut W) ->
     } else {
         policy.marked
     };
-    policy.plan_marking(free, words);
+    policy.plan_marking(&core.config(), free, words);
     take(core, policy, CollectorStep::Begin, watch);
     if free <= policy.reserve {
         end_cycle(core, policy, watch);
@@ -294,7 +296,7 @@ fn go_on<W: Watch>(core: &mut Core, policy: &mut Policy, watch: &mut W)
     if begin_cycle(core, policy, watch) {
         return;
     }
-    if policy.rests(core.free_regions()) {
+    if policy.rests(&core.config(), core.free_regions()) {
         return;
     }
     let mut left = policy.pause_words;
@@ -310,7 +312,7 @@ fn work_on<W: Watch>(core: &mut Core, policy: &mut Policy, watch: &mut W) -> u32
         clear_on(core, policy, watch);
         return 0;
     }
-    if policy.is_young_turn(core.free_regions()) {
+    if policy.is_young_turn(&core.config(), core.free_regions()) {
         pause_young(core, policy, watch);
         return EVACUATED;
     }

@@ -19,7 +19,7 @@
 //! Examples of calls go on from this one, in which `rt` is a test's `HostRuntime` and `alloc` its allocator:
 //!
 //! ```rust
-//! use collection::{Policy, Unwatched, collect, collect_due, make};
+//! use collection::{Policy, Unwatched, collect, collect_down, collect_due, make};
 //! use heap_steps::{Action, Counts, Op, Register, Reply};
 //! use heap_words::config::{Config, Format};
 //! use step_core::Core;
@@ -42,6 +42,7 @@ mod room;
 mod steps;
 mod whole;
 
+pub use compaction::collect_down;
 pub use cycle::collect_due;
 pub use laws::choice_law;
 pub use making::make;

@@ -81,7 +81,6 @@ fn collect_all<W: Watch>(
     ensures filled { result ≡ false → (s : State) → Stands s core.old → IsFilled s.graph core.old op.now.action core.new }
 {
     collect(core, policy, watch);
-    policy.plan_cycle(&core.config(), core.free_regions());
     core.law_remembers();
     core.law_shaped();
     if is_spared(core, op, size) {

@@ -3,13 +3,13 @@
 //! Nothing is promised of these numbers, and any will do: the theorem of `make` holds whatever they are. They decide how often the
 //! collector works, and how much at a time.
 
-ghost use Rattle.std.specs.Prelude.{◌≡◌, ◌-◌, ◌*◌, ◌/◌, ◌<◌, ◌≤◌, ◌^◌, true, false, min, nat_le, if◌then◌else◌};
+ghost use Rattle.std.specs.Prelude.{◌≡◌, ◌-◌, ◌*◌, ◌/◌, ◌<◌, ◌≤◌, ◌^◌, true, false, max, min, nat_le, if◌then◌else◌};
 
 use heap_steps::{CollectorStep, Reply};
 use heap_words::config::Config;
 use step_core::Core;
 
-/// A policy's numbers and counts. A client may set the first eight at any time; the others are the policy's
+/// A policy's numbers and counts. A client may set the first nine at any time; the others are the policy's
 /// own.
 #[repr(C)]
 #[derive(Clone, Copy, Debug, PartialEq, Eq, Drop)]
@@ -30,6 +30,8 @@ pub struct Policy {
     pub visit_cards: u32,
     /// Objects with weak slots: so many are cleared at a look after marking.
     pub clear_objects: u32,
+    /// Regions: so many are in play at least.
+    pub least: u32,
     /// Words that may be asked for before the next look, as it was set, and what is left of them.
     pub look: u32,
     pub left: u32,
@@ -43,6 +45,12 @@ pub struct Policy {
     pub gained: u32,
     /// Regions: after a cycle regions are evacuated until so many are free; 0 where that is over.
     pub wanted: u32,
+    /// Regions: so many are held back. Cycles begin, go and evacuate as in a heap of the others, which are in play; but what finds no room
+    /// among these takes those held back too. And the most that were in play since `collect_down`, or since a client set that to 0.
+    pub held: u32,
+    pub most: u32,
+    /// Whether no more than half of these are in play: 1, so that a client may give memory back, else 0.
+    pub idle: u32,
     /// Words that marking looks at, at each look of a cycle.
     pub pace: u32,
     /// Cards that may lead into the regions of the next pause, if more than `visit_cards`.
@@ -101,6 +109,13 @@ fn pause_budget(config: &Config) -> u32
     config.words.saturating_mul(4).max(share)
 }
 
+/// Regions: so many are in play at least, and when a heap begins: as many as have 16,777,216 words, but 64 at least, or all.
+fn least_regions(config: &Config) -> u32
+    ensures { result ≡ min (max (16777216 / max config.now.words 1) 64) config.now.regions }
+{
+    (16777216 / config.words.max(1)).max(64).min(config.regions)
+}
+
 /// How many cards the heap has.
 fn cards_of(config: &Config) -> u32 {
     let words = u64::from(config.regions) * u64::from(config.words);
@@ -134,8 +149,9 @@ impl Policy {
     {
         let reserve = (config.regions / 24).max(3);
         let young_words = 131072;
-        let span = regions_of(config, young_words).min((config.regions / 4).max(1));
-        Policy {
+        let least = least_regions(config);
+        let span = regions_of(config, young_words).min((least / 4).max(1));
+        let mut policy = Policy {
             reserve,
             pause_words: pause_budget(config),
             mark_words: marked_words(config),
@@ -147,14 +163,18 @@ impl Policy {
             cards_left: 4096,
             visit_cards: config.words.max(16384).min(65536),
             clear_objects: 16384,
+            least,
             look: 0,
             left: 0,
-            begin_at: reserve.saturating_add(config.regions / 8),
+            begin_at: 0,
             young_at: config.regions.saturating_sub(span),
             span,
             young: 0,
             gained: 0,
             wanted: 0,
+            held: config.regions.saturating_sub(least),
+            most: least,
+            idle: 0,
             pace: 0,
             visits: 0,
             clears: 0,
@@ -174,14 +194,69 @@ impl Policy {
             copied: 0,
             compactions: 0,
             compacted: 0,
-        }
+        };
+        policy.begin_at = policy.kept(config).saturating_add(least / 8);
+        policy
     }
 
-    /// Takes note of what a whole collection left.
+    /// How many regions are in play: those that aren't held back.
+    fn in_play(&self, config: &Config) -> u32 {
+        config.regions.saturating_sub(self.held)
+    }
+
+    /// Regions: the reserve of those in play, and those held back. A cycle marks so that it ends before fewer are free.
+    fn kept(&self, config: &Config) -> u32 {
+        let share = u64::from(self.reserve) * u64::from(self.in_play(config))
+            / u64::from(config.regions.max(1));
+        let reserve = share.max(3).min(u64::from(self.reserve)) as u32;
+        self.held.saturating_add(reserve)
+    }
+
+    /// Regions: so many of those held back are used at least before another cycle begins, where too few others are free: so evacuation has
+    /// its turn.
+    fn borrowed(&self, config: &Config, free: u32) -> u32 {
+        self.in_play(config).min(self.held).min(free) / 8
+    }
+
+    /// Words: where so many were asked for since the last cycle began, another one begins: the share of `cycle_words` of those in play.
+    pub(crate) fn most_asked(&self, config: &Config) -> u64 {
+        u64::from(self.cycle_words) * u64::from(self.in_play(config))
+            / u64::from(config.regions.max(1))
+    }
+
+    /// Sets how many regions are in play, where so many words live: if these fill less than 40 percent of them, or more than 50, so many
+    /// that they fill 40; but `least` at least.
+    pub(crate) fn plan_size(&mut self, config: &Config, live: u64) {
+        let full = (live / u64::from(config.words.max(1))).min(u64::from(config.regions)) + 1;
+        let now = u64::from(self.in_play(config));
+        let apt = if full * 5 < now * 2 || full * 2 > now {
+            full * 5 / 2
+        } else {
+            now
+        };
+        let in_play = apt
+            .max(u64::from(self.least))
+            .min(u64::from(config.regions)) as u32;
+        self.held = config.regions.saturating_sub(in_play);
+        self.most = self.most.max(in_play);
+        self.idle = u32::from(in_play <= self.most / 2);
+    }
+
+    /// Takes note of what a whole collection left, and plans the next cycle.
     pub(crate) fn note_packed(&mut self, core: &Core) {
+        let config = core.config();
         self.packed_free = core.free_regions();
         self.packed_live = core.live_words();
         self.packed_next = core.next_name();
+        self.plan_size(&config, self.packed_live);
+        self.plan_cycle(&config, self.packed_free);
+    }
+
+    /// Takes note of a whole collection after which memory goes back, so that no more regions were in play since.
+    pub(crate) fn note_down(&mut self, core: &Core) {
+        self.note_packed(core);
+        self.most = self.in_play(&core.config());
+        self.idle = 0;
     }
 
     /// Whether that is what there is.
@@ -247,8 +322,8 @@ impl Policy {
 
     /// Sets how fast a cycle marks: three times as fast as it would take to end at the reserve, where marking looks at so many words by
     /// estimate. What is left of an evacuation waits for the end of the cycle.
-    pub(crate) fn plan_marking(&mut self, free: u32, words: u64) {
-        let room = u64::from(free.saturating_sub(self.reserve).max(1));
+    pub(crate) fn plan_marking(&mut self, config: &Config, free: u32, words: u64) {
+        let room = u64::from(free.saturating_sub(self.kept(config)).max(1));
         let pace = 64 + words.min(u64::from(u32::MAX)) * 3 / 2 / room;
         self.pace = pace.min(u64::from(self.mark_words)) as u32;
         self.asked = 0;
@@ -256,15 +331,22 @@ impl Policy {
         self.looked = 0;
     }
 
-    /// Sets until how many free regions those that hold little live are evacuated after a cycle: three quarters of what is to be had. Where
-    /// a quarter of the free ones is used up meanwhile another cycle begins.
+    /// Sets how many regions are in play: what was asked for since the cycle began doesn't count as live for that. And until how many free
+    /// regions those that hold little live are evacuated after it: three quarters of what is to be had. Where a quarter of the free ones is
+    /// used up meanwhile another cycle begins.
     pub(crate) fn plan_evacuation(&mut self, config: &Config, free: u32, live: u64) {
-        let all = u64::from(config.regions) * u64::from(config.words);
+        self.plan_size(config, live.saturating_sub(self.asked));
+        let all = u64::from(self.in_play(config)) * u64::from(config.words);
         let most = (all.saturating_sub(live) / u64::from(config.words).max(1)).min(u64::from(
             u32::MAX,
         )) as u32;
-        self.wanted = (most - most / 4).max(self.reserve.saturating_mul(2)).max(1);
-        self.begin_at = self.begin_at.min((u64::from(free) * 3 / 4) as u32);
+        let reserve = self.kept(config).saturating_sub(self.held);
+        let wanted = (most - most / 4).max(reserve.saturating_mul(2)).max(1);
+        self.wanted = self.held.saturating_add(wanted);
+        let rest = u64::from(free.saturating_sub(self.held));
+        let spent = (rest - rest * 3 / 4).max(u64::from(self.borrowed(config, free)));
+        let begin_at = u64::from(free).saturating_sub(spent);
+        self.begin_at = u64::from(self.begin_at).min(begin_at) as u32;
         self.visits /= 2;
         self.cleared = self.clears;
         self.clears = 0;
@@ -312,8 +394,14 @@ impl Policy {
     }
 
     /// Whether pauses rest: fewer words were asked for since the last one than `note_pause` set, and regions enough are free.
-    pub(crate) fn rests(&self, free: u32) -> bool {
-        self.rest != 0 && free > self.reserve.saturating_mul(2).max(self.wanted / 3)
+    pub(crate) fn rests(&self, config: &Config, free: u32) -> bool {
+        let reserve = self.kept(config).saturating_sub(self.held);
+        let wanted = self.wanted.saturating_sub(self.held) / 3;
+        self.rest != 0
+            && free
+                > self
+                    .held
+                    .saturating_add(reserve.saturating_mul(2).max(wanted))
     }
 
     /// Takes note of a pause within cards, after which so many are queued. If it gained fewer words than the cards that it might visit,
@@ -343,17 +431,17 @@ impl Policy {
     /// Sets when the next cycle begins, and when new regions are evacuated before it. It has as much room as it takes to mark what the last
     /// one marked, and to clear weak slots at as many looks as after it.
     pub(crate) fn plan_cycle(&mut self, config: &Config, free: u32) {
-        let room = free.saturating_sub(self.reserve);
+        let kept = self.kept(config);
+        let room = free.saturating_sub(kept);
         self.wanted = 0;
         self.begin_at = if room < 2 {
-            free.saturating_sub(1)
+            free.saturating_sub(self.borrowed(config, free).max(1))
         } else {
             let words = self.marked.min(u64::from(u32::MAX));
             let marking = words * 3 / 2 / u64::from(self.mark_words.max(1));
             let looks = marking.saturating_add(u64::from(self.cleared));
             let needed = looks.min(u64::from(room / 4 * 3)) as u32;
-            self.reserve
-                .saturating_add((room / 4).min(config.regions / 8).max(needed))
+            kept.saturating_add((room / 4).min(self.in_play(config) / 8).max(needed))
         };
         self.plan_young(config, free, self.span);
     }
@@ -364,7 +452,7 @@ impl Policy {
         let way = free.saturating_sub(self.begin_at) / 2;
         self.young = 0;
         self.span = span.max(regions_of(config, self.young_words)).min(way);
-        self.young_at = if way <= config.regions / 64 {
+        self.young_at = if way <= self.in_play(config) / 64 {
             0
         } else {
             free.saturating_sub(self.span)
@@ -388,10 +476,10 @@ impl Policy {
     }
 
     /// Whether new regions are evacuated at this look: not twice in turn, and not while pauses rest.
-    pub(crate) fn is_young_turn(&mut self, free: u32) -> bool
+    pub(crate) fn is_young_turn(&mut self, config: &Config, free: u32) -> bool
         ensures { result ≡ false → self.new ≡ self.old }
     {
-        if self.last == EVACUATED || self.rests(free) {
+        if self.last == EVACUATED || self.rests(config, free) {
             return false;
         }
         self.is_young_due(free)

@@ -33,7 +33,7 @@ use Rattle.heap_calls.specs.Words.{ReadsAll, ReadsNone, WritesAll, WritesNone}
 use Rattle.heap_calls.specs.declared.answer.Answer.{Answer}
 use Rattle.g1heap_c.specs.Calls.{AreCalls, Call, Called, IsCall, telling}
 use Rattle.g1heap_c.specs.Calls.{NewCall, StepCall, NewFilledCall, MakeCall, MakeFilledCall, CollectCall, CollectAllCall, ReadWordsCall}
-use Rattle.g1heap_c.specs.Calls.{WriteWordsCall, AskCall, GiveBackCall, NoStepCall, FreeCall}
+use Rattle.g1heap_c.specs.Calls.{WriteWordsCall, AskCall, GiveBackCall, ShrinkCall, NoStepCall, FreeCall}
 use Rattle.g1heap_c.specs.MadeFilled.{AsksToFill}
 use Rattle.g1heap_c.specs.Policies.{AnswersMake, CollectsIn, asked}
 use Rattle.g1heap_c.specs.Runs.{AreEventsOf, AreRun, CallRuns, HasCollected, HasEvents, HasFilling, HasMaking, HasMakingAndFilling}
@@ -135,9 +135,9 @@ collected_from most s c d st h =
     let r = h.runs s st in
     record { last = r.last; run = passage_is_run s c h.events r.last d r.passage; stands = r.stands }
 
-collect_done : (most : ℕ) (s : State) (c d c' : CoreState) (answer : Answer) → Stands s c → c' ≡ d → CollectsIn most c d
-    → answer ≡ told 0 0 0 → Found s c' (λ es. HasCollected es answer)
-collect_done most s c d c' answer st same h tells = record {
+collect_done : (most : ℕ) (s : State) (c d c' : CoreState) (code answer : Answer) → Stands s c → c' ≡ d → CollectsIn most c d
+    → answer ≡ code → Found s c' (λ es. HasCollected es code answer)
+collect_done most s c d c' code answer st same h tells = record {
   events = h.events;
   from = subst (λ (e : CoreState). From s h.events e) (sym same) (collected_from most s c d st h);
   has = record { collectors = h.collectors; tells = tells };
@@ -383,8 +383,8 @@ call_done (MakeFilledCall m to from words) s c c' answer st h =
     (λ es. HasNoEvent c es no_step answer c') (are_fields c.config m to from words)
     (λ is. make_filled_done m to from words s c c' answer st (h.asks is)) (λ isnt. none_done no_step s c c' answer st (h.not isnt))
 call_done CollectCall s c c' answer st h =
-    collect_done (c.config.regions + 5) s c h.core c' answer st (held_is c' h.core h.held) h.collects h.tells
-call_done CollectAllCall s c c' answer st h = collect_done _ s c h.core c' answer st (held_is c' h.core h.held) h.collects h.tells
+    collect_done (c.config.regions + 5) s c h.core c' _ answer st (held_is c' h.core h.held) h.collects h.tells
+call_done CollectAllCall s c c' answer st h = collect_done _ s c h.core c' _ answer st (held_is c' h.core h.held) h.collects h.tells
 call_done (ReadWordsCall m object from before after) s c c' answer st h =
     let same : c' ≡ c = held_is c' c h.1 in
     choose s c' (HasRegister c m object)
@@ -402,6 +402,8 @@ call_done (AskCall question) s c c' answer st h =
     record { events = []; from = same_from s c c' st same; has = record { events = refl; answers = h.0; same = same } }
 call_done (GiveBackCall granted) s c c' answer st h =
     none_done (given_back granted) s c c' answer st (record { answer_is = h.0; same = h.1 })
+call_done (ShrinkCall granted) s c c' answer st h =
+    collect_done _ s c h.core c' (given_back granted) answer st (held_is c' h.core h.held) h.collects h.tells
 call_done NoStepCall s c c' answer st h = none_done no_step s c c' answer st h
 call_done FreeCall s c c' answer st h = let e : Some c' ≡ None = h.1 in cc
 

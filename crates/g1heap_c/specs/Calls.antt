@@ -17,7 +17,7 @@ use Rattle.heap_calls.specs.Steps.{plain, scanned}
 use Rattle.heap_calls.specs.Words.{ReadsWords, WritesWords}
 use Rattle.heap_calls.specs.declared.answer.Answer.{Answer}
 use Rattle.g1heap_c.specs.MadeFilled.{AsksFilled}
-use Rattle.g1heap_c.specs.Policies.{AsksFor, CollectsAll, CollectsDue}
+use Rattle.g1heap_c.specs.Policies.{AsksFor, CollectsAll, CollectsDue, Shrinks}
 
 -- What is asked of a heap: how many regions are free, and how many of them side by side; how many words are handed out, and how many are
 -- live; whether marking runs, whether it has more to scan, and whether weak slots wait to be cleared; how many cards are queued; how many
@@ -38,7 +38,7 @@ pub data Question : Type 0 where
 -- Which call it is, with its numbers. A heap is made; it takes a step; it makes an object and fills it; it makes an object by the policy,
 -- and makes one by the policy and fills it; the steps of the collector that are due; a whole collection; data words are read from one on,
 -- with what the buffer holds before and after, and are written; something is asked; memory is given back, and what that asks for meanwhile
--- is granted or not; the numbers name no step of any heap; it is freed
+-- is granted or not; the same after a whole collection and compactions; the numbers name no step of any heap; it is freed
 pub data Call : Type 0 where
   NewCall : (config : Config) → Call
   StepCall : (step : Step) → Call
@@ -51,6 +51,7 @@ pub data Call : Type 0 where
   WriteWordsCall : (m object from : ℕ) (words : List ℕ) → Call
   AskCall : (question : Question) → Call
   GiveBackCall : (granted : Bool) → Call
+  ShrinkCall : (granted : Bool) → Call
   NoStepCall : Call
   FreeCall : Call
 
@@ -87,6 +88,7 @@ IsCall heap (ReadWordsCall m object from before out) answer after = ReadsWords h
 IsCall heap (WriteWordsCall m object from words) answer after = WritesWords heap m object from words answer after
 IsCall heap (AskCall question) answer after = Tells (IsAnswerTo question) heap answer after
 IsCall heap (GiveBackCall granted) answer after = GivesBack granted heap answer after
+IsCall heap (ShrinkCall granted) answer after = Shrinks granted heap answer after
 IsCall heap NoStepCall answer after = TakesNone heap answer after
 IsCall heap FreeCall answer after = (answer ≡ told 0 0 0) × (after ≡ None)
 

@@ -1,7 +1,7 @@
 -- What a call of the policy does to a heap: nothing, where there is none, or a core.
-use Rattle.std.specs.Prelude.{◌≡◌, ◌+◌, ◌-◌, ◌*◌, ◌≤◌, ◌==◌, ℕ, ⊤, Option, Some, None, if◌then◌else◌}
+use Rattle.std.specs.Prelude.{◌≡◌, ◌+◌, ◌-◌, ◌*◌, ◌≤◌, ◌==◌, ℕ, ⊤, Bool, Option, Some, None, if◌then◌else◌}
 use Rattle.regions.specs.Table.{free_count}
-use Rattle.heap_steps.specs.Actors.{IsOp}
+use Rattle.heap_steps.specs.Actors.{IsOp, IsThird}
 use Rattle.heap_steps.specs.declared.step.Action.TheVariants as actions
 use Rattle.heap_steps.specs.declared.step.Op.{Op}
 use Rattle.heap_steps.specs.declared.step.Reply.{Reply}
@@ -9,11 +9,11 @@ use Rattle.heap_steps.specs.declared.step.Reply.TheVariants as replies
 use Rattle.heap_steps.specs.declared.step.Refusal.TheVariants as refusals
 use Rattle.graph_runs.specs.State.{State}
 use Rattle.step_core.specs.Stands.{CoreState, Stands}
-use Rattle.collection.specs.Space.{IsCollected, IsPacked}
+use Rattle.collection.specs.Space.{IsCollected, IsPacked, LieBelowFree}
 use Rattle.collection.specs.Steps.{CollectsWithin, CollectsSome, IsDue, LeavesTwo, Makes}
 use Rattle.collection.specs.Rooms.{IsFilled}
 use Rattle.heap_calls.specs.Numbers.{counts, no_heap, no_step, numbers, register, told}
-use Rattle.heap_calls.specs.Steps.{StaysSame}
+use Rattle.heap_calls.specs.Steps.{StaysSame, given_back}
 use Rattle.heap_calls.specs.declared.answer.Answer.{Answer}
 
 -- the step that makes an object, a plain one where it has no weak slots
@@ -85,3 +85,18 @@ pub record CollectsAllIn (c : CoreState) (answer : Answer) (after : Option CoreS
 abbrev pub CollectsAll : Option CoreState → Answer → Option CoreState → Type 0
 CollectsAll None answer after = StaysSame None no_heap answer after
 CollectsAll (Some c) answer after = CollectsAllIn c answer after
+
+-- The same, and more pauses and compactions after it: each ordinary region is below each free one then, if two were free. Memory goes back,
+-- if what that asks for meanwhile is granted
+pub record ShrinksIn (granted : Bool) (c : CoreState) (answer : Answer) (after : Option CoreState) : Type 0 where
+  pub core : CoreState
+  pub tells : answer ≡ given_back granted
+  pub held : after ≡ Some core
+  pub collects : CollectsIn (13 + 3 * c.config.regions) c core
+  pub collected : (s : State) → Stands s c → IsCollected s.graph core
+  pub packed : (s : State) → Stands s c → 2 ≤ free_count c.table → IsPacked s.graph core
+  pub below : IsThird c.config.format → 2 ≤ free_count c.table → (s : State) → Stands s c → LieBelowFree core.table
+
+abbrev pub Shrinks : Bool → Option CoreState → Answer → Option CoreState → Type 0
+Shrinks granted None answer after = StaysSame None no_heap answer after
+Shrinks granted (Some c) answer after = ShrinksIn granted c answer after

@@ -22,7 +22,7 @@ use Rattle.heap_calls.specs.Steps.{HasRegister, given_back}
 use Rattle.heap_calls.specs.declared.answer.Answer.{Answer}
 use Rattle.g1heap_c.specs.Calls.{Call, Called, AreCalls, IsAnswerTo, IsCall, telling}
 use Rattle.g1heap_c.specs.Calls.{NewCall, StepCall, NewFilledCall, MakeCall, MakeFilledCall, CollectCall, CollectAllCall, ReadWordsCall}
-use Rattle.g1heap_c.specs.Calls.{WriteWordsCall, AskCall, GiveBackCall, NoStepCall, FreeCall}
+use Rattle.g1heap_c.specs.Calls.{WriteWordsCall, AskCall, GiveBackCall, ShrinkCall, NoStepCall, FreeCall}
 use Rattle.g1heap_c.specs.Policies.{asked}
 
 -- the event of a step with a reply, taken by whose step it is
@@ -105,10 +105,10 @@ pub record HasMakingAndFilling (es : List Event) (m to : ℕ) (from words : List
   pub filled : AreEventsOf (filling reply m to from words) fills
   pub tells : answer ≡ numbers reply
 
--- steps of the collector alone
-pub record HasCollected (es : List Event) (answer : Answer) : Type 0 where
+-- steps of the collector alone, after which this is answered
+pub record HasCollected (es : List Event) (code : Answer) (answer : Answer) : Type 0 where
   pub collectors : All IsCollectors es
-  pub tells : answer ≡ told 0 0 0
+  pub tells : answer ≡ code
 
 -- one step, refused as the answer tells; the heap is as it was
 pub record HasRefused (c : CoreState) (es : List Event) (step : Step) (answer : Answer) (c' : CoreState) : Type 0 where
@@ -157,8 +157,8 @@ HasEvents c es (NewFilledCall m to from words) answer c' =
 HasEvents c es (MakeCall op) answer c' = IfElse (IsOp c.config op) (HasMaking es op answer) (HasNoEvent c es no_step answer c')
 HasEvents c es (MakeFilledCall m to from words) answer c' =
     IfElse (AreFields c.config m to from words) (HasMakingAndFilling es m to from words answer) (HasNoEvent c es no_step answer c')
-HasEvents c es CollectCall answer c' = HasCollected es answer
-HasEvents c es CollectAllCall answer c' = HasCollected es answer
+HasEvents c es CollectCall answer c' = HasCollected es (told 0 0 0) answer
+HasEvents c es CollectAllCall answer c' = HasCollected es (told 0 0 0) answer
 HasEvents c es (ReadWordsCall m object from before after) answer c' =
     IfElse (HasRegister c m object)
     (HasRead c es m object from before after answer c' ⊎ HasNotRead c es m object from before after answer c')
@@ -169,6 +169,7 @@ HasEvents c es (WriteWordsCall m object from words) answer c' =
     (HasNoEvent c es no_step answer c')
 HasEvents c es (AskCall question) answer c' = HasAsked c es (IsAnswerTo question) answer c'
 HasEvents c es (GiveBackCall granted) answer c' = HasNoEvent c es (given_back granted) answer c'
+HasEvents c es (ShrinkCall granted) answer c' = HasCollected es (given_back granted) answer
 HasEvents c es NoStepCall answer c' = HasNoEvent c es no_step answer c'
 HasEvents c es FreeCall answer c' = ⊥
 

@@ -8,16 +8,6 @@ use crate::heap::Heap;
 use std::alloc::Global;
 use step_core::Core;
 
-fn give_back_of(core: &mut Core, alloc: Global) -> Answer
-    ensures given { (result ≡ given_back true) ⊎ (result ≡ given_back false) }
-    ensures same { core.new ≡ core.old }
-{
-    match core.give_back(alloc) {
-        Ok(()) => done(),
-        Err(_) => no_memory(),
-    }
-}
-
 /// The memory above the highest region in use goes back to the system, unless what that asks for meanwhile is refused. The heap stays as it
 /// is.
 pub fn give_back(heap: &mut Heap, alloc: Global) -> Answer
@@ -28,4 +18,15 @@ pub fn give_back(heap: &mut Heap, alloc: Global) -> Answer
         return no_heap();
     }
     give_back_of(heap.handle.core_mut(), alloc)
+}
+
+/// The same of a core.
+pub fn give_back_of(core: &mut Core, alloc: Global) -> Answer
+    ensures given { (result ≡ given_back true) ⊎ (result ≡ given_back false) }
+    ensures same { core.new ≡ core.old }
+{
+    match core.give_back(alloc) {
+        Ok(()) => done(),
+        Err(_) => no_memory(),
+    }
 }

@@ -41,6 +41,7 @@ pub struct g1_policy {
     pub cards_left: u32,
     pub visit_cards: u32,
     pub clear_objects: u32,
+    pub least: u32,
     pub look: u32,
     pub left: u32,
     pub begin_at: u32,
@@ -49,6 +50,9 @@ pub struct g1_policy {
     pub young: u32,
     pub gained: u32,
     pub wanted: u32,
+    pub held: u32,
+    pub most: u32,
+    pub idle: u32,
     pub pace: u32,
     pub visits: u32,
     pub clears: u32,
@@ -182,6 +186,7 @@ extern "C" {
     ) -> g1_answer;
     pub fn g1_collect(heap: *mut g1_heap, policy: *mut g1_policy) -> g1_answer;
     pub fn g1_collect_all(heap: *mut g1_heap, policy: *mut g1_policy) -> g1_answer;
+    pub fn g1_shrink(heap: *mut g1_heap, policy: *mut g1_policy) -> g1_answer;
 }
 
 /// Hands a macro each call that takes a heap and numbers alone: the name of a method, and the call.

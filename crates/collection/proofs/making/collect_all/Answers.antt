@@ -35,15 +35,15 @@ returns-then-is_spared-clause-room g c e = inl (c.is_spared.ensures.spared c.if-
 
 pub returns-clause-room : goal.returns-clause-room
 returns-clause-room g c e = inr (record {
-  few = leaves_not c.config-3.result c.args.core.now.config c.args.op.now.action
-      (c.config-3.ensures.config ∙ c.collect.ensures.collects.config) (c.is_last_resort.ensures.0 e);
+  few = leaves_not c.config-2.result c.args.core.now.config c.args.op.now.action
+      (c.config-2.ensures.config ∙ c.collect.ensures.collects.config) (c.is_last_resort.ensures.0 e);
   collected = c.collect.ensures.quiet;
 })
 
 pub returns-clause-leaves : goal.returns-clause-leaves
 returns-clause-leaves g c e =
-    leaves_still c.config-3.result c.args.core.now.config c.args.op.now.action
-    (c.config-3.ensures.config ∙ c.collect.ensures.collects.config)
+    leaves_still c.config-2.result c.args.core.now.config c.args.op.now.action
+    (c.config-2.ensures.config ∙ c.collect.ensures.collects.config)
     (λ not. clash c.is_last_resort.result (c.is_last_resort.ensures.1 not) e)
 
 pub returns-clause-filled : goal.returns-clause-filled
@@ -60,9 +60,9 @@ returns-clause-filled g c e s stands = record {
 }
   where
     can : IsThird c.args.core.now.config.format → c.args.core.now.config.words < 2 * asked_words c.args.op.now.action
-        → (c.config-2.result.words < 2 * c.args.size) × IsThird c.config-2.result.format
+        → (c.config.result.words < 2 * c.args.size) × IsThird c.config.result.format
     can third large =
-        let same = c.config-2.ensures.config ∙ c.collect.ensures.collects.config in
+        let same = c.config.ensures.config ∙ c.collect.ensures.collects.config in
         let words = ap (λ (x : Config). x.words) same in
         let h = c.requires.asked.size in
         (omega (arith, words, h, large), subst (λ (x : Config). IsThird x.format) (sym same) third)
@@ -96,7 +96,7 @@ returns-clause-filled g c e s stands = record {
 -- ---- with compactions
 pub compact_all-requires-clause-third : goal.compact_all-requires-clause-third
 compact_all-requires-clause-third g c =
-    subst (λ (x : Config). IsThird x.format) c.config-2.ensures.config (c.may_compact.ensures.0 c.if-may_compact.true).1
+    subst (λ (x : Config). IsThird x.format) c.config.ensures.config (c.may_compact.ensures.0 c.if-may_compact.true).1
 
 pub compact_all-requires-clause-asked : goal.compact_all-requires-clause-asked
 compact_all-requires-clause-asked g c =
@@ -104,7 +104,7 @@ compact_all-requires-clause-asked g c =
 
 pub compact_all-requires-clause-large : goal.compact_all-requires-clause-large
 compact_all-requires-clause-large g c =
-    let words = ap (λ (x : Config). x.words) c.config-2.ensures.config in
+    let words = ap (λ (x : Config). x.words) c.config.ensures.config in
     let large = (c.may_compact.ensures.0 c.if-may_compact.true).0 in
     omega (arith, words, large)
 
@@ -132,7 +132,7 @@ returns-then-may_compact-clause-leaves g c e =
 pub returns-then-may_compact-clause-filled : goal.returns-then-may_compact-clause-filled
 returns-then-may_compact-clause-filled g c e s stands =
     let w = c.collect.ensures.quiet s stands in
-    let same = c.config-2.ensures.config ∙ c.collect.ensures.collects.config in
+    let same = c.config.ensures.config ∙ c.collect.ensures.collects.config in
     let words = ap (λ (x : Config). x.words) same in
     let over = (c.may_compact.ensures.0 c.if-may_compact.true).0 in
     let h = c.requires.asked.size in
