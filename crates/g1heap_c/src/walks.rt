@@ -1,0 +1,20 @@
+//! The objects that a heap keeps, told one after another.
+
+ghost use Rattle.g1heap_c.specs.Calls.{IsCall, WalkCall};
+
+use heap_calls::answer::{Answer, no_heap};
+use heap_calls::heap::Heap;
+use heap_calls::walks::walk_on;
+use heap_walk::Entry;
+
+/// A buffer takes what is told of the objects that the heap keeps, from a cursor on, which goes on.
+#[unsafe(no_mangle)]
+pub extern "C" fn g1_walk(heap: &mut Heap, cursor: &mut u64, objects: &mut [Entry]) -> Answer
+    ensures { IsCall heap.old.handle.core (WalkCall cursor.old cursor.new objects.old objects.new) result heap.new.handle.core }
+{
+    if !heap.live {
+        return no_heap();
+    }
+    let core = heap.handle.core_mut();
+    walk_on(core, cursor, objects)
+}

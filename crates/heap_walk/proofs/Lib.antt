@@ -1,0 +1,5 @@
+pub mod TileStarts
+pub mod Keeping
+pub mod Telling
+pub mod Entries
+pub mod Showing
