@@ -80,6 +80,26 @@ public:
         return sum;
     }
 
+    // Gives the kept objects from an address on to `visit`, by rising address, until that says no. Returns where it stopped.
+    template <class Visit>
+    Word walk(Word from, Visit visit) const {
+        if (from >= heap_words_) return from;
+        for (Number region = region_of(plain::Address(from)); region < sizes_.regions; ++region) {
+            plain::Kind kind = regions_[region].kind;
+            if (kind != plain::Kind::Ordinary && kind != plain::Kind::First) continue;
+            for (plain::Address at = bottom(region); at < regions_[region].top; at += plain::tile_size(words_[at]))
+                if (at >= from && plain::is_object(words_[at]) && is_kept(at) && !visit(at)) return at;
+        }
+        return heap_words_;
+    }
+
+    // What is told of an object.
+    g1_object object(plain::Address at) const {
+        Word header = words_[at];
+        Number fields = plain::field_count(header), values = plain::data_count(header);
+        return {words_[at + 1], values == 0 ? 0 : words_[at + 2 + fields], plain::pointer_count(header), plain::weak_count(header), values};
+    }
+
     Word next_name() const { return next_name_; }
 
     // How many regions are ordinary; their live bounds are added up.
@@ -237,6 +257,17 @@ g1_answer g1_name(const g1_heap* heap, std::uint32_t mutator, std::uint32_t of) 
     if (!heap->live) return answer(G1_NO_HEAP);
     if (!in(heap).has_mutator(mutator) || !in(heap).has_register(of)) return answer(G1_NO_STEP);
     return told(in(heap).name(mutator, of));
+}
+
+g1_answer g1_walk(const g1_heap* heap, std::uint64_t* cursor, g1_object* objects, std::size_t count) {
+    if (!heap->live) return answer(G1_NO_HEAP);
+    Word told = 0;
+    *cursor = in(heap).walk(*cursor, [&](plain::Address at) {
+        if (told == count) return false;
+        objects[told++] = in(heap).object(at);
+        return true;
+    });
+    return answer(G1_NUMBER, told);
 }
 
 void g1_policy_start(g1_policy* policy, const g1_sizes* sizes) { policy_start(policy, sizes); }

@@ -3,3 +3,5 @@ pub mod Keeping
 pub mod Telling
 pub mod Entries
 pub mod Showing
+pub mod Linking
+pub mod Placing

@@ -3,7 +3,7 @@ use Rattle.std.proofs.Common.{◌≡◌, ◌∙◌, ℕ, zero, suc, ◌+◌, ◌
 use Rattle.std.proofs.Common.{arith, append_assoc, length-append}
 use Rattle.std.specs.Prelude.{slice_set}
 use Rattle.std.proofs.lemmas.List.{append-nil}
-use Rattle.heap_walk.specs.Walks.{told_among, told_between, FillsFrom}
+use Rattle.heap_walk.specs.Walks.{told_among, told_between, FillsFrom, IsTelling}
 
 module _ {A : Type 0} (f : ℕ → List A) where
   -- so many numbers more
@@ -68,12 +68,6 @@ module _ {A : Type 0} (f : ℕ → List A) where
       one = omega arith
 
 -- ---- a buffer takes items one after another
--- so many are told between two numbers, and the buffer begins with them
-pub record IsTelling {A : Type 0} (f : ℕ → List A) (from place : ℕ) (before after : List A) (n : ℕ) : Type 0 where
-  pub on : from ≤ place
-  pub count : n ≡ length (told_between f from place)
-  pub filled : after ≡ told_between f from place ++ drop n before
-
 -- where nothing is told from one number on to below another
 abbrev pub TellsNone : {A : Type 0} → (ℕ → List A) → ℕ → ℕ → Type 0
 TellsNone f a b = (x : ℕ) → a ≤ x → x < b → f x ≡ []

@@ -33,6 +33,12 @@ told_among f a (suc n) = f a ++ told_among f (suc a) n
 abbrev pub told_between : {A : Type 0} → (ℕ → List A) → ℕ → ℕ → List A
 told_between f from to = told_among f from (to - from)
 
+-- so many items are told from one number on to below another; a buffer begins with them, and stays as it was behind them
+pub record IsTelling {A : Type 0} (f : ℕ → List A) (from place : ℕ) (before after : List A) (n : ℕ) : Type 0 where
+  pub on : from ≤ place
+  pub count : n ≡ length (told_between f from place)
+  pub filled : after ≡ told_between f from place ++ drop n before
+
 -- A buffer takes first what is told from one number on to below another, in order, and stays as it was behind that. Where it takes fewer
 -- items than it has room for, nothing is left to be told below the end
 pub record FillsFrom {A : Type 0} (f : ℕ → List A) (from to end : ℕ) (before after : List A) (count : ℕ) : Type 0 where

@@ -47,9 +47,9 @@ fn entry_of(core: &Core, object: Addr) -> Entry
 
 /// How many items were told, and from which tile on there may be more.
 #[derive(Drop)]
-struct Told {
-    count: usize,
-    left: Option<Addr>,
+pub(crate) struct Told {
+    pub(crate) count: usize,
+    pub(crate) left: Option<Addr>,
 }
 
 /// Tells the kept objects from a tile on.
@@ -73,7 +73,7 @@ fn tell_from(core: &Core, tile: Option<Addr>, out: &mut [Entry]) -> Told
 }
 
 /// How many words the heap has.
-fn word_count(table: &RegionTable) -> u32
+pub(crate) fn word_count(table: &RegionTable) -> u32
     ensures value { result ≡ word_count table.now }
     ensures small { result ≤ max_words }
 {
@@ -81,13 +81,13 @@ fn word_count(table: &RegionTable) -> u32
     table.region_count() * table.words_per_region()
 }
 
-/// An address as a cursor, or the cursor of the heap's end.
-fn cursor_of(table: &RegionTable, left: Option<Addr>) -> u64
+/// An address, or the heap's end.
+pub(crate) fn cursor_of(table: &RegionTable, left: Option<Addr>) -> u32
     ensures { result ≡ place_of table.now left }
 {
     match left {
-        Some(at) => u64::from(at.word()),
-        None => u64::from(word_count(table)),
+        Some(at) => at.word(),
+        None => word_count(table),
     }
 }
 
@@ -115,6 +115,6 @@ pub fn walk(core: &Core, cursor: &mut u64, out: &mut [Entry]) -> usize
         return 0;
     }
     let told = tell_from(core, tile_from(table, Addr::new(*cursor as u32)), out);
-    *cursor = cursor_of(table, told.left);
+    *cursor = u64::from(cursor_of(table, told.left));
     told.count
 }

@@ -32,6 +32,16 @@ pub struct g1_answer {
 
 #[repr(C)]
 #[derive(Clone, Copy, Debug, Default)]
+pub struct g1_object {
+    pub name: u64,
+    pub word: u64,
+    pub pointers: u32,
+    pub weaks: u32,
+    pub values: u32,
+}
+
+#[repr(C)]
+#[derive(Clone, Copy, Debug, Default)]
 pub struct g1_policy {
     pub reserve: u32,
     pub pause_words: u32,
@@ -167,6 +177,7 @@ extern "C" {
     pub fn g1_globals(heap: *const g1_heap) -> g1_answer;
     pub fn g1_registers(heap: *const g1_heap) -> g1_answer;
     pub fn g1_name(heap: *const g1_heap, mutator: u32, of: u32) -> g1_answer;
+    pub fn g1_walk(heap: *const g1_heap, cursor: *mut u64, objects: *mut g1_object, count: usize) -> g1_answer;
     pub fn g1_give_back(heap: *mut g1_heap) -> g1_answer;
     pub fn g1_policy_start(policy: *mut g1_policy, sizes: *const g1_sizes);
     pub fn g1_make(heap: *mut g1_heap, policy: *mut g1_policy, mutator: u32, to: u32, pointers: u32, weaks: u32, values: u32) -> g1_answer;

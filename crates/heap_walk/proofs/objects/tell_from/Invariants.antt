@@ -2,8 +2,7 @@ use Rattle.std.proofs.Common.{IsSome}
 use Rattle.std.specs.Prelude.{IfSome}
 use Rattle.regions.specs.Table.{tile_in}
 use Rattle.heap_walk.specs.Starts.{place_of}
-use Rattle.heap_walk.specs.Walks.{entries_at}
-use Rattle.heap_walk.proofs.Telling.{IsTelling}
+use Rattle.heap_walk.specs.Walks.{IsTelling, entries_at}
 use Rattle.heap_walk.proofs.objects.tell_from.Given as goal
 
 abbrev pub invariant-loop-count : goal.invariant-loop-count

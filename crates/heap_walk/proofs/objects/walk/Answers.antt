@@ -26,7 +26,7 @@ returns-clause-tells c =
     let tile : IsTileFrom core.table c.args.cursor.now c.tile_from.result =
     subst (λ (t : Table). IsTileFrom t c.args.cursor.now c.tile_from.result) c.table-table.ensures
     (subst (λ (n : ℕ). IsTileFrom c.table-table.result.now n c.tile_from.result) c.new.ensures c.tile_from.ensures) in
-    let left = c.cursor_of.ensures ∙ ap (λ (t : Table). place_of t c.tell_from-told.result.left) c.table-table.ensures in
+    let left = c.from-2.ensures ∙ c.cursor_of.ensures ∙ ap (λ (t : Table). place_of t c.tell_from-told.result.left) c.table-table.ensures in
     subst (λ (n : ℕ). FillsFrom (entries_at core) c.args.cursor.now n (word_count core.table) c.args.out.now c.tell_from-told.new.out
     c.tell_from-told.result.count) (sym left)
     (fills_lower (entries_at core) c.args.cursor.now (place_of core.table c.tile_from.result) _ _ _ _ _
