@@ -1,7 +1,8 @@
-/* Who holds it? A leak is found by g1_walk alone, in a heap with room and in one that it filled.
+/* Who holds it? A leak is found by g1_walk and g1_who alone, in a heap with room and in one that it filled.
 
      holds       a program keeps each request that it has served in a list by mistake, and drops it everywhere else. A census by first words
-                 tells of what there are most; then each object of a walk is there once, by its name, and none of those that were dropped
+                 tells of what there are most, and who holds one of them leads to a register. Then each object of a walk is there once, by
+                 its name, and none of those that were dropped; and each kind of holder is told, but no weak slot that reads nil
 
    The status is 1 where something is otherwise. */
 #include <g1heap.h>
@@ -54,6 +55,22 @@ static uint64_t census(uint64_t counts[KINDS])
     return all;
 }
 
+/* From the last object of a kind to a root, by who holds it, each time the first: how many objects are on the way, 0 where that ends. */
+static uint64_t way_to_root(uint64_t kind, g1_holder *by)
+{
+    g1_object objects[ROOM];
+    uint64_t cursor = 0, told, name = 0, length = 0;
+    while ((told = g1_walk(&heap, &cursor, objects, ROOM).first) != 0)
+        for (uint64_t i = 0; i < told; i++)
+            if (objects[i].word == kind) name = objects[i].name;
+    do {
+        cursor = 0, length++;
+        if (g1_who(&heap, name, &cursor, by, 1).first != 1) return 0;
+        name = by->name;
+    } while (by->kind >= G1_POINTER);
+    return length;
+}
+
 static int leak(uint64_t requests, bool full)
 {
     uint64_t counts[KINDS], served = 0;
@@ -65,6 +82,9 @@ static int leak(uint64_t requests, bool full)
     g1_collect_all(&heap, &policy);
     if (census(counts) != 2 * served) return fails("the objects are others than the leak's");
     if (counts[REQUEST] != served || counts[CELL] != served || counts[SESSION] != 0) return fails("the census is wrong");
+    g1_holder by;
+    uint64_t length = way_to_root(REQUEST, &by);
+    if (length < 2 || by.kind != G1_REGISTER || by.mutator != 0 || by.place != LIST) return fails("another one holds it");
     printf("%llu requests are kept, %llu sessions\n", (unsigned long long)counts[REQUEST], (unsigned long long)counts[SESSION]);
     g1_free(&heap);
     return 0;
@@ -99,8 +119,48 @@ static int each_once(uint32_t room)
     return 0;
 }
 
+/* Whether an object is held by so many, and the last of them is this one. */
+static bool is_held(uint64_t name, uint64_t count, g1_holder last)
+{
+    g1_holder by[4] = {{0, 0, 0, 0, 0}};
+    uint64_t cursor = 0, end;
+    if (g1_who(&heap, name, &cursor, by, 4).first != count || g1_who(&heap, name, &cursor, by + 3, 1).first != 0) return false;
+    cursor = 0;
+    for (end = 0; g1_who(&heap, name, &cursor, by + 3, 1).first == 1; end++)
+        if (memcmp(by + 3, by + end, sizeof *by) != 0) return false;
+    return end == count && (count == 0 || memcmp(by + count - 1, &last, sizeof last) == 0);
+}
+
+/* A global, a register, pointers and weak slots, and a slot that reads nil. */
+static int each_kind(void)
+{
+    g1_holder none = {0, 0, 0, 0, 0};
+    if (g1_new(&heap, &sizes) != G1_DONE) return fails("there is no heap");
+    uint64_t name = g1_new_object(&heap, 0, 0, 0, 1).first, weak = g1_new_weak(&heap, 0, 1, 0, 3, 0).first;
+    if (!is_held(name, 1, (g1_holder){0, G1_REGISTER, 0, 0, 1})) return fails("a register doesn't hold it");
+    g1_save(&heap, 0, 1, 0), g1_drop(&heap, 0, 0), g1_load(&heap, 0, 5, 1);
+    if (!is_held(name, 2, (g1_holder){0, G1_REGISTER, 0, 5, 1})) return fails("a global and a register don't");
+    g1_drop(&heap, 0, 5);
+    if (!is_held(name, 1, (g1_holder){0, G1_GLOBAL, 0, 1, 1})) return fails("a global doesn't");
+    g1_load(&heap, 0, 0, 1);
+    g1_put_weak(&heap, 0, 1, 1, 0), g1_put_weak(&heap, 0, 1, 2, 0);
+    if (!is_held(name, 3, (g1_holder){weak, G1_WEAK_SLOT, 0, 1, 2})) return fails("weak slots don't");
+    uint64_t strong = g1_new_weak(&heap, 0, 2, 3, 1, 0).first;
+    g1_put(&heap, 0, 2, 2, 0), g1_put_weak(&heap, 0, 2, 0, 0);
+    if (!is_held(name, 4, (g1_holder){strong, G1_POINTER, 0, 2, 2})) return fails("a pointer doesn't");
+    g1_put(&heap, 0, 2, 2, G1_NIL_REGISTER), g1_drop(&heap, 0, 0), g1_save(&heap, 0, 1, 0);
+    if (!is_held(name, 2, (g1_holder){strong, G1_WEAK_SLOT, 0, 0, 1})) return fails("a slot isn't left");
+    g1_begin(&heap), g1_mark(&heap, UINT32_MAX), g1_remark(&heap);
+    if (g1_clearing(&heap).first != 1 || !is_held(name, 0, none)) return fails("a slot that reads nil holds it");
+    g1_clear(&heap, UINT32_MAX);
+    if (!is_held(name, 0, none) || !is_held(UINT64_MAX, 0, none)) return fails("a cleared slot holds it");
+    g1_free(&heap);
+    return 0;
+}
+
 int main(void)
 {
+    if (each_kind()) return 1;
     if (leak(1000, false) || leak(UINT64_MAX, true)) return 1;
     for (uint32_t room = 1; room <= 302; room = room * 2 + 1)
         if (each_once(room > 300 ? 300 : room)) return 1;

@@ -136,10 +136,26 @@ static g1_answer step_of_mutator(g1_heap *h, const g1_sizes *s)
     }
 }
 
+/* Who names an object, told a few at a time. */
+static void note_holders(g1_heap *h, uint64_t name)
+{
+    g1_holder holders[5];
+    uint64_t cursor = 0;
+    g1_answer told;
+    do {
+        uint32_t room = 1 + within(4);
+        holders[room].name = UINT64_MAX - 1;
+        note_answer(told = g1_who(h, name, &cursor, holders, room));
+        if (told.first > room || holders[room].name != UINT64_MAX - 1) differ("g1_who");
+        for (uint64_t i = 0; i < told.first; i++)
+            note(holders[i].name), note(holders[i].kind), note(holders[i].mutator), note(holders[i].place), note(holders[i].fields);
+    } while (told.first != 0);
+}
+
 /* The objects that the heap keeps, told a few at a time: behind each buffer nothing is written. */
 static void note_objects(g1_heap *h)
 {
-    g1_object objects[9];
+    g1_object objects[9] = {{0, 0, 0, 0, 0}};
     uint64_t cursor = 0;
     g1_answer told;
     do {
@@ -150,6 +166,7 @@ static void note_objects(g1_heap *h)
         for (uint64_t i = 0; i < told.first; i++)
             note(objects[i].name), note(objects[i].word), note(objects[i].pointers), note(objects[i].weaks), note(objects[i].values);
     } while (told.first != 0);
+    note_holders(h, objects[0].name);
 }
 
 static g1_answer step_of_collector(g1_heap *h)

@@ -40,7 +40,8 @@ pub data Question : Type 0 where
 
 -- Which call it is, with its numbers. A heap is made; it takes a step; it makes an object and fills it; it makes an object by the policy,
 -- and makes one by the policy and fills it; the steps of the collector that are due; a whole collection; data words are read from one on,
--- with what the buffer holds before and after, and are written; objects are told from a cursor on, with the buffer, and so is who names one; something is asked; memory is given back, and what that asks for meanwhile
+-- with what the buffer holds before and after, and are written; objects are told from a cursor on, with the buffer, and so is who names
+-- one; something is asked; memory is given back, and what that asks for meanwhile
 -- is granted or not; the numbers name no step of any heap; it is freed
 pub data Call : Type 0 where
   NewCall : (config : Config) → Call

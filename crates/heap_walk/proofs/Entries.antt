@@ -70,7 +70,8 @@ found_kept c from at None e k = cc
 found_kept c from at (Some b) e k = let same : b ≡ at = cc in subst (λ (n : ℕ). IsSome (kept_of c n)) same k.kept
 
 -- and behind the last one
-pub none_behind : (c : CoreState) (from : ℕ) (o : Option ℕ) → o ≡ None → IsKeptFrom c from o → TellsNone (entries_at c) from (word_count c.table)
+pub none_behind : (c : CoreState) (from : ℕ) (o : Option ℕ) → o ≡ None → IsKeptFrom c from o
+    → TellsNone (entries_at c) from (word_count c.table)
 none_behind c from None e k = λ x low high. none_told c x (k x low)
 none_behind c from (Some b) e k = cc
 
@@ -79,7 +80,8 @@ pub none_before : (c : CoreState) (from : ℕ) (o : Option ℕ) → IsTileFrom c
 none_before c from None t = λ x low high. none_told c x (λ some. t x low (kept_tile c x some))
 none_before c from (Some b) t = λ x low high. none_told c x (λ some. t.between x low high (kept_tile c x some))
 
-pub next_above : (c : CoreState) (from : ℕ) (o : Option ℕ) → from ≤ word_count c.table → IsTileFrom c.table from o → from ≤ place_of c.table o
+pub next_above : (c : CoreState) (from : ℕ) (o : Option ℕ) → from ≤ word_count c.table → IsTileFrom c.table from o
+    → from ≤ place_of c.table o
 next_above c from None below t = below
 next_above c from (Some b) below t = t.above
 
@@ -87,6 +89,7 @@ pub next_tile : (c : CoreState) (from : ℕ) (o : Option ℕ) → IsTileFrom c.t
 next_tile c from None t = tt
 next_tile c from (Some b) t = t.tile
 
-pub place_below : (c : CoreState) (o : Option ℕ) → IsShaped c.table → IfSome o (λ a. IsSome (tile_in c.table a)) → place_of c.table o ≤ word_count c.table
+pub place_below : (c : CoreState) (o : Option ℕ) → IsShaped c.table → IfSome o (λ a. IsSome (tile_in c.table a))
+    → place_of c.table o ≤ word_count c.table
 place_below c None g h = omega arith
 place_below c (Some a) g h = let below = tile_below c.table a g h in omega arith

@@ -46,7 +46,8 @@ abbrev pub left_over : Table → Option ℕ → ℕ
 left_over t None = 0
 left_over t (Some a) = word_count t - a
 
-pub search_first : (c : CoreState) (left : Option ℕ) → IfSome left (λ a. IsSome (tile_in c.table a)) → IsSearch c (place_of c.table left) left
+pub search_first : (c : CoreState) (left : Option ℕ) → IfSome left (λ a. IsSome (tile_in c.table a))
+    → IsSearch c (place_of c.table left) left
 search_first c None h = record { none = λ x low high some. absurd (omega arith); above = tt; next = tt }
 search_first c (Some a) h = record { none = λ x low high some. absurd (omega arith); above = omega arith; next = h }
 
@@ -88,7 +89,8 @@ module _ (c : CoreState) (from at : ℕ) (left : Option ℕ) (g : IsShaped c.tab
   search_less None t = (let b = tile_below c.table at g here.next in rw e (omega arith))
   search_less (Some n) t = (let b = tile_below c.table at g here.next in let a = t.above in rw e (omega arith))
 
-pub search_over : (c : CoreState) (from : ℕ) (left : Option ℕ) → IsShaped c.table → left ≡ None → IsSearch c from left → IsKeptFrom c from None
+pub search_over : (c : CoreState) (from : ℕ) (left : Option ℕ) → IsShaped c.table → left ≡ None → IsSearch c from left
+    → IsKeptFrom c from None
 search_over c from None g e p = λ x low some. p.none x low (tile_below c.table x g (kept_tile c x some)) some
 search_over c from (Some a) g e p = cc
 
@@ -116,7 +118,8 @@ kept_by c core a w r there is told = go (kept_of c a) refl
     )
 
 -- what is no object isn't
-pub kept_not : (c : CoreState) (a : ℕ) → object_at c.table a ≡ None → (IsTrue false → IsSome (kept_of c a)) × (IsSome (kept_of c a) → IsTrue false)
+pub kept_not : (c : CoreState) (a : ℕ) → object_at c.table a ≡ None
+    → (IsTrue false → IsSome (kept_of c a)) × (IsSome (kept_of c a) → IsTrue false)
 kept_not c a none = (
   λ t. absurd (let no : false ≡ true = t in cc),
   λ s. absurd (let (x, e) = some_kept c a s in let is = kept_is c a x e in cc),

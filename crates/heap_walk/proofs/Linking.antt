@@ -1,5 +1,6 @@
 -- Which links of a kept object lead to the object of a name.
-use Rattle.std.proofs.Common.{◌≡◌, ◌∙◌, ℕ, zero, suc, ◌+◌, ◌<◌, ◌≤◌, ◌==◌, Bool, true, false, List, [], ◌∷◌, Option, Some, None, length, take, refl, sym, ap, subst, arith, map}
+use Rattle.std.proofs.Common.{◌≡◌, ◌∙◌, ℕ, zero, suc, ◌+◌, ◌<◌, ◌≤◌, ◌==◌, Bool, true, false, List}
+use Rattle.std.proofs.Common.{[], ◌∷◌, Option, Some, None, length, take, refl, sym, ap, subst, arith, map}
 use Rattle.std.proofs.Common.{inl, inr}
 use Rattle.std.specs.Prelude.{IsSome, IfSome, slice_get, slice_index_or, position}
 use Rattle.std.specs.Option.{is_some, option_map}
@@ -24,7 +25,8 @@ use Rattle.heap_walk.proofs.Keeping.{kept_is, some_kept}
 use Rattle.heap_walk.proofs.Entries.{kept_there}
 
 -- a word of what weak slots show leads to a kept object
-shown_word : (c : CoreState) (ws : List (Option ℕ)) (i b : ℕ) → slice_get (map (kept_word (kept_of c)) ws) i ≡ Some (Some b) → IsSome (kept_of c b)
+shown_word : (c : CoreState) (ws : List (Option ℕ)) (i b : ℕ) → slice_get (map (kept_word (kept_of c)) ws) i ≡ Some (Some b)
+    → IsSome (kept_of c b)
 shown_word c ws i b e = go (slice_get ws i) (sym (slice_get-map (kept_word (kept_of c)) ws i) ∙ e)
   where
     at : (o : Option Stored) (a : ℕ) → kept_of c a ≡ o → where_kept o a ≡ Some b → IsSome (kept_of c b)
@@ -37,7 +39,8 @@ shown_word c ws i b e = go (slice_get ws i) (sym (slice_get-map (kept_word (kept
     go (Some (Some a)) f = at (kept_of c a) a refl (let g : where_kept (kept_of c a) a ≡ Some b = cc in g)
 
 -- where a link of a kept object leads an object is kept
-pub link_kept : (c : CoreState) (weak : Bool) (a i b : ℕ) → IsCore c → IsSome (kept_of c a) → slice_get (links_at weak c a) i ≡ Some (Some b)
+pub link_kept : (c : CoreState) (weak : Bool) (a i b : ℕ) → IsCore c → IsSome (kept_of c a)
+    → slice_get (links_at weak c a) i ≡ Some (Some b)
     → IsSome (kept_of c b)
 unfolding kept_of pointers_at
 link_kept c false a i b core h e =
@@ -54,7 +57,8 @@ link_kept c true a i b core h e =
 pub root_leads : (c : CoreState) (t : Table) (n m b : ℕ) (w : Option ℕ) → t ≡ c.table → IsSome (object_at t b)
     → IfSome (object_at t b) (λ s. m ≡ s.name) → w ≡ Some b → (m == n) ≡ leads_to c.table n w
 root_leads c t n m b w same h named e =
-    let is : name_in c.table (Some b) ≡ Some m = subst (λ (u : Table). name_of (object_at u b) ≡ Some m) same (has_name (object_at t b) m h named) in
+    let is : name_in c.table (Some b) ≡ Some m = subst (λ (u : Table). name_of (object_at u b) ≡ Some m) same (has_name (object_at t b) m h
+    named) in
     sym (ap (leads_to c.table n) e ∙ ap (is_name n) is)
 
 pub link_leads : (c : CoreState) (t : Table) (n m b : ℕ) (ws : List (Option ℕ)) (i : ℕ) → t ≡ c.table → IsSome (object_at t b)
@@ -63,17 +67,20 @@ pub link_leads : (c : CoreState) (t : Table) (n m b : ℕ) (ws : List (Option �
 link_leads c t n m b ws i same h named e =
     root_leads c t n m b (slice_index_or ws i None) same h named (get_or_from_slice_get ws i (Some b) None e)
 
-pub link_nil : (c : CoreState) (n : ℕ) (ws : List (Option ℕ)) (i : ℕ) → slice_get ws i ≡ Some None → false ≡ leads_to c.table n (slice_index_or ws i None)
+pub link_nil : (c : CoreState) (n : ℕ) (ws : List (Option ℕ)) (i : ℕ) → slice_get ws i ≡ Some None
+    → false ≡ leads_to c.table n (slice_index_or ws i None)
 link_nil c n ws i e = sym (ap (leads_to c.table n) (get_or_from_slice_get ws i None None e))
 
 -- ---- the first one
-pub none_leads : {A : Type 0} (p : A → Bool) (xs : List A) (n : ℕ) (d : A) → length xs ≤ n → ((k : ℕ) → k < n → p (slice_index_or xs k d) ≡ false)
+pub none_leads : {A : Type 0} (p : A → Bool) (xs : List A) (n : ℕ) (d : A) → length xs ≤ n
+    → ((k : ℕ) → k < n → p (slice_index_or xs k d) ≡ false)
     → None ≡ position p xs
 none_leads p xs n d len none =
     let all = position_or_len_is p xs (length xs) d (omega arith) (λ k l. none k (omega arith)) (λ l. absurd (omega arith)) in
     rw (all, le-ltb (length xs) (length xs) (omega arith)) refl
 
-pub first_leads : {A : Type 0} (p : A → Bool) (xs : List A) (i : ℕ) (d : A) → i < length xs → ((k : ℕ) → k < i → p (slice_index_or xs k d) ≡ false)
+pub first_leads : {A : Type 0} (p : A → Bool) (xs : List A) (i : ℕ) (d : A) → i < length xs
+    → ((k : ℕ) → k < i → p (slice_index_or xs k d) ≡ false)
     → p (slice_index_or xs i d) ≡ true → Some i ≡ position p xs
 first_leads p xs i d lt none here =
     let found = position_or_len_is p xs i d (omega arith) none (λ l. here) in
@@ -95,7 +102,8 @@ shown_length : (c : CoreState) (a : ℕ) (s : Stored) → kept_of c a ≡ Some s
 unfolding weaks_at
 shown_length c a s e =
     let shown : weaks_shown c a ≡ map (kept_word (kept_of c)) (weaks_at c.table a) = rw e refl in
-    ap length shown ∙ length-map (weaks_at c.table a) (kept_word (kept_of c)) ∙ ap (λ (o : Option Stored). length (object_weaks o)) (kept_is c a s e)
+    ap length shown ∙ length-map (weaks_at c.table a) (kept_word (kept_of c))
+    ∙ ap (λ (o : Option Stored). length (object_weaks o)) (kept_is c a s e)
 
 pub links_small : (c : CoreState) (p : Option ℕ → Bool) (a : ℕ) → IsShaped c.table → IsSome (kept_of c a)
     → count_by p (pointers_at c.table a) + count_by p (weaks_shown c a) < 4294967296
@@ -111,7 +119,8 @@ links_small c p a g h =
     let few_slots = count_by-le-length p (weaks_shown c a) in
     omega (arith, within, all, pointers, slots, few, few_slots)
 
-pub one_root : (c : CoreState) (n p : ℕ) → leads_to c.table n (root_of c p) ≡ true → root_holders c n p ≡ root_holder (root_counts_of c.config) p ∷ []
+pub one_root : (c : CoreState) (n p : ℕ) → leads_to c.table n (root_of c p) ≡ true
+    → root_holders c n p ≡ root_holder (root_counts_of c.config) p ∷ []
 one_root c n p e = rw e refl
 
 -- ---- the entry of a kept object

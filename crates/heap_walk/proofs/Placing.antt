@@ -1,5 +1,6 @@
 -- Who names an object, place by place.
-use Rattle.std.proofs.Common.{◌≡◌, ◌∙◌, ℕ, ◌+◌, ◌-◌, ◌<◌, ◌≤◌, List, [], ◌∷◌, Option, Some, None, length, refl, sym, ap, subst, arith, ltb, lt-ltb, le-ltb}
+use Rattle.std.proofs.Common.{◌≡◌, ◌∙◌, ℕ, ◌+◌, ◌-◌, ◌<◌, ◌≤◌, List, [], ◌∷◌, Option}
+use Rattle.std.proofs.Common.{Some, None, length, refl, sym, ap, subst, arith, ltb, lt-ltb, le-ltb}
 use Rattle.std.specs.Prelude.{IsSome, IfSome, slice_set, if◌then◌else◌}
 use Rattle.heap_model.specs.Heap.{Stored}
 use Rattle.regions.specs.Shaped.{IsShaped}
@@ -19,7 +20,8 @@ use Rattle.heap_walk.proofs.Entries.{found_above, found_kept, next_above}
 pub at_root : (c : CoreState) (n p : ℕ) → p < length c.roots → holders_at c n p ≡ root_holders c n p
 at_root c n p lt = rw (lt-ltb p (length c.roots) lt) refl
 
-pub at_object : (c : CoreState) (n p : ℕ) → length c.roots ≤ p → holders_at c n p ≡ holder_if c n (p - length c.roots) (kept_of c (p - length c.roots))
+pub at_object : (c : CoreState) (n p : ℕ) → length c.roots ≤ p
+    → holders_at c n p ≡ holder_if c n (p - length c.roots) (kept_of c (p - length c.roots))
 at_object c n p le = rw (le-ltb p (length c.roots) le) refl
 
 object_place : (c : CoreState) (n a : ℕ) → holders_at c n (length c.roots + a) ≡ holder_if c n a (kept_of c a)
@@ -67,7 +69,8 @@ module _ (c : CoreState) (n : ℕ) (g : IsShaped c.table) (left : Option ℕ) (o
   pub found_less : left_over c.table next < left_over c.table left
   found_less = less left next above t
     where
-      less : (left next : Option ℕ) → place_of c.table left ≤ at → IsTileFrom c.table (at + 1) next → left_over c.table next < left_over c.table left
+      less : (left next : Option ℕ) → place_of c.table left ≤ at → IsTileFrom c.table (at + 1) next
+          → left_over c.table next < left_over c.table left
       less None next up t = let b = below in absurd (omega arith)
       less (Some a) None up t = let b = below in omega arith
       less (Some a) (Some d) up t = let b = below in let e = t.above in omega arith
@@ -83,8 +86,10 @@ module _ (c : CoreState) (n : ℕ) (g : IsShaped c.table) (left : Option ℕ) (o
     after d out' q = telling_past (holders_at c n) from (length c.roots + (at + 1)) (length c.roots + place_of c.table next) before out' d q
         (let b = beyond in omega arith) (none_held c n (at + 1) (place_of c.table next) (onward c (at + 1) next t))
 
-    pub passes : holder_if c n at (kept_of c at) ≡ [] → IsTelling (holders_at c n) from (length c.roots + place_of c.table next) before out count
-    passes none = after count out (telling_past (holders_at c n) from (length c.roots + at) (length c.roots + (at + 1)) before out count here
+    pub passes : holder_if c n at (kept_of c at) ≡ []
+        → IsTelling (holders_at c n) from (length c.roots + place_of c.table next) before out count
+    passes none = after count out (telling_past (holders_at c n) from (length c.roots + at) (length c.roots + (at + 1)) before out count
+        here
         (omega arith)
         (λ x low high. ap (holders_at c n) (let same : x ≡ length c.roots + at = omega arith in same) ∙ object_place c n at ∙ none))
 

@@ -5,13 +5,15 @@ ghost use Rattle.heap_model.specs.Graph.{root_places};
 ghost use Rattle.regions.specs.Table.{object_at};
 ghost use Rattle.step_core.specs.Stands.{kept_of};
 ghost use Rattle.step_core.specs.Mutators.{root_of};
-ghost use Rattle.heap_walk.specs.Holders.{root_holder, both_counts, field_holder, first_link, holder_if, leads_to, link_count, links_at, list_of, root_holders};
+ghost use Rattle.heap_walk.specs.Holders.{root_holder, both_counts, field_holder, first_link, holder_if};
+ghost use Rattle.heap_walk.specs.Holders.{leads_to, link_count, links_at, list_of, root_holders};
 
 use heap_words::addr::{Addr, Ptr};
 use root_table::RootCounts;
 use step_core::Core;
 
-/// What names an object: a global, kind 0; a register of a mutator, kind 1; or an object by its name, by its lowest pointer that does, kind 2,
+/// What names an object: a global, kind 0; a register of a mutator, kind 1; or an object by its name, by its lowest pointer that does,
+/// kind 2,
 /// or if none does by its lowest weak slot, kind 3, and by how many of both do.
 #[repr(C)]
 #[derive(Clone, Copy, Debug, PartialEq, Eq, Drop)]

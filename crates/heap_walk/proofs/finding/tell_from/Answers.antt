@@ -24,5 +24,6 @@ returns c = λ from before same p.
     (c.from-2.ensures ∙ c.cursor_of.ensures ∙ ap (λ (t : Table). place_of t c.tell_objects-all.result.left) c.table-2.ensures) in
     subst (λ (n : ℕ). FillsFrom (holders_at core c.args.name) from n (place_count core) before c.tell_objects-all.new.out
     c.tell_objects-all.result.count) (sym place)
-    (c.tell_objects-all.ensures from before same (from_address core c.args.name c.args.at c.tile_from-tile.result tile c.requires.at from before
+    (c.tell_objects-all.ensures from before same (from_address core c.args.name c.args.at c.tile_from-tile.result tile c.requires.at from
+    before
     c.args.out.now c.args.told p))

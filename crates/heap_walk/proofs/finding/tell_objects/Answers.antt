@@ -29,7 +29,8 @@ returns-then-count-out c = λ from before same p.
 
 pub returns : goal.returns
 returns c = λ from before same p.
-    ends_all c.args.core.now c.args.name c.loop-object.left c.kept_from.result c.law_shaped.ensures c.loop-object.invariant.tile c.in_default.is
+    ends_all c.args.core.now c.args.name c.loop-object.left c.kept_from.result c.law_shaped.ensures c.loop-object.invariant.tile
+    c.in_default.is
     c.kept_from.ensures from before c.loop-object.out c.loop-object.count (c.loop-object.invariant.telling from before same p)
     (omega (arith, c.loop-object.invariant.room, c.loop-object.auto.out, same))
 
@@ -49,7 +50,8 @@ loop-object-preserved c =
             w.in-Some-holder_in.holder (listed _ _ _ c.holder_in.ensures w.in-Some-holder_in.is)
             (let other = w.if-count-out.false in let room = old.room in omega (arith, other, room, long, same)));
         tile = next_tile core (at + 1) c.tile_above-left.result next;
-        room = (let more = w.count-is in let stays = c.match-holder_in.auto.out in let other = w.if-count-out.false in let room = old.room in
+        room = (let more = w.count-is in let stays = c.match-holder_in.auto.out in let other = w.if-count-out.false in let room = old.room
+            in
             omega (arith, more, stays, other, room));
       }
       | in_default-holder_in w ↦ record {

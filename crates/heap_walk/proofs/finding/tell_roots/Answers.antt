@@ -22,14 +22,16 @@ loop-place-preserved c =
           let other = w.if-count-out.false in
           let room = old.room in
           record {
-            telling = rw (w.out-is, w.count-is) (root_takes core c.args.name c.args.from place c.args.out.now c.loop-place.out c.loop-place.count
+            telling = rw (w.out-is, w.count-is) (root_takes core c.args.name c.args.from place c.args.out.now c.loop-place.out
+                c.loop-place.count
                 below old.telling w.in-Some.holder (listed _ _ _ c.root_holder_at.ensures w.in-Some.is) (omega (arith, other, room, long)));
             room = (let more = w.count-is in omega (arith, more, other, room, long));
           }
       | in_default w ↦
           let room = old.room in
           record {
-            telling = rw (w.out-is, w.count-is) (root_passes core c.args.name c.args.from place c.args.out.now c.loop-place.out c.loop-place.count
+            telling = rw (w.out-is, w.count-is) (root_passes core c.args.name c.args.from place c.args.out.now c.loop-place.out
+                c.loop-place.count
                 below old.telling (unlisted _ _ c.root_holder_at.ensures w.in_default.is));
             room = (let more = w.count-is in omega (arith, more, room));
           }

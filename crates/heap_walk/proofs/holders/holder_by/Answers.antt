@@ -18,5 +18,6 @@ name-requires c = kept_there c.args.core.now c.table.result.now c.args.object c.
 
 pub returns : goal.returns
 returns c =
-    one_holder c.args.core.now c.table.result.now c.args.object c.name.result c.args.kind c.args.place _ c.table.ensures c.requires c.name.ensures
+    one_holder c.args.core.now c.table.result.now c.args.object c.name.result c.args.kind c.args.place _ c.table.ensures c.requires
+    c.name.ensures
     (both_counts c.args.core.now c.args.name c.args.object) (ap₂ (λ (m n : ℕ). m + n) c.link_count.ensures c.link_count-2.ensures)

@@ -10,13 +10,15 @@ use Rattle.heap_walk.proofs.kept.is_kept.Goals as goal
 pub returns-in-Filler : goal.returns-in-Filler
 unfolding object_at
 returns-in-Filler c =
-    kept_not c.args.core.now c.args.at (ap (λ (t : Table). object_at t c.args.at) (sym c.table.ensures) ∙ filler_object _ c.in-Filler.size c.in-Filler.ensures)
+    kept_not c.args.core.now c.args.at (ap (λ (t : Table). object_at t c.args.at) (sym c.table.ensures)
+    ∙ filler_object _ c.in-Filler.size c.in-Filler.ensures)
 
 pub returns-in-Forwarded : goal.returns-in-Forwarded
 unfolding object_at
 returns-in-Forwarded c =
     kept_not c.args.core.now c.args.at
-    (ap (λ (t : Table). object_at t c.args.at) (sym c.table.ensures) ∙ forwarded_object _ c.in-Forwarded.to c.in-Forwarded.size c.in-Forwarded.ensures)
+    (ap (λ (t : Table). object_at t c.args.at) (sym c.table.ensures) ∙ forwarded_object _ c.in-Forwarded.to c.in-Forwarded.size
+    c.in-Forwarded.ensures)
 
 pub returns-in-Object : goal.returns-in-Object
 unfolding object_at

@@ -18,12 +18,14 @@ returns-then-is_kept c =
 
 pub loop-left-smaller : goal.loop-left-smaller
 loop-left-smaller c =
-    search_less c.args.core.now _ c.in-Some.at c.loop-left.left c.law_shaped.ensures c.in-Some.is c.loop-left.invariant c.tile_above-left.result
+    search_less c.args.core.now _ c.in-Some.at c.loop-left.left c.law_shaped.ensures c.in-Some.is c.loop-left.invariant
+    c.tile_above-left.result
     (subst (λ (t : Table). IsTileFrom t (c.in-Some.at + 1) c.tile_above-left.result) c.table.ensures c.tile_above-left.ensures)
 
 pub loop-left-preserved : goal.loop-left-preserved
 loop-left-preserved c =
-    search_next c.args.core.now _ c.in-Some.at c.loop-left.left c.law_shaped.ensures c.in-Some.is c.loop-left.invariant c.tile_above-left.result
+    search_next c.args.core.now _ c.in-Some.at c.loop-left.left c.law_shaped.ensures c.in-Some.is c.loop-left.invariant
+    c.tile_above-left.result
     (λ some. let yes : c.is_kept.result ≡ true = c.is_kept.ensures.1 some in let no = c.if-is_kept.false in absurd {A = ⊥} (cc))
     (subst (λ (t : Table). IsTileFrom t (c.in-Some.at + 1) c.tile_above-left.result) c.table.ensures c.tile_above-left.ensures)
 

@@ -21,7 +21,9 @@ returns c =
     entry_told c.args.core.now c.table-table.result.now c.args.object c.name.result c.if-values-eq0.result c.pointer_count.result
     c.weak_count.result c.value_count-values.result c.table-table.ensures c.requires c.name.ensures
     (elim c.if-values-eq0.branch [
-      | then-values-eq0 w ↦ w.result-is ∙ sym (no_word (values_at c.table-table.result.now c.args.object) (sym c.value_count-values.ensures ∙ w.if-values-eq0.true))
-      | else-values-eq0 w ↦ w.result-is ∙ sym (one_word (values_at c.table-table.result.now c.args.object) w.get_value.result w.get_value.ensures)
+      | then-values-eq0 w ↦ w.result-is ∙ sym (no_word (values_at c.table-table.result.now c.args.object) (sym c.value_count-values.ensures
+          ∙ w.if-values-eq0.true))
+      | else-values-eq0 w ↦ w.result-is ∙ sym (one_word (values_at c.table-table.result.now c.args.object) w.get_value.result
+          w.get_value.ensures)
     ])
     c.pointer_count.ensures c.weak_count.ensures c.value_count-values.ensures

@@ -24,7 +24,8 @@ loop-count-preserved c =
     let kept = c.kept_from.ensures in
     let above : IsTileFrom core.table (object + 1) next =
     subst (λ (t : Table). IsTileFrom t (object + 1) next) c.table.ensures c.tile_above-left.ensures in
-    let here = telling_past (entries_at core) _ _ object _ _ _ c.loop-count.invariant.telling (found_above core _ object _ c.in-Some.is kept)
+    let here = telling_past (entries_at core) _ _ object _ _ _ c.loop-count.invariant.telling (found_above core _ object _ c.in-Some.is
+    kept)
     (none_until core _ object _ c.in-Some.is kept) in
     let one = telling_one (entries_at core) _ object _ _ _ c.entry_of.result here c.entry_of.ensures c.loop-count-test.true in
     let below = tile_below core.table object c.law_shaped.ensures (kept_tile core object (found_kept core _ object _ c.in-Some.is kept)) in

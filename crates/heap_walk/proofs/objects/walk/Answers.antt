@@ -30,4 +30,5 @@ returns-clause-tells c =
     subst (λ (n : ℕ). FillsFrom (entries_at core) c.args.cursor.now n (word_count core.table) c.args.out.now c.tell_from-told.new.out
     c.tell_from-told.result.count) (sym left)
     (fills_lower (entries_at core) c.args.cursor.now (place_of core.table c.tile_from.result) _ _ _ _ _
-    (next_above core _ _ (omega (arith, end, c.from.ensures, c.if-cursor-from.false)) tile) (none_before core _ _ tile) c.tell_from-told.ensures)
+    (next_above core _ _ (omega (arith, end, c.from.ensures, c.if-cursor-from.false)) tile) (none_before core _ _ tile)
+    c.tell_from-told.ensures)

@@ -22,4 +22,5 @@ loop-number-preserved c =
     (subst (λ (k : ℕ). IsLowestTile c.args.table.now k c.lowest_tile.result) c.new.ensures c.lowest_tile.ensures))
 
 pub returns : goal.returns
-returns c = none_past c.args.table.now _ c.loop-number.number c.law.ensures (omega (arith, c.region_count-number-end.ensures)) c.loop-number.invariant
+returns c = none_past c.args.table.now _ c.loop-number.number c.law.ensures (omega (arith, c.region_count-number-end.ensures))
+    c.loop-number.invariant
