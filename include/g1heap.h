@@ -284,7 +284,7 @@ typedef struct g1_object {
            for (uint64_t i = 0; i < told; i++) count(objects[i].word);
 
    NUMBER, and `objects`, which points to `count` structs, has so many entries: fewer than `count` only where no more are left. The cursor
-   goes on behind them. It is right until the heap changes by a step or by the policy: any number will do after it too, but a walk may miss
+   goes on after them. It is right until the heap changes by a step or by the policy: any number will do after it too, but a walk may miss
    objects then, or tell one twice. Or NO_HEAP, and cursor and entries stay. It asks for no memory, and takes time for what it walks over:
    the objects, what is dead between them, and regions without objects. */
 g1_answer g1_walk(const g1_heap *heap, uint64_t *cursor, g1_object *objects, size_t count);

@@ -109,8 +109,8 @@ public:
     // What names an object: at a root place, or the object at an address; `fields` is 0 where it doesn't.
     g1_holder root_holder(Number place, Word name) const {
         bool is_global = place < sizes_.globals;
-        Number behind = place - sizes_.globals, mutator = is_global ? 0 : behind / sizes_.registers;
-        Number number = is_global ? place : behind % sizes_.registers;
+        Number reg = place - sizes_.globals, mutator = is_global ? 0 : reg / sizes_.registers;
+        Number number = is_global ? place : reg % sizes_.registers;
         Word word = is_global ? roots_.global(number) : roots_.reg(mutator, number);
         return {0, is_global ? G1_GLOBAL : G1_REGISTER, mutator, number, leads_to(word, name) ? 1u : 0u};
     }

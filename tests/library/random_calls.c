@@ -152,7 +152,7 @@ static void note_holders(g1_heap *h, uint64_t name)
     } while (told.first != 0);
 }
 
-/* The objects that the heap keeps, told a few at a time: behind each buffer nothing is written. */
+/* The objects that the heap keeps, told a few at a time: nothing is written past a buffer. */
 static void note_objects(g1_heap *h)
 {
     g1_object objects[9] = {{0, 0, 0, 0, 0}};

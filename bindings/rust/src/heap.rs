@@ -345,6 +345,10 @@ impl Heap {
         self.core.raw.give_back().code == sys::DONE
     }
 
+    pub(crate) fn raw(&self) -> &sys::Raw {
+        &self.core.raw
+    }
+
     /// What the policy did so far.
     ///
     /// ```
