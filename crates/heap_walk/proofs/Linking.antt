@@ -1,9 +1,8 @@
 -- Which links of a kept object lead to the object of a name.
 use Rattle.std.proofs.Common.{◌≡◌, ◌∙◌, ℕ, zero, suc, ◌+◌, ◌<◌, ◌≤◌, ◌==◌, Bool, true, false, List}
-use Rattle.std.proofs.Common.{[], ◌∷◌, Option, Some, None, length, take, refl, sym, ap, subst, arith, map}
-use Rattle.std.proofs.Common.{inl, inr}
+use Rattle.std.proofs.Common.{[], ◌∷◌, Option, Some, None, length, refl, sym, ap, subst, arith, map}
 use Rattle.std.specs.Prelude.{IsSome, IfSome, slice_get, slice_index_or, position}
-use Rattle.std.specs.Option.{is_some, option_map}
+use Rattle.std.specs.Option.{option_map}
 use Rattle.std.proofs.lemmas.Option.{get_or_from_slice_get, slice_get-map}
 use Rattle.std.proofs.Common.{lt-ltb, le-ltb}
 use Rattle.std.proofs.lemmas.List.Sums.{position_or_len_is, count_by-le-length}
@@ -22,7 +21,6 @@ use Rattle.graph_runs.specs.State.{root_counts_of}
 use Rattle.step_core.specs.Mutators.{root_of}
 use Rattle.heap_walk.specs.Holders.{leads_to, is_name, links_at, root_holder, root_holders, field_holder}
 use Rattle.heap_walk.proofs.Keeping.{kept_is, some_kept}
-use Rattle.heap_walk.proofs.Entries.{kept_there}
 
 -- a word of what weak slots show leads to a kept object
 shown_word : (c : CoreState) (ws : List (Option ℕ)) (i b : ℕ) → slice_get (map (kept_word (kept_of c)) ws) i ≡ Some (Some b)

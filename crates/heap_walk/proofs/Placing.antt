@@ -1,7 +1,7 @@
 -- Who names an object, place by place.
 use Rattle.std.proofs.Common.{◌≡◌, ◌∙◌, ℕ, ◌+◌, ◌-◌, ◌<◌, ◌≤◌, List, [], ◌∷◌, Option}
-use Rattle.std.proofs.Common.{Some, None, length, refl, sym, ap, subst, arith, ltb, lt-ltb, le-ltb}
-use Rattle.std.specs.Prelude.{IsSome, IfSome, slice_set, if◌then◌else◌}
+use Rattle.std.proofs.Common.{Some, None, length, refl, ap, subst, arith, lt-ltb, le-ltb}
+use Rattle.std.specs.Prelude.{IsSome, IfSome, slice_set}
 use Rattle.heap_model.specs.Heap.{Stored}
 use Rattle.regions.specs.Shaped.{IsShaped}
 use Rattle.regions.specs.Table.{tile_in}

@@ -11,7 +11,7 @@ use Rattle.graph_runs.specs.State.{State}
 use Rattle.step_core.specs.Stands.{CoreState, IsWhole, Stands, kept_of, heap_of, name_in, name_of}
 use Rattle.step_core.specs.Mutators.{weaks_shown}
 use Rattle.heap_walk.specs.Walks.{EntriesShow, entries_at, entry_if, entry_of}
-use Rattle.heap_walk.specs.Holders.{HasLinks, LinksShow, names_of}
+use Rattle.heap_walk.specs.Holders.{LinksShow, names_of}
 use Rattle.heap_walk.specs.declared.objects.Entry.{Entry}
 use Rattle.heap_walk.proofs.Keeping.{kept_is, kept_tile}
 use Rattle.heap_walk.proofs.TileStarts.{tile_below}

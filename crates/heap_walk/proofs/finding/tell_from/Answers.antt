@@ -1,10 +1,9 @@
-use Rattle.std.proofs.Common.{◌≡◌, ◌∙◌, ◌+◌, ◌≤◌, ℕ, ap, ap₂, sym, subst, length, arith, IsSome}
-use Rattle.std.specs.Prelude.{IfSome}
-use Rattle.regions.specs.Table.{Table, tile_in}
+use Rattle.std.proofs.Common.{◌∙◌, ◌+◌, ℕ, ap, ap₂, sym, subst}
+use Rattle.regions.specs.Table.{Table}
 use Rattle.heap_walk.specs.Starts.{IsTileFrom, place_of}
 use Rattle.heap_walk.specs.Walks.{FillsFrom}
 use Rattle.heap_walk.specs.Holders.{holders_at, place_count}
-use Rattle.heap_walk.proofs.Entries.{next_above, next_tile}
+use Rattle.heap_walk.proofs.Entries.{next_tile}
 use Rattle.heap_walk.proofs.Placing.{from_address}
 use Rattle.heap_walk.proofs.finding.tell_from.Goals as goal
 

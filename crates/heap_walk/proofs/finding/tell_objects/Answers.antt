@@ -1,4 +1,4 @@
-use Rattle.std.proofs.Common.{◌≡◌, ◌∙◌, ◌+◌, ◌≤◌, sym, subst, length, arith, IsSome}
+use Rattle.std.proofs.Common.{◌+◌, sym, subst, arith, IsSome}
 use Rattle.regions.specs.Table.{Table, tile_in}
 use Rattle.heap_walk.specs.Starts.{IsTileFrom}
 use Rattle.heap_walk.proofs.Keeping.{kept_tile}

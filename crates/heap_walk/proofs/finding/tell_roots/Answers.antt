@@ -1,7 +1,5 @@
-use Rattle.std.proofs.Common.{◌≡◌, ◌∙◌, ◌<◌, ◌≤◌, sym, subst, length, arith}
-use Rattle.std.specs.Prelude.{slice_set}
-use Rattle.heap_walk.specs.Walks.{IsTelling}
-use Rattle.heap_walk.specs.Holders.{holders_at, list_of}
+use Rattle.std.proofs.Common.{◌<◌, length, arith}
+use Rattle.heap_walk.specs.Holders.{holders_at}
 use Rattle.heap_walk.proofs.Telling.{telling_first}
 use Rattle.heap_walk.proofs.Placing.{root_passes, root_takes, listed, unlisted}
 use Rattle.heap_walk.proofs.finding.tell_roots.Goals as goal

@@ -1,4 +1,4 @@
-use Rattle.std.proofs.Common.{◌≡◌, ◌∙◌, ◌+◌, ◌-◌, ◌≤◌, ℕ, ap, refl, sym, subst, length, arith}
+use Rattle.std.proofs.Common.{◌≡◌, ◌∙◌, ◌+◌, ◌-◌, ℕ, ap, refl, subst, length, arith}
 use Rattle.heap_walk.specs.Starts.{word_count}
 use Rattle.heap_walk.specs.Walks.{IsTelling}
 use Rattle.heap_walk.specs.Holders.{holders_at, place_count}

@@ -1,4 +1,4 @@
-use Rattle.std.proofs.Common.{◌≡◌, ◌+◌, ℕ, sym, subst, length, arith}
+use Rattle.std.proofs.Common.{◌≡◌, ◌+◌, ℕ, subst, length, arith}
 use Rattle.heap_walk.specs.Walks.{IsTelling}
 use Rattle.heap_walk.specs.Holders.{holders_at}
 use Rattle.heap_walk.proofs.finding.who_from_root.Goals as goal

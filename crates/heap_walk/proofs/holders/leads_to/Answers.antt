@@ -1,4 +1,3 @@
-use Rattle.std.proofs.Common.{sym}
 use Rattle.heap_walk.specs.Holders.{links_at}
 use Rattle.heap_walk.proofs.Entries.{kept_there}
 use Rattle.heap_walk.proofs.Linking.{link_kept, link_leads, link_nil}

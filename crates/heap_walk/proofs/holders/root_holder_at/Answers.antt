@@ -1,4 +1,4 @@
-use Rattle.std.proofs.Common.{◌∙◌, ◌∷◌, [], true, ap, sym}
+use Rattle.std.proofs.Common.{◌∙◌, ◌∷◌, [], ap, sym}
 use Rattle.heap_model.specs.Graph.{RootCounts}
 use Rattle.heap_walk.specs.Holders.{root_holder}
 use Rattle.heap_walk.specs.declared.holders.Holder.{Holder}

@@ -1,4 +1,4 @@
-use Rattle.std.proofs.Common.{◌≡◌, ◌∙◌, None, sym, ap}
+use Rattle.std.proofs.Common.{◌∙◌, None, sym, ap}
 use Rattle.std.specs.Prelude.{slice_index_or}
 use Rattle.heap_walk.proofs.Entries.{kept_there}
 use Rattle.heap_walk.proofs.Linking.{root_kept, root_leads}
