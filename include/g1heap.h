@@ -266,6 +266,55 @@ g1_answer g1_globals(const g1_heap *heap);
 g1_answer g1_registers(const g1_heap *heap);
 g1_answer g1_name(const g1_heap *heap, uint32_t mutator, uint32_t of);
 
+/* What is told of an object. */
+typedef struct g1_object {
+    uint64_t name;     /* as g1_name tells it */
+    uint64_t word;     /* its data word 0; 0 if it has none */
+    uint32_t pointers; /* how many of each it has */
+    uint32_t weaks;
+    uint32_t values;
+} g1_object;
+
+/* The objects that the heap keeps, one after another: those that the last complete marking marked, and all that were made since it began.
+   After g1_collect_all these are the objects that roots reach. Nothing changes, and a record has no line for it.
+
+       g1_object objects[64];
+       uint64_t cursor = 0, told;                               // 0 is where a walk begins
+       while ((told = g1_walk(&heap, &cursor, objects, 64).first) != 0)
+           for (uint64_t i = 0; i < told; i++) count(objects[i].word);
+
+   NUMBER, and `objects`, which points to `count` structs, has so many entries: fewer than `count` only where no more are left. The cursor
+   goes on after them. It is right until the heap changes by a step or by the policy: any number will do after it too, but a walk may miss
+   objects then, or tell one twice. Or NO_HEAP, and cursor and entries stay. It asks for no memory, and takes time for what it walks over:
+   the objects, what is dead between them, and regions without objects. */
+g1_answer g1_walk(const g1_heap *heap, uint64_t *cursor, g1_object *objects, size_t count);
+
+/* What names an object. */
+enum {
+    G1_GLOBAL = 0,   /* the global `place` */
+    G1_REGISTER = 1, /* the register `place` of `mutator` */
+    G1_POINTER = 2,  /* the object `name`: `place` is the lowest of its pointers that does */
+    G1_WEAK_SLOT = 3 /* the object `name`: no pointer does, and `place` is the lowest weak slot */
+};
+typedef struct g1_holder {
+    uint64_t name; /* 0 of a root */
+    uint32_t kind;
+    uint32_t mutator; /* 0 but of a register */
+    uint32_t place;
+    uint32_t fields; /* how many of the object's pointers and weak slots name it; 1 of a root */
+} g1_holder;
+
+/* Who holds an object: the roots, and then the objects of a walk, that name the object of a name, each once. Nothing changes, and a record has
+   no line for it.
+
+       uint64_t cursor = 0, leaked = g1_name(&heap, 0, SOME).first;
+       g1_holder by[16];
+       uint64_t told = g1_who(&heap, leaked, &cursor, by, 16).first;    // and so on with that cursor, while 16 are told
+
+   A weak slot that reads nil names nothing, also one that waits to be cleared. Answers, cursor and buffer are as g1_walk's, but that each
+   has a cursor of its own. It takes time for the roots, and for the pointers and weak slots of the objects that it walks over. */
+g1_answer g1_who(const g1_heap *heap, uint64_t name, uint64_t *cursor, g1_holder *holders, size_t count);
+
 /* Memory goes back to the system. A word of the heap takes memory when it is first written, and keeps it when its object is gone. This call
    gives back the memory of all words above the highest region in use, and what marks, dirty cards and the queue of cards took beyond what
    they hold now. Their room in the heap stays, so no later step wants for memory: the heap is as it was, each later answer is what it would

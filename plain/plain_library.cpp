@@ -80,6 +80,51 @@ public:
         return sum;
     }
 
+    // Gives the kept objects from an address on to `visit`, by rising address, until that says no. Returns where it stopped.
+    template <class Visit>
+    Word walk(Word from, Visit visit) const {
+        if (from >= heap_words_) return from;
+        for (Number region = region_of(plain::Address(from)); region < sizes_.regions; ++region) {
+            plain::Kind kind = regions_[region].kind;
+            if (kind != plain::Kind::Ordinary && kind != plain::Kind::First) continue;
+            for (plain::Address at = bottom(region); at < regions_[region].top; at += plain::tile_size(words_[at]))
+                if (at >= from && plain::is_object(words_[at]) && is_kept(at) && !visit(at)) return at;
+        }
+        return heap_words_;
+    }
+
+    // What is told of an object.
+    g1_object object(plain::Address at) const {
+        Word header = words_[at];
+        Number fields = plain::field_count(header), values = plain::data_count(header);
+        return {words_[at + 1], values == 0 ? 0 : words_[at + 2 + fields], plain::pointer_count(header), plain::weak_count(header), values};
+    }
+
+    Word place_count() const { return sizes_.globals + Word(sizes_.registers) * sizes_.mutators; }
+    Word word_count() const { return heap_words_; }
+
+    // Whether a word leads to the object of a name.
+    bool leads_to(Word word, Word name) const { return word != 0 && words_[word] == name; }
+
+    // What names an object: at a root place, or the object at an address; `fields` is 0 where it doesn't.
+    g1_holder root_holder(Number place, Word name) const {
+        bool is_global = place < sizes_.globals;
+        Number reg = place - sizes_.globals, mutator = is_global ? 0 : reg / sizes_.registers;
+        Number number = is_global ? place : reg % sizes_.registers;
+        Word word = is_global ? roots_.global(number) : roots_.reg(mutator, number);
+        return {0, is_global ? G1_GLOBAL : G1_REGISTER, mutator, number, leads_to(word, name) ? 1u : 0u};
+    }
+    g1_holder holder(plain::Address at, Word name) const {
+        Number pointers = plain::pointer_count(words_[at]), fields = plain::field_count(words_[at]);
+        g1_holder found{words_[at + 1], G1_POINTER, 0, 0, 0};
+        for (Number field = 0; field < fields; ++field) {
+            if (!leads_to(words_[at + 2 + field], name)) continue;
+            if (found.fields++ != 0) continue;
+            found.kind = field < pointers ? G1_POINTER : G1_WEAK_SLOT, found.place = field < pointers ? field : field - pointers;
+        }
+        return found;
+    }
+
     Word next_name() const { return next_name_; }
 
     // How many regions are ordinary; their live bounds are added up.
@@ -237,6 +282,34 @@ g1_answer g1_name(const g1_heap* heap, std::uint32_t mutator, std::uint32_t of) 
     if (!heap->live) return answer(G1_NO_HEAP);
     if (!in(heap).has_mutator(mutator) || !in(heap).has_register(of)) return answer(G1_NO_STEP);
     return told(in(heap).name(mutator, of));
+}
+
+g1_answer g1_walk(const g1_heap* heap, std::uint64_t* cursor, g1_object* objects, std::size_t count) {
+    if (!heap->live) return answer(G1_NO_HEAP);
+    Word told = 0;
+    *cursor = in(heap).walk(*cursor, [&](plain::Address at) {
+        if (told == count) return false;
+        objects[told++] = in(heap).object(at);
+        return true;
+    });
+    return answer(G1_NUMBER, told);
+}
+
+g1_answer g1_who(const g1_heap* heap, std::uint64_t name, std::uint64_t* cursor, g1_holder* holders, std::size_t count) {
+    if (!heap->live) return answer(G1_NO_HEAP);
+    Heap& plain = in(heap);
+    Word told = 0, places = plain.place_count();
+    auto tell = [&](const g1_holder& holder) {
+        if (holder.fields == 0) return true;
+        if (told == count) return false;
+        holders[told++] = holder;
+        return true;
+    };
+    for (; *cursor < places; ++*cursor)
+        if (!tell(plain.root_holder(Number(*cursor), name))) return answer(G1_NUMBER, told);
+    if (*cursor < places + plain.word_count())
+        *cursor = places + plain.walk(*cursor - places, [&](plain::Address at) { return tell(plain.holder(at, name)); });
+    return answer(G1_NUMBER, told);
 }
 
 void g1_policy_start(g1_policy* policy, const g1_sizes* sizes) { policy_start(policy, sizes); }

@@ -41,6 +41,8 @@ g1_answer g1raw_queued(const g1_heap *heap);
 g1_answer g1raw_globals(const g1_heap *heap);
 g1_answer g1raw_registers(const g1_heap *heap);
 g1_answer g1raw_name(const g1_heap *heap, uint32_t mutator, uint32_t of);
+g1_answer g1raw_walk(const g1_heap *heap, uint64_t *cursor, g1_object *objects, size_t count);
+g1_answer g1raw_who(const g1_heap *heap, uint64_t name, uint64_t *cursor, g1_holder *holders, size_t count);
 g1_answer g1raw_give_back(g1_heap *heap);
 void g1raw_policy_start(g1_policy *policy, const g1_sizes *sizes);
 g1_answer g1_make_noted(g1_heap *heap, g1_policy *policy, uint32_t mutator, uint32_t to, uint32_t pointers, uint32_t weaks, uint32_t values,
@@ -262,6 +264,16 @@ g1_answer g1_registers(const g1_heap *heap)
 g1_answer g1_name(const g1_heap *heap, uint32_t mutator, uint32_t of)
 {
     return g1raw_name(&box_of(heap)->heap, mutator, of);
+}
+
+g1_answer g1_walk(const g1_heap *heap, uint64_t *cursor, g1_object *objects, size_t count)
+{
+    return g1raw_walk(&box_of(heap)->heap, cursor, objects, count);
+}
+
+g1_answer g1_who(const g1_heap *heap, uint64_t name, uint64_t *cursor, g1_holder *holders, size_t count)
+{
+    return g1raw_who(&box_of(heap)->heap, name, cursor, holders, count);
 }
 
 void g1_policy_start(g1_policy *policy, const g1_sizes *sizes)

@@ -37,6 +37,9 @@ static void refuse_sizes(void)
         {{G1_MAX_WORDS / G1_MAX_REGION_WORDS + 1, G1_MAX_REGION_WORDS, 4, 1, 0, 8, 0, 1}, G1_BAD_WORDS},
     };
     g1_heap heap = G1_HEAP_NONE;
+    uint64_t cursor = 3;
+    g1_object object = {4, 0, 0, 0, 0};
+    g1_holder holder = {5, 0, 0, 0, 0};
     for (size_t i = 0; i < sizeof cases / sizeof *cases; i++) is_code("g1_new", g1_new(&heap, &cases[i].sizes), cases[i].code);
     is("no heap", g1_get(&heap, 0, 0, 0, 0), G1_NO_HEAP, 0, 0);
     is("no heap", g1_pause(&heap, 0), G1_NO_HEAP, 0, 0);
@@ -50,6 +53,9 @@ static void refuse_sizes(void)
     is("no heap", g1_name(&heap, 0, 0), G1_NO_HEAP, 0, 0);
     is("no heap", g1_give_back(&heap), G1_NO_HEAP, 0, 0);
     is("no heap", g1_shrink(&heap, &(g1_policy){0}), G1_NO_HEAP, 0, 0);
+    is("no heap", g1_walk(&heap, &cursor, &object, 1), G1_NO_HEAP, 0, 0);
+    is("no heap", g1_who(&heap, 0, &cursor, &holder, 1), G1_NO_HEAP, 0, 0);
+    if (cursor != 3 || object.name != 4 || holder.name != 5) is_code("no heap", 0, 1);
     g1_free(&heap);
 }
 

@@ -138,6 +138,39 @@ static g1_answer step_of_mutator(g1_heap *h, const g1_sizes *s)
     }
 }
 
+/* Who names an object, told a few at a time. */
+static void note_holders(g1_heap *h, uint64_t name)
+{
+    g1_holder holders[5];
+    uint64_t cursor = 0;
+    g1_answer told;
+    do {
+        uint32_t room = 1 + within(4);
+        holders[room].name = UINT64_MAX - 1;
+        note_answer(told = g1_who(h, name, &cursor, holders, room));
+        if (told.first > room || holders[room].name != UINT64_MAX - 1) differ("g1_who");
+        for (uint64_t i = 0; i < told.first; i++)
+            note(holders[i].name), note(holders[i].kind), note(holders[i].mutator), note(holders[i].place), note(holders[i].fields);
+    } while (told.first != 0);
+}
+
+/* The objects that the heap keeps, told a few at a time: nothing is written past a buffer. */
+static void note_objects(g1_heap *h)
+{
+    g1_object objects[9] = {{0, 0, 0, 0, 0}};
+    uint64_t cursor = 0;
+    g1_answer told;
+    do {
+        uint32_t room = 1 + within(8);
+        objects[room].name = UINT64_MAX - 1;
+        note_answer(told = g1_walk(h, &cursor, objects, room));
+        if (told.first > room || objects[room].name != UINT64_MAX - 1) differ("g1_walk");
+        for (uint64_t i = 0; i < told.first; i++)
+            note(objects[i].name), note(objects[i].word), note(objects[i].pointers), note(objects[i].weaks), note(objects[i].values);
+    } while (told.first != 0);
+    note_holders(h, objects[0].name);
+}
+
 static g1_answer step_of_collector(g1_heap *h)
 {
     if (by_policy && draw() % 16 == 0) {
@@ -175,6 +208,7 @@ int main(int count, char **words)
         for (int i = 0; i < calls; i++) {
             note_answer(draw() % 6 == 0 ? step_of_collector(&heap) : step_of_mutator(&heap, &sizes));
             if (i % 500 == 499) note_answer(g1_give_back(&heap));
+            if (i % 500 == 250) note_objects(&heap);
         }
         note_policy();
         g1_free(&heap);

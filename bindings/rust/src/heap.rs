@@ -374,6 +374,10 @@ impl Heap {
         self.core.raw.policy().idle != 0
     }
 
+    pub(crate) fn raw(&self) -> &sys::Raw {
+        &self.core.raw
+    }
+
     /// What the policy did so far.
     ///
     /// ```

@@ -16,6 +16,7 @@ mod sys;
 mod tail;
 mod texts;
 mod threads;
+mod walks;
 
 pub use bulk::{Array, Bytes, Text};
 pub use filled::Fields;
@@ -28,3 +29,4 @@ pub use stack::Stack;
 pub use steps::{Moved, Steps};
 pub use tail::{Pointers, Tail, Tailed, Words};
 pub use threads::{Seat, Shared};
+pub use walks::{Holder, Holders, Object, Objects};

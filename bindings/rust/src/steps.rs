@@ -64,6 +64,9 @@ impl<'a> Steps<'a> {
     pub(crate) fn new(raw: &'a Raw) -> Self {
         Steps { raw }
     }
+    pub(crate) fn raw(&self) -> &'a Raw {
+        self.raw
+    }
     /// Marking begins; false where it is running.
     pub fn begin(&self) -> bool {
         taken(self.raw.begin()).is_some()

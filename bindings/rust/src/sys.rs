@@ -2,11 +2,11 @@
 //! call may be given is answered, so what is left to its caller are the pointers, and those are in `Raw`.
 use g1heap_sys::*;
 pub use g1heap_sys::{
-    g1_answer, g1_sizes, G1_BAD_BUFFER as BAD_BUFFER, G1_BAD_CARD as BAD_CARD, G1_BAD_GLOBALS as BAD_GLOBALS,
+    g1_answer, g1_holder, g1_object, g1_sizes, G1_BAD_BUFFER as BAD_BUFFER, G1_BAD_CARD as BAD_CARD, G1_BAD_GLOBALS as BAD_GLOBALS,
     G1_BAD_MUTATORS as BAD_MUTATORS, G1_BAD_REGIONS as BAD_REGIONS, G1_BAD_REGISTERS as BAD_REGISTERS, G1_BAD_ROOTS as BAD_ROOTS,
-    G1_BAD_WORDS as BAD_WORDS, G1_DONE as DONE, G1_FULL as FULL, G1_NAME as NAME, G1_NAMES_SPENT as NAMES_SPENT, G1_NIL as NIL,
-    G1_NIL_REGISTER as NIL_REGISTER, G1_NIL_VALUE as NIL_VALUE, G1_NO_FIELD as NO_FIELD, G1_NO_MEMORY as NO_MEMORY, G1_NO_STEP as NO_STEP,
-    G1_TOO_BIG as TOO_BIG,
+    G1_BAD_WORDS as BAD_WORDS, G1_DONE as DONE, G1_FULL as FULL, G1_GLOBAL as GLOBAL, G1_NAME as NAME, G1_NAMES_SPENT as NAMES_SPENT,
+    G1_NIL as NIL, G1_NIL_REGISTER as NIL_REGISTER, G1_NIL_VALUE as NIL_VALUE, G1_NO_FIELD as NO_FIELD, G1_NO_MEMORY as NO_MEMORY,
+    G1_NO_STEP as NO_STEP, G1_POINTER as POINTER, G1_REGISTER as REGISTER, G1_TOO_BIG as TOO_BIG,
 };
 use std::cell::{Cell, UnsafeCell};
 
@@ -75,6 +75,16 @@ impl Raw {
     pub fn write_words(&self, mutator: u32, object: u32, from: u32, words: &[u64]) -> g1_answer {
         // SAFETY: as for the steps above; `words` has so many, and nobody writes them meanwhile.
         unsafe { g1_write_words(self.heap.get(), mutator, object, from, words.as_ptr(), words.len()) }
+    }
+    /// What is told of the objects that the heap keeps, from a cursor on, which goes on: how many.
+    pub fn walk(&self, cursor: &mut u64, objects: &mut [g1_object]) -> usize {
+        // SAFETY: as for the steps above; `objects` has so many, and nobody else has them or the cursor.
+        unsafe { g1_walk(self.heap.get(), cursor, objects.as_mut_ptr(), objects.len()) }.first as usize
+    }
+    /// The same of who names the object of a name.
+    pub fn who(&self, name: u64, cursor: &mut u64, holders: &mut [g1_holder]) -> usize {
+        // SAFETY: as for `walk`.
+        unsafe { g1_who(self.heap.get(), name, cursor, holders.as_mut_ptr(), holders.len()) }.first as usize
     }
     /// A new object by the policy.
     #[inline(always)]

@@ -33,7 +33,7 @@ use Rattle.heap_calls.specs.Words.{ReadsAll, ReadsNone, WritesAll, WritesNone}
 use Rattle.heap_calls.specs.declared.answer.Answer.{Answer}
 use Rattle.g1heap_c.specs.Calls.{AreCalls, Call, Called, IsCall, telling}
 use Rattle.g1heap_c.specs.Calls.{NewCall, StepCall, NewFilledCall, MakeCall, MakeFilledCall, CollectCall, CollectAllCall, ReadWordsCall}
-use Rattle.g1heap_c.specs.Calls.{WriteWordsCall, AskCall, GiveBackCall, ShrinkCall, NoStepCall, FreeCall}
+use Rattle.g1heap_c.specs.Calls.{WriteWordsCall, WalkCall, WhoCall, AskCall, GiveBackCall, ShrinkCall, NoStepCall, FreeCall}
 use Rattle.g1heap_c.specs.MadeFilled.{AsksToFill}
 use Rattle.g1heap_c.specs.Policies.{AnswersMake, CollectsIn, asked}
 use Rattle.g1heap_c.specs.Runs.{AreEventsOf, AreRun, CallRuns, HasCollected, HasEvents, HasFilling, HasMaking, HasMakingAndFilling}
@@ -397,6 +397,12 @@ call_done (WriteWordsCall m object from ws) s c c' answer st h =
     (λ es. HasWritten es m object from ws answer ⊎ HasRefused c es (last_write m (register object) from ws) answer c')
     (λ es. HasNoEvent c es no_step answer c') (is_register c m object)
     (λ is. write_done m object from ws s c c' answer st (h.takes is)) (λ isnt. none_done no_step s c c' answer st (h.not isnt))
+call_done (WalkCall from to before after) s c c' answer st h =
+    let same : c' ≡ c = held_is c' c h.1 in
+    record { events = []; from = same_from s c c' st same; has = record { events = refl; answers = h.0; same = same } }
+call_done (WhoCall name from to before after) s c c' answer st h =
+    let same : c' ≡ c = held_is c' c h.1 in
+    record { events = []; from = same_from s c c' st same; has = record { events = refl; answers = h.0; same = same } }
 call_done (AskCall question) s c c' answer st h =
     let same : c' ≡ c = held_is c' c h.1 in
     record { events = []; from = same_from s c c' st same; has = record { events = refl; answers = h.0; same = same } }

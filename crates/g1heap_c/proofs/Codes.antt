@@ -18,7 +18,7 @@ use Rattle.heap_calls.specs.Steps.{given_back}
 use Rattle.heap_calls.specs.declared.answer.Answer.{Answer}
 use Rattle.g1heap_c.specs.Calls.{Call, Called, IsAnswerTo, Question, telling}
 use Rattle.g1heap_c.specs.Calls.{NewCall, StepCall, NewFilledCall, MakeCall, MakeFilledCall, CollectCall, CollectAllCall, ReadWordsCall}
-use Rattle.g1heap_c.specs.Calls.{WriteWordsCall, AskCall, GiveBackCall, ShrinkCall, NoStepCall, FreeCall}
+use Rattle.g1heap_c.specs.Calls.{WriteWordsCall, WalkCall, WhoCall, AskCall, GiveBackCall, ShrinkCall, NoStepCall, FreeCall}
 use Rattle.g1heap_c.specs.Calls.{FreeRegions, FreeRun, UsedWords, LiveWords, Marking, Grey, Clearing, Queued, Globals, Registers, Name}
 use Rattle.g1heap_c.specs.Runs.{AreRun, CallsRun, HasCode, HasEvents, IsCode}
 use Rattle.g1heap_c.proofs.Named.{is_register}
@@ -82,6 +82,8 @@ of_call c es (ReadWordsCall m object from before after) y d (inl (is, inr h)) = 
 of_call c es (ReadWordsCall m object from before after) y d (inr h) = alike y _ h.1.0.tells none
 of_call c es (WriteWordsCall m object from words) y d (inl (is, inl h)) = alike y _ h.tells (inl (omega arith))
 of_call c es (WriteWordsCall m object from words) y d (inl (is, inr h)) = alike y _ h.tells (of_refused h.why)
+of_call c es (WalkCall from to before after) y d h = alike y _ h.answers.is (inl (omega arith))
+of_call c es (WhoCall name from to before after) y d h = alike y _ h.answers.is (inl (omega arith))
 of_call c es (AskCall question) y d h = of_question question c y h.answers
 of_call c es (GiveBackCall granted) y d h = alike y _ h.tells (of_given granted)
 of_call c es (ShrinkCall granted) y d h = alike y _ h.tells (of_given granted)

@@ -20,7 +20,7 @@ use Rattle.heap_calls.specs.Steps.{HasRegister, IsMarking, given_back}
 use Rattle.heap_calls.specs.declared.answer.Answer.{Answer}
 use Rattle.g1heap_c.specs.Calls.{Call, IsAnswerTo, Question, telling}
 use Rattle.g1heap_c.specs.Calls.{NewCall, StepCall, NewFilledCall, MakeCall, MakeFilledCall, CollectCall, CollectAllCall, ReadWordsCall}
-use Rattle.g1heap_c.specs.Calls.{WriteWordsCall, AskCall, GiveBackCall, ShrinkCall, NoStepCall, FreeCall}
+use Rattle.g1heap_c.specs.Calls.{WriteWordsCall, WalkCall, WhoCall, AskCall, GiveBackCall, ShrinkCall, NoStepCall, FreeCall}
 use Rattle.g1heap_c.specs.Calls.{FreeRegions, FreeRun, UsedWords, LiveWords, Marking, Grey, Clearing, Queued, Globals, Registers, Name}
 use Rattle.g1heap_c.specs.Runs.{HasEvents, HasFilling, HasMaking, HasMakingAndFilling, HasNoEvent, HasNotRead, HasRead, HasRefused, HasStep}
 use Rattle.g1heap_c.specs.Runs.{HasWritten, IfElse, event_of, last_read, last_write, reads_of, writes_of}
@@ -164,6 +164,12 @@ module _ (c : CoreState) (es : List Event) (y z : Answer) (d : CoreState) where
       same_side (HasRegister c m object) _ _ _ _ (y ≡ z) h k (read_one m object from before after) (λ a b. none_else a.0 b.0)
   one_answer (WriteWordsCall m object from ws) h k =
       same_side (HasRegister c m object) _ _ _ _ (y ≡ z) h k (write_one m object from ws) none_else
+  one_answer (WalkCall from to before after) h k =
+      let same : h.answers.count ≡ k.answers.count = h.answers.tells.count_is ∙ sym k.answers.tells.count_is in
+      h.answers.is ∙ ap (λ (n : ℕ). told 10 n 0) same ∙ sym k.answers.is
+  one_answer (WhoCall name from to before after) h k =
+      let same : h.answers.count ≡ k.answers.count = h.answers.tells.count_is ∙ sym k.answers.tells.count_is in
+      h.answers.is ∙ ap (λ (n : ℕ). told 10 n 0) same ∙ sym k.answers.is
   one_answer (AskCall q) h k = ask_one q h.answers k.answers
   one_answer (GiveBackCall granted) h k = none_one (given_back granted) h k
   one_answer (ShrinkCall granted) h k = h.tells ∙ sym k.tells

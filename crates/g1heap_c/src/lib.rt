@@ -21,6 +21,7 @@ pub mod mutator;
 mod noted;
 pub mod policy;
 pub mod readers;
+pub mod walks;
 pub mod words;
 
 pub use noted::Entry;

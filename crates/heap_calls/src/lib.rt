@@ -8,7 +8,7 @@
 //!
 //! `named` has what a call's numbers name, `answer` the numbers that a call answers, `heap` a heap as C keeps it, `handle` its pointer,
 //! `loose` the box that this points to, `making` how it begins, `filled` a new object with its fields, `words` several data words,
-//! `readers` what is looked for in a heap, and `giving` memory that is given back to the system.
+//! `readers` what is looked for in a heap, `walks` its objects one after another, and `giving` memory that is given back to the system.
 #![tactic(auto)]
 
 pub mod answer;
@@ -20,4 +20,5 @@ pub mod loose;
 pub mod making;
 pub mod named;
 pub mod readers;
+pub mod walks;
 pub mod words;

@@ -32,6 +32,26 @@ pub struct g1_answer {
 
 #[repr(C)]
 #[derive(Clone, Copy, Debug, Default)]
+pub struct g1_object {
+    pub name: u64,
+    pub word: u64,
+    pub pointers: u32,
+    pub weaks: u32,
+    pub values: u32,
+}
+
+#[repr(C)]
+#[derive(Clone, Copy, Debug, Default)]
+pub struct g1_holder {
+    pub name: u64,
+    pub kind: u32,
+    pub mutator: u32,
+    pub place: u32,
+    pub fields: u32,
+}
+
+#[repr(C)]
+#[derive(Clone, Copy, Debug, Default)]
 pub struct g1_policy {
     pub reserve: u32,
     pub pause_words: u32,
@@ -120,6 +140,10 @@ pub const G1_BAD_CARD: u32 = 46;
 pub const G1_BAD_GLOBALS: u32 = 47;
 pub const G1_BAD_REGISTERS: u32 = 48;
 pub const G1_BAD_ROOTS: u32 = 49;
+pub const G1_GLOBAL: u32 = 0;
+pub const G1_REGISTER: u32 = 1;
+pub const G1_POINTER: u32 = 2;
+pub const G1_WEAK_SLOT: u32 = 3;
 
 extern "C" {
     pub fn g1_new(heap: *mut g1_heap, sizes: *const g1_sizes) -> u32;
@@ -171,6 +195,8 @@ extern "C" {
     pub fn g1_globals(heap: *const g1_heap) -> g1_answer;
     pub fn g1_registers(heap: *const g1_heap) -> g1_answer;
     pub fn g1_name(heap: *const g1_heap, mutator: u32, of: u32) -> g1_answer;
+    pub fn g1_walk(heap: *const g1_heap, cursor: *mut u64, objects: *mut g1_object, count: usize) -> g1_answer;
+    pub fn g1_who(heap: *const g1_heap, name: u64, cursor: *mut u64, holders: *mut g1_holder, count: usize) -> g1_answer;
     pub fn g1_give_back(heap: *mut g1_heap) -> g1_answer;
     pub fn g1_policy_start(policy: *mut g1_policy, sizes: *const g1_sizes);
     pub fn g1_make(heap: *mut g1_heap, policy: *mut g1_policy, mutator: u32, to: u32, pointers: u32, weaks: u32, values: u32) -> g1_answer;

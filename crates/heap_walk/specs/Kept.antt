@@ -1,0 +1,14 @@
+-- Where kept objects start, over all regions.
+use Rattle.std.specs.Prelude.{ℕ, ◌<◌, ◌≤◌, Option, Some, None, IsSome}
+use Rattle.step_core.specs.Stands.{CoreState, kept_of}
+
+-- the lowest kept object from an address on
+pub record IsLowestKept (c : CoreState) (a b : ℕ) : Type 0 where
+  pub above : a ≤ b
+  pub kept : IsSome (kept_of c b)
+  pub between : (x : ℕ) → a ≤ x → x < b → IsSome (kept_of c x) → ⊥
+
+-- where the lowest kept object from an address on starts, none where no kept object does
+abbrev pub IsKeptFrom : CoreState → ℕ → Option ℕ → Type 0
+IsKeptFrom c a None = (x : ℕ) → a ≤ x → IsSome (kept_of c x) → ⊥
+IsKeptFrom c a (Some b) = IsLowestKept c a b

@@ -1,0 +1,4 @@
+pub mod Starts
+pub mod Kept
+pub mod Walks
+pub mod Holders
