@@ -183,6 +183,14 @@ void g1_free(g1_heap* heap) {
 // The plain heap keeps what it has.
 g1_answer g1_give_back(g1_heap* heap) { return answer(heap->live ? G1_DONE : G1_NO_HEAP); }
 
+g1_answer g1_get_word(g1_heap* heap, std::uint32_t mutator, std::uint32_t to, std::uint32_t object, std::uint32_t field,
+                      std::uint32_t word) {
+    g1_answer got = g1_get(heap, mutator, to, object, field);
+    if (got.code != G1_NAME) return got;
+    g1_answer read = g1_read(heap, mutator, to, word);
+    return read.code == G1_WORD ? read : got;
+}
+
 // Whether an object has so many data words from one on: G1_DONE, or why it hasn't.
 static g1_answer has_words(g1_heap* heap, std::uint32_t mutator, std::uint32_t object, std::uint32_t from, std::size_t count) {
     g1_answer shape = g1_shape(heap, mutator, object);

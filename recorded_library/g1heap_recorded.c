@@ -213,6 +213,17 @@ g1_answer g1_new_filled(g1_heap *heap, uint32_t mutator, uint32_t to, const uint
     return made;
 }
 
+/* The object that was loaded is asked for its name, and one without the word refuses to read it. */
+g1_answer g1_get_word(g1_heap *heap, uint32_t mutator, uint32_t to, uint32_t object, uint32_t field, uint32_t word)
+{
+    box *in = box_of(heap);
+    g1_answer told = g1raw_get_word(&in->heap, mutator, to, object, field, word), got = told, read = {G1_NO_FIELD, 0, 0};
+    if (told.code == G1_WORD) got = g1raw_name(&in->heap, mutator, to), read = told;
+    note(in, got, "% get r% r% %", (uint64_t[]){mutator, to, object, field});
+    if (got.code == G1_NAME) note(in, read, "% read r% %", (uint64_t[]){mutator, to, word});
+    return told;
+}
+
 /* The last of so many data words from one on, for whose sake all are refused: no object has more than 32 bits count. */
 static uint64_t last_word(uint32_t from, size_t count)
 {

@@ -101,6 +101,29 @@ static void steps(g1_heap *h, uint64_t name)
     is("name", g1_name(h, 0, 0), G1_NAME, name, 0);
 }
 
+/* A pointer with a data word of what it leads to: an object of 1 pointer and 1 data word leads to itself, to one without words, to nil. */
+static void loads(g1_heap *h)
+{
+    uint64_t name = g1_new_object(h, 1, 0, 1, 1).first;
+    g1_new_object(h, 1, 1, 0, 0), g1_write(h, 1, 0, 0, UINT64_MAX);
+    is("get_word", g1_get_word(h, 1, 2, 0, 0, 0), G1_NIL_VALUE, 0, 0);
+    is("name", g1_name(h, 1, 2), G1_NIL_VALUE, 0, 0);
+    g1_put(h, 1, 0, 0, 0);
+    is("get_word", g1_get_word(h, 1, 2, 0, 0, 0), G1_WORD, UINT64_MAX, 0);
+    is("name", g1_name(h, 1, 2), G1_NAME, name, 0);
+    is("get_word", g1_get_word(h, 1, 2, 0, 0, 1), G1_NAME, name, 0);
+    is("get_word", g1_get_word(h, 1, 2, 0, 1, 0), G1_NO_FIELD, 0, 0);
+    is("get_word", g1_get_word(h, 1, 2, 3, 0, 0), G1_NIL, 0, 0);
+    is("name", g1_name(h, 1, 2), G1_NAME, name, 0);
+    is("get_word", g1_get_word(h, 1, 4, 0, 0, 0), G1_NO_STEP, 0, 0);
+    is("get_word", g1_get_word(h, 1, 0, 4, 0, 0), G1_NO_STEP, 0, 0);
+    is("get_word", g1_get_word(h, 2, 2, 0, 0, 0), G1_NO_STEP, 0, 0);
+    g1_put(h, 1, 0, 0, 1);
+    is("get_word", g1_get_word(h, 1, 0, 0, 0, 0), G1_NAME, name + 1, 0);    /* the register of the object takes what it leads to */
+    is("name", g1_name(h, 1, 0), G1_NAME, name + 1, 0);
+    g1_scope(h, 1, 0);
+}
+
 /* Several data words at once: all or none, and a buffer beside which nothing is read or written. */
 static void words(g1_heap *h)
 {
@@ -281,10 +304,11 @@ int main(void)
     is("no heap", g1_new_filled(&one, 0, 0, NULL, 0, NULL, 0), G1_NO_HEAP, 0, 0);
     is("no heap", g1_make_filled(&one, &(g1_policy){0}, 0, 0, NULL, 0, NULL, 0), G1_NO_HEAP, 0, 0);
     is("no heap", g1_write_words(&one, 0, 0, 0, &sizes.first_name, 1), G1_NO_HEAP, 0, 0);
+    is("no heap", g1_get_word(&one, 0, 0, 0, 0, 0), G1_NO_HEAP, 0, 0);
     is("the other heap", g1_read(&other, 0, 0, 0), G1_WORD, UINT64_MAX, 0);
     is_code("g1_new", g1_new(&one, &sizes), G1_DONE);
     sizes.first_name = 0, g1_free(&one), g1_new(&one, &sizes);
-    words(&one), filled(&one), made_filled(&one, &sizes);
+    words(&one), loads(&one), filled(&one), made_filled(&one, &sizes);
     g1_free(&one), g1_new(&one, &sizes), filled_everywhere(&one);
     g1_free(&one), g1_new(&one, &sizes), within_cards(&one);
     g1_free(&one), g1_free(&one), g1_free(&other);

@@ -81,6 +81,21 @@ static g1_answer many_words(g1_heap *h, uint32_t m, uint32_t a, uint32_t from)
     return answer;
 }
 
+/* A pointer, with a data word of what it leads to: as by a call each. */
+static g1_answer loaded(g1_heap *h, uint32_t m, uint32_t to, uint32_t object, uint32_t field)
+{
+    uint32_t word = below(4);
+    g1_answer told = g1_get_word(h, m, to, object, field, word), name = g1_name(h, m, to), read = g1_read(h, m, to, word);
+    if (told.code == G1_WORD && (read.code != G1_WORD || read.first != told.first)) differ("the loaded object's word");
+    if (told.code == G1_NAME && (read.code != G1_NO_FIELD || name.first != told.first)) differ("the loaded object");
+    if (told.code == G1_NIL_VALUE && name.code != G1_NIL_VALUE) differ("the loaded pointer");
+    if (to == object) return told;
+    g1_answer got = g1_get(h, m, to, object, field);
+    if (told.code == G1_WORD ? got.code != G1_NAME : got.code != told.code) differ("a load");
+    if (got.code == G1_NAME && got.first != name.first) differ("a load");
+    return told;
+}
+
 /* An object with its fields. */
 static g1_answer filled(g1_heap *h, const g1_sizes *s, uint32_t m, uint32_t to)
 {
@@ -115,7 +130,8 @@ static g1_answer step_of_mutator(g1_heap *h, const g1_sizes *s)
 {
     uint32_t m = below(s->mutators), a = below(s->registers), b = below(s->registers), i = below(4), g = below(s->globals);
     if (by_policy && draw() % 3 == 0) return asked(h, s, m, a);
-    switch (draw() % 28) {
+    switch (draw() % 31) {
+    case 28: case 29: case 30: return loaded(h, m, a, b, i);
     case 26: case 27: return filled(h, s, m, a);
     case 24: case 25: return many_words(h, m, a, i);
     case 0: case 1: case 2: case 3: case 4: return g1_new_object(h, m, a, below(5), below(4));

@@ -107,6 +107,16 @@ g1_answer g1_get(g1_heap *heap, uint32_t by, uint32_t to, uint32_t from, uint32_
     if (!LIKELY(field < it->pointers)) return tell(G1_NO_FIELD, 0);
     return told(mine->at[to] = it->words[field].object);
 }
+g1_answer g1_get_word(g1_heap *heap, uint32_t by, uint32_t to, uint32_t from, uint32_t field, uint32_t word)
+{
+    object *value;
+    BEGIN_AT(from);
+    STEP_IF(opens(mine, to));
+    if (!LIKELY(field < it->pointers)) return tell(G1_NO_FIELD, 0);
+    value = mine->at[to] = it->words[field].object;
+    if (value == NULL || !LIKELY(word < value->values)) return told(value);
+    return tell(G1_WORD, value->words[value->pointers + word].value);
+}
 g1_answer g1_put(g1_heap *heap, uint32_t by, uint32_t into, uint32_t field, uint32_t from)
 {
     object *value;

@@ -9,7 +9,6 @@ use Rattle.heap_steps.specs.declared.step.CollectorStep.TheVariants as collector
 use Rattle.heap_steps.specs.declared.step.Event.{Event}
 use Rattle.heap_steps.specs.declared.step.Op.{Op}
 use Rattle.heap_steps.specs.declared.step.Refusal.{Refusal}
-use Rattle.heap_steps.specs.declared.step.Refusal.TheVariants as refusals
 use Rattle.heap_steps.specs.declared.step.Register.{Register}
 use Rattle.heap_steps.specs.declared.step.Reply.{Reply}
 use Rattle.heap_steps.specs.declared.step.Reply.TheVariants as replies
@@ -27,16 +26,19 @@ use Rattle.step_core.specs.Words as words
 use Rattle.step_core.proofs.Cores.Following.{passage_is_run}
 use Rattle.collection.specs.Steps.{HoldsBack, IsCollectors, TakesOwn}
 use Rattle.heap_calls.specs.Filled.{AreFields, FillsIt, StepsTo, Fills, making, pointing, wording}
-use Rattle.heap_calls.specs.Numbers.{no_step, refused, register, told}
+use Rattle.heap_calls.specs.Loads.{Loads, ReadsLoaded, loading}
+use Rattle.heap_calls.specs.Loads as loads
+use Rattle.heap_calls.specs.Numbers.{no_step, numbers, refused, register, told}
 use Rattle.heap_calls.specs.Steps.{HasRegister, MakesHeap, StaysSame, Steps, given_back}
 use Rattle.heap_calls.specs.Words.{ReadsAll, ReadsNone, WritesAll, WritesNone}
 use Rattle.heap_calls.specs.declared.answer.Answer.{Answer}
 use Rattle.g1heap_c.specs.Calls.{AreCalls, Call, Called, IsCall, telling}
 use Rattle.g1heap_c.specs.Calls.{NewCall, StepCall, NewFilledCall, MakeCall, MakeFilledCall, CollectCall, CollectAllCall, ReadWordsCall}
-use Rattle.g1heap_c.specs.Calls.{WriteWordsCall, AskCall, GiveBackCall, NoStepCall, FreeCall}
+use Rattle.g1heap_c.specs.Calls.{GetWordCall, WriteWordsCall, AskCall, GiveBackCall, NoStepCall, FreeCall}
 use Rattle.g1heap_c.specs.MadeFilled.{AsksToFill}
 use Rattle.g1heap_c.specs.Policies.{AnswersMake, CollectsIn, asked}
-use Rattle.g1heap_c.specs.Runs.{AreEventsOf, AreRun, CallRuns, HasCollected, HasEvents, HasFilling, HasMaking, HasMakingAndFilling}
+use Rattle.g1heap_c.specs.Runs.{AreEventsOf, AreRun, CallRuns, HasCollected, HasEvents, HasFilling, HasLoaded, HasMaking}
+use Rattle.g1heap_c.specs.Runs.{HasMakingAndFilling, IsReadLoaded}
 use Rattle.g1heap_c.specs.Runs.{HasNoEvent, HasNotRead, HasRead, HasRefused, HasStep, HasWritten, IfElse, KeepsIfRefused, event_of, filling}
 use Rattle.g1heap_c.specs.Runs.{first_steps, last_read, last_write, reads_of, writes_of}
 use Rattle.g1heap_c.proofs.Named.{are_fields, is_op, is_register, is_step}
@@ -299,6 +301,59 @@ make_filled_done m to from words s c c' answer st h =
       };
     }
 
+-- ---- a pointer that is loaded, and a word that is read
+record Reading (s : State) (reply : Reply) (m to word : ℕ) (answer : Answer) (d : CoreState) : Type 0 where
+  events : List Event
+  run : From s events d
+  read : IsReadLoaded reply events m to word answer
+
+module _ (m to word : ℕ) (s : State) (c d : CoreState) (answer : Answer) where
+  no_reading : (reply : Reply) → ((answer ≡ numbers reply) → IsReadLoaded reply [] m to word answer) → Stands s c
+      → (answer ≡ numbers reply) × (d ≡ c) → Reading s reply m to word answer d
+  no_reading reply none st h = record { events = []; run = same_from s c d st h.1; read = none h.0 }
+
+  reads_loaded : (reply : Reply) → Stands s c → ReadsLoaded reply c m to word answer d → Reading s reply m to word answer d
+  reads_loaded (replies.Named (Some name)) st h = record {
+    events = event_of (loads.reading m to word) h.0 ∷ [];
+    run = one_from s (loads.reading m to word) h.0 d (h.1.follows s st);
+    read = (h.0, refl, h.2);
+  }
+  reads_loaded (replies.Named None) st h = no_reading (replies.Named None) (λ e. (refl, e)) st h
+  reads_loaded replies.Done st h = no_reading replies.Done (λ e. (refl, e)) st h
+  reads_loaded (replies.Word v) st h = no_reading (replies.Word v) (λ e. (refl, e)) st h
+  reads_loaded (replies.Shape p v) st h = no_reading (replies.Shape p v) (λ e. (refl, e)) st h
+  reads_loaded (replies.Marked v) st h = no_reading (replies.Marked v) (λ e. (refl, e)) st h
+  reads_loaded (replies.Reclaimed v) st h = no_reading (replies.Reclaimed v) (λ e. (refl, e)) st h
+  reads_loaded (replies.Refined v) st h = no_reading (replies.Refined v) (λ e. (refl, e)) st h
+  reads_loaded (replies.Moved p v) st h = no_reading (replies.Moved p v) (λ e. (refl, e)) st h
+  reads_loaded (replies.Refused why) st h = no_reading (replies.Refused why) (λ e. (refl, e)) st h
+
+-- nothing is read after a load that was refused
+unread : (why : Refusal) (reply : Reply) (m to word : ℕ) (c d : CoreState) (answer : Answer) → reply ≡ replies.Refused why
+    → ReadsLoaded reply c m to word answer d → d ≡ c
+unread why reply m to word c d answer e h = (subst (λ (r : Reply). ReadsLoaded r c m to word answer d) e h).1
+
+load_done : (m to object field word : ℕ) (s : State) (c c' : CoreState) (answer : Answer) → Stands s c
+    → Loads c m to object field word answer (Some c') → Found s c' (λ es. HasLoaded c es m to object field word answer c')
+load_done m to object field word s c c' answer st h =
+    let same : c' ≡ h.core = held_is c' h.core h.held in
+    let step = loading m to object field in
+    let one = one_from s step h.reply h.loaded (h.loads.follows s st) in
+    let rest = reads_loaded m to word one.last h.loaded h.core answer h.reply one.stands h.reads in
+    record {
+      events = event_of step h.reply ∷ rest.events;
+      from = subst (λ (d : CoreState). From s (event_of step h.reply ∷ rest.events) d) (sym same)
+          (then_from s (event_of step h.reply ∷ []) rest.events h.loaded h.core one rest.run);
+      has = record {
+        reply = h.reply;
+        reads = rest.events;
+        events = refl;
+        read = rest.read;
+        kept = λ why e. same ∙ unread why h.reply m to word h.loaded h.core answer e h.reads
+            ∙ keeps step h.reply c h.loaded h.loads.does why e;
+      };
+    }
+
 -- ---- words in bulk
 reads_from : (m : ℕ) (object : Register) (c : CoreState) (ws : List ℕ) (from : ℕ) (s : State) → Stands s c
     → ((i : ℕ) → i < length ws → words.Takes c (reading m object (from + i)) (replies.Word (slice_index ws i)) c)
@@ -385,6 +440,10 @@ call_done (MakeFilledCall m to from words) s c c' answer st h =
 call_done CollectCall s c c' answer st h =
     collect_done (c.config.regions + 5) s c h.core c' answer st (held_is c' h.core h.held) h.collects h.tells
 call_done CollectAllCall s c c' answer st h = collect_done _ s c h.core c' answer st (held_is c' h.core h.held) h.collects h.tells
+call_done (GetWordCall m to object field word) s c c' answer st h =
+    choose s c' (IsStep c.config (loading m to object field)) (λ es. HasLoaded c es m to object field word answer c')
+    (λ es. HasNoEvent c es no_step answer c') (is_step c.config (loading m to object field))
+    (λ is. load_done m to object field word s c c' answer st (h.takes is)) (λ isnt. none_done no_step s c c' answer st (h.not isnt))
 call_done (ReadWordsCall m object from before after) s c c' answer st h =
     let same : c' ≡ c = held_is c' c h.1 in
     choose s c' (HasRegister c m object)

@@ -15,6 +15,7 @@ pub mod collector;
 pub mod filled;
 pub mod giving;
 pub mod laws;
+pub mod loads;
 pub mod made_filled;
 pub mod making;
 pub mod mutator;

@@ -5,3 +5,4 @@ pub mod Steps
 pub mod Words
 pub mod Filled
 pub mod FreeRuns
+pub mod Loads

@@ -135,6 +135,7 @@ extern "C" {
     pub fn g1_put_weak(heap: *mut g1_heap, mutator: u32, object: u32, slot: u32, from: u32) -> g1_answer;
     pub fn g1_weaks(heap: *mut g1_heap, mutator: u32, object: u32) -> g1_answer;
     pub fn g1_scope(heap: *mut g1_heap, mutator: u32, first: u32) -> g1_answer;
+    pub fn g1_get_word(heap: *mut g1_heap, mutator: u32, to: u32, object: u32, field: u32, word: u32) -> g1_answer;
     pub fn g1_read_words(heap: *mut g1_heap, mutator: u32, object: u32, from: u32, out: *mut u64, count: usize) -> g1_answer;
     pub fn g1_write_words(heap: *mut g1_heap, mutator: u32, object: u32, from: u32, r#in: *const u64, count: usize) -> g1_answer;
     pub fn g1_new_filled(
@@ -205,6 +206,7 @@ macro_rules! each_call_of_numbers {
             put_weak = g1_put_weak(mutator: u32, object: u32, slot: u32, from: u32);
             weaks = g1_weaks(mutator: u32, object: u32);
             scope = g1_scope(mutator: u32, first: u32);
+            get_word = g1_get_word(mutator: u32, to: u32, object: u32, field: u32, word: u32);
             begin = g1_begin();
             mark = g1_mark(words: u32);
             remark = g1_remark();
