@@ -231,6 +231,47 @@ static uint64_t last_word(uint32_t from, size_t count)
     return last > UINT32_MAX - from ? UINT32_MAX : from + last;
 }
 
+/* Each register names what it took: it is asked for its name. */
+g1_answer g1_get_many(g1_heap *heap, uint32_t mutator, uint32_t to, uint32_t object, uint32_t field, uint32_t count)
+{
+    box *in = box_of(heap);
+    g1_answer got = g1raw_get_many(&in->heap, mutator, to, object, field, count);
+    uint64_t last = count == 0 ? 0 : count - 1;
+    if (got.code != G1_DONE) return note(in, got, "% get r% r% %", (uint64_t[]){mutator, to + last, object, last_word(field, count)});
+    for (uint32_t i = 0; i < count; i++)
+        note(in, g1raw_name(&in->heap, mutator, to + i), "% get r% r% %", (uint64_t[]){mutator, to + i, object, field + i});
+    return got;
+}
+
+g1_answer g1_put_many(g1_heap *heap, uint32_t mutator, uint32_t object, uint32_t field, uint32_t from, uint32_t count)
+{
+    box *in = box_of(heap);
+    g1_answer put = g1raw_put_many(&in->heap, mutator, object, field, from, count);
+    uint64_t last = count == 0 ? 0 : count - 1;
+    if (put.code != G1_DONE) return note(in, put, "% put r% % r%", (uint64_t[]){mutator, object, last_word(field, count), from + last});
+    for (uint32_t i = 0; i < count; i++) note(in, put, "% put r% % r%", (uint64_t[]){mutator, object, field + i, from + i});
+    return put;
+}
+
+g1_answer g1_fill(g1_heap *heap, uint32_t mutator, uint32_t object, uint32_t field, uint32_t from, uint32_t count)
+{
+    box *in = box_of(heap);
+    g1_answer put = g1raw_fill(&in->heap, mutator, object, field, from, count);
+    const char *form = from == G1_NIL_REGISTER ? "% put r% % nil" : "% put r% % r%";
+    if (put.code != G1_DONE) return note(in, put, form, (uint64_t[]){mutator, object, last_word(field, count), from});
+    for (uint32_t i = 0; i < count; i++) note(in, put, form, (uint64_t[]){mutator, object, field + i, from});
+    return put;
+}
+
+g1_answer g1_fill_words(g1_heap *heap, uint32_t mutator, uint32_t object, uint32_t field, uint64_t value, uint32_t count)
+{
+    box *in = box_of(heap);
+    g1_answer wrote = g1raw_fill_words(&in->heap, mutator, object, field, value, count);
+    if (wrote.code != G1_DONE) return note(in, wrote, "% write r% % %", (uint64_t[]){mutator, object, last_word(field, count), value});
+    for (uint32_t i = 0; i < count; i++) note(in, wrote, "% write r% % %", (uint64_t[]){mutator, object, field + i, value});
+    return wrote;
+}
+
 g1_answer g1_read_words(g1_heap *heap, uint32_t mutator, uint32_t object, uint32_t from, uint64_t *out, size_t count)
 {
     box *in = box_of(heap);

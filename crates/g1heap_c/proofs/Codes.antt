@@ -19,7 +19,7 @@ use Rattle.heap_calls.specs.Steps.{given_back}
 use Rattle.heap_calls.specs.declared.answer.Answer.{Answer}
 use Rattle.g1heap_c.specs.Calls.{Call, Called, IsAnswerTo, Question, telling}
 use Rattle.g1heap_c.specs.Calls.{NewCall, StepCall, NewFilledCall, MakeCall, MakeFilledCall, CollectCall, CollectAllCall, ReadWordsCall}
-use Rattle.g1heap_c.specs.Calls.{GetWordCall, WriteWordsCall, AskCall, GiveBackCall, NoStepCall, FreeCall}
+use Rattle.g1heap_c.specs.Calls.{GetWordCall, ManyCall, WriteWordsCall, AskCall, GiveBackCall, NoStepCall, FreeCall}
 use Rattle.g1heap_c.specs.Calls.{FreeRun, Marking, Grey, Clearing, Name}
 use Rattle.g1heap_c.specs.Runs.{AreRun, CallsRun, HasCode, HasEvents, IsCode, IsReadLoaded}
 use Rattle.g1heap_c.proofs.Named.{is_register}
@@ -95,6 +95,8 @@ of_call c es (MakeFilledCall m to from words) y d (inl h) = alike y _ h.1.tells 
 of_call c es CollectCall y d h = alike y _ h.tells (inl (omega arith))
 of_call c es CollectAllCall y d h = alike y _ h.tells (inl (omega arith))
 of_call c es (GetWordCall m to object field word) y d (inl h) = of_loaded h.1.reply h.1.reads m to word y h.1.read
+of_call c es (ManyCall many) y d (inl (is, inl h)) = alike y _ h.tells (inl (omega arith))
+of_call c es (ManyCall many) y d (inl (is, inr h)) = alike y _ h.tells (of_refused h.why)
 of_call c es (ReadWordsCall m object from before after) y d (inl (is, inl h)) = alike y _ h.tells (inl (omega arith))
 of_call c es (ReadWordsCall m object from before after) y d (inl (is, inr h)) = alike y _ h.refused.tells (of_refused h.refused.why)
 of_call c es (ReadWordsCall m object from before after) y d (inr h) = alike y _ h.1.0.tells none

@@ -17,14 +17,15 @@ use Rattle.heap_calls.specs.Filled.{AreFields}
 use Rattle.heap_calls.specs.FreeRuns.{IsLongestRun}
 use Rattle.heap_calls.specs.Loads.{loading, word_or_name}
 use Rattle.heap_calls.specs.Numbers.{numbers, register, told}
+use Rattle.heap_calls.specs.Rows.{AreSteps, Many, last_step}
 use Rattle.heap_calls.specs.Steps.{HasRegister, IsMarking, given_back}
 use Rattle.heap_calls.specs.declared.answer.Answer.{Answer}
 use Rattle.g1heap_c.specs.Calls.{Call, IsAnswerTo, Question, telling}
 use Rattle.g1heap_c.specs.Calls.{NewCall, StepCall, NewFilledCall, MakeCall, MakeFilledCall, CollectCall, CollectAllCall, ReadWordsCall}
-use Rattle.g1heap_c.specs.Calls.{GetWordCall, WriteWordsCall, AskCall, GiveBackCall, NoStepCall, FreeCall}
+use Rattle.g1heap_c.specs.Calls.{GetWordCall, ManyCall, WriteWordsCall, AskCall, GiveBackCall, NoStepCall, FreeCall}
 use Rattle.g1heap_c.specs.Calls.{FreeRun, Marking, Grey, Clearing, Name}
 use Rattle.g1heap_c.specs.Runs.{HasEvents, HasFilling, HasLoaded, HasMaking, HasMakingAndFilling, HasNoEvent, HasNotRead, HasRead}
-use Rattle.g1heap_c.specs.Runs.{HasRefused, HasStep}
+use Rattle.g1heap_c.specs.Runs.{HasDone, HasMany, HasRefused, HasStep}
 use Rattle.g1heap_c.specs.Runs.{HasWritten, IfElse, IsReadLoaded, event_of, last_read, last_write, reads_of, writes_of}
 use Rattle.g1heap_c.proofs.Named.{is_register}
 
@@ -145,6 +146,16 @@ module _ (c : CoreState) (es : List Event) (y z : Answer) (d : CoreState) where
       absurd (no_write m object from ws (last_write m (register object) from ws) h.why (sym k.events ∙ h.events))
   write_one m object from ws (inr h) (inr k) = refused_one (last_write m (register object) from ws) h k
 
+  no_done : (step : Step) (why : Refusal) → es ≡ event_of step (replies.Refused why) ∷ [] → All HasDone es → ⊥
+  no_done step why e all =
+      All-head HasDone (event_of step (replies.Refused why)) [] (subst (λ (xs : List Event). All HasDone xs) e all)
+
+  many_one : (x : Many) → HasMany es x y ⊎ HasRefused c es (last_step x) y d → HasMany es x z ⊎ HasRefused c es (last_step x) z d → y ≡ z
+  many_one x (inl h) (inl k) = h.tells ∙ sym k.tells
+  many_one x (inl h) (inr k) = absurd (no_done (last_step x) k.why k.events h.done)
+  many_one x (inr h) (inl k) = absurd (no_done (last_step x) h.why h.events k.done)
+  many_one x (inr h) (inr k) = refused_one (last_step x) h k
+
   longest_one : (n m : ℕ) → IsLongestRun c.table n → IsLongestRun c.table m → n ≡ m
   longest_one n m h k =
       let low : m ≤ n = h.most k.at m k.within k.free in
@@ -186,6 +197,7 @@ module _ (c : CoreState) (es : List Event) (y z : Answer) (d : CoreState) where
   one_answer CollectAllCall h k = h.tells ∙ sym k.tells
   one_answer (GetWordCall m to object field word) h k =
       same_side (IsStep c.config (loading m to object field)) _ _ _ _ (y ≡ z) h k (load_one m to object field word) none_else
+  one_answer (ManyCall x) h k = same_side (AreSteps c.config x) _ _ _ _ (y ≡ z) h k (many_one x) none_else
   one_answer (ReadWordsCall m object from before after) h k =
       same_side (HasRegister c m object) _ _ _ _ (y ≡ z) h k (read_one m object from before after) (λ a b. none_else a.0 b.0)
   one_answer (WriteWordsCall m object from ws) h k =

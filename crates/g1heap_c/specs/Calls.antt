@@ -12,6 +12,7 @@ use Rattle.step_core.specs.Measures.{used_words, live_words, HasGrey, HasSlotsLe
 use Rattle.step_core.specs.Stands.{CoreState}
 use Rattle.heap_calls.specs.Filled.{MakesFilled}
 use Rattle.heap_calls.specs.Loads.{GetsWord}
+use Rattle.heap_calls.specs.Rows.{DoesMany, Many}
 use Rattle.heap_calls.specs.Numbers.{told}
 use Rattle.heap_calls.specs.Steps.{GivesBack, IsMarking, IsName, IsNumber, IsFreeRun, IsSign, MakesHeap, TakesStep, TakesNone, Tells}
 use Rattle.heap_calls.specs.Steps.{plain, scanned}
@@ -38,8 +39,9 @@ pub data Question : Type 0 where
 
 -- Which call it is, with its numbers. A heap is made; it takes a step; it makes an object and fills it; it makes an object by the policy,
 -- and makes one by the policy and fills it; the steps of the collector that are due; a whole collection; a pointer is loaded, with a data
--- word of what it leads to; data words are read from one on, with what the buffer holds before and after, and are written; something is
--- asked; memory is given back, and what that asks for meanwhile is granted or not; the numbers name no step of any heap; it is freed
+-- word of what it leads to; several fields are loaded or stored; data words are read from one on, with what the buffer holds before and
+-- after, and are written; something is asked; memory is given back, and what that asks for meanwhile is granted or not; the numbers name no
+-- step of any heap; it is freed
 pub data Call : Type 0 where
   NewCall : (config : Config) → Call
   StepCall : (step : Step) → Call
@@ -49,6 +51,7 @@ pub data Call : Type 0 where
   CollectCall : Call
   CollectAllCall : Call
   GetWordCall : (m to object field word : ℕ) → Call
+  ManyCall : (many : Many) → Call
   ReadWordsCall : (m object from : ℕ) (before after : List ℕ) → Call
   WriteWordsCall : (m object from : ℕ) (words : List ℕ) → Call
   AskCall : (question : Question) → Call
@@ -86,6 +89,7 @@ IsCall heap (MakeFilledCall m to from words) answer after = AsksFilled heap m to
 IsCall heap CollectCall answer after = CollectsDue heap answer after
 IsCall heap CollectAllCall answer after = CollectsAll heap answer after
 IsCall heap (GetWordCall m to object field word) answer after = GetsWord heap m to object field word answer after
+IsCall heap (ManyCall many) answer after = DoesMany heap many answer after
 IsCall heap (ReadWordsCall m object from before out) answer after = ReadsWords heap m object from before out answer after
 IsCall heap (WriteWordsCall m object from words) answer after = WritesWords heap m object from words answer after
 IsCall heap (AskCall question) answer after = Tells (IsAnswerTo question) heap answer after

@@ -13,18 +13,20 @@ use Rattle.heap_steps.specs.declared.step.Step.TheVariants as steps
 use Rattle.graph_runs.specs.Run.{IsRun}
 use Rattle.graph_runs.specs.State.{State, first_state}
 use Rattle.step_core.specs.Passages.{actor_in, actor_of}
+use Rattle.step_core.specs.Rows.{IsDone}
 use Rattle.step_core.specs.Stands.{CoreState, Stands}
 use Rattle.step_core.specs.Words.{reading, writing}
 use Rattle.collection.specs.Steps.{IsCollectors}
 use Rattle.heap_calls.specs.Filled.{AreFields, making, pointing, wording}
 use Rattle.heap_calls.specs.Loads.{loading, word_or_name}
 use Rattle.heap_calls.specs.Loads as loads
+use Rattle.heap_calls.specs.Rows.{AreSteps, Many, count_of, last_step, step_of}
 use Rattle.heap_calls.specs.Numbers.{no_step, numbers, refused, register, told}
 use Rattle.heap_calls.specs.Steps.{HasRegister, given_back}
 use Rattle.heap_calls.specs.declared.answer.Answer.{Answer}
 use Rattle.g1heap_c.specs.Calls.{Call, Called, AreCalls, IsAnswerTo, IsCall, telling}
 use Rattle.g1heap_c.specs.Calls.{NewCall, StepCall, NewFilledCall, MakeCall, MakeFilledCall, CollectCall, CollectAllCall, ReadWordsCall}
-use Rattle.g1heap_c.specs.Calls.{GetWordCall, WriteWordsCall, AskCall, GiveBackCall, NoStepCall, FreeCall}
+use Rattle.g1heap_c.specs.Calls.{GetWordCall, ManyCall, WriteWordsCall, AskCall, GiveBackCall, NoStepCall, FreeCall}
 use Rattle.g1heap_c.specs.Policies.{asked}
 
 -- the event of a step with a reply, taken by whose step it is
@@ -133,6 +135,16 @@ pub record HasRefused (c : CoreState) (es : List Event) (step : Step) (answer : 
   pub tells : answer ≡ refused why
   pub same : c' ≡ c
 
+-- a reply of an event is no refusal
+abbrev pub HasDone : Event → Type 0
+HasDone e = IsDone e.reply
+
+-- the steps for all fields, one after another, all done
+pub record HasMany (es : List Event) (many : Many) (answer : Answer) : Type 0 where
+  pub events : AreEventsOf (first_steps (step_of many) (count_of many)) es
+  pub done : All HasDone es
+  pub tells : answer ≡ told 0 0 0
+
 -- a step for each word: the buffer takes what they read, as many words as it has; the heap is as it was
 pub record HasRead (c : CoreState) (es : List Event) (m object from : ℕ) (before after : List ℕ) (answer : Answer) (c' : CoreState)
     : Type 0 where
@@ -177,6 +189,9 @@ HasEvents c es CollectCall answer c' = HasCollected es answer
 HasEvents c es CollectAllCall answer c' = HasCollected es answer
 HasEvents c es (GetWordCall m to object field word) answer c' =
     IfElse (IsStep c.config (loading m to object field)) (HasLoaded c es m to object field word answer c')
+    (HasNoEvent c es no_step answer c')
+HasEvents c es (ManyCall many) answer c' =
+    IfElse (AreSteps c.config many) (HasMany es many answer ⊎ HasRefused c es (last_step many) answer c')
     (HasNoEvent c es no_step answer c')
 HasEvents c es (ReadWordsCall m object from before after) answer c' =
     IfElse (HasRegister c m object)

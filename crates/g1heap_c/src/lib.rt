@@ -22,6 +22,7 @@ pub mod mutator;
 mod noted;
 pub mod policy;
 pub mod readers;
+pub mod rows;
 pub mod words;
 
 pub use noted::Entry;

@@ -6,3 +6,4 @@ pub mod Words
 pub mod Filled
 pub mod FreeRuns
 pub mod Loads
+pub mod Rows

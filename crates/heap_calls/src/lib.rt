@@ -8,8 +8,8 @@
 //!
 //! `named` has what a call's numbers name, `answer` the numbers that a call answers, `heap` a heap as C keeps it, `handle` its pointer,
 //! `loose` the box that this points to, `making` how it begins, `filled` a new object with its fields, `words` several data words, `loads`
-//! a pointer with a data word of the object that it leads to, `readers` what is looked for in a heap, and `giving` memory that is given
-//! back to the system.
+//! a pointer with a data word of the object that it leads to, `rows` several fields, `readers` what is looked for in a heap, and `giving`
+//! memory that is given back to the system.
 #![tactic(auto)]
 
 pub mod answer;
@@ -22,4 +22,5 @@ pub mod loose;
 pub mod making;
 pub mod named;
 pub mod readers;
+pub mod rows;
 pub mod words;

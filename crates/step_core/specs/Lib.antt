@@ -16,3 +16,4 @@ pub mod Parts
 pub mod Passages
 pub mod Words
 pub mod Near
+pub mod Rows
