@@ -111,6 +111,12 @@ static inline uint64_t m_head(reg object)
     if (answer.code == G1_WORD) return answer.first;
     return answer.code == G1_NIL ? 0 : m_done(answer).first;
 }
+/* A pointer, and data word 0 of the object that it leads to, by one call: 0 where it is nil. */
+static inline uint64_t m_get_head(reg to, reg object, uint32_t field)
+{
+    g1_answer answer = m_done(g1_get_word(&m_heap, 0, to, object, field, 0));
+    return answer.code == G1_WORD ? answer.first : 0;
+}
 /* Whether two registers hold the same object, or both nil. */
 static inline int m_same(reg one, reg other)
 {
@@ -210,6 +216,7 @@ static inline void m_scope(reg first)
 static inline uint32_t m_pointers(reg object) { return m_registers[object]->pointers; }
 static inline uint32_t m_values(reg object) { return m_registers[object]->values; }
 static inline uint64_t m_head(reg object) { return m_registers[object] != NULL ? m_read(object, 0) : 0; }
+static inline uint64_t m_get_head(reg to, reg object, uint32_t field) { return m_get(to, object, field), m_head(to); }
 static inline int m_same(reg one, reg other) { return m_registers[one] == m_registers[other]; }
 
 #endif

@@ -466,8 +466,8 @@ static reg find(reg name, uint64_t symbol)
     uint64_t id = symbol >> SHIFT, wanted = head(BINDING, id), found;
     reg at = ENVIRONMENT;
     if (!is_bound[id]) return name;
-    for (; (found = m_head(at)) != wanted; at = PART)
-        if (found == NIL || !m_get(PART, at, 0)) return name;
+    for (found = m_head(at); found != wanted; at = PART)
+        if (found == NIL || (found = m_get_head(PART, at, 0)) == NIL) return name;
     return at;
 }
 static _Noreturn void want_name(reg it) { mistake(1, it, "a name is wanted here, not %s", kinds[tag_of(it)]); }
@@ -485,14 +485,14 @@ static void need_part(const char *form)
     mistake(0, 0, "%s lacks a part", form);
 }
 /* What is left of a list of operands or of a body has to be a list. Answers whether there is more. */
-static int has_more(reg list)
+static int is_more(reg list, unsigned tag)
 {
-    unsigned tag = tag_of(list);
     if (tag != PAIR && tag != NIL) mistake(1, list, "a list of operands or of a body ends with a dot");
     return tag == PAIR;
 }
+static int has_more(reg list) { return is_more(list, tag_of(list)); }
 /* Goes on in such a list, and answers whether there is more. */
-static int goes_on(reg list) { return cdr(list, list) && has_more(list); }
+static int goes_on(reg list) { return is_more(list, m_get_head(list, list, 1) & TAG); }
 /* A closure of the parameters in PART and the body in REST. */
 static void closure(void) { make(VALUE, CLOSURE, 3, 0), m_put(VALUE, 0, PART), m_put(VALUE, 1, REST), m_put(VALUE, 2, ENVIRONMENT); }
 /* What a name stands for, into another register; answers whether that is a binding's value. */
@@ -507,10 +507,9 @@ static int look_up(reg to, reg name, uint64_t symbol)
 static void bind_arguments(reg first, uint32_t count, reg procedure)
 {
     uint32_t taken = 0;
-    int more = m_get(REST, procedure, 0);
-    unsigned tag;
-    for (; (tag = more ? tag_of(REST) : NIL) == PAIR && taken < count; taken++)
-        car(OTHER, REST), bind(OTHER, first + taken), more = cdr(REST, REST);
+    unsigned tag = m_get_head(REST, procedure, 0) & TAG;
+    for (; tag == PAIR && taken < count; taken++)
+        car(OTHER, REST), bind(OTHER, first + taken), tag = m_get_head(REST, REST, 1) & TAG;
     if (tag == SYMBOL) {
         m_drop(VALUE);
         for (uint32_t i = count; i > taken; i--) cons(VALUE, first + i - 1, VALUE);
@@ -546,7 +545,7 @@ enum { EVALUATE, EVALUATE_FORM, RETURN, CALL };
 static int operands(void)
 {
     for (int more = has_more(REST); more; more = goes_on(REST)) {
-        uint64_t head = (car(EXPRESSION, REST), m_head(EXPRESSION));
+        uint64_t head = m_get_head(EXPRESSION, REST, 0);
         if ((head & TAG) == SYMBOL) look_up(room(1), EXPRESSION, head), top++;
         else if ((head & TAG) != PAIR) push(EXPRESSION);
         else if (cdr(room(1), REST)) return top++, EVALUATE_FORM;
@@ -613,7 +612,7 @@ static int evaluate(int is_form)
     uint64_t head = is_form ? PAIR : m_head(EXPRESSION);
     if ((head & TAG) == SYMBOL) return look_up(VALUE, EXPRESSION, head), RETURN;
     if ((head & TAG) != PAIR) return m_move(VALUE, EXPRESSION), RETURN;
-    cdr(REST, EXPRESSION), car(OTHER, EXPRESSION), head = m_head(OTHER);
+    cdr(REST, EXPRESSION), head = m_get_head(OTHER, EXPRESSION, 0);
     switch ((head & TAG) == SYMBOL ? head >> SHIFT : NO_NAME) {
     case QUOTE: need_part("quote"), car(VALUE, REST); return RETURN;
     case IF: begin_frame(DO_IF, EXPRESSION), need_part("if"), car(EXPRESSION, REST); return EVALUATE;

@@ -89,9 +89,9 @@ typedef struct g1_sizes {
    From 32 on nothing changed at all. */
 enum {
     G1_DONE = 0,       /* there is nothing to tell */
-    G1_NIL_VALUE = 1,  /* g1_get, g1_load, g1_get_weak, g1_name: nil */
+    G1_NIL_VALUE = 1,  /* g1_get, g1_get_word, g1_load, g1_get_weak, g1_name: nil */
     G1_NAME = 2,       /* the same, and calls that make an object: `first` is the object's name */
-    G1_WORD = 3,       /* g1_read, g1_weaks: `first` is the word, or the count of weak slots */
+    G1_WORD = 3,       /* g1_read, g1_get_word, g1_weaks: `first` is the word, or the count of weak slots */
     G1_SHAPE = 4,      /* g1_shape: `first` pointers, `second` data words */
     G1_MARKED = 5,     /* g1_remark: `first` objects were marked in this cycle */
     G1_RECLAIMED = 6,  /* g1_cleanup: `first` regions are free again */
@@ -174,6 +174,36 @@ g1_answer g1_get_weak(g1_heap *heap, uint32_t mutator, uint32_t to, uint32_t obj
 g1_answer g1_put_weak(g1_heap *heap, uint32_t mutator, uint32_t object, uint32_t slot, uint32_t from);
 g1_answer g1_weaks(g1_heap *heap, uint32_t mutator, uint32_t object);
 g1_answer g1_scope(g1_heap *heap, uint32_t mutator, uint32_t first);
+
+/* A pointer and a data word of what it leads to, in one call: as an interpreter loads an object, and then asks which kind it is. It is
+   g1_get, and where that answers NAME a g1_read of data word `word` of the object that `to` names then; a record has these steps.
+
+       switch (g1_get_word(&heap, 0, TO, LIST, 1, 0).first) {}   // register TO: pointer 1 of LIST's object; and what data word 0 of that is
+
+   WORD: `first` is the word. NAME: an object was loaded, which has no such data word, and `first` is its name. NIL_VALUE: `to` is nil. Or
+   NIL, NO_FIELD, NO_STEP or NO_HEAP, as g1_get answers, and then nothing was loaded. */
+g1_answer g1_get_word(g1_heap *heap, uint32_t mutator, uint32_t to, uint32_t object, uint32_t field, uint32_t word);
+
+/* Several fields of the object that a register names, from `field` on, and registers one after another: all of them or none. Each call is
+   so many of the step's, one after another, and a record has these.
+
+   Call            Stands for   What it does
+   g1_get_many     g1_get       register `to` takes the pointer `field`, the next register the next pointer, and so on
+   g1_put_many     g1_put       the pointer `field` takes what register `from` holds, the next pointer what the next one holds, and so on
+   g1_fill         g1_put       `count` pointers take what register `from` holds, or nil for G1_NIL_REGISTER
+   g1_fill_words   g1_write     `count` data words take a value
+
+       g1_get_many(&heap, 0, FIRST, FRAME, 1, 3);           // registers FIRST to FIRST + 2: pointers 1 to 3 of FRAME's object
+       g1_put_many(&heap, 0, FRAME, 1, FIRST, 3);           // and back
+
+   DONE, or NIL, NO_FIELD, NO_STEP or NO_HEAP, and then nothing was loaded or stored. NO_FIELD: the object has no field
+   `field` + `count` - 1. `object` may be the last of the registers that g1_get_many sets, and none before that, since it would name another
+   object then: NO_STEP, and so where one of the registers isn't there. Where `count` is 0, `field` may be at most the count of the object's
+   fields, and `to` and `from` have to be registers, or `from` that of nil for g1_fill. */
+g1_answer g1_get_many(g1_heap *heap, uint32_t mutator, uint32_t to, uint32_t object, uint32_t field, uint32_t count);
+g1_answer g1_put_many(g1_heap *heap, uint32_t mutator, uint32_t object, uint32_t field, uint32_t from, uint32_t count);
+g1_answer g1_fill(g1_heap *heap, uint32_t mutator, uint32_t object, uint32_t field, uint32_t from, uint32_t count);
+g1_answer g1_fill_words(g1_heap *heap, uint32_t mutator, uint32_t object, uint32_t field, uint64_t value, uint32_t count);
 
 /* Several data words of the object that a register names, from one on: all of them or none. Each is what g1_read would tell, or g1_write
    would write, one after another, and a record has these steps; here they are one copy of memory.

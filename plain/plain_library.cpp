@@ -228,6 +228,59 @@ void g1_free(g1_heap* heap) {
 // The plain heap keeps what it has.
 g1_answer g1_give_back(g1_heap* heap) { return answer(heap->live ? G1_DONE : G1_NO_HEAP); }
 
+g1_answer g1_get_word(g1_heap* heap, std::uint32_t mutator, std::uint32_t to, std::uint32_t object, std::uint32_t field,
+                      std::uint32_t word) {
+    g1_answer got = g1_get(heap, mutator, to, object, field);
+    if (got.code != G1_NAME) return got;
+    g1_answer read = g1_read(heap, mutator, to, word);
+    return read.code == G1_WORD ? read : got;
+}
+
+// Whether an object has so many fields from one on, data words or else pointers: G1_DONE, or why it hasn't.
+static g1_answer has_fields(g1_heap* heap, std::uint32_t mutator, std::uint32_t object, std::uint32_t field, std::uint32_t count,
+                            bool words) {
+    g1_answer shape = g1_shape(heap, mutator, object);
+    if (shape.code != G1_SHAPE) return shape;
+    return answer(Word(field) + count <= (words ? shape.second : shape.first) ? G1_DONE : G1_NO_FIELD);
+}
+
+// Whether a heap has so many registers from one on, and that one in any case.
+static bool has_row(const g1_heap* heap, std::uint32_t first, std::uint32_t count) {
+    return !heap->live || (in(heap).has_register(first) && Word(first) + count <= in(heap).registers());
+}
+
+g1_answer g1_get_many(g1_heap* heap, std::uint32_t mutator, std::uint32_t to, std::uint32_t object, std::uint32_t field,
+                      std::uint32_t count) {
+    bool apart = object < to || count == 0 || object - to >= count - 1;
+    if (!has_row(heap, to, count) || (heap->live && !apart)) return answer(G1_NO_STEP);
+    g1_answer has = has_fields(heap, mutator, object, field, count, false);
+    for (Number i = 0; has.code == G1_DONE && i < count; ++i) g1_get(heap, mutator, to + i, object, field + i);
+    return has;
+}
+
+g1_answer g1_put_many(g1_heap* heap, std::uint32_t mutator, std::uint32_t object, std::uint32_t field, std::uint32_t from,
+                      std::uint32_t count) {
+    if (!has_row(heap, from, count)) return answer(G1_NO_STEP);
+    g1_answer has = has_fields(heap, mutator, object, field, count, false);
+    for (Number i = 0; has.code == G1_DONE && i < count; ++i) g1_put(heap, mutator, object, field + i, from + i);
+    return has;
+}
+
+g1_answer g1_fill(g1_heap* heap, std::uint32_t mutator, std::uint32_t object, std::uint32_t field, std::uint32_t from,
+                  std::uint32_t count) {
+    if (from != G1_NIL_REGISTER && !has_row(heap, from, 0)) return answer(G1_NO_STEP);
+    g1_answer has = has_fields(heap, mutator, object, field, count, false);
+    for (Number i = 0; has.code == G1_DONE && i < count; ++i) g1_put(heap, mutator, object, field + i, from);
+    return has;
+}
+
+g1_answer g1_fill_words(g1_heap* heap, std::uint32_t mutator, std::uint32_t object, std::uint32_t field, std::uint64_t value,
+                        std::uint32_t count) {
+    g1_answer has = has_fields(heap, mutator, object, field, count, true);
+    for (Number i = 0; has.code == G1_DONE && i < count; ++i) g1_write(heap, mutator, object, field + i, value);
+    return has;
+}
+
 // Whether an object has so many data words from one on: G1_DONE, or why it hasn't.
 static g1_answer has_words(g1_heap* heap, std::uint32_t mutator, std::uint32_t object, std::uint32_t from, std::size_t count) {
     g1_answer shape = g1_shape(heap, mutator, object);

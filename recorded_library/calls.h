@@ -16,6 +16,11 @@ g1_answer g1raw_get_weak(g1_heap *heap, uint32_t mutator, uint32_t to, uint32_t 
 g1_answer g1raw_put_weak(g1_heap *heap, uint32_t mutator, uint32_t object, uint32_t slot, uint32_t from);
 g1_answer g1raw_weaks(g1_heap *heap, uint32_t mutator, uint32_t object);
 g1_answer g1raw_scope(g1_heap *heap, uint32_t mutator, uint32_t first);
+g1_answer g1raw_get_word(g1_heap *heap, uint32_t mutator, uint32_t to, uint32_t object, uint32_t field, uint32_t word);
+g1_answer g1raw_get_many(g1_heap *heap, uint32_t mutator, uint32_t to, uint32_t object, uint32_t field, uint32_t count);
+g1_answer g1raw_put_many(g1_heap *heap, uint32_t mutator, uint32_t object, uint32_t field, uint32_t from, uint32_t count);
+g1_answer g1raw_fill(g1_heap *heap, uint32_t mutator, uint32_t object, uint32_t field, uint32_t from, uint32_t count);
+g1_answer g1raw_fill_words(g1_heap *heap, uint32_t mutator, uint32_t object, uint32_t field, uint64_t value, uint32_t count);
 g1_answer g1raw_read_words(g1_heap *heap, uint32_t mutator, uint32_t object, uint32_t from, uint64_t *out, size_t count);
 g1_answer g1raw_write_words(g1_heap *heap, uint32_t mutator, uint32_t object, uint32_t from, const uint64_t *in, size_t count);
 g1_answer g1raw_new_filled(g1_heap *heap, uint32_t mutator, uint32_t to, const uint32_t *from, size_t pointers, const uint64_t *words,

@@ -213,11 +213,63 @@ g1_answer g1_new_filled(g1_heap *heap, uint32_t mutator, uint32_t to, const uint
     return made;
 }
 
+/* The object that was loaded is asked for its name, and one without the word refuses to read it. */
+g1_answer g1_get_word(g1_heap *heap, uint32_t mutator, uint32_t to, uint32_t object, uint32_t field, uint32_t word)
+{
+    box *in = box_of(heap);
+    g1_answer told = g1raw_get_word(&in->heap, mutator, to, object, field, word), got = told, read = {G1_NO_FIELD, 0, 0};
+    if (told.code == G1_WORD) got = g1raw_name(&in->heap, mutator, to), read = told;
+    note(in, got, "% get r% r% %", (uint64_t[]){mutator, to, object, field});
+    if (got.code == G1_NAME) note(in, read, "% read r% %", (uint64_t[]){mutator, to, word});
+    return told;
+}
+
 /* The last of so many data words from one on, for whose sake all are refused: no object has more than 32 bits count. */
 static uint64_t last_word(uint32_t from, size_t count)
 {
     uint64_t last = count == 0 ? 0 : count - 1;
     return last > UINT32_MAX - from ? UINT32_MAX : from + last;
+}
+
+/* Each register names what it took: it is asked for its name. */
+g1_answer g1_get_many(g1_heap *heap, uint32_t mutator, uint32_t to, uint32_t object, uint32_t field, uint32_t count)
+{
+    box *in = box_of(heap);
+    g1_answer got = g1raw_get_many(&in->heap, mutator, to, object, field, count);
+    uint64_t last = count == 0 ? 0 : count - 1;
+    if (got.code != G1_DONE) return note(in, got, "% get r% r% %", (uint64_t[]){mutator, to + last, object, last_word(field, count)});
+    for (uint32_t i = 0; i < count; i++)
+        note(in, g1raw_name(&in->heap, mutator, to + i), "% get r% r% %", (uint64_t[]){mutator, to + i, object, field + i});
+    return got;
+}
+
+g1_answer g1_put_many(g1_heap *heap, uint32_t mutator, uint32_t object, uint32_t field, uint32_t from, uint32_t count)
+{
+    box *in = box_of(heap);
+    g1_answer put = g1raw_put_many(&in->heap, mutator, object, field, from, count);
+    uint64_t last = count == 0 ? 0 : count - 1;
+    if (put.code != G1_DONE) return note(in, put, "% put r% % r%", (uint64_t[]){mutator, object, last_word(field, count), from + last});
+    for (uint32_t i = 0; i < count; i++) note(in, put, "% put r% % r%", (uint64_t[]){mutator, object, field + i, from + i});
+    return put;
+}
+
+g1_answer g1_fill(g1_heap *heap, uint32_t mutator, uint32_t object, uint32_t field, uint32_t from, uint32_t count)
+{
+    box *in = box_of(heap);
+    g1_answer put = g1raw_fill(&in->heap, mutator, object, field, from, count);
+    const char *form = from == G1_NIL_REGISTER ? "% put r% % nil" : "% put r% % r%";
+    if (put.code != G1_DONE) return note(in, put, form, (uint64_t[]){mutator, object, last_word(field, count), from});
+    for (uint32_t i = 0; i < count; i++) note(in, put, form, (uint64_t[]){mutator, object, field + i, from});
+    return put;
+}
+
+g1_answer g1_fill_words(g1_heap *heap, uint32_t mutator, uint32_t object, uint32_t field, uint64_t value, uint32_t count)
+{
+    box *in = box_of(heap);
+    g1_answer wrote = g1raw_fill_words(&in->heap, mutator, object, field, value, count);
+    if (wrote.code != G1_DONE) return note(in, wrote, "% write r% % %", (uint64_t[]){mutator, object, last_word(field, count), value});
+    for (uint32_t i = 0; i < count; i++) note(in, wrote, "% write r% % %", (uint64_t[]){mutator, object, field + i, value});
+    return wrote;
 }
 
 g1_answer g1_read_words(g1_heap *heap, uint32_t mutator, uint32_t object, uint32_t from, uint64_t *out, size_t count)

@@ -108,6 +108,76 @@ static void steps(g1_heap *h, uint64_t name)
     is("name", g1_name(h, 0, 0), G1_NAME, name, 0);
 }
 
+/* A pointer with a data word of what it leads to: an object of 1 pointer and 1 data word leads to itself, to one without words, to nil. */
+static void loads(g1_heap *h)
+{
+    uint64_t name = g1_new_object(h, 1, 0, 1, 1).first;
+    g1_new_object(h, 1, 1, 0, 0), g1_write(h, 1, 0, 0, UINT64_MAX);
+    is("get_word", g1_get_word(h, 1, 2, 0, 0, 0), G1_NIL_VALUE, 0, 0);
+    is("name", g1_name(h, 1, 2), G1_NIL_VALUE, 0, 0);
+    g1_put(h, 1, 0, 0, 0);
+    is("get_word", g1_get_word(h, 1, 2, 0, 0, 0), G1_WORD, UINT64_MAX, 0);
+    is("name", g1_name(h, 1, 2), G1_NAME, name, 0);
+    is("get_word", g1_get_word(h, 1, 2, 0, 0, 1), G1_NAME, name, 0);
+    is("get_word", g1_get_word(h, 1, 2, 0, 1, 0), G1_NO_FIELD, 0, 0);
+    is("get_word", g1_get_word(h, 1, 2, 3, 0, 0), G1_NIL, 0, 0);
+    is("name", g1_name(h, 1, 2), G1_NAME, name, 0);
+    is("get_word", g1_get_word(h, 1, 4, 0, 0, 0), G1_NO_STEP, 0, 0);
+    is("get_word", g1_get_word(h, 1, 0, 4, 0, 0), G1_NO_STEP, 0, 0);
+    is("get_word", g1_get_word(h, 2, 2, 0, 0, 0), G1_NO_STEP, 0, 0);
+    g1_put(h, 1, 0, 0, 1);
+    is("get_word", g1_get_word(h, 1, 0, 0, 0, 0), G1_NAME, name + 1, 0);    /* the register of the object takes what it leads to */
+    is("name", g1_name(h, 1, 0), G1_NAME, name + 1, 0);
+    g1_scope(h, 1, 0);
+}
+
+/* What registers from one on name. */
+static void are(const char *call, g1_heap *h, uint32_t first, const g1_answer *names, uint32_t count)
+{
+    for (uint32_t i = 0; i < count; i++) is(call, g1_name(h, 1, first + i), names[i].code, names[i].first, 0);
+}
+
+/* Several fields at once: all or none. Register 0 names an object of 3 pointers and 2 data words. */
+static void several(g1_heap *h)
+{
+    uint64_t name = g1_new_object(h, 1, 0, 3, 2).first;
+    g1_answer nil = {G1_NIL_VALUE, 0, 0}, one = {G1_NAME, 0, name + 1}, other = {G1_NAME, 0, name + 2};
+    g1_new_object(h, 1, 1, 0, 0), g1_new_object(h, 1, 2, 0, 0);
+    is("put_many", g1_put_many(h, 1, 0, 1, 1, 2), G1_DONE, 0, 0);
+    is("get_many", g1_get_many(h, 1, 1, 0, 0, 3), G1_DONE, 0, 0);
+    are("get_many", h, 1, (g1_answer[]){nil, one, other}, 3);
+    is("get_many", g1_get_many(h, 1, 2, 0, 0, 3), G1_NO_STEP, 0, 0);
+    is("get_many", g1_get_many(h, 1, 0, 0, 0, 2), G1_NO_STEP, 0, 0);        /* the object's own register, before the last */
+    is("get_many", g1_get_many(h, 1, 1, 0, 1, 3), G1_NO_FIELD, 0, 0);
+    is("put_many", g1_put_many(h, 1, 0, 1, 1, 3), G1_NO_FIELD, 0, 0);
+    is("put_many", g1_put_many(h, 1, 0, 0, 2, 3), G1_NO_STEP, 0, 0);
+    is("put_many", g1_put_many(h, 2, 0, 0, 1, 1), G1_NO_STEP, 0, 0);
+    are("get_many", h, 1, (g1_answer[]){nil, one, other}, 3);
+    is("fill", g1_fill(h, 1, 0, 0, 3, 2), G1_DONE, 0, 0);
+    g1_get_many(h, 1, 1, 0, 0, 3), are("fill", h, 1, (g1_answer[]){other, other, other}, 3);
+    is("fill", g1_fill(h, 1, 0, 1, G1_NIL_REGISTER, 2), G1_DONE, 0, 0);
+    is("fill", g1_fill(h, 1, 0, 1, 1, 3), G1_NO_FIELD, 0, 0);
+    is("fill", g1_fill(h, 1, 0, 0, 4, 1), G1_NO_STEP, 0, 0);
+    g1_get_many(h, 1, 1, 0, 0, 3), are("fill", h, 1, (g1_answer[]){other, nil, nil}, 3);
+    is("fill", g1_fill(h, 1, 2, 0, 1, 1), G1_NIL, 0, 0);
+    is("get_many", g1_get_many(h, 1, 1, 2, 0, 1), G1_NIL, 0, 0);
+    is("fill_words", g1_fill_words(h, 1, 0, 0, UINT64_MAX, 2), G1_DONE, 0, 0);
+    is("fill_words", g1_fill_words(h, 1, 0, 1, 8, 2), G1_NO_FIELD, 0, 0);
+    is("fill_words", g1_fill_words(h, 1, 0, UINT32_MAX, 8, 2), G1_NO_FIELD, 0, 0);
+    is("fill_words", g1_fill_words(h, 1, 0, 2, 8, 0), G1_DONE, 0, 0);
+    is("fill_words", g1_fill_words(h, 1, 0, 3, 8, 0), G1_NO_FIELD, 0, 0);
+    is("fill_words", g1_fill_words(h, 1, 3, 0, 8, 0), G1_NIL, 0, 0);
+    is("read", g1_read(h, 1, 0, 0), G1_WORD, UINT64_MAX, 0);
+    is("read", g1_read(h, 1, 0, 1), G1_WORD, UINT64_MAX, 0);
+    is("get_many", g1_get_many(h, 1, 4, 0, 0, 0), G1_NO_STEP, 0, 0);
+    g1_begin(h), g1_move(h, 1, 3, 0);
+    is("get_many", g1_get_many(h, 1, 2, 3, 0, 2), G1_DONE, 0, 0);           /* the object's own register is the last */
+    are("get_many", h, 2, (g1_answer[]){other, nil}, 2);
+    is("put_many", g1_put_many(h, 1, 0, 0, 0, 3), G1_DONE, 0, 0);           /* while marking runs */
+    is("get", g1_get(h, 1, 3, 0, 0), G1_NAME, name, 0);
+    g1_remark(h), g1_scope(h, 1, 0);
+}
+
 /* Several data words at once: all or none, and a buffer beside which nothing is read or written. */
 static void words(g1_heap *h)
 {
@@ -289,10 +359,16 @@ int main(void)
     is("no heap", g1_new_filled(&one, 0, 0, NULL, 0, NULL, 0), G1_NO_HEAP, 0, 0);
     is("no heap", g1_make_filled(&one, &(g1_policy){0}, 0, 0, NULL, 0, NULL, 0), G1_NO_HEAP, 0, 0);
     is("no heap", g1_write_words(&one, 0, 0, 0, &sizes.first_name, 1), G1_NO_HEAP, 0, 0);
+    is("no heap", g1_get_word(&one, 0, 0, 0, 0, 0), G1_NO_HEAP, 0, 0);
+    is("no heap", g1_get_many(&one, 0, 0, 0, 0, 1), G1_NO_HEAP, 0, 0);
+    is("no heap", g1_put_many(&one, 0, 0, 0, 0, 1), G1_NO_HEAP, 0, 0);
+    is("no heap", g1_fill(&one, 0, 0, 0, 0, 1), G1_NO_HEAP, 0, 0);
+    is("no heap", g1_fill_words(&one, 0, 0, 0, 0, 1), G1_NO_HEAP, 0, 0);
     is("the other heap", g1_read(&other, 0, 0, 0), G1_WORD, UINT64_MAX, 0);
     is_code("g1_new", g1_new(&one, &sizes), G1_DONE);
     sizes.first_name = 0, g1_free(&one), g1_new(&one, &sizes);
-    words(&one), filled(&one), made_filled(&one, &sizes);
+    words(&one), loads(&one), filled(&one), made_filled(&one, &sizes);
+    g1_free(&one), g1_new(&one, &sizes), several(&one);
     g1_free(&one), g1_new(&one, &sizes), filled_everywhere(&one);
     g1_free(&one), g1_new(&one, &sizes), within_cards(&one);
     g1_free(&one), g1_free(&one), g1_free(&other);

@@ -83,6 +83,52 @@ static g1_answer many_words(g1_heap *h, uint32_t m, uint32_t a, uint32_t from)
     return answer;
 }
 
+/* A pointer, with a data word of what it leads to: as by a call each. */
+static g1_answer loaded(g1_heap *h, uint32_t m, uint32_t to, uint32_t object, uint32_t field)
+{
+    uint32_t word = below(4);
+    g1_answer told = g1_get_word(h, m, to, object, field, word), name = g1_name(h, m, to), read = g1_read(h, m, to, word);
+    if (told.code == G1_WORD && (read.code != G1_WORD || read.first != told.first)) differ("the loaded object's word");
+    if (told.code == G1_NAME && (read.code != G1_NO_FIELD || name.first != told.first)) differ("the loaded object");
+    if (told.code == G1_NIL_VALUE && name.code != G1_NIL_VALUE) differ("the loaded pointer");
+    if (to == object) return told;
+    g1_answer got = g1_get(h, m, to, object, field);
+    if (told.code == G1_WORD ? got.code != G1_NAME : got.code != told.code) differ("a load");
+    if (got.code == G1_NAME && got.first != name.first) differ("a load");
+    return told;
+}
+
+/* Several fields, and registers one after another: as by a call each, whose answers the other library has to have too. */
+static g1_answer several(g1_heap *h, const g1_sizes *s, uint32_t m, uint32_t a, uint32_t b, uint32_t field)
+{
+    uint32_t count = draw() % 4 == 0 ? below(9) : within(4), kind = draw() % 4;
+    g1_answer last = {G1_NO_STEP, 0, 0}, answer, one;
+    if (kind == 2 && draw() % 3 == 0) a = G1_NIL_REGISTER;
+    uint64_t word = draw();
+    /* The last step where it is refused, by a call of its own; it changes nothing then. */
+    if (kind == 0) answer = g1_get_many(h, m, a, b, field, count);
+    else if (kind == 1) answer = g1_put_many(h, m, b, field, a, count);
+    else if (kind == 2) answer = g1_fill(h, m, b, field, a, count);
+    else answer = g1_fill_words(h, m, b, field, word, count);
+    if (answer.code == G1_NIL || answer.code == G1_NO_FIELD) {
+        uint32_t end = field + (count == 0 ? 0 : count - 1), high = a + (count == 0 ? 0 : count - 1);
+        if (end < field) return answer;
+        last = kind == 0 ? g1_get(h, m, high, b, end) : kind == 1 ? g1_put(h, m, b, end, high)
+             : kind == 2 ? g1_put(h, m, b, end, a) : g1_write(h, m, b, end, word);
+        if (last.code != answer.code) differ("the last of several");
+    }
+    if (answer.code != G1_DONE || a >= s->registers) return answer;
+    for (uint32_t i = 0; i < count; i++) {
+        uint32_t it = kind == 2 ? a : a + i;
+        if (kind == 3 && g1_read(h, m, b, field + i).first != word) differ("filled words");
+        if (kind == 3 || (kind == 0 && b >= a && b - a < count) || it == b) continue;
+        one = g1_name(h, m, it);
+        g1_answer got = g1_get(h, m, it, b, field + i);         /* the register holds that already */
+        if (got.code != one.code || got.first != one.first) differ("several pointers");
+    }
+    return answer;
+}
+
 /* An object with its fields. */
 static g1_answer filled(g1_heap *h, const g1_sizes *s, uint32_t m, uint32_t to)
 {
@@ -117,7 +163,9 @@ static g1_answer step_of_mutator(g1_heap *h, const g1_sizes *s)
 {
     uint32_t m = below(s->mutators), a = below(s->registers), b = below(s->registers), i = below(4), g = below(s->globals);
     if (by_policy && draw() % 3 == 0) return asked(h, s, m, a);
-    switch (draw() % 28) {
+    switch (draw() % 35) {
+    case 31: case 32: case 33: case 34: return several(h, s, m, a, b, i);
+    case 28: case 29: case 30: return loaded(h, m, a, b, i);
     case 26: case 27: return filled(h, s, m, a);
     case 24: case 25: return many_words(h, m, a, i);
     case 0: case 1: case 2: case 3: case 4: return g1_new_object(h, m, a, below(5), below(4));

@@ -109,6 +109,56 @@ static int ask(void)
     return 1;
 }
 
+/* Calls that stand for several steps. */
+static const char wanted_of_loads[] =
+    "heap3 4 16 8 1 0 8 0 3\n"
+    "1 0 new r0 1 1 = #0\n"
+    "2 0 get r1 r0 0 = nil\n"
+    "3 0 put r0 0 r0 = ok\n"
+    "4 0 get r1 r0 0 = #0\n"
+    "5 0 read r1 0 = 0\n"
+    "6 0 get r1 r0 0 = #0\n"
+    "7 0 read r1 1 = refused 2 NoField\n"
+    "8 0 get r1 r0 1 = refused 2 NoField\n"
+    "9 0 get r1 r2 0 = refused 1 Nil\n"
+    "10 0 new r2 2 2 = #1\n"
+    "11 0 put r2 0 r0 = ok\n"
+    "12 0 put r2 1 r1 = ok\n"
+    "13 0 get r0 r2 0 = #0\n"
+    "14 0 get r1 r2 1 = #0\n"
+    "15 0 get r1 r2 2 = refused 2 NoField\n"
+    "16 0 put r2 0 nil = ok\n"
+    "17 0 put r2 1 nil = ok\n"
+    "18 0 put r2 0 r0 = ok\n"
+    "19 0 put r2 2 r0 = refused 2 NoField\n"
+    "20 0 get r1 r2 0 = #0\n"
+    "21 0 get r2 r2 1 = nil\n"
+    "22 0 write r0 0 9 = ok\n"
+    "23 0 write r0 1 9 = refused 2 NoField\n"
+    "24 0 put r2 1 r1 = refused 1 Nil\n";
+
+static int load(void)
+{
+    g1_sizes sizes = {4, 16, 8, 1, 0, 8, 0, 3};
+    g1_heap heap = G1_HEAP_NONE;
+    size_t length = 0;
+    if (g1_new(&heap, &sizes) != G1_DONE) return 1;
+    left_lines = 100;
+    g1_record(&heap, take, &length);
+    g1_new_object(&heap, 0, 0, 1, 1);
+    g1_get_word(&heap, 0, 1, 0, 0, 0), g1_put(&heap, 0, 0, 0, 0), g1_get_word(&heap, 0, 1, 0, 0, 0);
+    g1_get_word(&heap, 0, 1, 0, 0, 1), g1_get_word(&heap, 0, 1, 0, 1, 0), g1_get_word(&heap, 0, 1, 2, 0, 0);
+    g1_get_word(&heap, 0, 3, 0, 0, 0);      /* no step */
+    g1_new_object(&heap, 0, 2, 2, 2), g1_put_many(&heap, 0, 2, 0, 0, 2), g1_get_many(&heap, 0, 0, 2, 0, 2);
+    g1_get_many(&heap, 0, 0, 2, 1, 2), g1_fill(&heap, 0, 2, 0, G1_NIL_REGISTER, 2), g1_fill(&heap, 0, 2, 0, 0, 1);
+    g1_fill(&heap, 0, 2, 2, 0, 1), g1_get_many(&heap, 0, 1, 2, 0, 2), g1_fill_words(&heap, 0, 0, 0, 9, 1);
+    g1_fill_words(&heap, 0, 0, 0, 9, 2), g1_put_many(&heap, 0, 2, 0, 0, 2), g1_get_many(&heap, 0, 1, 0, 0, 3);
+    g1_free(&heap);
+    if (strcmp(got, wanted_of_loads) == 0) return 0;
+    fprintf(stderr, "the record is\n%s", got);
+    return 1;
+}
+
 int main(void)
 {
     g1_sizes sizes = {4, 16, 8, 1, 7, 8, 1, 2};
@@ -130,7 +180,7 @@ int main(void)
     if (length != before || g1_record(&heap, take, &length) != G1_NO_STEP || g1_record(&heap, NULL, NULL) != G1_DONE) return 1;
     if (g1_record(&other, take, &length) != G1_NO_STEP) return 1;
     g1_free(&heap), g1_free(&other);
-    if (ask() != 0) return 1;
+    if (ask() != 0 || load() != 0) return 1;
     puts("each line is as it should be");
     return 0;
 }

@@ -23,7 +23,11 @@ int main(int count, char **words)
     if (strcmp(call, "new filled 2 + 1") == 0) sizes.regions = 16, sizes.words = 1 << 18;
     if (g1_new(&heap, &sizes) != G1_DONE) return 1;
     g1_new_object(&heap, 0, 0, 2, 2), g1_new_object(&heap, 0, 1, 2, 2), g1_put(&heap, 0, 0, 0, 1);
+    if (strstr(call, "many") != NULL) g1_new_object(&heap, 0, 4, 4, 0), g1_fill(&heap, 0, 4, 0, 1, 4);
     if (strcmp(call, "get") == 0) for (long i = 0; i < times; i++, again()) sum += g1_get(&heap, 0, 2, 0, 0).first;
+    else if (strcmp(call, "get word") == 0) for (long i = 0; i < times; i++, again()) sum += g1_get_word(&heap, 0, 2, 0, 0, 1).first;
+    else if (strcmp(call, "get many, 4") == 0) for (long i = 0; i < times; i++, again()) sum += g1_get_many(&heap, 0, 5, 4, 0, 4).code;
+    else if (strcmp(call, "put many, 4") == 0) for (long i = 0; i < times; i++, again()) sum += g1_put_many(&heap, 0, 4, 0, 0, 4).code;
     else if (strcmp(call, "read") == 0) for (long i = 0; i < times; i++, again()) sum += g1_read(&heap, 0, 0, 1).first;
     else if (strcmp(call, "write") == 0) for (long i = 0; i < times; i++, again()) sum += g1_write(&heap, 0, 0, 1, (uint64_t)i).code;
     else if (strcmp(call, "put") == 0) for (long i = 0; i < times; i++, again()) sum += g1_put(&heap, 0, 0, 0, 1).code;

@@ -107,6 +107,16 @@ g1_answer g1_get(g1_heap *heap, uint32_t by, uint32_t to, uint32_t from, uint32_
     if (!LIKELY(field < it->pointers)) return tell(G1_NO_FIELD, 0);
     return told(mine->at[to] = it->words[field].object);
 }
+g1_answer g1_get_word(g1_heap *heap, uint32_t by, uint32_t to, uint32_t from, uint32_t field, uint32_t word)
+{
+    object *value;
+    BEGIN_AT(from);
+    STEP_IF(opens(mine, to));
+    if (!LIKELY(field < it->pointers)) return tell(G1_NO_FIELD, 0);
+    value = mine->at[to] = it->words[field].object;
+    if (value == NULL || !LIKELY(word < value->values)) return told(value);
+    return tell(G1_WORD, value->words[value->pointers + word].value);
+}
 g1_answer g1_put(g1_heap *heap, uint32_t by, uint32_t into, uint32_t field, uint32_t from)
 {
     object *value;
@@ -119,6 +129,32 @@ g1_answer g1_read(g1_heap *heap, uint32_t by, uint32_t from, uint32_t field)
 {
     BEGIN_AT(from);
     return LIKELY(field < it->values) ? tell(G1_WORD, it->words[(uint64_t)it->pointers + field].value) : tell(G1_NO_FIELD, 0);
+}
+g1_answer g1_get_many(g1_heap *heap, uint32_t by, uint32_t to, uint32_t from, uint32_t field, uint32_t count)
+{
+    BEGIN_AT(from);
+    STEP_IF(to < mine->count && count <= mine->count - to && (from < to || from - to + 1 >= count));
+    STEP_IF(count == 0 || opens(mine, to + count - 1));
+    if (!LIKELY((uint64_t)field + count <= it->pointers)) return tell(G1_NO_FIELD, 0);
+    for (uint32_t i = 0; i < count; i++) mine->at[to + i] = it->words[field + i].object;
+    return tell(G1_DONE, 0);
+}
+g1_answer g1_put_many(g1_heap *heap, uint32_t by, uint32_t into, uint32_t field, uint32_t from, uint32_t count)
+{
+    BEGIN_AT(into);
+    STEP_IF(from < mine->count && count <= mine->count - from && (count == 0 || opens(mine, from + count - 1)));
+    if (!LIKELY((uint64_t)field + count <= it->pointers)) return tell(G1_NO_FIELD, 0);
+    for (uint32_t i = 0; i < count; i++) {
+        object **at = &it->words[field + i].object, *value = mine->at[from + i];
+        if (LIKELY(!all->marking)) store(all, at, value);
+        else store_saved(all, at, value);
+    }
+    return tell(G1_DONE, 0);
+}
+g1_answer g1_fill(g1_heap *heap, uint32_t by, uint32_t into, uint32_t field, uint32_t from, uint32_t count)
+{
+    for (uint32_t i = 0; i < count; i++) g1_put(heap, by, into, field + i, from);
+    return tell(G1_DONE, 0);
 }
 g1_answer g1_write(g1_heap *heap, uint32_t by, uint32_t into, uint32_t field, uint64_t value)
 {

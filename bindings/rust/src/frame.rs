@@ -445,6 +445,40 @@ impl<'f, 'h> Frame<'f, 'h> {
     pub fn get<T, U>(&self, object: Local<'_, 'h, T>, field: Pointer<T, U>) -> Result<Option<Local<'f, 'h, U>>, Error> {
         self.pushed(self.raw().get(self.mutator, self.top.get(), object.register(), field.index))
     }
+    /// What a pointer holds, in a new root, with a data word of the object: in one call, where [`get`](Frame::get) and
+    /// [`read`](Frame::read) are two.
+    ///
+    /// ```
+    /// # use g1heap::*;
+    /// # layout! { struct Tagged { words { tag: u8 } } struct Pair { pointers { first: Tagged, rest: Pair } } }
+    /// # let mut heap = Heap::new(&Sizes::default())?;
+    /// # heap.run(|f| {
+    /// let pair = f.alloc::<Pair>()?;
+    /// assert!(f.get_word(pair, Pair::first, Tagged::tag)?.is_none());
+    /// f.put(pair, Pair::first, f.new(|p| p.write(Tagged::tag, 7))?);
+    /// let (first, tag) = f.get_word(pair, Pair::first, Tagged::tag)?.unwrap();
+    /// assert_eq!((tag, f.read(first, Tagged::tag)), (7, 7));
+    /// # Ok::<_, Error>(())
+    /// # })?;
+    /// # Ok::<_, Box<dyn std::error::Error>>(())
+    /// ```
+    #[inline]
+    #[track_caller]
+    pub fn get_word<T, U, V: Bits>(
+        &self,
+        object: Local<'_, 'h, T>,
+        field: Pointer<T, U>,
+        word: Word<U, V>,
+    ) -> Result<Option<(Local<'f, 'h, U>, V)>, Error> {
+        let answer = self.raw().get_word(self.mutator, self.top.get(), object.register(), field.index, word.index);
+        match answer.code {
+            WORD => Ok(Some((self.push(), V::from_word(answer.first)))),
+            NIL_VALUE => Ok(None),
+            NO_STEP => Err(Error::NoRegisters),
+            NAME => refused(NO_FIELD),
+            code => refused(code),
+        }
+    }
     /// What a pointer holds that is never nil, in a new root: as indexing does, it panics where it is nil, and says which one that is.
     ///
     /// ```

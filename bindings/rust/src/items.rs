@@ -1,7 +1,7 @@
 //! The items of arrays, one after another.
 use crate::bulk::Array;
-use crate::frame::{done, Frame};
-use crate::local::{Local, Var};
+use crate::frame::{done, of_field, Frame};
+use crate::local::{Local, Source, Var};
 use crate::Error;
 use std::ops::Range;
 
@@ -98,6 +98,45 @@ impl<'f, 'h> Frame<'f, 'h> {
         'f: 'a,
     {
         Ok(Items { array, place: self.nil_var()?, next: 0 })
+    }
+    /// Sets items of an array to one value: all of them, or none where some index isn't there, which is answered by [`Error::NoField`].
+    ///
+    /// ```
+    /// # use g1heap::*;
+    /// # layout! { struct Cell { words { number: u64 } } }
+    /// # let mut heap = Heap::new(&Sizes::default())?;
+    /// # heap.run(|f| {
+    /// let array = f.alloc_array::<Cell>(4)?;
+    /// let cell = f.alloc()?;
+    /// f.fill_items(array, 1..4, cell)?;
+    /// f.fill_items(array, 2..3, Nil)?;
+    /// assert!(f.item(array, 0)?.is_none() && f.item(array, 2)?.is_none() && f.same(f.item(array, 3)?.unwrap(), cell));
+    /// assert_eq!(f.fill_items(array, 3..5, cell), Err(Error::NoField));
+    /// # Ok::<_, Error>(())
+    /// # })?;
+    /// # Ok::<_, Box<dyn std::error::Error>>(())
+    /// ```
+    pub fn fill_items<T>(&self, array: Local<'_, 'h, Array<T>>, items: Range<u32>, value: impl Source<'h, T>) -> Result<(), Error> {
+        let count = items.end.checked_sub(items.start).ok_or(Error::NoField)?;
+        of_field(self.raw().fill(self.mutator(), array.register(), items.start, value.code(), count)).map(drop)
+    }
+    /// Sets data words of an object, from number `from` on, to one word: so many of them. [`Error::NoField`] where one of them isn't there,
+    /// and nothing is written.
+    ///
+    /// ```
+    /// # use g1heap::*;
+    /// # let mut heap = Heap::new(&Sizes::default())?;
+    /// # heap.run(|f| {
+    /// let object = f.alloc_any(0, 0, 4)?;
+    /// f.fill_words(object, 1, 7, 2)?;
+    /// assert_eq!(f.words(object), [0, 7, 7, 0]);
+    /// assert_eq!(f.fill_words(object, 3, 7, 2), Err(Error::NoField));
+    /// # Ok::<_, Error>(())
+    /// # })?;
+    /// # Ok::<_, Box<dyn std::error::Error>>(())
+    /// ```
+    pub fn fill_words<T>(&self, object: Local<'_, 'h, T>, from: u32, word: u64, count: u32) -> Result<(), Error> {
+        of_field(self.raw().fill_words(self.mutator(), object.register(), from, word, count)).map(drop)
     }
     /// Copies items of an array to another one, or to another place of the same one, from index `to` on: all of them, or none where some
     /// index isn't there, which is answered by [`Error::NoField`]. Items that both places have are right too. It needs a register that is

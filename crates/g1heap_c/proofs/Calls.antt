@@ -2,6 +2,7 @@
 use Rattle.std.proofs.Common.{◌≡◌, ◌⊎◌, ◌∙◌, ◌+◌, ◌*◌, ◌<◌, ℕ, zero, suc, List, [], ◌∷◌, ◌++◌, length, Some, inl, inr}
 use Rattle.std.proofs.Common.{refl, sym, ap, subst, map, None, Option, arith}
 use Rattle.std.proofs.lemmas.List.{map-append}
+use Rattle.std.proofs.lemmas.List.Elements.{All-append, All-cons, All-nil}
 use Rattle.std.specs.Prelude.{slice_index, All}
 use Rattle.heap_words.specs.declared.config.Config.{Config}
 use Rattle.heap_steps.specs.Actors.{IsOp, IsStep, step_in}
@@ -9,7 +10,6 @@ use Rattle.heap_steps.specs.declared.step.CollectorStep.TheVariants as collector
 use Rattle.heap_steps.specs.declared.step.Event.{Event}
 use Rattle.heap_steps.specs.declared.step.Op.{Op}
 use Rattle.heap_steps.specs.declared.step.Refusal.{Refusal}
-use Rattle.heap_steps.specs.declared.step.Refusal.TheVariants as refusals
 use Rattle.heap_steps.specs.declared.step.Register.{Register}
 use Rattle.heap_steps.specs.declared.step.Reply.{Reply}
 use Rattle.heap_steps.specs.declared.step.Reply.TheVariants as replies
@@ -21,25 +21,31 @@ use Rattle.step_core.specs.Answers.{Follows}
 use Rattle.step_core.specs.Cycle.{Does, IsRefused}
 use Rattle.step_core.specs.Fresh.{fresh_core}
 use Rattle.step_core.specs.Passages.{actor_in, actor_of}
+use Rattle.step_core.specs.Rows.{AreDone}
 use Rattle.step_core.specs.Stands.{CoreState, Stands}
 use Rattle.step_core.specs.Words.{AreWritten, reading, writing}
 use Rattle.step_core.specs.Words as words
 use Rattle.step_core.proofs.Cores.Following.{passage_is_run}
 use Rattle.collection.specs.Steps.{HoldsBack, IsCollectors, TakesOwn}
 use Rattle.heap_calls.specs.Filled.{AreFields, FillsIt, StepsTo, Fills, making, pointing, wording}
-use Rattle.heap_calls.specs.Numbers.{no_step, refused, register, told}
+use Rattle.heap_calls.specs.Loads.{Loads, ReadsLoaded, loading}
+use Rattle.heap_calls.specs.Loads as loads
+use Rattle.heap_calls.specs.Numbers.{no_step, numbers, refused, register, told}
+use Rattle.heap_calls.specs.Rows.{AreSteps, DoesAll, DoesNone, Many, count_of, last_step, step_of}
 use Rattle.heap_calls.specs.Steps.{HasRegister, MakesHeap, StaysSame, Steps, given_back}
 use Rattle.heap_calls.specs.Words.{ReadsAll, ReadsNone, WritesAll, WritesNone}
 use Rattle.heap_calls.specs.declared.answer.Answer.{Answer}
 use Rattle.g1heap_c.specs.Calls.{AreCalls, Call, Called, IsCall, telling}
 use Rattle.g1heap_c.specs.Calls.{NewCall, StepCall, NewFilledCall, MakeCall, MakeFilledCall, CollectCall, CollectAllCall, ReadWordsCall}
-use Rattle.g1heap_c.specs.Calls.{WriteWordsCall, WalkCall, WhoCall, AskCall, GiveBackCall, ShrinkCall, NoStepCall, FreeCall}
+use Rattle.g1heap_c.specs.Calls.{GetWordCall, ManyCall, WriteWordsCall, WalkCall, WhoCall, AskCall, GiveBackCall, ShrinkCall, NoStepCall}
+use Rattle.g1heap_c.specs.Calls.{FreeCall}
 use Rattle.g1heap_c.specs.MadeFilled.{AsksToFill}
 use Rattle.g1heap_c.specs.Policies.{AnswersMake, CollectsIn, asked}
-use Rattle.g1heap_c.specs.Runs.{AreEventsOf, AreRun, CallRuns, HasCollected, HasEvents, HasFilling, HasMaking, HasMakingAndFilling}
+use Rattle.g1heap_c.specs.Runs.{AreEventsOf, AreRun, CallRuns, HasCollected, HasEvents, HasFilling, HasLoaded, HasMaking}
+use Rattle.g1heap_c.specs.Runs.{HasDone, HasMakingAndFilling, HasMany, IsReadLoaded}
 use Rattle.g1heap_c.specs.Runs.{HasNoEvent, HasNotRead, HasRead, HasRefused, HasStep, HasWritten, IfElse, KeepsIfRefused, event_of, filling}
 use Rattle.g1heap_c.specs.Runs.{first_steps, last_read, last_write, reads_of, writes_of}
-use Rattle.g1heap_c.proofs.Named.{are_fields, is_op, is_register, is_step}
+use Rattle.g1heap_c.proofs.Named.{are_fields, are_steps, is_op, is_register, is_step}
 
 run_then : (es fs : List Event) (s mid last : State) → IsRun s es mid → IsRun mid fs last → IsRun s (es ++ fs) last
 run_then [] fs s mid last h k = subst (λ (x : State). IsRun x fs last) h k
@@ -213,6 +219,27 @@ leads step (suc n) s c d st h =
       are = join (first_steps step n) (step n ∷ []) before.events own before.are (record { steps = refl; actors = refl });
     }
 
+-- the same of steps that are all done
+record LedDone (s : State) (step : ℕ → Step) (n : ℕ) (d : CoreState) : Type 0 where
+  events : List Event
+  from : From s events d
+  are : AreEventsOf (first_steps step n) events
+  done : All HasDone events
+
+done_leads : (step : ℕ → Step) (n : ℕ) (s : State) (c d : CoreState) → Stands s c → AreDone c step n d → LedDone s step n d
+done_leads step zero s c d st h =
+    record { events = []; from = same_from s c d st h; are = record { steps = refl; actors = refl }; done = All-nil HasDone }
+done_leads step (suc n) s c d st h =
+    let before = done_leads step n s c h.0 st h.2.0 in
+    let own = event_of (step n) h.1 ∷ [] in
+    let one = one_from before.from.last (step n) h.1 d (h.2.1.1.follows before.from.last before.from.stands) in
+    record {
+      events = before.events ++ own;
+      from = then_from s before.events own h.0 d before.from one;
+      are = join (first_steps step n) (step n ∷ []) before.events own before.are (record { steps = refl; actors = refl });
+      done = All-append HasDone before.events own before.done (All-cons HasDone (event_of (step n) h.1) [] h.2.1.0 (All-nil HasDone));
+    }
+
 record Filling (s : State) (reply : Reply) (m to : ℕ) (from words : List ℕ) (d : CoreState) : Type 0 where
   events : List Event
   run : From s events d
@@ -298,6 +325,75 @@ make_filled_done m to from words s c c' answer st h =
         tells = h.asks.tells;
       };
     }
+
+-- ---- a pointer that is loaded, and a word that is read
+record Reading (s : State) (reply : Reply) (m to word : ℕ) (answer : Answer) (d : CoreState) : Type 0 where
+  events : List Event
+  run : From s events d
+  read : IsReadLoaded reply events m to word answer
+
+module _ (m to word : ℕ) (s : State) (c d : CoreState) (answer : Answer) where
+  no_reading : (reply : Reply) → ((answer ≡ numbers reply) → IsReadLoaded reply [] m to word answer) → Stands s c
+      → (answer ≡ numbers reply) × (d ≡ c) → Reading s reply m to word answer d
+  no_reading reply none st h = record { events = []; run = same_from s c d st h.1; read = none h.0 }
+
+  reads_loaded : (reply : Reply) → Stands s c → ReadsLoaded reply c m to word answer d → Reading s reply m to word answer d
+  reads_loaded (replies.Named (Some name)) st h = record {
+    events = event_of (loads.reading m to word) h.0 ∷ [];
+    run = one_from s (loads.reading m to word) h.0 d (h.1.follows s st);
+    read = (h.0, refl, h.2);
+  }
+  reads_loaded (replies.Named None) st h = no_reading (replies.Named None) (λ e. (refl, e)) st h
+  reads_loaded replies.Done st h = no_reading replies.Done (λ e. (refl, e)) st h
+  reads_loaded (replies.Word v) st h = no_reading (replies.Word v) (λ e. (refl, e)) st h
+  reads_loaded (replies.Shape p v) st h = no_reading (replies.Shape p v) (λ e. (refl, e)) st h
+  reads_loaded (replies.Marked v) st h = no_reading (replies.Marked v) (λ e. (refl, e)) st h
+  reads_loaded (replies.Reclaimed v) st h = no_reading (replies.Reclaimed v) (λ e. (refl, e)) st h
+  reads_loaded (replies.Refined v) st h = no_reading (replies.Refined v) (λ e. (refl, e)) st h
+  reads_loaded (replies.Moved p v) st h = no_reading (replies.Moved p v) (λ e. (refl, e)) st h
+  reads_loaded (replies.Refused why) st h = no_reading (replies.Refused why) (λ e. (refl, e)) st h
+
+-- nothing is read after a load that was refused
+unread : (why : Refusal) (reply : Reply) (m to word : ℕ) (c d : CoreState) (answer : Answer) → reply ≡ replies.Refused why
+    → ReadsLoaded reply c m to word answer d → d ≡ c
+unread why reply m to word c d answer e h = (subst (λ (r : Reply). ReadsLoaded r c m to word answer d) e h).1
+
+load_done : (m to object field word : ℕ) (s : State) (c c' : CoreState) (answer : Answer) → Stands s c
+    → Loads c m to object field word answer (Some c') → Found s c' (λ es. HasLoaded c es m to object field word answer c')
+load_done m to object field word s c c' answer st h =
+    let same : c' ≡ h.core = held_is c' h.core h.held in
+    let step = loading m to object field in
+    let one = one_from s step h.reply h.loaded (h.loads.follows s st) in
+    let rest = reads_loaded m to word one.last h.loaded h.core answer h.reply one.stands h.reads in
+    record {
+      events = event_of step h.reply ∷ rest.events;
+      from = subst (λ (d : CoreState). From s (event_of step h.reply ∷ rest.events) d) (sym same)
+          (then_from s (event_of step h.reply ∷ []) rest.events h.loaded h.core one rest.run);
+      has = record {
+        reply = h.reply;
+        reads = rest.events;
+        events = refl;
+        read = rest.read;
+        kept = λ why e. same ∙ unread why h.reply m to word h.loaded h.core answer e h.reads
+            ∙ keeps step h.reply c h.loaded h.loads.does why e;
+      };
+    }
+
+-- ---- several fields
+many_done : (x : Many) (s : State) (c c' : CoreState) (answer : Answer) → Stands s c
+    → DoesAll c x answer (Some c') ⊎ DoesNone c x answer (Some c')
+    → Found s c' (λ es. HasMany es x answer ⊎ HasRefused c es (last_step x) answer c')
+many_done x s c c' answer st (inl a) =
+    let same : c' ≡ a.core = held_is c' a.core a.held in
+    let l = done_leads (step_of x) (count_of x) s c a.core st a.led in
+    record {
+      events = l.events;
+      from = subst (λ (d : CoreState). From s l.events d) (sym same) l.from;
+      has = inl (record { events = l.are; done = l.done; tells = a.done });
+    }
+many_done x s c c' answer st (inr n) =
+    let f = refused_done (last_step x) n.why s c c' answer st (held_is c' c n.same) n.last n.tells in
+    record { events = f.events; from = f.from; has = inr f.has }
 
 -- ---- words in bulk
 reads_from : (m : ℕ) (object : Register) (c : CoreState) (ws : List ℕ) (from : ℕ) (s : State) → Stands s c
@@ -385,6 +481,14 @@ call_done (MakeFilledCall m to from words) s c c' answer st h =
 call_done CollectCall s c c' answer st h =
     collect_done (c.config.regions + 5) s c h.core c' _ answer st (held_is c' h.core h.held) h.collects h.tells
 call_done CollectAllCall s c c' answer st h = collect_done _ s c h.core c' _ answer st (held_is c' h.core h.held) h.collects h.tells
+call_done (GetWordCall m to object field word) s c c' answer st h =
+    choose s c' (IsStep c.config (loading m to object field)) (λ es. HasLoaded c es m to object field word answer c')
+    (λ es. HasNoEvent c es no_step answer c') (is_step c.config (loading m to object field))
+    (λ is. load_done m to object field word s c c' answer st (h.takes is)) (λ isnt. none_done no_step s c c' answer st (h.not isnt))
+call_done (ManyCall x) s c c' answer st h =
+    choose s c' (AreSteps c.config x) (λ es. HasMany es x answer ⊎ HasRefused c es (last_step x) answer c')
+    (λ es. HasNoEvent c es no_step answer c') (are_steps c.config x)
+    (λ is. many_done x s c c' answer st (h.takes is)) (λ isnt. none_done no_step s c c' answer st (h.not isnt))
 call_done (ReadWordsCall m object from before after) s c c' answer st h =
     let same : c' ≡ c = held_is c' c h.1 in
     choose s c' (HasRegister c m object)

@@ -1,5 +1,5 @@
 -- The code of each answer of a run is one that calls on a heap have.
-use Rattle.std.proofs.Common.{◌≡◌, ◌≤◌, ◌-◌, ℕ, Bool, false, true, List, [], ◌∷◌, Some, None, inl, inr, refl, sym, subst, arith}
+use Rattle.std.proofs.Common.{◌≡◌, ◌-◌, ℕ, Bool, false, true, List, [], ◌∷◌, Some, None, inl, inr, refl, sym, subst, arith}
 use Rattle.std.specs.Prelude.{All}
 use Rattle.std.proofs.lemmas.List.Elements.{All-cons, All-nil}
 use Rattle.heap_steps.specs.declared.step.CollectorStep.TheVariants as collector
@@ -14,13 +14,15 @@ use Rattle.graph_runs.specs.State.{State}
 use Rattle.step_core.specs.Mutators.{register_of}
 use Rattle.step_core.specs.Stands.{CoreState, name_in}
 use Rattle.heap_calls.specs.Numbers.{counted, numbers, refused, register}
+use Rattle.heap_calls.specs.Loads.{word_or_name}
 use Rattle.heap_calls.specs.Steps.{given_back}
 use Rattle.heap_calls.specs.declared.answer.Answer.{Answer}
 use Rattle.g1heap_c.specs.Calls.{Call, Called, IsAnswerTo, Question, telling}
 use Rattle.g1heap_c.specs.Calls.{NewCall, StepCall, NewFilledCall, MakeCall, MakeFilledCall, CollectCall, CollectAllCall, ReadWordsCall}
-use Rattle.g1heap_c.specs.Calls.{WriteWordsCall, WalkCall, WhoCall, AskCall, GiveBackCall, ShrinkCall, NoStepCall, FreeCall}
-use Rattle.g1heap_c.specs.Calls.{FreeRegions, FreeRun, UsedWords, LiveWords, Marking, Grey, Clearing, Queued, Globals, Registers, Name}
-use Rattle.g1heap_c.specs.Runs.{AreRun, CallsRun, HasCode, HasEvents, IsCode}
+use Rattle.g1heap_c.specs.Calls.{GetWordCall, ManyCall, WriteWordsCall, WalkCall, WhoCall, AskCall, GiveBackCall, ShrinkCall, NoStepCall}
+use Rattle.g1heap_c.specs.Calls.{FreeCall}
+use Rattle.g1heap_c.specs.Calls.{FreeRun, Marking, Grey, Clearing, Name}
+use Rattle.g1heap_c.specs.Runs.{AreRun, CallsRun, HasCode, HasEvents, IsCode, IsReadLoaded}
 use Rattle.g1heap_c.proofs.Named.{is_register}
 
 none : IsCode 32
@@ -69,6 +71,22 @@ of_question (Name m r) c y h = elim (is_register c m r) [
 ]
 of_question _ c y h = alike y _ h (inl (omega arith))
 
+of_word : (name : ℕ) (r : Reply) → IsCode (word_or_name name r).code
+of_word name (replies.Word word) = inl (omega arith)
+of_word name _ = inl (omega arith)
+
+of_loaded : (r : Reply) (es : List Event) (m to word : ℕ) (y : Answer) → IsReadLoaded r es m to word y → IsCode y.code
+of_loaded (replies.Named (Some name)) es m to word y h = alike y _ h.2 (of_word name h.0)
+of_loaded (replies.Named None) es m to word y h = alike y _ h.1 (of_numbers (replies.Named None))
+of_loaded (replies.Refused why) es m to word y h = alike y _ h.1 (of_refused why)
+of_loaded replies.Done es m to word y h = alike y _ h.1 (of_numbers replies.Done)
+of_loaded (replies.Word v) es m to word y h = alike y _ h.1 (of_numbers (replies.Word v))
+of_loaded (replies.Shape p v) es m to word y h = alike y _ h.1 (of_numbers (replies.Shape p v))
+of_loaded (replies.Marked v) es m to word y h = alike y _ h.1 (of_numbers (replies.Marked v))
+of_loaded (replies.Reclaimed v) es m to word y h = alike y _ h.1 (of_numbers (replies.Reclaimed v))
+of_loaded (replies.Refined v) es m to word y h = alike y _ h.1 (of_numbers (replies.Refined v))
+of_loaded (replies.Moved p v) es m to word y h = alike y _ h.1 (of_numbers (replies.Moved p v))
+
 of_call : (c : CoreState) (es : List Event) (call : Call) (y : Answer) (d : CoreState) → HasEvents c es call y d → IsCode y.code
 of_call c es (NewCall config) y d h = alike y _ h.tells live
 of_call c es (StepCall step) y d (inl h) = alike y _ h.1.tells (of_telling step c d h.1.reply)
@@ -77,6 +95,9 @@ of_call c es (MakeCall op) y d (inl h) = alike y _ h.1.tells (of_numbers h.1.rep
 of_call c es (MakeFilledCall m to from words) y d (inl h) = alike y _ h.1.tells (of_numbers h.1.reply)
 of_call c es CollectCall y d h = alike y _ h.tells (inl (omega arith))
 of_call c es CollectAllCall y d h = alike y _ h.tells (inl (omega arith))
+of_call c es (GetWordCall m to object field word) y d (inl h) = of_loaded h.1.reply h.1.reads m to word y h.1.read
+of_call c es (ManyCall many) y d (inl (is, inl h)) = alike y _ h.tells (inl (omega arith))
+of_call c es (ManyCall many) y d (inl (is, inr h)) = alike y _ h.tells (of_refused h.why)
 of_call c es (ReadWordsCall m object from before after) y d (inl (is, inl h)) = alike y _ h.tells (inl (omega arith))
 of_call c es (ReadWordsCall m object from before after) y d (inl (is, inr h)) = alike y _ h.refused.tells (of_refused h.refused.why)
 of_call c es (ReadWordsCall m object from before after) y d (inr h) = alike y _ h.1.0.tells none

@@ -1,5 +1,6 @@
 -- It can be told whether numbers name steps of a heap.
-use Rattle.std.proofs.Common.{◌≡◌, ◌⊎◌, ◌<◌, ◌^◌, ℕ, Bool, true, false, zero, suc, List, length, Option, Some, None, inl, inr, subst, arith}
+use Rattle.std.proofs.Common.{◌≡◌, ◌⊎◌, ◌+◌, ◌-◌, ◌<◌, ◌^◌, ℕ, Bool, true, false, zero, suc, List, length, Option, Some, None, inl, inr}
+use Rattle.std.proofs.Common.{subst, arith}
 use Rattle.std.specs.Prelude.{◌≢◌, slice_index}
 use Rattle.std.proofs.lemmas.Bool.{cases_eq, cases_lt}
 use Rattle.heap_words.specs.Configs.{registers_of}
@@ -19,6 +20,7 @@ use Rattle.heap_steps.specs.declared.step.Step.{Step}
 use Rattle.heap_steps.specs.declared.step.Step.TheVariants as steps
 use Rattle.step_core.specs.Stands.{CoreState}
 use Rattle.heap_calls.specs.Filled.{AreFields, making, pointing}
+use Rattle.heap_calls.specs.Rows.{AreSteps, IsApart, Many, last_step, GetMany, PutMany, Fill, FillWords}
 use Rattle.heap_calls.specs.Steps.{HasRegister}
 
 -- a fact, or what refutes it
@@ -111,3 +113,19 @@ are_fields c m to from words =
       | inl h ↦ inl (record { few = h.0; few_words = h.1.0; makes = h.1.1.0; points = h.1.1.1.0; apart = h.1.1.1.1 })
       | inr nay ↦ inr (λ h. nay (h.few, (h.few_words, (h.makes, (h.points, h.apart)))))
     ]
+
+is_apart : (x : Many) → OrNot (IsApart x)
+is_apart (GetMany m to object field count) =
+    elim (all_below (λ (k : ℕ). object ≢ to + k) (λ k. apart object (to + k)) (count - 1)) [
+      | inl all ↦ inl (λ k less. all k (omega (arith, less)))
+      | inr nay ↦ inr (λ all. nay (λ k less. all k (omega (arith, less))))
+    ]
+is_apart (PutMany m object field from count) = inl tt
+is_apart (Fill m object field from count) = inl tt
+is_apart (FillWords m object field word count) = inl tt
+
+pub are_steps : (c : Config) (x : Many) → OrNot (AreSteps c x)
+are_steps c x = elim (both _ _ (is_step c (last_step x)) (is_apart x)) [
+  | inl h ↦ inl (record { last = h.0; apart = h.1 })
+  | inr nay ↦ inr (λ h. nay (h.last, h.apart))
+]

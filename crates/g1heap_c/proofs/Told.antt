@@ -1,5 +1,5 @@
 -- A call's answer is fixed by its events, with the heap before and after it.
-use Rattle.std.proofs.Common.{◌≡◌, ◌⊎◌, ◌∙◌, ◌++◌, ◌≤◌, ℕ, List, [], ◌∷◌, inl, inr, sym, ap, length, arith}
+use Rattle.std.proofs.Common.{◌≡◌, ◌⊎◌, ◌∙◌, ◌++◌, ◌≤◌, ℕ, List, [], ◌∷◌, inl, inr, sym, ap, length, subst, arith, Some, None}
 use Rattle.std.specs.Prelude.{All}
 use Rattle.std.proofs.lemmas.List.Elements.{All-head, All-tail}
 use Rattle.heap_steps.specs.Actors.{IsOp, IsStep}
@@ -15,15 +15,19 @@ use Rattle.step_core.specs.Stands.{CoreState}
 use Rattle.collection.specs.Steps.{IsCollectors}
 use Rattle.heap_calls.specs.Filled.{AreFields}
 use Rattle.heap_calls.specs.FreeRuns.{IsLongestRun}
+use Rattle.heap_calls.specs.Loads.{loading, word_or_name}
 use Rattle.heap_calls.specs.Numbers.{numbers, register, told}
+use Rattle.heap_calls.specs.Rows.{AreSteps, Many, last_step}
 use Rattle.heap_calls.specs.Steps.{HasRegister, IsMarking, given_back}
 use Rattle.heap_calls.specs.declared.answer.Answer.{Answer}
 use Rattle.g1heap_c.specs.Calls.{Call, IsAnswerTo, Question, telling}
 use Rattle.g1heap_c.specs.Calls.{NewCall, StepCall, NewFilledCall, MakeCall, MakeFilledCall, CollectCall, CollectAllCall, ReadWordsCall}
-use Rattle.g1heap_c.specs.Calls.{WriteWordsCall, WalkCall, WhoCall, AskCall, GiveBackCall, ShrinkCall, NoStepCall, FreeCall}
-use Rattle.g1heap_c.specs.Calls.{FreeRegions, FreeRun, UsedWords, LiveWords, Marking, Grey, Clearing, Queued, Globals, Registers, Name}
-use Rattle.g1heap_c.specs.Runs.{HasEvents, HasFilling, HasMaking, HasMakingAndFilling, HasNoEvent, HasNotRead, HasRead, HasRefused, HasStep}
-use Rattle.g1heap_c.specs.Runs.{HasWritten, IfElse, event_of, last_read, last_write, reads_of, writes_of}
+use Rattle.g1heap_c.specs.Calls.{GetWordCall, ManyCall, WriteWordsCall, WalkCall, WhoCall, AskCall, GiveBackCall, ShrinkCall, NoStepCall}
+use Rattle.g1heap_c.specs.Calls.{FreeCall}
+use Rattle.g1heap_c.specs.Calls.{FreeRun, Marking, Grey, Clearing, Name}
+use Rattle.g1heap_c.specs.Runs.{HasEvents, HasFilling, HasLoaded, HasMaking, HasMakingAndFilling, HasNoEvent, HasNotRead, HasRead}
+use Rattle.g1heap_c.specs.Runs.{HasDone, HasMany, HasRefused, HasStep}
+use Rattle.g1heap_c.specs.Runs.{HasWritten, IfElse, IsReadLoaded, event_of, last_read, last_write, reads_of, writes_of}
 use Rattle.g1heap_c.proofs.Named.{is_register}
 
 head_is : (x y : Event) (xs ys : List Event) → x ∷ xs ≡ y ∷ ys → x ≡ y
@@ -87,6 +91,28 @@ module _ (c : CoreState) (es : List Event) (y z : Answer) (d : CoreState) where
       let same : replies.Refused h.why ≡ replies.Refused k.why = replies_are _ _ _ _ (sym h.events ∙ k.events) in
       h.tells ∙ ap (λ (r : Reply). numbers r) same ∙ sym k.tells
 
+  loaded_one : (r : Reply) (fs gs : List Event) (m to word : ℕ) → fs ≡ gs → IsReadLoaded r fs m to word y → IsReadLoaded r gs m to word z
+      → y ≡ z
+  loaded_one (replies.Named (Some name)) fs gs m to word e h k =
+      let same : h.0 ≡ k.0 = replies_are _ _ _ _ (sym h.1 ∙ e ∙ k.1) in
+      h.2 ∙ ap (λ (r : Reply). word_or_name name r) same ∙ sym k.2
+  loaded_one (replies.Named None) fs gs m to word e h k = h.1 ∙ sym k.1
+  loaded_one (replies.Refused why) fs gs m to word e h k = h.1 ∙ sym k.1
+  loaded_one replies.Done fs gs m to word e h k = h.1 ∙ sym k.1
+  loaded_one (replies.Word v) fs gs m to word e h k = h.1 ∙ sym k.1
+  loaded_one (replies.Shape p v) fs gs m to word e h k = h.1 ∙ sym k.1
+  loaded_one (replies.Marked v) fs gs m to word e h k = h.1 ∙ sym k.1
+  loaded_one (replies.Reclaimed v) fs gs m to word e h k = h.1 ∙ sym k.1
+  loaded_one (replies.Refined v) fs gs m to word e h k = h.1 ∙ sym k.1
+  loaded_one (replies.Moved p v) fs gs m to word e h k = h.1 ∙ sym k.1
+
+  load_one : (m to object field word : ℕ) → HasLoaded c es m to object field word y d → HasLoaded c es m to object field word z d → y ≡ z
+  load_one m to object field word h k =
+      let e = sym h.events ∙ k.events in
+      let same : h.reply ≡ k.reply = replies_are _ _ _ _ e in
+      loaded_one k.reply h.reads k.reads m to word (tail_is _ _ _ _ e)
+      (subst (λ (r : Reply). IsReadLoaded r h.reads m to word y) same h.read) k.read
+
   no_read : (m object from : ℕ) (ws : List ℕ) (step : Step) (why : Refusal)
       → reads_of m (register object) from ws ≡ event_of step (replies.Refused why) ∷ [] → ⊥
   no_read m object from [] step why e = cc
@@ -120,6 +146,16 @@ module _ (c : CoreState) (es : List Event) (y z : Answer) (d : CoreState) where
   write_one m object from ws (inr h) (inl k) =
       absurd (no_write m object from ws (last_write m (register object) from ws) h.why (sym k.events ∙ h.events))
   write_one m object from ws (inr h) (inr k) = refused_one (last_write m (register object) from ws) h k
+
+  no_done : (step : Step) (why : Refusal) → es ≡ event_of step (replies.Refused why) ∷ [] → All HasDone es → ⊥
+  no_done step why e all =
+      All-head HasDone (event_of step (replies.Refused why)) [] (subst (λ (xs : List Event). All HasDone xs) e all)
+
+  many_one : (x : Many) → HasMany es x y ⊎ HasRefused c es (last_step x) y d → HasMany es x z ⊎ HasRefused c es (last_step x) z d → y ≡ z
+  many_one x (inl h) (inl k) = h.tells ∙ sym k.tells
+  many_one x (inl h) (inr k) = absurd (no_done (last_step x) k.why k.events h.done)
+  many_one x (inr h) (inl k) = absurd (no_done (last_step x) h.why h.events k.done)
+  many_one x (inr h) (inr k) = refused_one (last_step x) h k
 
   longest_one : (n m : ℕ) → IsLongestRun c.table n → IsLongestRun c.table m → n ≡ m
   longest_one n m h k =
@@ -160,6 +196,9 @@ module _ (c : CoreState) (es : List Event) (y z : Answer) (d : CoreState) where
       same_side (AreFields c.config m to from words) _ _ _ _ (y ≡ z) h k (make_fill_one m to from words) none_else
   one_answer CollectCall h k = h.tells ∙ sym k.tells
   one_answer CollectAllCall h k = h.tells ∙ sym k.tells
+  one_answer (GetWordCall m to object field word) h k =
+      same_side (IsStep c.config (loading m to object field)) _ _ _ _ (y ≡ z) h k (load_one m to object field word) none_else
+  one_answer (ManyCall x) h k = same_side (AreSteps c.config x) _ _ _ _ (y ≡ z) h k (many_one x) none_else
   one_answer (ReadWordsCall m object from before after) h k =
       same_side (HasRegister c m object) _ _ _ _ (y ≡ z) h k (read_one m object from before after) (λ a b. none_else a.0 b.0)
   one_answer (WriteWordsCall m object from ws) h k =

@@ -11,6 +11,8 @@ use Rattle.heap_steps.specs.declared.step.Step.TheVariants as steps
 use Rattle.step_core.specs.Measures.{used_words, live_words, HasGrey, HasSlotsLeft}
 use Rattle.step_core.specs.Stands.{CoreState}
 use Rattle.heap_calls.specs.Filled.{MakesFilled}
+use Rattle.heap_calls.specs.Loads.{GetsWord}
+use Rattle.heap_calls.specs.Rows.{DoesMany, Many}
 use Rattle.heap_calls.specs.Numbers.{told}
 use Rattle.heap_calls.specs.Steps.{GivesBack, IsMarking, IsName, IsNumber, IsFreeRun, IsSign, MakesHeap, TakesStep, TakesNone, Tells}
 use Rattle.heap_calls.specs.Steps.{plain, scanned}
@@ -39,10 +41,11 @@ pub data Question : Type 0 where
   Name : (m r : ℕ) → Question
 
 -- Which call it is, with its numbers. A heap is made; it takes a step; it makes an object and fills it; it makes an object by the policy,
--- and makes one by the policy and fills it; the steps of the collector that are due; a whole collection; data words are read from one on,
--- with what the buffer holds before and after, and are written; objects are told from a cursor on, with the buffer, and so is who names
--- one; something is asked; memory is given back, and what that asks for meanwhile is granted or not; the same after a whole collection and
--- compactions; the numbers name no step of any heap; it is freed
+-- and makes one by the policy and fills it; the steps of the collector that are due; a whole collection; a pointer is loaded, with a data
+-- word of what it leads to; several fields are loaded or stored; data words are read from one on, with what the buffer holds before and
+-- after, and are written; objects are told from a cursor on, with the buffer, and so is who names one; something is asked; memory is given
+-- back, and what that asks for meanwhile is granted or not; the same after a whole collection and compactions; the numbers name no step of
+-- any heap; it is freed
 pub data Call : Type 0 where
   NewCall : (config : Config) → Call
   StepCall : (step : Step) → Call
@@ -51,6 +54,8 @@ pub data Call : Type 0 where
   MakeFilledCall : (m to : ℕ) (from words : List ℕ) → Call
   CollectCall : Call
   CollectAllCall : Call
+  GetWordCall : (m to object field word : ℕ) → Call
+  ManyCall : (many : Many) → Call
   ReadWordsCall : (m object from : ℕ) (before after : List ℕ) → Call
   WriteWordsCall : (m object from : ℕ) (words : List ℕ) → Call
   WalkCall : (from to : ℕ) (before after : List Entry) → Call
@@ -90,6 +95,8 @@ IsCall heap (MakeCall op) answer after = AsksFor heap op answer after
 IsCall heap (MakeFilledCall m to from words) answer after = AsksFilled heap m to from words answer after
 IsCall heap CollectCall answer after = CollectsDue heap answer after
 IsCall heap CollectAllCall answer after = CollectsAll heap answer after
+IsCall heap (GetWordCall m to object field word) answer after = GetsWord heap m to object field word answer after
+IsCall heap (ManyCall many) answer after = DoesMany heap many answer after
 IsCall heap (ReadWordsCall m object from before out) answer after = ReadsWords heap m object from before out answer after
 IsCall heap (WriteWordsCall m object from words) answer after = WritesWords heap m object from words answer after
 IsCall heap (WalkCall from to before out) answer after = WalksOn heap from to before out answer after

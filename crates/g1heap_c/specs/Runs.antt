@@ -13,17 +13,22 @@ use Rattle.heap_steps.specs.declared.step.Step.TheVariants as steps
 use Rattle.graph_runs.specs.Run.{IsRun}
 use Rattle.graph_runs.specs.State.{State, first_state}
 use Rattle.step_core.specs.Passages.{actor_in, actor_of}
+use Rattle.step_core.specs.Rows.{IsDone}
 use Rattle.step_core.specs.Stands.{CoreState, Stands}
 use Rattle.step_core.specs.Words.{reading, writing}
 use Rattle.collection.specs.Steps.{IsCollectors}
 use Rattle.heap_calls.specs.Filled.{AreFields, making, pointing, wording}
+use Rattle.heap_calls.specs.Loads.{loading, word_or_name}
+use Rattle.heap_calls.specs.Loads as loads
+use Rattle.heap_calls.specs.Rows.{AreSteps, Many, count_of, last_step, step_of}
 use Rattle.heap_calls.specs.Numbers.{no_step, numbers, refused, register, told}
 use Rattle.heap_calls.specs.Steps.{HasRegister, given_back}
 use Rattle.heap_calls.specs.Walks.{Finds, Walks}
 use Rattle.heap_calls.specs.declared.answer.Answer.{Answer}
 use Rattle.g1heap_c.specs.Calls.{Call, Called, AreCalls, IsAnswerTo, IsCall, telling}
 use Rattle.g1heap_c.specs.Calls.{NewCall, StepCall, NewFilledCall, MakeCall, MakeFilledCall, CollectCall, CollectAllCall, ReadWordsCall}
-use Rattle.g1heap_c.specs.Calls.{WriteWordsCall, WalkCall, WhoCall, AskCall, GiveBackCall, ShrinkCall, NoStepCall, FreeCall}
+use Rattle.g1heap_c.specs.Calls.{GetWordCall, ManyCall, WriteWordsCall, WalkCall, WhoCall, AskCall, GiveBackCall, ShrinkCall, NoStepCall}
+use Rattle.g1heap_c.specs.Calls.{FreeCall}
 use Rattle.g1heap_c.specs.Policies.{asked}
 
 -- the event of a step with a reply, taken by whose step it is
@@ -111,12 +116,36 @@ pub record HasCollected (es : List Event) (code : Answer) (answer : Answer) : Ty
   pub collectors : All IsCollectors es
   pub tells : answer ≡ code
 
+-- where an object was loaded, the step that reads its data word, of which the answer tells; else none, and it tells of the load
+abbrev pub IsReadLoaded : Reply → List Event → ℕ → ℕ → ℕ → Answer → Type 0
+IsReadLoaded (replies.Named (Some name)) es m to word answer =
+    (reply : Reply) × (es ≡ event_of (loads.reading m to word) reply ∷ []) × (answer ≡ word_or_name name reply)
+IsReadLoaded reply es m to word answer = (es ≡ []) × (answer ≡ numbers reply)
+
+-- the step that loads a pointer, and after it that of the word; a refused load leaves the heap as it was
+pub record HasLoaded (c : CoreState) (es : List Event) (m to object field word : ℕ) (answer : Answer) (c' : CoreState) : Type 0 where
+  pub reply : Reply
+  pub reads : List Event
+  pub events : es ≡ event_of (loading m to object field) reply ∷ reads
+  pub read : IsReadLoaded reply reads m to word answer
+  pub kept : KeepsIfRefused reply c c'
+
 -- one step, refused as the answer tells; the heap is as it was
 pub record HasRefused (c : CoreState) (es : List Event) (step : Step) (answer : Answer) (c' : CoreState) : Type 0 where
   pub why : Refusal
   pub events : es ≡ event_of step (replies.Refused why) ∷ []
   pub tells : answer ≡ refused why
   pub same : c' ≡ c
+
+-- a reply of an event is no refusal
+abbrev pub HasDone : Event → Type 0
+HasDone e = IsDone e.reply
+
+-- the steps for all fields, one after another, all done
+pub record HasMany (es : List Event) (many : Many) (answer : Answer) : Type 0 where
+  pub events : AreEventsOf (first_steps (step_of many) (count_of many)) es
+  pub done : All HasDone es
+  pub tells : answer ≡ told 0 0 0
 
 -- a step for each word: the buffer takes what they read, as many words as it has; the heap is as it was
 pub record HasRead (c : CoreState) (es : List Event) (m object from : ℕ) (before after : List ℕ) (answer : Answer) (c' : CoreState)
@@ -160,6 +189,12 @@ HasEvents c es (MakeFilledCall m to from words) answer c' =
     IfElse (AreFields c.config m to from words) (HasMakingAndFilling es m to from words answer) (HasNoEvent c es no_step answer c')
 HasEvents c es CollectCall answer c' = HasCollected es (told 0 0 0) answer
 HasEvents c es CollectAllCall answer c' = HasCollected es (told 0 0 0) answer
+HasEvents c es (GetWordCall m to object field word) answer c' =
+    IfElse (IsStep c.config (loading m to object field)) (HasLoaded c es m to object field word answer c')
+    (HasNoEvent c es no_step answer c')
+HasEvents c es (ManyCall many) answer c' =
+    IfElse (AreSteps c.config many) (HasMany es many answer ⊎ HasRefused c es (last_step many) answer c')
+    (HasNoEvent c es no_step answer c')
 HasEvents c es (ReadWordsCall m object from before after) answer c' =
     IfElse (HasRegister c m object)
     (HasRead c es m object from before after answer c' ⊎ HasNotRead c es m object from before after answer c')

@@ -15,12 +15,14 @@ pub mod collector;
 pub mod filled;
 pub mod giving;
 pub mod laws;
+pub mod loads;
 pub mod made_filled;
 pub mod making;
 pub mod mutator;
 mod noted;
 pub mod policy;
 pub mod readers;
+pub mod rows;
 pub mod walks;
 pub mod words;
 

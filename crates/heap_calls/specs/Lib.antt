@@ -6,3 +6,5 @@ pub mod Words
 pub mod Filled
 pub mod FreeRuns
 pub mod Walks
+pub mod Loads
+pub mod Rows

@@ -7,8 +7,9 @@
 //! ```
 //!
 //! `named` has what a call's numbers name, `answer` the numbers that a call answers, `heap` a heap as C keeps it, `handle` its pointer,
-//! `loose` the box that this points to, `making` how it begins, `filled` a new object with its fields, `words` several data words,
-//! `readers` what is looked for in a heap, `walks` its objects one after another, and `giving` memory that is given back to the system.
+//! `loose` the box that this points to, `making` how it begins, `filled` a new object with its fields, `words` several data words, `loads`
+//! a pointer with a data word of the object that it leads to, `rows` several fields, `readers` what is looked for in a heap, `walks` its
+//! objects one after another, and `giving` memory that is given back to the system.
 #![tactic(auto)]
 
 pub mod answer;
@@ -16,9 +17,11 @@ pub mod filled;
 pub mod giving;
 pub mod handle;
 pub mod heap;
+pub mod loads;
 pub mod loose;
 pub mod making;
 pub mod named;
 pub mod readers;
+pub mod rows;
 pub mod walks;
 pub mod words;

@@ -16,3 +16,4 @@ pub mod Settled
 pub mod Beginning
 pub mod Words
 pub mod Filling
+pub mod Rows

@@ -18,3 +18,4 @@ pub mod Parts
 pub mod Passages
 pub mod Words
 pub mod Near
+pub mod Rows

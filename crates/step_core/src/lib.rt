@@ -25,9 +25,9 @@
 //! `mutator` has the mutator's steps, `barrier` what a store and a weak read do beside, `cycle` the steps of marking, `cleanup` the
 //! reclaiming, `refine` refinement, `candidates` the choice of what a pause evacuates, `highest` of what a compaction does, `youngest` of
 //! what a young pause does, `pause` all three, `step` any step, `runs` a list of them, `words` several data words at once, `filling` fields
-//! of an object whose address is known, `near` its pointers one after another, `readers` what is read of a core from outside, `names` which
-//! object starts at an address and what weak slots show, `measures` what a policy of collection asks of it, `layers` the parts that a new
-//! core is made of, `laws` that what a core came to is a run of the graph.
+//! of an object whose address is known, `near` its pointers one after another, `rows` several fields of any object, `readers` what is
+//! read of a core from outside, `names` which object starts at an address and what weak slots show, `measures` what a policy of collection
+//! asks of it, `layers` the parts that a new core is made of, `laws` that what a core came to is a run of the graph.
 //!
 //! A field is read or written in constant time: no step tests or walks its region to see that an address is an object.
 //!
@@ -64,6 +64,7 @@ mod near;
 mod pause;
 mod readers;
 mod refine;
+mod rows;
 mod runs;
 mod slide;
 mod step;
@@ -76,4 +77,5 @@ pub use heap::Core;
 pub use laws::passage_law;
 pub use mutator::{NewObject, new_reply};
 pub use names::object_name;
+pub use rows::Source;
 pub use runs::{run, run_to_core};

@@ -163,6 +163,11 @@ extern "C" {
     pub fn g1_put_weak(heap: *mut g1_heap, mutator: u32, object: u32, slot: u32, from: u32) -> g1_answer;
     pub fn g1_weaks(heap: *mut g1_heap, mutator: u32, object: u32) -> g1_answer;
     pub fn g1_scope(heap: *mut g1_heap, mutator: u32, first: u32) -> g1_answer;
+    pub fn g1_get_word(heap: *mut g1_heap, mutator: u32, to: u32, object: u32, field: u32, word: u32) -> g1_answer;
+    pub fn g1_get_many(heap: *mut g1_heap, mutator: u32, to: u32, object: u32, field: u32, count: u32) -> g1_answer;
+    pub fn g1_put_many(heap: *mut g1_heap, mutator: u32, object: u32, field: u32, from: u32, count: u32) -> g1_answer;
+    pub fn g1_fill(heap: *mut g1_heap, mutator: u32, object: u32, field: u32, from: u32, count: u32) -> g1_answer;
+    pub fn g1_fill_words(heap: *mut g1_heap, mutator: u32, object: u32, field: u32, value: u64, count: u32) -> g1_answer;
     pub fn g1_read_words(heap: *mut g1_heap, mutator: u32, object: u32, from: u32, out: *mut u64, count: usize) -> g1_answer;
     pub fn g1_write_words(heap: *mut g1_heap, mutator: u32, object: u32, from: u32, r#in: *const u64, count: usize) -> g1_answer;
     pub fn g1_new_filled(
@@ -236,6 +241,11 @@ macro_rules! each_call_of_numbers {
             put_weak = g1_put_weak(mutator: u32, object: u32, slot: u32, from: u32);
             weaks = g1_weaks(mutator: u32, object: u32);
             scope = g1_scope(mutator: u32, first: u32);
+            get_word = g1_get_word(mutator: u32, to: u32, object: u32, field: u32, word: u32);
+            get_many = g1_get_many(mutator: u32, to: u32, object: u32, field: u32, count: u32);
+            put_many = g1_put_many(mutator: u32, object: u32, field: u32, from: u32, count: u32);
+            fill = g1_fill(mutator: u32, object: u32, field: u32, from: u32, count: u32);
+            fill_words = g1_fill_words(mutator: u32, object: u32, field: u32, value: u64, count: u32);
             begin = g1_begin();
             mark = g1_mark(words: u32);
             remark = g1_remark();

@@ -59,6 +59,11 @@ pub put_nil : (g : Graph) (c : CoreState) → ShowsGraph g c → (m : ℕ) (obje
     → Acts g m (actions.Put object i value) (replies.Refused refusals.Nil) c
 put_nil g c s m object i value = nil_acts g c s m object (actions.Put object i value) _ refl
 
+pub get_nil : (g : Graph) (c : CoreState) → ShowsGraph g c → (m : ℕ) (to object : Register) (i : ℕ)
+    → Leads c (register_place (root_counts_of c.config) m object.number) None
+    → Acts g m (actions.Get to object i) (replies.Refused refusals.Nil) c
+get_nil g c s m to object i = nil_acts g c s m object (actions.Get to object i) _ refl
+
 -- a refused action changes nothing
 pub refused_does : (m : ℕ) (a : Action) (why : Refusal) (c : CoreState)
     → ((g : Graph) → ShowsGraph g c → Acts g m a (replies.Refused why) c) → DoesAction m a (replies.Refused why) c c
