@@ -45,8 +45,8 @@ THREADS = (1, 2, 4)
 WAYS = ("call", "node", "tree", "turns", "heaps", "messages")
 JAVA_FLAGS = ["-XX:+UseG1GC", "-XX:ParallelGCThreads=1", "-XX:ConcGCThreads=1", "-XX:G1ConcRefinementThreads=1"]
 CALLS = ["get", "get word", "get many, 4", "put many, 4", "read", "write", "put", "put while marking", "get weak",
-         "get weak while clearing", "move", "new 2 + 1",
-         "new filled 2 + 1", "make 2 + 1", "make filled 2 + 1", "name", "scope", "no such register"]
+         "get weak while clearing", "move", "new 2 + 1", "new filled 2 + 1", "make 2 + 1", "make filled 2 + 1", "name", "scope",
+         "no such register"]
 # A step with its size, two numbers of times of which the difference is taken, and what the difference is divided by.
 GROWTH = [
     *[("pause beside marked objects", size, 2, 12, 10) for size in (1000, 1000000)],
