@@ -137,7 +137,8 @@ ones : (rows : List LiveRow) → sum_by (λ (row : LiveRow). 1) rows ≡ length 
 ones [] = refl
 ones (r ∷ rs) = let a = sum_by-cons (λ (row : LiveRow). 1) r rs in let b = ones rs in omega (arith, a, b)
 
-module _ (budget n w : ℕ) (c c' : CoreState) (core : IsCore c) (shape : IsShaped c.table) (p : HasMoved choices.Highest budget n w c c') where
+module _ (budget n w : ℕ) (c c' : CoreState) (core : IsCore c) (shape : IsShaped c.table)
+    (p : HasMoved choices.Highest budget n w c c') where
   abbrev t : Table
   t = c.table
 

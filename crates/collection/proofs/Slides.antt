@@ -1,5 +1,6 @@
 -- A run that moves down, and a compaction as a whole: as many regions are free, ordinary, and of runs as before.
-use Rattle.std.proofs.Common.{◌≡◌, ◌≢◌, ◌⊎◌, ◌+◌, ◌-◌, ◌*◌, ◌/◌, ◌<◌, ◌≤◌, ◌∙◌, ℕ, zero, suc, Bool, List, Option, Some, None, length, refl, sym, ap, subst}
+use Rattle.std.proofs.Common.{◌≡◌, ◌≢◌, ◌⊎◌, ◌+◌, ◌-◌, ◌*◌, ◌/◌, ◌<◌, ◌≤◌, ◌∙◌, ℕ, zero, suc, Bool, List, Option, Some, None, length}
+use Rattle.std.proofs.Common.{refl, sym, ap, subst}
 use Rattle.std.proofs.Common.{ap₂, arith, inl, inr}
 use Rattle.std.proofs.lemmas.Bool.{cases_eq, cases_lt, eq-eqb, ne_eqb}
 use Rattle.heap_model.specs.Graph.{Graph, IsReachable}
@@ -21,7 +22,8 @@ use Rattle.step_core.specs.Measures.{sum_below}
 use Rattle.step_core.specs.Stands.{CoreState, Stands, IsCore, kept_of}
 use Rattle.step_core.specs.Sliding.{HasCompacted, IsLeft, MovesRun, RunKinds, Slides}
 use Rattle.graph_runs.specs.State.{State}
-use Rattle.collection.specs.Space.{IsExact, IsPacked, IsQuiet, LieBelowFree, kept_by_kind, ordinary_count, ordinary_end, ordinary_one, run_count, run_one}
+use Rattle.collection.specs.Space.{IsExact, IsPacked, IsQuiet, LieBelowFree, kept_by_kind, ordinary_count, ordinary_end, ordinary_one}
+use Rattle.collection.specs.Space.{run_count, run_one}
 use Rattle.collection.proofs.Counts.{count_all}
 use Rattle.collection.proofs.Exact.{ordinary_known}
 use Rattle.collection.proofs.Sums.{sum_same}
@@ -112,7 +114,8 @@ module _ (first to n w : ℕ) (c c' : CoreState) (shape : IsShaped c.table) (p :
       later_rest c.table first (k - first) k (omega (arith, low)) (omega (arith, low)) (omega (arith, low, high, e))
 
   sums : (cost : Kind → ℕ) → cost kinds.First ≡ cost kinds.Rest
-      → sum_below (λ k. cost (kind_of c'.table k)) (length c'.table.regions) ≡ sum_below (λ k. cost (kind_of c.table k)) (length c.table.regions)
+      → sum_below (λ k. cost (kind_of c'.table k)) (length c'.table.regions) ≡ sum_below (λ k. cost (kind_of c.table k))
+      (length c.table.regions)
   sums = kinds_sum c.table c'.table first to n p.movable.below p.movable.run fits rests p.movable.free some_run p.kinds_are
 
   pub slid_runs : run_count c'.table ≡ run_count c.table
@@ -178,7 +181,8 @@ module _ (first to n w : ℕ) (c c' : CoreState) (shape : IsShaped c.table) (p :
         let bound = p.others.bounds k out in
         let at : k * c'.table.words_per_region ≡ k * words = ap (λ (x : ℕ). k * x) size in
         let same = ap₂ (λ (a b : ℕ). kept_words c'.table c'.marker.tams c'.marker.bitmaps.previous a b) at size
-        ∙ kept_words_same c.table c'.table c.marker.tams c'.marker.tams c.marker.bitmaps.previous c'.marker.bitmaps.previous words (k * words)
+        ∙ kept_words_same c.table c'.table c.marker.tams c'.marker.tams c.marker.bitmaps.previous c'.marker.bitmaps.previous words
+        (k * words)
         (λ x low high.
         let r = region_of x k low high in
         p.others.words x
@@ -207,7 +211,8 @@ module _ (first to n w : ℕ) (c c' : CoreState) (shape : IsShaped c.table) (p :
       let z = shape.positive in
       elim (cases_eq k to) [
         | inl same ↦
-            let copy = p.relocates.kept (first * words) (to * words) p.movable.object p.movable.is_kept (place_here (first * words) (to * words)) in
+            let copy = p.relocates.kept (first * words) (to * words) p.movable.object p.movable.is_kept
+            (place_here (first * words) (to * words)) in
             let there = copy.at in
             let q = ap (λ (j : ℕ). kept_of c' (j * words)) same in
             cc
@@ -217,10 +222,11 @@ module _ (first to n w : ℕ) (c c' : CoreState) (shape : IsShaped c.table) (p :
               | inr void ↦ kept k was void
               | inl some ↦
                   let away : k * words ≢ first * words = λ q.
-                      (let r = sym (region_of (k * words) k (omega arith) (omega (arith, z))) ∙ ap (λ (b : ℕ). b / words) q
-                      ∙ region_of (first * words) first (omega arith) (omega (arith, z)) in
-                      first_gone k e apart r) in
-                  let copy = p.relocates.kept (k * words) (k * words) some.0 some.1 (place_stays (first * words) (to * words) (k * words) away) in
+                  (let r = sym (region_of (k * words) k (omega arith) (omega (arith, z))) ∙ ap (λ (b : ℕ). b / words) q
+                  ∙ region_of (first * words) first (omega arith) (omega (arith, z)) in
+                  first_gone k e apart r) in
+                  let copy = p.relocates.kept (k * words) (k * words) some.0 some.1
+                  (place_stays (first * words) (to * words) (k * words) away) in
                   let there = copy.at in
                   cc
             ]
@@ -280,7 +286,8 @@ module _ (budget n w : ℕ) (c c' : CoreState) (core : IsCore c) (shape : IsShap
     where
       go : HasCompacted budget n w c c' → c'.next ≡ c.next
       go (inl h) = ap (λ (x : CoreState). x.next) h.1.evacuates.same ∙ ap (λ (x : CoreState). x.next) h.1.is_ready.same
-      go (inr q) = by_slide q.slides ∙ ap (λ (x : CoreState). x.next) q.empty.evacuates.same ∙ ap (λ (x : CoreState). x.next) q.empty.is_ready.same
+      go (inr q) = by_slide q.slides ∙ ap (λ (x : CoreState). x.next) q.empty.evacuates.same
+          ∙ ap (λ (x : CoreState). x.next) q.empty.is_ready.same
         where
           by_slide : Slides budget n w q.after c' → c'.next ≡ q.after.next
           by_slide (inl still) = ap (λ (x : CoreState). x.next) still.same
@@ -325,7 +332,8 @@ module _ (budget n w : ℕ) (c c' : CoreState) (core : IsCore c) (shape : IsShap
           by_slide (inl still) = record {
             stands = stands;
             exact = subst IsExact (sym still.same) exact;
-            reached = subst (λ (k : CoreState). (a : ℕ) (x : Stored) → kept_of k a ≡ Some x → IsReachable s.graph x.name) (sym still.same) reached;
+            reached = subst (λ (k : CoreState). (a : ℕ) (x : Stored) → kept_of k a ≡ Some x → IsReachable s.graph x.name)
+                (sym still.same) reached;
             runs = subst AreKept (sym still.same) runs;
           }
           by_slide (inr (first, to, idle, lowest, moves)) = record {
@@ -336,7 +344,8 @@ module _ (budget n w : ℕ) (c c' : CoreState) (core : IsCore c) (shape : IsShap
           }
 
   -- where the highest ordinary region is no lower, none is above a free one
-  pub compacted_below : ordinary_end c.table ≤ ordinary_end c'.table → IsExact c → 2 ≤ free_count c.table → c.table.words_per_region ≤ budget
+  pub compacted_below : ordinary_end c.table ≤ ordinary_end c'.table → IsExact c → 2 ≤ free_count c.table
+      → c.table.words_per_region ≤ budget
       → budget ≤ c.table.words_per_region → LieBelowFree c'.table
   compacted_below as_high exact two enough few = go p
     where

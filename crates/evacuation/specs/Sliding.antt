@@ -1,5 +1,6 @@
 -- What names the object of a run that moves, as it is redirected word by word.
-use Rattle.std.specs.Prelude.{◌≡◌, ◌≢◌, ◌⊎◌, ◌↔◌, ◌+◌, ◌*◌, ◌/◌, ◌<◌, ◌≤◌, ℕ, Bool, true, false, List, Option, Some, None, length, slice_get, map}
+use Rattle.std.specs.Prelude.{◌≡◌, ◌≢◌, ◌⊎◌, ◌↔◌, ◌+◌, ◌*◌, ◌/◌, ◌<◌, ◌≤◌, ℕ, Bool, true, false, List, Option, Some, None, length}
+use Rattle.std.specs.Prelude.{slice_get, map}
 use Rattle.std.specs.List.Sorted.{IsStrictlyIncreasing}
 use Rattle.heap_model.specs.Heap.{Stored, fields}
 use Rattle.heap_model.specs.Redirection.{redirected}

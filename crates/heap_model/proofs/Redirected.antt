@@ -1,5 +1,6 @@
 -- One object that moves, and what names it.
-use Rattle.std.proofs.Common.{◌≡◌, ◌≢◌, ◌==◌, ◌∷◌, ◌++◌, ◌∙◌, ℕ, Bool, true, false, List, [], map, Option, Some, None, refl, sym, ap, subst, inl, inr}
+use Rattle.std.proofs.Common.{◌≡◌, ◌≢◌, ◌==◌, ◌∷◌, ◌++◌, ◌∙◌, ℕ, Bool, true, false, List, [], map, Option, Some, None, refl, sym, ap}
+use Rattle.std.proofs.Common.{subst, inl, inr}
 use Rattle.std.specs.Prelude.{if◌then◌else◌}
 use Rattle.std.specs.List.{AllZip}
 use Rattle.std.proofs.lemmas.Bool.{cases_eq, eq-eqb, ne_eqb}
@@ -41,7 +42,7 @@ module _ (from to : ℕ) (h now h' : Heap) (object : Stored) (r : Redirects from
       let moved = subst (λ (ws : List (Option ℕ)). AllZip (IsMoved (place_moved from to)) (fields x) ws) (sym s.fields_are)
       (words_moved from to (fields x)) in
       let (pointers, rest) =
-          AllZip-split (IsMoved (place_moved from to)) x.pointers y.pointers (x.weaks ++ x.held) (y.weaks ++ y.held) s.shape moved in
+      AllZip-split (IsMoved (place_moved from to)) x.pointers y.pointers (x.weaks ++ x.held) (y.weaks ++ y.held) s.shape moved in
       let (weaks, held) = AllZip-split (IsMoved (place_moved from to)) x.weaks y.weaks x.held y.held s.slots rest in
       record { copy = y; at = at; name = s.name; values = s.values; pointers = pointers; weaks = weaks; held = held }
 

@@ -67,7 +67,8 @@ one_left from to old now place next end e r found isnt = record {
 pub all_redirected : (from to : ℕ) (old now : List (Option ℕ)) (place : ℕ) → AreRedirected from to old now place
     → AreNil now place (length now) → now ≡ map (redirected from to) old
 all_redirected from to old now place r nil =
-    ext_get_or None now (map (redirected from to) old) (r.count ∙ sym (length-map old (redirected from to))) (λ j h. (elim (cases_lt j place) [
+    ext_get_or None now (map (redirected from to) old) (r.count ∙ sym (length-map old (redirected from to)))
+    (λ j h. (elim (cases_lt j place) [
       | inl b ↦ r.done j b
       | inr b ↦ nil_redirected from to old now place j r b (nil j b h)
     ]) ∙ sym (get_or-map (redirected from to) old j None None (let c = r.count in omega arith)))

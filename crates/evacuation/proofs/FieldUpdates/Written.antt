@@ -27,8 +27,16 @@ field_held s i v =
     let f = field_set s i v in
     let y : Stored = with_field s i v in
     let all = ap (λ (l : List (Option ℕ)). length l) f.fields_are ∙ length-set (fields s) i v in
-    omega (arith, all, f.shape, f.slots, length-append s.pointers (s.weaks ++ s.held), length-append s.weaks s.held,
-    length-append y.pointers (y.weaks ++ y.held), length-append y.weaks y.held)
+    omega (
+      arith,
+      all,
+      f.shape,
+      f.slots,
+      length-append s.pointers (s.weaks ++ s.held),
+      length-append s.weaks s.held,
+      length-append y.pointers (y.weaks ++ y.held),
+      length-append y.weaks y.held,
+    )
 
 module _ (p : Pause) (q : IsPause p) (t t' : Table) (d : Destinations) (turn : IsTurn p t d)
     (positive : 0 < t.words_per_region) (at i : ℕ) (v : Option ℕ) (y : Stored)
@@ -69,8 +77,13 @@ module _ (p : Pause) (q : IsPause p) (t t' : Table) (d : Destinations) (turn : I
   same : (x : Stored) → IsSameBut x y → IsSameBut x (with_field y i v)
   same x s =
       let f = field_set y i v in
-      record { name = f.name ∙ s.name; values = f.values ∙ s.values; pointers = f.shape ∙ s.pointers; weaks = field_weaks y i v ∙ s.weaks;
-          held = field_held y i v ∙ s.held }
+      record {
+        name = f.name ∙ s.name;
+        values = f.values ∙ s.values;
+        pointers = f.shape ∙ s.pointers;
+        weaks = field_weaks y i v ∙ s.weaks;
+        held = field_held y i v ∙ s.held;
+      }
 
   pub write_stays : TableStays p t'
   write_stays =

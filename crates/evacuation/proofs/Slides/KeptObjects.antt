@@ -70,10 +70,12 @@ unfolding kept_at
 kept_is s t k are a =
     ap (λ (m : List Bool). kept_in t k.tams.now m a) are.1 ∙ ap (λ (u : Tops). kept_in t u s.marks a) are.0
 
-pub kept_by : (s : Slide) (t : Table) (k : Kept) → AreKeptIn s k → (a : ℕ) → IsSome (kept_in t k.tams.now k.marks.now a) → IsSome (kept_at s t a)
+pub kept_by : (s : Slide) (t : Table) (k : Kept) → AreKeptIn s k → (a : ℕ) → IsSome (kept_in t k.tams.now k.marks.now a)
+    → IsSome (kept_at s t a)
 kept_by s t k are a h = subst (λ (o : Option Stored). IsSome o) (kept_is s t k are a) h
 
-pub not_kept : (s : Slide) (t : Table) (k : Kept) → AreKeptIn s k → (a : ℕ) (r : Bool) → (IsSome (kept_in t k.tams.now k.marks.now a) → IsTrue r)
+pub not_kept : (s : Slide) (t : Table) (k : Kept) → AreKeptIn s k → (a : ℕ) (r : Bool)
+    → (IsSome (kept_in t k.tams.now k.marks.now a) → IsTrue r)
     → r ≡ false → (y : Stored) → kept_at s t a ≡ Some y → ⊥
 not_kept s t k are a r f e y is =
     let h = f (is_some (kept_in t k.tams.now k.marks.now a) y (kept_is s t k are a ∙ is)) in

@@ -1,5 +1,6 @@
 -- The fields of the object itself, as they are to be at its new place.
-use Rattle.std.proofs.Common.{◌≡◌, ◌≢◌, ◌⊎◌, ◌+◌, ◌/◌, ◌<◌, ◌∙◌, ℕ, Bool, true, List, Option, Some, None, length, refl, sym, ap, subst, inl, inr}
+use Rattle.std.proofs.Common.{◌≡◌, ◌≢◌, ◌⊎◌, ◌+◌, ◌/◌, ◌<◌, ◌∙◌, ℕ, Bool, true, List, Option, Some, None, length, refl, sym, ap, subst}
+use Rattle.std.proofs.Common.{inl, inr}
 use Rattle.std.proofs.Common.{arith, slice_get, ◌*◌, IsSome}
 use Rattle.std.proofs.lemmas.List.{length-append}
 use Rattle.std.proofs.lemmas.Bool.{cases_eq}
@@ -12,7 +13,8 @@ use Rattle.evacuation.proofs.Slides.KeptObjects.{kept_object, some_kept}
 use Rattle.regions.specs.Shaped.{IsShaped}
 use Rattle.refinement.proofs.Holders.{fields_are, fields_of, object_within}
 use Rattle.evacuation.proofs.Slides.Redirecting.{none_redirected, redirected_then, names_before, names_on}
-use Rattle.evacuation.proofs.Slides.Written.{names_by, names_nil, names_other_than, write_redirects, write_others, names_now, names_same, written_unnamed}
+use Rattle.evacuation.proofs.Slides.Written.{names_by, names_nil, names_other_than, write_redirects, write_others, names_now, names_same}
+use Rattle.evacuation.proofs.Slides.Written.{written_unnamed}
 
 pub none_settled : (s : Slide) (t : Table) (noted : List Bool) → SlideStands s t noted → OwnGoesOn s 0 t t noted noted
 none_settled s t noted stands = record {
@@ -83,14 +85,16 @@ one_settled s n old t t' noted0 noted noted' g f = record {
 }
 
 -- the field's word is noted where its target is in another region
-leads_noted : (s : Slide) (t : Table) (n target : ℕ) (noted noted' : List Bool) → NotesWord (sizes s) noted noted' (field_word s.to n) target
+leads_noted : (s : Slide) (t : Table) (n target : ℕ) (noted noted' : List Bool)
+    → NotesWord (sizes s) noted noted' (field_word s.to n) target
     → Names s t s.from n target → LeadsOut s t n → flag noted' (field_card s.card_words s.to n) ≡ true
 leads_noted s t n target noted noted' notes names l = elim notes.is_noted [
   | inl near ↦ absurd (l.leaves (ap (λ (a : ℕ). a / s.words) (same_target s t s.from n l.target target l.names names) ∙ near))
   | inr is ↦ is
 ]
 
-noted_leads : (s : Slide) (t : Table) (n target : ℕ) (noted noted' : List Bool) → NotesWord (sizes s) noted noted' (field_word s.to n) target
+noted_leads : (s : Slide) (t : Table) (n target : ℕ) (noted noted' : List Bool)
+    → NotesWord (sizes s) noted noted' (field_word s.to n) target
     → Names s t s.from n target → (card : ℕ) → flag noted' card ≡ true
     → (flag noted card ≡ true) ⊎ (LeadsOut s t n × (field_card s.card_words s.to n ≡ card))
 noted_leads s t n target noted noted' notes names card e = elim (notes.only card e) [
@@ -109,7 +113,8 @@ stands_noted s t noted noted' word target stands notes = record {
   apart = stands.apart;
 }
 
-pub stands_redirected : (s : Slide) (t t' : Table) (noted : List Bool) → RedirectsSome s t t' → SlideStands s t noted → SlideStands s t' noted
+pub stands_redirected : (s : Slide) (t t' : Table) (noted : List Bool) → RedirectsSome s t t' → SlideStands s t noted
+    → SlideStands s t' noted
 stands_redirected s t t' noted r stands = record {
   size = r.size ∙ stands.size;
   count = r.count ∙ stands.count;
@@ -156,7 +161,8 @@ module _ (s : Slide) (n : ℕ) (old t : Table) (noted0 noted : List Bool) (y : S
 
     -- it names the object itself
     pub own_settled : (t' : Table) → 0 < t.words_per_region → target ≡ s.from → t' ≡ set_field t s.from n (Some s.to)
-        → NotesWord (sizes s) noted noted' (field_word s.to n) s.to → OwnGoesOn s n old t noted0 noted → OwnGoesOn s (n + 1) old t' noted0 noted'
+        → NotesWord (sizes s) noted noted' (field_word s.to n) s.to → OwnGoesOn s n old t noted0 noted
+        → OwnGoesOn s (n + 1) old t' noted0 noted'
     own_settled t' positive same is notes g =
         let f : slice_get (fields y) n ≡ Some (Some s.from) = field ∙ ap (λ (a : ℕ). Some (Some a)) same in
         let r = write_redirects s t t' s.from n y positive here f is in
@@ -181,7 +187,8 @@ module _ (s : Slide) (n : ℕ) (old t : Table) (noted0 noted : List Bool) (y : S
       stands_redirected s t t' noted (write_redirects s t t' s.from n y positive here f is) stands
 
 -- each of its fields is in the heap from the new place, which is below
-pub room_below : (s : Slide) (t : Table) (noted : List Bool) → SlideStands s t noted → IsShaped t → IsSome (kept_at s t s.from) → s.to < s.from
+pub room_below : (s : Slide) (t : Table) (noted : List Bool) → SlideStands s t noted → IsShaped t → IsSome (kept_at s t s.from)
+    → s.to < s.from
     → (i : ℕ) → i < length (fields_at t s.from) → field_word s.to i < s.regions * s.words
 room_below s t noted stands g object below i less =
     let (y, here) = some_kept s t s.from object in

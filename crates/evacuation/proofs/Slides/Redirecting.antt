@@ -10,7 +10,8 @@ use Rattle.regions.proofs.Tiles.Changes.{object_same}
 use Rattle.refinement.specs.Remembering.{field_card}
 use Rattle.evacuation.specs.Evacuates.{IsSameBut}
 use Rattle.evacuation.specs.Space.{flag}
-use Rattle.evacuation.specs.Sliding.{Slide, SlideStands, SlideGoesOn, RedirectsSome, IsRedirectedInPart, Names, IsChanged, HasChanged, kept_at}
+use Rattle.evacuation.specs.Sliding.{Slide, SlideStands, SlideGoesOn, RedirectsSome, IsRedirectedInPart, Names, IsChanged, HasChanged}
+use Rattle.evacuation.specs.Sliding.{kept_at}
 use Rattle.evacuation.specs.Sliding.{IsObjectUnnamed, IsCardUnnamed}
 use Rattle.evacuation.proofs.Slides.KeptObjects.{kept_as, kept_some, kept_object, some_kept, is_some}
 use Rattle.refinement.proofs.Holders.{fields_of}
@@ -35,8 +36,13 @@ get_at (x ∷ xs) (suc i) h = get_at xs i (omega arith)
 -- as many fields
 pub as_many : (x y : Stored) → IsSameBut x y → length (fields y) ≡ length (fields x)
 as_many x y s = let p = s.pointers in let w = s.weaks in let h = s.held in
-    omega (arith, length-append x.pointers (x.weaks ++ x.held), length-append x.weaks x.held, length-append y.pointers (y.weaks ++ y.held),
-    length-append y.weaks y.held)
+    omega (
+      arith,
+      length-append x.pointers (x.weaks ++ x.held),
+      length-append x.weaks x.held,
+      length-append y.pointers (y.weaks ++ y.held),
+      length-append y.weaks y.held,
+    )
 
 pub as_large : (x y : Stored) → IsSameBut x y → tile_size (Object y) ≡ tile_size (Object x)
 as_large x y s =

@@ -1,5 +1,6 @@
 -- All that names the object of a run.
-use Rattle.std.proofs.Common.{◌≡◌, ◌≢◌, ◌⊎◌, ◌+◌, ◌-◌, ◌*◌, ◌/◌, ◌<◌, ◌≤◌, ◌∙◌, ℕ, Bool, true, false, List, [], ◌∷◌, Option, Some, None, length, refl, sym, ap}
+use Rattle.std.proofs.Common.{◌≡◌, ◌≢◌, ◌⊎◌, ◌+◌, ◌-◌, ◌*◌, ◌/◌, ◌<◌, ◌≤◌, ◌∙◌, ℕ, Bool, true, false, List, [], ◌∷◌, Option, Some, None}
+use Rattle.std.proofs.Common.{length, refl, sym, ap}
 use Rattle.std.proofs.Common.{subst, inl, inr, arith, if◌then◌else◌, IsSome}
 use Rattle.std.proofs.lemmas.Bool.{cases_eq, cases_lt, cases_Bool}
 use Rattle.std.proofs.lemmas.Option.{slice_get_within}
@@ -224,8 +225,10 @@ module _ (t : Table) (tams : Tops) (marks : List Bool) (cards : Cards) (sets : S
       between_no_above (first * (words / card_words)) ((first + m) * (words / card_words)) card (omega (arith, l, q))
 
   -- the words of another object are in other regions, and so are their cards
-  pub elsewhere : (a i target : ℕ) → Names s t a i target → a ≢ s.from → first ≤ field_word a i / words → field_word a i / words < first + m → ⊥
-  elsewhere a i target n other low high = other (own_word t g first can.known can.run a (field_word a i) (names_holder s t a i target g n) low high)
+  pub elsewhere : (a i target : ℕ) → Names s t a i target → a ≢ s.from → first ≤ field_word a i / words
+      → field_word a i / words < first + m → ⊥
+  elsewhere a i target n other low high =
+      other (own_word t g first can.known can.run a (field_word a i) (names_holder s t a i target g n) low high)
 
   other_card : (a i target : ℕ) → Names s t a i target → a ≢ s.from → in_run (card_of a i) ≡ false
   other_card a i target n other = elim (cases_lt (field_word a i / words) first) [

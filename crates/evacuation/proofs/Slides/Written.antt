@@ -1,5 +1,6 @@
 -- A field is redirected.
-use Rattle.std.proofs.Common.{◌≡◌, ◌≢◌, ◌⊎◌, ◌<◌, ◌∙◌, ℕ, Bool, true, false, List, Option, Some, None, length, refl, sym, ap, subst, inl, inr, arith}
+use Rattle.std.proofs.Common.{◌≡◌, ◌≢◌, ◌⊎◌, ◌<◌, ◌∙◌, ℕ, Bool, true, false, List, Option, Some, None, length, refl, sym, ap, subst, inl}
+use Rattle.std.proofs.Common.{inr, arith}
 use Rattle.std.proofs.Common.{slice_get, slice_set, ◌∷◌, [], zero, suc, ap₂, length-set}
 use Rattle.std.proofs.lemmas.List.{get_or-set_other}
 use Rattle.std.proofs.lemmas.Bool.{cases_eq}
@@ -78,11 +79,13 @@ module _ (s : Slide) (t t' : Table) (at i : ℕ) (y : Stored) (positive : 0 < t.
       ∙ get_set (fields y) i (Some s.to) (get_below (fields y) i (Some s.from) names)
 
   other_field : (j : ℕ) → j ≢ i → slice_get (fields z) j ≡ slice_get (fields y) j
-  other_field j n = ap (λ (l : List (Option ℕ)). slice_get l j) (field_set y i (Some s.to)).fields_are ∙ get_other (fields y) i j (Some s.to) n
+  other_field j n = ap (λ (l : List (Option ℕ)). slice_get l j) (field_set y i (Some s.to)).fields_are
+      ∙ get_other (fields y) i j (Some s.to) n
 
   part : IsRedirectedInPart s y z
   part = let f = field_set y i (Some s.to) in record {
-    same = record { name = f.name; values = f.values; pointers = f.shape; weaks = field_weaks y i (Some s.to); held = field_held y i (Some s.to) };
+    same = record
+        { name = f.name; values = f.values; pointers = f.shape; weaks = field_weaks y i (Some s.to); held = field_held y i (Some s.to) };
     each = λ j v e. elim (cases_eq j i) [
       | inl q ↦
           let was = ap (slice_get (fields y)) q in

@@ -15,7 +15,8 @@ use Rattle.heap_words.specs.Headers.{header_of}
 use Rattle.heap_words.specs.declared.header.Header.TheVariants as headers
 use Rattle.heap_words.specs.Memory.{Memory}
 use Rattle.regions.specs.FirstTiles.{Entries, AreEntriesPut, IsPut}
-use Rattle.regions.specs.Rows.{table_of, IsTable, IsRegionTable, AreUsedBelow, IsObjectHeader, object_size, first_stored, free_row, free_row_count}
+use Rattle.regions.specs.Rows.{table_of, IsTable, IsRegionTable, AreUsedBelow, IsObjectHeader, object_size, first_stored, free_row}
+use Rattle.regions.specs.Rows.{free_row_count}
 use Rattle.regions.specs.Rows.{kind_is_free, run_rows, sizes_in}
 use Rattle.regions.specs.Shaped.{IsShaped}
 use Rattle.regions.specs.Table.{Table, Region, Free, Ordinary, First, Rest, nth_region, region_kind, kind_of, object_at, IsReleasable}
@@ -188,7 +189,8 @@ run_is_here size words rows t k j g e can =
     record {
       object = o.0;
       first = o.1;
-      stands = there size words rows t (k * size) o.0 g e (ap (λ (n : ℕ). object_at t (k * n)) wide ∙ first_object t k o.0 shaped.positive o.1);
+      stands = there size words rows t (k * size) o.0 g e
+          (ap (λ (n : ℕ). object_at t (k * n)) wide ∙ first_object t k o.0 shaped.positive o.1);
       in_rows = kn.in_rows;
       room = omega (arith, room, count);
       whole = omega arith;
@@ -207,7 +209,8 @@ run_is_here size words rows t k j g e can =
 abbrev pub freed_rows : List Row → ℕ → ℕ → List Row
 freed_rows rows k m = paste rows k (replicate m free_row) m
 
-module _ (size : ℕ) (words : List ℕ) (rows : List Row) (t : Table) (k j : ℕ) (g : IsTable size words rows) (e : table_of size words rows ≡ t)
+module _ (size : ℕ) (words : List ℕ) (rows : List Row) (t : Table) (k j : ℕ) (g : IsTable size words rows)
+    (e : table_of size words rows ≡ t)
     (can : CanMove t k j) (r : IsRun size words rows t k) where
   pub freed_long : length (freed_rows rows k (run_length t k)) ≡ length rows
   freed_long = length-paste rows (replicate (run_length t k) free_row) k (run_length t k) r.room
@@ -296,7 +299,8 @@ module _ (size : ℕ) (words : List ℕ) (rows : List Row) (t : Table) (k j : �
   moved_is = rw r.first (ap (λ (n : ℕ). with_regions (released t k) j (run_length t k) (run_regions n r.object (run_length t k))) r.wide)
 
 module _ (size shift lowest free : ℕ) (entries : Entries) (starts : Starts) (memory : Memory) (rows : List Row) (t : Table)
-    (s : IsRegionTable size shift lowest free entries starts memory rows) (e : table_of size memory.all rows ≡ t) (k j : ℕ) (can : CanMove t k j)
+    (s : IsRegionTable size shift lowest free entries starts memory rows) (e : table_of size memory.all rows ≡ t) (k j : ℕ)
+    (can : CanMove t k j)
     (r : IsRun size memory.all rows t k) where
   -- no free region is below the run's new place but such as were there
   lowest_below : lowest ≤ j

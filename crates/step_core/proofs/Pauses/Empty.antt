@@ -1,5 +1,6 @@
 -- Where the set is empty, a pause or a compaction leaves no card dirty.
-use Rattle.std.proofs.Common.{◌≡◌, ◌≢◌, ◌≤◌, ◌∷◌, ◌++◌, ◌∙◌, ℕ, true, false, Bool, List, [], Option, Some, None, length, refl, sym, ap, ap₂, subst, arith, inl, inr}
+use Rattle.std.proofs.Common.{◌≡◌, ◌≢◌, ◌≤◌, ◌∷◌, ◌++◌, ◌∙◌, ℕ, true, false, Bool, List, [], Option, Some, None, length, refl, sym, ap}
+use Rattle.std.proofs.Common.{ap₂, subst, arith, inl, inr}
 use Rattle.std.proofs.Common.{slice_get}
 use Rattle.std.specs.List.{AllZip}
 use Rattle.std.proofs.lemmas.Bool.{cases_Bool}
@@ -75,7 +76,8 @@ module _ (which : Choice) (budget w : ℕ) (c d : CoreState) (h : HasMoved which
       e ∙ ap₂ placement.closed w n
 
 -- and it copied nothing
-pub still_nothing : (which : Choice) (budget n w : ℕ) (c d : CoreState) → HasMoved which budget n w c d → n ≡ 0 → HasMoved which budget 0 0 c d
+pub still_nothing : (which : Choice) (budget n w : ℕ) (c d : CoreState) → HasMoved which budget n w c d → n ≡ 0
+    → HasMoved which budget 0 0 c d
 still_nothing which budget n w c d h e =
     let rows : h.evacuates.chosen ≡ [] = no_rows h.evacuates.chosen (sym e ∙ h.evacuates.regions) in
     let most : w ≤ live_sum [] = subst (λ (r : List LiveRow). w ≤ live_sum r) rows h.evacuates.evacuated.within in
@@ -83,7 +85,8 @@ still_nothing which budget n w c d h e =
     subst (λ (m : ℕ). HasMoved which budget m 0 c d) e (subst (λ (x : ℕ). HasMoved which budget n x c d) none h)
 
 -- nothing is reclaimed
-pub still_used : (which : Choice) (budget w : ℕ) (c d : CoreState) → HasMoved which budget 0 w c d → (i : ℕ) → kind_of c.table i ≢ kinds.Free
+pub still_used : (which : Choice) (budget w : ℕ) (c d : CoreState) → HasMoved which budget 0 w c d → (i : ℕ)
+    → kind_of c.table i ≢ kinds.Free
     → kind_of d.table i ≢ kinds.Free
 still_used which budget w c d h i used free =
     let chosen = (h.evacuates.reclaimed i).0 (record { used = used; free = free }) in

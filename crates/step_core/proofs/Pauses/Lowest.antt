@@ -1,5 +1,6 @@
 -- The search for the lowest run that can move down.
-use Rattle.std.proofs.Common.{◌≡◌, ◌≢◌, ◌+◌, ◌-◌, ◌*◌, ◌<◌, ◌≤◌, ◌∙◌, ℕ, zero, suc, Bool, true, false, Some, length, sym, ap, subst, arith, inl, inr}
+use Rattle.std.proofs.Common.{◌≡◌, ◌≢◌, ◌+◌, ◌-◌, ◌*◌, ◌<◌, ◌≤◌, ◌∙◌, ℕ, zero, suc, Bool, true, false, Some, length, sym, ap, subst}
+use Rattle.std.proofs.Common.{arith, inl, inr}
 use Rattle.std.proofs.lemmas.Bool.{cases_eq, cases_lt}
 use Rattle.heap_model.specs.Heap.{Stored}
 use Rattle.regions.specs.Tiles.{Object, tile_size}
@@ -85,6 +86,7 @@ pub none_left : (k : CoreState) (words number to : ℕ) → 0 < k.table.words_pe
     → length k.table.regions ≤ number → (i j : ℕ) (m : IsMovable k i j) → tile_size (Object m.object) ≤ words → ⊥
 none_left k words number to z s past i j m small =
     let le = s.none i j m small in
-    let lt = object_known k.table (i * k.table.words_per_region) m.object (kept_there k (i * k.table.words_per_region) m.object m.is_kept) in
+    let lt = object_known k.table (i * k.table.words_per_region) m.object
+    (kept_there k (i * k.table.words_per_region) m.object m.is_kept) in
     let e = div_is (i * k.table.words_per_region) k.table.words_per_region i (omega arith) (omega (arith, z)) in
     omega (arith, le, lt, past, e)

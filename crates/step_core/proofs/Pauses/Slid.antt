@@ -1,6 +1,8 @@
 -- A run moves down in a core: k is the core by its fields before that.
-use Rattle.std.proofs.Common.{◌≡◌, ◌≢◌, ◌⊎◌, ◌↔◌, ◌+◌, ◌-◌, ◌*◌, ◌/◌, ◌<◌, ◌≤◌, ◌∷◌, ◌∙◌, ℕ, zero, suc, Bool, true, false, List, [], Option, Some, None}
-use Rattle.std.proofs.Common.{length, map, refl, sym, ap, ap₂, subst, arith, inl, inr, slice_get, slice_index, nat_lt, if◌then◌else◌, IsSome, IsTrue}
+use Rattle.std.proofs.Common.{◌≡◌, ◌≢◌, ◌⊎◌, ◌↔◌, ◌+◌, ◌-◌, ◌*◌, ◌/◌, ◌<◌, ◌≤◌, ◌∷◌, ◌∙◌, ℕ, zero, suc, Bool, true, false, List, []}
+use Rattle.std.proofs.Common.{Option, Some, None}
+use Rattle.std.proofs.Common.{length, map, refl, sym, ap, ap₂, subst, arith, inl, inr, slice_get, slice_index, nat_lt, if◌then◌else◌}
+use Rattle.std.proofs.Common.{IsSome, IsTrue}
 use Rattle.std.proofs.lemmas.Bool.{cases_eq, cases_lt, cases_Bool, eq-eqb, ne_eqb, le-ltb, ltb-true}
 use Rattle.std.proofs.lemmas.List.{length-map}
 use Rattle.bit_sets.specs.Bits.{has, is_between}
@@ -14,10 +16,12 @@ use Rattle.heap_model.proofs.Redirected.{moved_relocates}
 use Rattle.heap_model.proofs.Relocated.{relocated_shows}
 use Rattle.heap_model.proofs.Shown.{will_show}
 use Rattle.regions.specs.Tiles.{Object, tile_size}
-use Rattle.regions.specs.Table.{Table, First, nth_region, kind_of, object_at, object_words, tile_in, top_of, used_of, run_length, moved_run, AreHalves, HasNoForwarded, stored_size}
+use Rattle.regions.specs.Table.{Table, First, nth_region, kind_of, object_at, object_words, tile_in, top_of, used_of, run_length}
+use Rattle.regions.specs.Table.{moved_run, AreHalves, HasNoForwarded, stored_size}
 use Rattle.regions.specs.Shaped.{IsShaped}
 use Rattle.regions.specs.declared.row.Kind.TheVariants as kinds
-use Rattle.regions.proofs.LongRuns.Blocks.{block_within, block_cases, first_number, first_void, later_rest, rest_void, void_object, reached, reaches, top_near}
+use Rattle.regions.proofs.LongRuns.Blocks.{block_within, block_cases, first_number, first_void, later_rest, rest_void, void_object}
+use Rattle.regions.proofs.LongRuns.Blocks.{reached, reaches, top_near}
 use Rattle.regions.proofs.LongRuns.RunMoved as moving
 use Rattle.regions.proofs.Tiles.Changes.{object_same}
 use Rattle.regions.proofs.Tiles.Released.{untargeted}
@@ -369,7 +373,8 @@ module _ (k : CoreState) (core : IsCore k) (shaped : IsShaped k.table) (first to
           let free = free_used k.table to (mv.free to (omega arith) mv.below) in
           omega (arith, le, free)
 
-      below_after : (a : ℕ) → gone a ≡ false → is_below t'.words_per_region mk.tams.previous a ≡ is_below t.words_per_region k.marker.tams.previous a
+      below_after : (a : ℕ) → gone a ≡ false
+          → is_below t'.words_per_region mk.tams.previous a ≡ is_below t.words_per_region k.marker.tams.previous a
       unfolding gone
       below_after a out = below_near t.words_per_region t'.words_per_region k.marker.tams.previous mk.tams.previous a moves.size
           (top_left f.previous (a / t.words_per_region) (ap (is_between first (first + m)) (region_is a) ∙ out))
@@ -419,7 +424,8 @@ module _ (k : CoreState) (core : IsCore k) (shaped : IsShaped k.table) (first to
       slid_keeps g q = record { earlier = q.earlier; marking = λ run. absurd (let e = off in cc) }
 
       -- ---- the layers
-      low_top : (tops tops' : List ℕ) (marks marks' : List Bool) → MarksAfter t.words_per_region (is_between first (first + m)) tops tops' marks marks'
+      low_top : (tops tops' : List ℕ) (marks marks' : List Bool)
+          → MarksAfter t.words_per_region (is_between first (first + m)) tops tops' marks marks'
           → length tops ≡ length k.table.regions → (j : ℕ) → j < length t.regions → slice_index tops' j ≤ top_of t j
           → slice_index tops' j ≤ top_of t' j
       low_top tops tops' marks marks' after count j lt le = elim (block_cases first m j) [
@@ -606,43 +612,48 @@ module _ (k : CoreState) (core : IsCore k) (shaped : IsShaped k.table) (first to
             ]
 
         slid_remembers : RemembersFields after
-        slid_remembers = subst (λ (w : ℕ). Remembers w (kept_of after) (card_words k.config) (is_dirty cs) (may_lead ss)) (sym wide_is) (record {
-          each = λ a i target x. elim (kept_after a x.object x.kept_is) [
-            | inl q ↦
-                let same : slice_get (fields x1) i ≡ Some (Some target) = ap (λ (z : Stored). slice_get (fields z) i) (sym q.1) ∙ x.field_is in
-                let apart : target / size ≢ field_word place i / size = λ e. x.leaves (e ∙ ap (λ (b : ℕ). field_word b i / size) (sym q.0)) in
-                inl (ap (λ (b : ℕ). is_dirty cs (field_card (card_words k.config) b i)) q.0 ∙ h.own i (record {
-                  target = target;
-                  names = record { object = x1; is = kept_mid from ∙ head_kept; field = same };
-                  leaves = apart;
-                }))
-            | inr q ↦
-                let other : target ≢ from = λ e. h.unnamed a i (record { object = x.object; is = q.1; field = x.field_is ∙ ap (λ (b : ℕ). Some (Some b)) e }) in
-                let (z, zo, zs) = was_object a x.object (kept_object s t a x.object q.1) in
-                let was : kept_of k a ≡ Some z = sym (is_kept_at a) ∙ kept_was a z x.object zo q.1 in
-                let (y, yo, part) = r.objects a z zo in
-                let y_is : y ≡ x.object = let o = kept_object s t a x.object q.1 in cc in
-                elim (field_was s apart k.table t r z x.object i (Some target) (subst (IsRedirectedInPart s z) y_is part) x.field_is) [
-                  | inl f ↦ inr (remembered a i target z q.0 other was f x.leaves)
-                  | inr f ↦ inl (h.outside a i q.0 (
-                    record { object = z; is = is_kept_at a ∙ was; field = f.0 },
-                    record { object = x.object; is = q.1; field = x.field_is ∙ ap Some f.1 },
-                  ))
-                ]
-          ];
-        })
+        slid_remembers = subst (λ (w : ℕ). Remembers w (kept_of after) (card_words k.config) (is_dirty cs) (may_lead ss)) (sym wide_is)
+            (record {
+              each = λ a i target x. elim (kept_after a x.object x.kept_is) [
+                | inl q ↦
+                    let same : slice_get (fields x1) i ≡ Some (Some target) =
+                    ap (λ (z : Stored). slice_get (fields z) i) (sym q.1) ∙ x.field_is in
+                    let apart : target / size ≢ field_word place i / size =
+                    λ e. x.leaves (e ∙ ap (λ (b : ℕ). field_word b i / size) (sym q.0)) in
+                    inl (ap (λ (b : ℕ). is_dirty cs (field_card (card_words k.config) b i)) q.0 ∙ h.own i (record {
+                      target = target;
+                      names = record { object = x1; is = kept_mid from ∙ head_kept; field = same };
+                      leaves = apart;
+                    }))
+                | inr q ↦
+                    let other : target ≢ from =
+                    λ e. h.unnamed a i (record { object = x.object; is = q.1; field = x.field_is ∙ ap (λ (b : ℕ). Some (Some b)) e }) in
+                    let (z, zo, zs) = was_object a x.object (kept_object s t a x.object q.1) in
+                    let was : kept_of k a ≡ Some z = sym (is_kept_at a) ∙ kept_was a z x.object zo q.1 in
+                    let (y, yo, part) = r.objects a z zo in
+                    let y_is : y ≡ x.object = let o = kept_object s t a x.object q.1 in cc in
+                    elim (field_was s apart k.table t r z x.object i (Some target) (subst (IsRedirectedInPart s z) y_is part) x.field_is) [
+                      | inl f ↦ inr (remembered a i target z q.0 other was f x.leaves)
+                      | inr f ↦ inl (h.outside a i q.0 (
+                        record { object = z; is = is_kept_at a ∙ was; field = f.0 },
+                        record { object = x.object; is = q.1; field = x.field_is ∙ ap Some f.1 },
+                      ))
+                    ]
+              ];
+            })
           where
             kept_was : (a : ℕ) (z y : Stored) → object_at k.table a ≡ Some z → kept_at s t a ≡ Some y → kept_at s k.table a ≡ Some z
             kept_was a z y o e = kept_some s t k.table a y e (sym r.size) ∙ o
 
         pub slid_kept : IsCore after
-        slid_kept = aged_stays k core t' k.buffers mk cs ss roots ages (length-map k.roots (redirected from place)) aged.count layers_after (record {
-          whole_cards = core.cards.whole_cards ∙ ap (λ (q : ℕ). q * card_words k.config) (sym empty.cards);
-          each_region = empty.count ∙ core.cards.each_region;
-          each_card = h.each_card ∙ core.cards.each_card ∙ ap (λ (n : ℕ). n * k.sets.cards_per_region) (sym empty.count)
-              ∙ ap (λ (q : ℕ). length ss.sets * q) (sym empty.cards);
-          each_mutator = ap (λ (ls : List (List ℕ)). length ls) h.logs ∙ core.cards.each_mutator;
-        }) slid_remembers (slots_now after core.footing.graph (slid_exactly core.footing.graph core.rests.shows)) slid_shows slid_keeps
+        slid_kept = aged_stays k core t' k.buffers mk cs ss roots ages
+            (length-map k.roots (redirected from place)) aged.count layers_after (record {
+              whole_cards = core.cards.whole_cards ∙ ap (λ (q : ℕ). q * card_words k.config) (sym empty.cards);
+              each_region = empty.count ∙ core.cards.each_region;
+              each_card = h.each_card ∙ core.cards.each_card ∙ ap (λ (n : ℕ). n * k.sets.cards_per_region) (sym empty.count)
+                  ∙ ap (λ (q : ℕ). length ss.sets * q) (sym empty.cards);
+              each_mutator = ap (λ (ls : List (List ℕ)). length ls) h.logs ∙ core.cards.each_mutator;
+            }) slid_remembers (slots_now after core.footing.graph (slid_exactly core.footing.graph core.rests.shows)) slid_shows slid_keeps
 
         -- exactly the regions that the run leaves are reclaimed
         kinds_was : (j : ℕ) → kind_of t j ≡ kind_of k.table j
@@ -655,7 +666,8 @@ module _ (k : CoreState) (core : IsCore k) (shaped : IsShaped k.table) (first to
             | inr over ↦ elim (cases_lt j (to + m)) [
               | inl within ↦ absurd (elim (cases_eq j to) [
                 | inl same ↦ (let head' = kind_first t' j (ap (nth_region t') same ∙ moves.first) in let fr = p.free in cc)
-                | inr apart' ↦ (let long = as_long in let rest = moves.later j (omega (arith, over, apart')) (omega (arith, within, long)) in
+                | inr apart' ↦
+                    (let long = as_long in let rest = moves.later j (omega (arith, over, apart')) (omega (arith, within, long)) in
                     let fr = p.free in cc)
               ])
               | inr past ↦ elim (cases_lt j first) [
@@ -683,7 +695,8 @@ module _ (k : CoreState) (core : IsCore k) (shaped : IsShaped k.table) (first to
         )
 
         -- ---- what is live elsewhere
-        bound_between : (tops : List ℕ) (marks : List Bool) → ((a : ℕ) → is_marked marks a ≡ true → (x : Stored) × (object_at k.table a ≡ Some x))
+        bound_between : (tops : List ℕ) (marks : List Bool)
+            → ((a : ℕ) → is_marked marks a ≡ true → (x : Stored) × (object_at k.table a ≡ Some x))
             → (j : ℕ) → live_bound_of t tops marks j ≡ live_bound_of k.table tops marks j
         unfolding live_bound_of
         bound_between tops marks there j =
@@ -705,7 +718,8 @@ module _ (k : CoreState) (core : IsCore k) (shaped : IsShaped k.table) (first to
             same_bound t t' k.marker.tams.previous mk.tams.previous k.marker.bitmaps.previous mk.bitmaps.previous j shaped1 moves.size
             (moves.same j (elim out [ inl under ↦ inl under | inr past ↦ inr (omega (arith, past, long)) ]))
             (top_left f.previous j (outside j apart'))
-            (λ a i. mark_left f.previous a (ap (is_between first (first + m)) (ranges.nth_region t.words_per_region j a i) ∙ outside j apart'))
+            (λ a i. mark_left f.previous a
+            (ap (is_between first (first + m)) (ranges.nth_region t.words_per_region j a i) ∙ outside j apart'))
             between_stands.previous
             ∙ bound_between k.marker.tams.previous k.marker.bitmaps.previous core.layers.marker.previous.object j
 
@@ -721,29 +735,30 @@ module _ (k : CoreState) (core : IsCore k) (shaped : IsShaped k.table) (first to
 
         pub moves_from : (c : CoreState) → k ≡ c → (n w : ℕ) → n ≡ m → w ≡ tile_size (Object mv.object) → MovesRun first to n w c after
         unfolding kept_of
-        moves_from c e n w many large = subst (λ (d : CoreState). MovesRun first to n w d after) e (subst (λ (x : ℕ). MovesRun first to x w k after) (sym many) (record {
-          movable = mv;
-          regions = refl;
-          words = large;
-          relocates = slid_relocates;
-          between = t;
-          redirected = h;
-          table = refl;
-          forgotten = subst (λ (x : ℕ). HasForgotten x first m k.marker mk) r.size f;
-          emptied = empty;
-          ages = aged;
-          others = record { bounds = bounds_same; words = words_same };
-          kinds_are = record {
-            size = wide_is;
-            count = moves.count ∙ r.count;
-            head = kind_first t' to moves.first;
-            later = λ j low high. (let long = as_long in moves.later j low (omega (arith, high, long)));
-            left = λ j low high. (let long = as_long in moves.free j (omega (arith, low, long)) (omega (arith, high, long)));
-            others = λ j out. elim out [
-              | inl under ↦ moves.below j under ∙ r.kinds j
-              | inr past ↦ (let long = as_long in moves.above j (omega (arith, past, long)) ∙ r.kinds j)
-            ];
-          };
-          reclaimed = reclaimed;
-          same = refl;
-        }))
+        moves_from c e n w many large = subst (λ (d : CoreState). MovesRun first to n w d after) e
+            (subst (λ (x : ℕ). MovesRun first to x w k after) (sym many) (record {
+              movable = mv;
+              regions = refl;
+              words = large;
+              relocates = slid_relocates;
+              between = t;
+              redirected = h;
+              table = refl;
+              forgotten = subst (λ (x : ℕ). HasForgotten x first m k.marker mk) r.size f;
+              emptied = empty;
+              ages = aged;
+              others = record { bounds = bounds_same; words = words_same };
+              kinds_are = record {
+                size = wide_is;
+                count = moves.count ∙ r.count;
+                head = kind_first t' to moves.first;
+                later = λ j low high. (let long = as_long in moves.later j low (omega (arith, high, long)));
+                left = λ j low high. (let long = as_long in moves.free j (omega (arith, low, long)) (omega (arith, high, long)));
+                others = λ j out. elim out [
+                  | inl under ↦ moves.below j under ∙ r.kinds j
+                  | inr past ↦ (let long = as_long in moves.above j (omega (arith, past, long)) ∙ r.kinds j)
+                ];
+              };
+              reclaimed = reclaimed;
+              same = refl;
+            }))

@@ -10,7 +10,8 @@ returns-then-word-clause-goes_on g c =
     let (stands, (way, (known, (in_card, (object, names))))) = c.requires in
     let (y, here) = some_kept g.slide c.args.table.now c.args.at object in
     let target : c.args.target ≡ g.slide.from = sym c.word.ensures ∙ c.if-word.true ∙ c.word-2.ensures ∙ way.0 in
-    let named = names_by g.slide c.args.table.now c.args.at c.args.field y (Some c.args.target) here names ∙ ap (λ (a : ℕ). Some (Some a)) target in
+    let named = names_by g.slide c.args.table.now c.args.at c.args.field y (Some c.args.target) here names
+    ∙ ap (λ (a : ℕ). Some (Some a)) target in
     let is : c.set_field.new.self ≡ set_field c.args.table.now c.args.at c.args.field (Some g.slide.to) =
     c.set_field.ensures ∙ ap (λ (a : ℕ). set_field c.args.table.now c.args.at c.args.field (Some a)) way.1 in
     written_goes_on g.slide c.args.table.now c.set_field.new.self c.args.at c.args.field y c.law.ensures.positive here named is
@@ -21,7 +22,8 @@ returns-then-word-clause-unnamed g c =
     let (stands, (way, (known, (in_card, (object, names))))) = c.requires in
     let (y, here) = some_kept g.slide c.args.table.now c.args.at object in
     let target : c.args.target ≡ g.slide.from = sym c.word.ensures ∙ c.if-word.true ∙ c.word-2.ensures ∙ way.0 in
-    let named = names_by g.slide c.args.table.now c.args.at c.args.field y (Some c.args.target) here names ∙ ap (λ (a : ℕ). Some (Some a)) target in
+    let named = names_by g.slide c.args.table.now c.args.at c.args.field y (Some c.args.target) here names
+    ∙ ap (λ (a : ℕ). Some (Some a)) target in
     let is : c.set_field.new.self ≡ set_field c.args.table.now c.args.at c.args.field (Some g.slide.to) =
     c.set_field.ensures ∙ ap (λ (a : ℕ). set_field c.args.table.now c.args.at c.args.field (Some a)) way.1 in
     written_unnamed g.slide c.args.table.now c.set_field.new.self c.args.at c.args.field y c.law.ensures.positive here named is stands.apart

@@ -9,8 +9,10 @@ redirect_cards-requires g c =
 pub settle_fields-requires : goal.settle_fields-requires
 settle_fields-requires g c =
     let (stands, (kept, (way, (words, (visited, (object, below)))))) = c.requires in
-    let on = c.redirect_cards.ensures.goes_on in
-    (on.stands, (way, (words, (object_stays g.slide stands.apart c.args.table.now c.redirect_cards.new.table on.table g.slide.from object, below))))
+    let on = c.redirect_cards.ensures.goes_on in (
+      on.stands,
+      (way, (words, (object_stays g.slide stands.apart c.args.table.now c.redirect_cards.new.table on.table g.slide.from object, below))),
+    )
 
 pub returns : goal.returns
 returns g c = record {

@@ -1,4 +1,5 @@
-use Rattle.std.proofs.Common.{◌≡◌, ◌∙◌, ◌+◌, ◌*◌, ◌/◌, ◌<◌, ◌≤◌, ◌||◌, ℕ, zero, suc, List, Bool, true, false, refl, sym, ap, ap₂, subst, arith, length, replicate, vec_len}
+use Rattle.std.proofs.Common.{◌≡◌, ◌∙◌, ◌+◌, ◌*◌, ◌/◌, ◌<◌, ◌≤◌, ◌||◌, ℕ, zero, suc, List, Bool, true, false, refl, sym, ap, ap₂, subst}
+use Rattle.std.proofs.Common.{arith, length, replicate, vec_len}
 use Rattle.std.specs.Prelude.{if◌then◌else◌}
 use Rattle.std.proofs.lemmas.List.{length-replicate}
 use Rattle.std.proofs.lemmas.Nat.{mul-le}
@@ -51,7 +52,8 @@ overflow_mul-number-4 c =
     let fits = block_within c.args.table.now c.args.first can.known in
     let w = whole.few_cards c.args.table.now c.args.tams.now c.args.bitmaps.now.previous c.args.cards.now c.args.sets.now c.args.card_words
     c.args.first c.args.to can c.law.ensures in
-    let p = mul-le (c.args.first + run_length c.args.table.now c.args.first) q (length c.args.table.now.regions) c.args.table.now.words_per_region
+    let p = mul-le (c.args.first + run_length c.args.table.now c.args.first) q
+    (length c.args.table.now.regions) c.args.table.now.words_per_region
     fits w in
     let all = c.law.ensures.in_all in
     rw (c.number-4.ensures, c.run_length-count.ensures, c.words_per_region-words.ensures) (omega (arith, p, all))
@@ -84,7 +86,8 @@ redirect_fields-requires c =
     ap length c.clear.ensures ∙ length-replicate {A = Bool} n false ∙ cards in
     let stands = whole.slide_stands t tams marks c.args.cards.now c.args.sets.now c.args.card_words c.args.first c.args.to can c.law.ensures
     c.clear.new.self noted in
-    let object = whole.slide_object t tams marks c.args.cards.now c.args.sets.now c.args.card_words c.args.first c.args.to can c.law.ensures in
+    let object = whole.slide_object t tams marks c.args.cards.now c.args.sets.now c.args.card_words c.args.first c.args.to can
+    c.law.ensures in
     let below = whole.goes_down t tams marks c.args.cards.now c.args.sets.now c.args.card_words c.args.first c.args.to can c.law.ensures in
     let same : length c.clear_range.new.self ≡ length c.clear.new.self =
     c.clear_range.ensures.len ∙ c.flag_visited.ensures.len ∙ c.room.invariant.each_card ∙ cards ∙ sym noted in
@@ -133,7 +136,9 @@ returns-clause-redirected c =
     c.new-2.ensures ∙ ap₂ (λ (a b : ℕ). a * b) c.number-2.ensures c.words_per_region-words.ensures in
     let turn : RedirectsInTurn (slide_of t tams marks c.args.card_words c.args.first c.args.to) c.clear_range.new.self t
     c.redirect_fields.new.table c.clear.new.self c.redirect_fields.new.noted =
-    subst (λ (a : ℕ). RedirectsInTurn (by_places t tams marks c.args.card_words (c.args.first * t.words_per_region) a) c.clear_range.new.self t
+    subst
+    (λ (a : ℕ). RedirectsInTurn (by_places t tams marks c.args.card_words (c.args.first * t.words_per_region) a)
+    c.clear_range.new.self t
     c.redirect_fields.new.table c.clear.new.self c.redirect_fields.new.noted) to
     (subst (λ (a : ℕ). RedirectsInTurn (by_places t tams marks c.args.card_words a c.new-2.result) c.clear_range.new.self t
     c.redirect_fields.new.table c.clear.new.self c.redirect_fields.new.noted) from c.redirect_fields.ensures) in

@@ -14,4 +14,5 @@ returns-else-is_kept-clause-goes_on g c = stays_on g.slide _ c.args.table.now c.
 pub returns-else-is_kept-clause-unnamed : goal.returns-else-is_kept-clause-unnamed
 returns-else-is_kept-clause-unnamed g c =
     let (stands, (kept, (way, (words, (known, tile))))) = c.requires in
-    λ i n e. not_kept g.slide c.args.table.now c.args.kept kept c.args.at c.is_kept.result c.is_kept.ensures.1 c.if-is_kept.false n.object n.is
+    λ i n e. not_kept g.slide c.args.table.now c.args.kept kept c.args.at c.is_kept.result c.is_kept.ensures.1 c.if-is_kept.false
+    n.object n.is

@@ -20,7 +20,8 @@ settle_field-requires g c =
     let (stands, (way, (words, (object, below)))) = c.requires in
     let on = c.loop-field.invariant.on in
     let count = c.field_count-count.ensures ∙ ap (λ (a : ℕ). length (fields_at c.args.table.now a)) way.0 in
-    let known : c.loop-field.field < length (fields_at c.args.table.now g.slide.from) = (let l = c.loop-field-test.true in omega (arith, l, count)) in
+    let known : c.loop-field.field < length (fields_at c.args.table.now g.slide.from) =
+    (let l = c.loop-field-test.true in omega (arith, l, count)) in
     let same = count_stays g.slide stands.apart c.args.table.now c.loop-field.table on.table g.slide.from object in (
       on.stands,
       (
@@ -46,4 +47,8 @@ pub returns : goal.returns
 returns g c =
     let (stands, (way, (words, (object, below)))) = c.requires in
     let count = c.field_count-count.ensures ∙ ap (λ (a : ℕ). length (fields_at c.args.table.now a)) way.0 in
-    record { goes_on = settled_all g.slide _ _ _ _ _ _ (let l = c.loop-field-test.false in let e = c.loop-field.auto.field-end in omega (arith, l, e, count)) c.loop-field.invariant.on }
+    record {
+      goes_on = settled_all g.slide _ _ _ _ _ _
+          (let l = c.loop-field-test.false in let e = c.loop-field.auto.field-end in omega (arith, l, e, count))
+          c.loop-field.invariant.on;
+    }

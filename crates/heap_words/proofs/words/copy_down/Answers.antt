@@ -9,7 +9,8 @@ pub loop-done-preserved : goal.loop-done-preserved
 loop-done-preserved c =
     let more = c.min-more.ensures in
     let less = c.loop-done-test.true in
-    more_moved _ _ _ _ _ _ _ c.min-more.result _ c.requires.below c.requires.source (omega (arith, more, less, c.loop-done.invariant.within))
+    more_moved _ _ _ _ _ _ _ c.min-more.result _ c.requires.below c.requires.source
+    (omega (arith, more, less, c.loop-done.invariant.within))
     refl c.loop-done.invariant c.copy_within.ensures
 
 pub returns : goal.returns

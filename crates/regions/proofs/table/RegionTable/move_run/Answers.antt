@@ -237,10 +237,12 @@ invariant_of-self c =
     let number : c.self.inside.rows.len ≡ length c.self.inside.rows.items = omega arith in
     let slots : c.weak_count-weaks.result ≡ length r.object.weaks =
     c.weak_count-weaks.ensures ∙ ap (λ (x : ℕ). length (weaks_at c.args.self.now x)) from
-    ∙ ap (λ (l : List (Option ℕ)). length l) (weaks_are c.args.self.now (c.args.first * c.self.inside.words_per_region) r.object r.stands.is) in
+    ∙ ap (λ (l : List (Option ℕ)). length l)
+    (weaks_are c.args.self.now (c.args.first * c.self.inside.words_per_region) r.object r.stands.is) in
     let clear = clears _ _ _ c.args.first _ c.number-number.ensures (region_words _ _ _ _ _ _ _ _ _ c.self.invariant c.self.view_is)
     c.release.ensures.region_words c.release.ensures.len c.release.ensures.flags in
-    let flags = c.add.ensures ∙ ap (λ (x : ℕ). start_added c.release.new.self x c.weak_count-weaks.result) (c.word-2.ensures ∙ sym c.word.ensures) in
+    let flags = c.add.ensures ∙ ap (λ (x : ℕ). start_added c.release.new.self x c.weak_count-weaks.result)
+    (c.word-2.ensures ∙ sym c.word.ensures) in
     moved_sound _ _ _ _ _ _ _ _ _ c.self.invariant c.self.view_is c.args.first c.args.to can r _ _ _ _ _ _ _ _ _ number
     (c.word.ensures ∙ at) size slots c.put_tile.ensures clear flags
     words c.copy_down.ensures.written rows

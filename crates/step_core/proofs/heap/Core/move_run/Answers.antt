@@ -11,7 +11,8 @@ use Rattle.step_core.specs.Stands.{CoreState, ShowsGraph, KeepsFrom}
 use Rattle.step_core.specs.Sliding.{IsMovable}
 use Rattle.step_core.proofs.Cycles.Cycling.{to_fields}
 use Rattle.step_core.proofs.Pauses.Pausing.{cards_room}
-use Rattle.step_core.proofs.Pauses.Slid.{movable_known, can_redirect, between_stands, can_move, slid_shows, slid_keeps, slid_kept, moves_from, words_copied}
+use Rattle.step_core.proofs.Pauses.Slid.{movable_known, can_redirect, between_stands, can_move, slid_shows, slid_keeps, slid_kept}
+use Rattle.step_core.proofs.Pauses.Slid.{moves_from, words_copied}
 use Rattle.step_core.proofs.heap.Core.move_run.Goals as goal
 
 few_regions : (t : Table) → IsShaped t → (n : ℕ) → n ≤ length t.regions → n < 2 ^ 32
@@ -125,11 +126,16 @@ returns c =
     let f = rw c.run_length-count.ensures at c.forget.ensures in
     let redirected = rw c.card_words.ensures at e.redirected in
     record {
-      shows = λ g s. rw (e.roots, e.room, c.move_run.ensures) (slid_shows _ c.self.invariant c.law.ensures c.args.first c.args.to mv idle none
-          clean _ _ redirected c.law-2.ensures _ f.stands f.forgotten _ f.cleared _ f.aged g (to_fields _ _ c.self.view_is (λ d. ShowsGraph g d) s));
-      keeps = λ g s. rw (e.roots, e.room, c.move_run.ensures) (slid_keeps _ c.self.invariant c.law.ensures c.args.first c.args.to mv idle none
-          clean _ _ redirected c.law-2.ensures _ f.stands f.forgotten _ f.cleared _ f.aged g (to_fields _ _ c.self.view_is (λ d. KeepsFrom g d) s));
-      moves = rw (e.roots, e.room, c.move_run.ensures) (moves_from _ c.self.invariant c.law.ensures c.args.first c.args.to mv idle none clean
+      shows = λ g s. rw (e.roots, e.room, c.move_run.ensures)
+          (slid_shows _ c.self.invariant c.law.ensures c.args.first c.args.to mv idle none
+          clean _ _ redirected c.law-2.ensures _ f.stands f.forgotten _ f.cleared _ f.aged g
+          (to_fields _ _ c.self.view_is (λ d. ShowsGraph g d) s));
+      keeps = λ g s. rw (e.roots, e.room, c.move_run.ensures)
+          (slid_keeps _ c.self.invariant c.law.ensures c.args.first c.args.to mv idle none
+          clean _ _ redirected c.law-2.ensures _ f.stands f.forgotten _ f.cleared _ f.aged g
+          (to_fields _ _ c.self.view_is (λ d. KeepsFrom g d) s));
+      moves = rw (e.roots, e.room, c.move_run.ensures)
+          (moves_from _ c.self.invariant c.law.ensures c.args.first c.args.to mv idle none clean
           _ _ redirected c.law-2.ensures _ f.stands f.forgotten _ f.cleared _ f.aged closed_all _ c.self.view_is _ _ e.regions
           (words_copied _ c.self.invariant c.law.ensures c.args.first c.args.to mv idle none clean _ e.words));
       few = (let known = movable_known _ c.self.invariant c.law.ensures c.args.first c.args.to mv idle none clean in

@@ -19,7 +19,8 @@ pub returns-then-goes_down-clause-lowest : goal.returns-then-goes_down-clause-lo
 returns-then-goes_down-clause-lowest c =
     let (less, run, x, kept, small) = c.goes_down.ensures.yes c.if-goes_down.true in
     let region = c.new-region.ensures in
-    let is = lowest_found c.args.self.now c.args.words c.loop-number.number c.loop-number.to c.loop-number.invariant x (omega (arith, less, region))
+    let is = lowest_found c.args.self.now c.args.words c.loop-number.number c.loop-number.to c.loop-number.invariant x
+    (omega (arith, less, region))
     (ap (kind_of c.args.self.now.table) (sym region) ∙ run)
     (ap (λ (n : ℕ). kept_of c.args.self.now (n * c.args.self.now.table.words_per_region)) (sym region) ∙ kept) small in
     subst (λ (n : ℕ). IsLowestMovable c.args.self.now c.args.words n c.new.result) (sym region)
@@ -40,7 +41,8 @@ pub loop-number-preserved : goal.loop-number-preserved
 loop-number-preserved c =
     let region = c.new-region.ensures in
     free_searched c.args.self.now c.args.words c.loop-number.number c.loop-number.to c.loop-number.invariant
-    (ap (kind_of c.args.self.now.table) (sym region) ∙ subst (λ (d : CoreState). kind_of d.table c.new-region.result ≡ kinds.Free) c.self.view_is
+    (ap (kind_of c.args.self.now.table) (sym region) ∙ subst (λ (d : CoreState). kind_of d.table c.new-region.result ≡ kinds.Free)
+    c.self.view_is
     (c.is_free.ensures.0 c.if-not-is_free.false))
 
 pub returns-clause-none : goal.returns-clause-none
