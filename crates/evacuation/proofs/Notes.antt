@@ -69,7 +69,8 @@ emptied_letting : (s : CardSet) (w card : ℕ) → emptied (letting s w card) �
 emptied_letting s w card =
     ap (λ (f : CardFilter). record { inline = (emptied s).inline; sources = replicate (length s.sources) false; filter = f })
     (filter_cases (λ g. emptied_filter g ≡ emptied_filter s.filter) s.filter w card (λ none. refl)
-    (λ some. ap (λ (n : ℕ). record { rows = s.filter.rows; flags = replicate n false }) (length-set _ _ true ∙ length-set s.filter.flags _ true)))
+    (λ some. ap (λ (n : ℕ). record { rows = s.filter.rows; flags = replicate n false })
+    (length-set _ _ true ∙ length-set s.filter.flags _ true)))
 
 emptied_after : (s : CardSet) (w card : ℕ) → emptied (set_after s w card) ≡ emptied s
 emptied_after s w card =
@@ -150,7 +151,8 @@ module _ (n : Notes) (card region : ℕ) (in_cards : card < length n.cards) (kno
           | inl o ↦ inl (subst (λ (j : ℕ). covers n.sets j c ≡ true) (sym same) o)
           | inr o ↦ inr (card, sym o, (refl, same))
         ]
-    | inr differs ↦ inl (ap (λ (t : CardSet). set_covers t c (c / n.sets.cards_per_region)) (sym (added_other n.sets region card k differs)) ∙ e)
+    | inr differs ↦ inl (
+        ap (λ (t : CardSet). set_covers t c (c / n.sets.cards_per_region)) (sym (added_other n.sets region card k differs)) ∙ e)
   ]
 
   once_for : NotesFor (IsNoteOf card region) n once

@@ -168,9 +168,9 @@ pub record IsNewCrossing (h h' : Layers) (card_words card region : ℕ) : Type 0
 abbrev pub IsNewSet : Layers → List LiveRow → Type 0
 IsNewSet h rows = All (λ row. slice_index h.tams.next row.region ≡ row.region * h.table.words_per_region) rows
 
--- What became of the sets of the regions that aren't chosen, and of the cards of such regions, where what leads to another region is noted at
--- once: a set covers nothing newly but cards of a region of which one has a field that was updated or copied and leads there, and such cards
--- alone enter a set
+-- What became of the sets of regions that aren't chosen, and of the cards of these: what may have led somewhere still may; a set covers
+-- nothing newly but cards of a region of which one has a field that was updated or copied and leads there; and such cards alone newly enter
+-- a set
 pub record SetsGain (rows : List LiveRow) (card_words : ℕ) (h h' : Layers) : Type 0 where
   pub stays : (k card : ℕ) → is_chosen rows k ≡ false → is_chosen rows (card / h.sets.cards_per_region) ≡ false
       → may_lead h.sets k card ≡ true → may_lead h'.sets k card ≡ true

@@ -198,7 +198,8 @@ leads_grow s region card r c known was =
         ap (λ (t : CardSet). lets_through t.filter s.cards_per_region c) (added_other s region card r differs) ∙ e
 
 -- a card that may lead there already changes nothing
-after_again : (s : CardSet) (w card : ℕ) → set_covers s card (card / w) ≡ true → lets_through s.filter w card ≡ true → set_after s w card ≡ s
+after_again : (s : CardSet) (w card : ℕ) → set_covers s card (card / w) ≡ true → lets_through s.filter w card ≡ true
+    → set_after s w card ≡ s
 after_again s w card covered through =
     let same : letting s w card ≡ s =
     ap (λ (f : CardFilter). record { inline = s.inline; sources = s.sources; filter = f }) (filter_again s.filter w card through) in

@@ -24,7 +24,8 @@ pub record Sets : Type 0 where
   pub entered : List Bool
 
 -- ---- one filter
--- the rows of a region's cards, one of each kind: regions that share one of the first kind have others of the second, until these are through
+-- the rows of a region's cards, one of each kind: regions that share one of the first kind have others of the second, as long as there are
+-- some
 abbrev pub first_row : ℕ → ℕ → ℕ
 first_row rows source = source % (2 * rows)
 

@@ -19,7 +19,8 @@ use Rattle.refinement.proofs.Holders.{object_known}
 use Rattle.refinement.proofs.Fields.{region_of_card}
 use Rattle.evacuation.specs.Space.{Layout, IsOutsideSet, IsField, IsFieldClean, IsOfWord, IsStill, NotesFor, NotesGrow, NotesWord, is_noted}
 use Rattle.evacuation.specs.Space.{with_note}
-use Rattle.evacuation.specs.Turns.{AreNotes, IsCardPlace, Pause, IsPause, IsTurn, TableStays, EachCard, in_set, kept_now, layout, plan, space}
+use Rattle.evacuation.specs.Turns.{AreNotes, IsCardPlace, Pause, IsPause, IsTurn, TableStays, EachCard}
+use Rattle.evacuation.specs.Turns.{in_set, kept_now, layout, plan, space}
 use Rattle.evacuation.specs.declared.room.Notes.{Notes}
 use Rattle.evacuation.proofs.Notes.{IsNoteOf, for_others, none_for, note_for, note_grows, notes_stay}
 use Rattle.evacuation.proofs.Turns.KeptObjects.{kept_object, start_kept}
@@ -108,7 +109,8 @@ target_known p q t d turn at i c y here out names =
     let k = h.objects o.from at o.object o.at o.placed in
     let same : y ≡ k.part = let e1 = k.at in cc in
     let e = subst (λ (z : Stored). slice_get (fields z) i ≡ Some (Some c)) same names in
-    let (w, is, v) = AllZip-get_right (IsWord (place_after (in_set p) (space p t).forward)) (fields o.object) (fields k.part) k.words i (Some c) e in
+    let (w, is, v) =
+    AllZip-get_right (IsWord (place_after (in_set p) (space p t).forward)) (fields o.object) (fields k.part) k.words i (Some c) e in
     elim v [
       | inl was ↦ stood i c o.from o.object o.at (is ∙ ap Some (sym was))
       | inr moved ↦ place w is moved

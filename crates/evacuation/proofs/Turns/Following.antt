@@ -124,7 +124,8 @@ pub after_after : (l : Layout) (t t' t'' : Notes) (s s' s'' : Space) (d d' d'' :
 after_after l t t' t'' s s' s'' d d' d'' a b = record {
   noted_grows = notes_further t t' t'' a.noted_grows b.noted_grows;
   noted_for = for_further (NewCrossing l s s'' d'') t t' t'' a.noted_grows
-      (for_others (NewCrossing l s s' d') (NewCrossing l s s'' d'') t t' (λ c r x. crossing_on l t t' t'' s s' s'' d d' d'' c r b x) a.noted_for)
+      (for_others (NewCrossing l s s' d') (NewCrossing l s s'' d'') t t' (λ c r x. crossing_on l t t' t'' s s' s'' d d' d'' c r b x)
+      a.noted_for)
       (for_others (NewCrossing l s' s'' d'') (NewCrossing l s s'' d'') t' t'' (λ c r x. crossing_back l t t' s s' s'' d d' d'' c r a x)
       b.noted_for);
   forward_grows = λ c f e. b.forward_grows c f (a.forward_grows c f e);

@@ -380,7 +380,8 @@ module _ (h : Layers) (rows : List LiveRow) (cw : ℕ) (can : CanEvacuate h rows
                 ])
             | inr s ↦ elim s.1 [
               | inl same ↦ absurd (x.leaves same)
-              | inr n ↦ elim (or_cases (flag c1.noted.cards (field_card cw b i)) (may_lead c1.noted.sets (a / words) (field_card cw b i)) n) [
+              | inr n ↦ elim (
+                  or_cases (flag c1.noted.cards (field_card cw b i)) (may_lead c1.noted.sets (a / words) (field_card cw b i)) n) [
                 | inl f ↦ inl (dirty (field_card cw b i) ∙ f)
                 | inr f ↦ inr (same_lead (a / words) (field_card cw b i) (sym (flags_are (a / words)) ∙ outside')
                     (field_stays b i x.object (Some a) x.kept_is x.field_is) ∙ f)
@@ -424,7 +425,8 @@ module _ (h : Layers) (rows : List LiveRow) (cw : ℕ) (can : CanEvacuate h rows
             let none = free_used h.table (b / words) r.0 in
             bottom_of (b / words) b refl (omega arith)
 
-    new_crossing : (card k : ℕ) → NewCrossing (layout p) (space p h.table) (space p t1) c1.destinations card k → IsNewCrossing h h' cw card k
+    new_crossing : (card k : ℕ) → NewCrossing (layout p) (space p h.table) (space p t1) c1.destinations card k
+        → IsNewCrossing h h' cw card k
     new_crossing card k x =
         record {
           at = x.at;

@@ -36,7 +36,8 @@ overflow_cast-word g c =
     rw c.field-word.ensures (omega (arith, w, n))
 
 -- the word's region, by the table
-region_is : (result region at word words start : ℕ) → result ≡ region → region ≡ at / words → at ≡ word → words ≡ start → result ≡ word / start
+region_is : (result region at word words start : ℕ) → result ≡ region → region ≡ at / words → at ≡ word → words ≡ start
+    → result ≡ word / start
 region_is result region at word words start a b c d = a ∙ b ∙ ap (λ (n : ℕ). n / words) c ∙ ap (λ (n : ℕ). word / n) d
 
 pub note-requires : goal.note-requires
@@ -57,7 +58,8 @@ note-requires-2 g c =
     c.field-word.result c.args.context.now.card_words c.quotient-card.result c.number-home.result stands.card
     (rw c.field-word.ensures w) c.quotient-card.ensures
     (region_is _ _ _ c.field-word.result _ _ c.number-home.ensures c.region_of.ensures c.new.ensures stands.turn.table.size) in
-    let names = pointer_is g.pause c.args.table.now c.args.at c.args.field field.object (Some c.in-Some.target) field.at c.in-Some.ensures in
+    let names =
+    pointer_is g.pause c.args.table.now c.args.at c.args.field field.object (Some c.in-Some.target) field.at c.in-Some.ensures in
     (stands.premises, (stands.turn.table.size, (stands.notes, (place,
     target_known g.pause stands.premises c.args.table.now c.args.context.now.destinations stands.turn c.args.at c.args.field
     c.in-Some.target field.object field.at outside names))))
@@ -97,7 +99,8 @@ returns g c =
       goes_on = record {
         stands = turned stands refl refl stands.turn c.note-2.ensures.stay;
         after = noted_after (layout g.pause) c.args.context.now.noted c.note-2.new.notes s d notes.grows
-            (for_others (IsOfWord (layout g.pause) (field_word c.args.at c.args.field) c.in-Some.target) (NewCrossing (layout g.pause) s s d)
+            (for_others (IsOfWord (layout g.pause) (field_word c.args.at c.args.field) c.in-Some.target)
+            (NewCrossing (layout g.pause) s s d)
             c.args.context.now.noted c.note-2.new.notes (λ k r o. record {
               at = c.args.at;
               index = c.args.field;

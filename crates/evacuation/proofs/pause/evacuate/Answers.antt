@@ -92,7 +92,8 @@ release_chosen-requires-clause-layers c =
       next = can.next.each_word ∙ words;
       previous_tops = can.previous.each_region ∙ sym s.count;
       next_tops = can.next.each_region ∙ sym s.count;
-      each_set = ap (λ (x : Sets). length x.sets) c.swap-2.ensures.x_after ∙ c.copy_reached.ensures.goes_on.stands.notes.each_set ∙ sym s.count;
+      each_set = ap (λ (x : Sets). length x.sets) c.swap-2.ensures.x_after ∙ c.copy_reached.ensures.goes_on.stands.notes.each_set
+          ∙ sym s.count;
     }
 
 pub returns-clause-evacuated : goal.returns-clause-evacuated

@@ -1,10 +1,11 @@
-use Rattle.std.proofs.Common.{◌≡◌, ◌≢◌, ◌∙◌, ◌/◌, ◌==◌, ℕ, Bool, true, false, refl, sym, ap, subst, if◌then◌else◌}
+use Rattle.std.proofs.Common.{◌≡◌, ◌≢◌, ◌∙◌, ◌/◌, ℕ, Bool, true, false, refl, sym, subst, if◌then◌else◌}
 use Rattle.remembered_sets.specs.Sets.{Sets, added, may_lead}
 use Rattle.remembered_sets.proofs.Laws.{added_again}
 use Rattle.refinement.proofs.scan.scan_field.Goals as goal
 
 -- a card that may lead into the region already is added without a change
-nothing_new : (s : Sets) (is_home : Bool) (region card : ℕ) → may_lead s region card ≡ true → s ≡ (if is_home then s else added s region card)
+nothing_new : (s : Sets) (is_home : Bool) (region card : ℕ) → may_lead s region card ≡ true
+    → s ≡ (if is_home then s else added s region card)
 nothing_new s true region card leads = refl
 nothing_new s false region card leads = sym (added_again s region card leads)
 
