@@ -855,7 +855,7 @@ protected:
             visit_fields(card, [&](Word& field) {
                 if (regions_[region_of(Address(field - 1))].role != Role::Chosen) return;
                 field = moved(field);
-                noted_.add(card);
+                note(card, Address(field - 1));
             });
         });
         // Copies are in the order in which they were made, so that a walk over the destinations goes breadth first.
@@ -919,8 +919,17 @@ protected:
         for (Address field = at + 2; field < end; ++field) {
             if (words_[field] == 0) continue;
             words_[field] = moved(words_[field]);
-            if (region_of(Address(words_[field] - 1)) != number) noted_.add(field >> card_shift_);
+            if (region_of(Address(words_[field] - 1)) != number) note(field >> card_shift_, Address(words_[field] - 1));
         }
+    }
+
+    // A field in a card leads to the target. In the third format that is noted at once in the set of the target's region; else the card is
+    // dirty after the pause.
+    void note(Number card, Address target) {
+        Number home = region_of(card << card_shift_), region = region_of(target);
+        if (region == home) return;
+        if (sizes_.format == 3) remember(region, card, home);
+        else noted_.add(card);
     }
 
     // The pointer to an object's place after the pause; an object of the set is copied the first time.

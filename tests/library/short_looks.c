@@ -3,7 +3,7 @@
    made. The policy's own counts are read before and after each call of g1_make:
 
    - while more regions are free than are kept in reserve, a look takes one pause at most, which copies at most `pause_words`; it ends a
-     cycle or takes a pause, and not both; and two looks in turn don't both refine alone
+     cycle or takes a pause, and not both; two looks in turn don't both refine alone; and after a pause no card is queued
    - at 20 and 50 percent live no look finds as few regions free, and no whole collection comes
    - trees, lists and entries of which nine of ten words die at once, at 50 percent live: at most 0.15 words are copied and 0.04 objects
      scanned for each word made
@@ -18,10 +18,10 @@
 
 enum { TABLE, ROW, ELEMENT, PART, OTHER };      /* registers */
 enum { LEAVES = 8, CELLS = 16, DEAD = 5, SLOTS = 4 };
-enum { BOTH, PAUSES, COPIES, REFINES, SHORT, WHOLE, FAULTS };
+enum { BOTH, PAUSES, COPIES, REFINES, QUEUES, SHORT, WHOLE, FAULTS };
 
 static const char *const faults[FAULTS] = {"a pause and the end of a cycle", "two pauses", "more words copied than a pause may",
-                                           "two looks that refine alone", "looks with the reserve reached", "whole collections"};
+                                           "two looks that refine alone", "cards queued after a pause", "looks with the reserve reached", "whole collections"};
 static g1_heap heap = G1_HEAP_NONE;
 static g1_policy policy;
 static g1_sizes sizes;
@@ -46,7 +46,7 @@ static void look_at(const g1_policy *before, uint32_t free)
     }
     counts[BOTH] += pauses != 0 && cycles != 0, counts[PAUSES] += pauses > 1;
     counts[COPIES] += policy.copied - before->copied > policy.pause_words;
-    counts[REFINES] += before->last == 1 && policy.last == 1;
+    counts[REFINES] += before->last == 1 && policy.last == 1, counts[QUEUES] += pauses != 0 && g1_queued(&heap).first != 0;
 }
 /* Makes an object, and answers the words that it takes. */
 static uint32_t make(uint32_t to, uint32_t pointers, uint32_t weaks, uint32_t values)

@@ -21,6 +21,7 @@ use Rattle.mark_bitmap.specs.Live.{live_bound_of, kept_words, marked_words}
 use Rattle.mark_bitmap.proofs.Ranges.{div_is}
 use Rattle.mark_bitmap.proofs.LiveWords.{same_words, used_le}
 use Rattle.marker.specs.declared.marker.Marker.{Marker}
+use Rattle.heap_steps.specs.Actors.{is_third}
 use Rattle.evacuation.specs.Evacuates.{HasEvacuated, is_chosen, set_in}
 use Rattle.evacuation.proofs.Turns.KeptObjects.{free_used}
 use Rattle.step_core.specs.Stands.{CoreState, IsCore, kept_of}
@@ -193,8 +194,9 @@ module _ (which : Choice) (budget n w : ℕ) (c c' : CoreState) (core : IsCore c
     sets = p.ready.sets;
   }
 
-  pub ev : HasEvacuated p.evacuates.chosen (card_words c.config) w (layers_of mid) (layers_of c')
-  ev = subst (λ (r : CoreState). HasEvacuated p.evacuates.chosen (card_words c.config) w (layers_of r) (layers_of c')) p.is_ready.same
+  pub ev : HasEvacuated p.evacuates.chosen (is_third c.config.format) (card_words c.config) w (layers_of mid) (layers_of c')
+  ev = subst (λ (r : CoreState). HasEvacuated p.evacuates.chosen (is_third c.config.format) (card_words c.config) w (layers_of r)
+      (layers_of c')) p.is_ready.same
       p.evacuates.evacuated
 
   size : t'.words_per_region ≡ words

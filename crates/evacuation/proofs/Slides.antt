@@ -1,4 +1,5 @@
 pub mod KeptObjects
+pub mod Noted
 pub mod Redirecting
 pub mod Written
 pub mod Cards

@@ -4,15 +4,16 @@ use Rattle.heap_model.specs.Heap.{Stored, fields}
 use Rattle.regions.specs.Table.{Table}
 use Rattle.refinement.specs.Remembering.{field_word}
 use Rattle.evacuation.specs.Space.{IsFieldClean, IsObjectSettled, IsVisited, IsSettled}
+use Rattle.evacuation.specs.declared.room.Notes.{Notes}
 use Rattle.evacuation.specs.Turns.{Pause, layout, plan, space, kept_now}
 
 -- the objects of region k below an address are settled
-abbrev pub AreSettledBelow : Pause → List Bool → Table → ℕ → ℕ → Type 0
+abbrev pub AreSettledBelow : Pause → Notes → Table → ℕ → ℕ → Type 0
 AreSettledBelow p noted t k at = (b : ℕ) (y : Stored) → b / p.start.words_per_region ≡ k → b < at → kept_now p t b ≡ Some y
     → IsObjectSettled (layout p) noted (space p t) b
 
 -- the fields below one of the object at an address are settled
-abbrev pub AreFieldsSettled : Pause → List Bool → Table → ℕ → ℕ → Type 0
+abbrev pub AreFieldsSettled : Pause → Notes → Table → ℕ → ℕ → Type 0
 AreFieldsSettled p noted t at n = (i : ℕ) → i < n → (y : Stored) (w : Option ℕ) → kept_now p t at ≡ Some y → slice_get (fields y) i ≡ Some w
     → IsSettled (layout p) noted (field_word at i) w
 

@@ -17,7 +17,7 @@ use Rattle.mark_bitmap.specs.Kept.{MarksObjects, kept_in}
 use Rattle.mark_bitmap.specs.Live.{live_bound_of}
 use Rattle.cards.specs.Cards.{Cards, is_dirty}
 use Rattle.bit_sets.specs.Bits.{has}
-use Rattle.remembered_sets.specs.Sets.{Sets, card_count, may_lead, emptied, set_of}
+use Rattle.remembered_sets.specs.Sets.{Sets, card_count, covers, may_lead, emptied, set_of}
 use Rattle.refinement.specs.Remembering.{Remembers, field_card, field_word}
 use Rattle.refinement.specs.Refining.{SetsFit}
 use Rattle.region_choice.specs.Choice.{live_sum}
@@ -152,8 +152,8 @@ pub record MarksAfter (words : ℕ) (gone : ℕ → Bool) (tops tops' : List ℕ
   pub each_word : length marks' ≡ length marks
   pub each_mark : (a : ℕ) → is_marked marks' a ≡ (if gone (a / words) then false else is_marked marks a)
 
--- a field of a kept object that leads to another region, and didn't name this target before
-pub record IsNewCrossing (h h' : Layers) (card_words card : ℕ) : Type 0 where
+-- a field of a kept object that leads into the region from another one, and didn't name this target before
+pub record IsNewCrossing (h h' : Layers) (card_words card region : ℕ) : Type 0 where
   pub at : ℕ
   pub index : ℕ
   pub target : ℕ
@@ -161,6 +161,7 @@ pub record IsNewCrossing (h h' : Layers) (card_words card : ℕ) : Type 0 where
   pub is_kept : kept_of h' at ≡ Some object
   pub field : slice_get (fields object) index ≡ Some (Some target)
   pub in_card : field_card card_words at index ≡ card
+  pub into : target / h'.table.words_per_region ≡ region
   pub leaves : target / h'.table.words_per_region ≢ field_word at index / h'.table.words_per_region
   pub is_new : (before : Stored) → kept_of h at ≡ Some before → slice_get (fields before) index ≢ Some (Some target)
 
@@ -168,8 +169,21 @@ pub record IsNewCrossing (h h' : Layers) (card_words card : ℕ) : Type 0 where
 abbrev pub IsNewSet : Layers → List LiveRow → Type 0
 IsNewSet h rows = All (λ row. slice_index h.tams.next row.region ≡ row.region * h.table.words_per_region) rows
 
--- What is reached of the set is copied out of it, once, and what named it names its copy; then the set's regions are free
-pub record HasEvacuated (rows : List LiveRow) (card_words words : ℕ) (h h' : Layers) : Type 0 where
+-- What became of the sets of regions that aren't chosen, and of the cards of these: what may have led somewhere still may; a set covers
+-- nothing newly but cards of a region of which one has a field that was updated or copied and leads there; and such cards alone newly enter
+-- a set
+pub record SetsGain (rows : List LiveRow) (card_words : ℕ) (h h' : Layers) : Type 0 where
+  pub stays : (k card : ℕ) → is_chosen rows k ≡ false → is_chosen rows (card / h.sets.cards_per_region) ≡ false
+      → may_lead h.sets k card ≡ true → may_lead h'.sets k card ≡ true
+  pub covered : (k c : ℕ) → is_chosen rows k ≡ false → covers h'.sets k c ≡ true → (covers h.sets k c ≡ true)
+      ⊎ ((card : ℕ) × (card / h.sets.cards_per_region ≡ c / h.sets.cards_per_region) × IsNewCrossing h h' card_words card k)
+  pub entered : (card : ℕ) → has h'.sets.entered card ≡ true → (is_chosen rows (card / h.sets.cards_per_region) ≡ false)
+      × ((has h.sets.entered card ≡ true) ⊎ ((k : ℕ) × IsNewCrossing h h' card_words card k))
+
+-- What is reached of the set is copied out of it, once, and what named it names its copy; then the set's regions are free. Fields that were
+-- updated or copied and lead to another region are noted at once in that region's set, and no card is dirty, or else their cards are dirty
+-- and the sets stay
+pub record HasEvacuated (rows : List LiveRow) (at_once : Bool) (card_words words : ℕ) (h h' : Layers) : Type 0 where
   -- where the copies stand: in regions that were free
   pub forward : ℕ → Option ℕ
   pub placed : (a b : ℕ) → forward a ≡ Some b → kind_of h.table (b / h.table.words_per_region) ≡ kinds.Free
@@ -197,9 +211,10 @@ pub record HasEvacuated (rows : List LiveRow) (card_words words : ℕ) (h h' : L
   -- no card is dirty before, so the dirty cards are those of the queue now
   pub queue : IsStrictlyIncreasing h'.cards.queue
   -- a card is dirty only where a field was updated or copied that leads to another region
-  pub dirty : (card : ℕ) → is_dirty h'.cards card ≡ true → IsNewCrossing h h' card_words card
+  pub dirty : (card : ℕ) → is_dirty h'.cards card ≡ true → (at_once ≡ false) × ((k : ℕ) × IsNewCrossing h h' card_words card k)
   pub cleared : (k : ℕ) → is_chosen rows k ≡ true → set_of h'.sets k ≡ emptied (set_of h.sets k)
-  pub sets_same : (k : ℕ) → is_chosen rows k ≡ false → set_of h'.sets k ≡ set_of h.sets k
+  pub gains : SetsGain rows card_words h h'
+  pub sets_same : at_once ≡ false → (k : ℕ) → is_chosen rows k ≡ false → set_of h'.sets k ≡ set_of h.sets k
   -- no card of a chosen region has entered a set, and the other cards have as they had
-  pub entered : (card : ℕ)
+  pub entered : at_once ≡ false → (card : ℕ)
       → has h'.sets.entered card ≡ (if is_chosen rows (card / h.sets.cards_per_region) then false else has h.sets.entered card)

@@ -8,8 +8,8 @@ pub record RoomSizes : Type 0 where
   pub cards : ℕ
 
 abbrev pub sizes_of : Inside → RoomSizes
-sizes_of r = record { regions = vec_len r.context.chosen; cards = length r.context.noted }
+sizes_of r = record { regions = vec_len r.context.chosen; cards = length r.context.noted.cards }
 
 pub record IsPauseRoom (r : Inside) : Type 0 where
-  pub each_card : length r.visited ≡ length r.context.noted
+  pub each_card : length r.visited ≡ length r.context.noted.cards
   pub each_region : length r.context.destinations.regions + r.context.destinations.room ≡ vec_len r.context.chosen

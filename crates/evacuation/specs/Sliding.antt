@@ -1,11 +1,9 @@
 -- What names the object of a run that moves, as it is redirected word by word.
-use Rattle.std.specs.Prelude.{◌≡◌, ◌≢◌, ◌⊎◌, ◌↔◌, ◌+◌, ◌*◌, ◌/◌, ◌<◌, ◌≤◌, ℕ, Bool, true, false, List, Option, Some, None, length}
-use Rattle.std.specs.Prelude.{slice_get, map}
+use Rattle.std.specs.Prelude.{◌≡◌, ◌≢◌, ◌⊎◌, ◌*◌, ◌/◌, ◌<◌, ℕ, Bool, true, false, List, Option, Some, None, length}
+use Rattle.std.specs.Prelude.{slice_get}
 use Rattle.std.specs.List.Sorted.{IsStrictlyIncreasing}
 use Rattle.heap_model.specs.Heap.{Stored, fields}
-use Rattle.heap_model.specs.Redirection.{redirected}
-use Rattle.regions.specs.Table.{Table, HasNoForwarded, fields_at, kind_of, object_at, run_length, tile_in, used_of}
-use Rattle.regions.specs.Shaped.{IsShaped}
+use Rattle.regions.specs.Table.{Table, HasNoForwarded, fields_at, kind_of, object_at, tile_in, used_of}
 use Rattle.regions.specs.declared.row.Kind.TheVariants as kinds
 use Rattle.mark_bitmap.specs.Tops.{Tops}
 use Rattle.mark_bitmap.specs.Kept.{kept_in}
@@ -16,7 +14,7 @@ use Rattle.refinement.specs.Refining.{SetsFit}
 use Rattle.evacuation.specs.declared.outside.Kept.{Kept}
 use Rattle.evacuation.specs.declared.slide.Way.{Way}
 use Rattle.evacuation.specs.Evacuates.{IsSameBut}
-use Rattle.evacuation.specs.Space.{Layout, flag}
+use Rattle.evacuation.specs.Space.{flag}
 
 -- What stays the same meanwhile: how many regions there are, words a region, words a card, cards a region; tops at mark start and marks;
 -- where the object is, and where it comes to
@@ -43,9 +41,13 @@ pub record SlideStands (s : Slide) (t : Table) (noted : List Bool) : Type 0 wher
   pub each_card : length noted ≡ s.regions * s.cards_per_region
   pub apart : s.from ≢ s.to
 
--- the same as copying has it, with no region that is evacuated
-abbrev pub sizes : Slide → Layout
-sizes s = record { words = s.words; card_words = s.card_words; chosen = λ k. false }
+-- the word's card is noted where the word's target lies in another region, and no other card is that wasn't
+pub record NotesCard (s : Slide) (noted noted' : List Bool) (word target : ℕ) : Type 0 where
+  pub is_noted : (target / s.words ≡ word / s.words) ⊎ (flag noted' (word / s.card_words) ≡ true)
+  pub grows : (card : ℕ) → flag noted card ≡ true → flag noted' card ≡ true
+  pub count : length noted' ≡ length noted
+  pub only : (card : ℕ) → flag noted' card ≡ true
+      → (flag noted card ≡ true) ⊎ ((card ≡ word / s.card_words) × (target / s.words ≢ word / s.words))
 
 -- the two places, and what tells which objects are kept, are those
 abbrev pub IsWay : Slide → Way → Type 0

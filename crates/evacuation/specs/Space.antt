@@ -1,13 +1,18 @@
 -- What copying sees of a heap, and what it keeps from one copied object to the next.
 use Rattle.std.specs.Prelude.{◌≡◌, ◌≢◌, ◌⊎◌, ◌≤◌, ◌<◌, ◌+◌, ◌*◌, ◌/◌, ◌^◌, ◌∷◌, ◌++◌}
-use Rattle.std.specs.Prelude.{ℕ, Bool, true, false, List, [], Option, Some, None, slice_get, slice_index_or, length, ⊤}
+use Rattle.std.specs.Prelude.{ℕ, Bool, true, false, List, [], Option, Some, None, slice_get, slice_index_or, slice_set, length, ⊤}
+use Rattle.std.specs.Prelude.{◌||◌, if◌then◌else◌}
 use Rattle.heap_model.specs.Heap.{Heap, Stored, IsClosed, fields, with_field}
 use Rattle.heap_model.specs.Relocation.{IsMoved}
 use Rattle.heap_model.specs.Evacuation.{IsEvacuating, IsReached, place_after}
 use Rattle.regions.specs.Tiles.{Object, tile_size}
 use Rattle.object_copy.specs.Copies.{Destinations}
 use Rattle.refinement.specs.Remembering.{field_word}
+use Rattle.bit_sets.specs.Bits.{has}
+use Rattle.remembered_sets.specs.Sets.{AreSets, Sets, added, covers, emptied, may_lead}
+use Rattle.remembered_sets.specs.Sets as remembered
 use Rattle.evacuation.specs.Evacuates.{words_at}
+use Rattle.evacuation.specs.declared.room.Notes.{Notes}
 
 -- what stays the same: how many words a region and a card have, and which regions are evacuated
 pub record Layout : Type 0 where
@@ -120,24 +125,62 @@ abbrev pub IsOutsideSet : Layout → Option ℕ → Type 0
 IsOutsideSet l None = ⊤
 IsOutsideSet l (Some c) = set_of l c ≡ false
 
--- where the word's target lies in another region, the word's card is noted
-abbrev pub IsCardNoted : Layout → List Bool → ℕ → Option ℕ → Type 0
-IsCardNoted l noted at None = ⊤
-IsCardNoted l noted at (Some c) = (c / l.words ≡ at / l.words) ⊎ (flag noted (at / l.card_words) ≡ true)
+-- ---- what is noted
+-- it is noted that a field in the card may lead into the region: the card is one of those that become dirty, or the region's set tells
+abbrev pub is_noted : Notes → ℕ → ℕ → Bool
+is_noted n card region = flag n.cards card || may_lead n.sets region card
 
-abbrev pub IsSettled : Layout → List Bool → ℕ → Option ℕ → Type 0
+-- the notes once it is noted: in the region's set where that is done at once, else among the cards
+abbrev pub with_note : Notes → ℕ → ℕ → Notes
+with_note n card region =
+    if n.at_once then record n { sets = added n.sets region card } else record n { cards = slice_set n.cards card true }
+
+-- the sets are as many, with as many cards, and as large once they are emptied, and what may have led into a region still may
+pub record SetsGrow (s s' : Sets) : Type 0 where
+  pub cards : s'.cards_per_region ≡ s.cards_per_region
+  pub count : length s'.sets ≡ length s.sets
+  pub emptied_same : (k : ℕ) → emptied (remembered.set_of s' k) ≡ emptied (remembered.set_of s k)
+  pub leads : (k card : ℕ) → may_lead s k card ≡ true → may_lead s' k card ≡ true
+
+-- nothing is forgotten: sets stay where notes are made among the cards, and cards where they are made at once
+pub record NotesGrow (n n' : Notes) : Type 0 where
+  pub at_once : n'.at_once ≡ n.at_once
+  pub noted : (card region : ℕ) → is_noted n card region ≡ true → is_noted n' card region ≡ true
+  pub count : length n'.cards ≡ length n.cards
+  pub sets : SetsGrow n.sets n'.sets
+  pub late : n.at_once ≡ false → n'.sets ≡ n.sets
+  pub early : n.at_once ≡ true → n'.cards ≡ n.cards
+
+-- Something is newly noted for these cards and regions alone: a card that becomes dirty; a card that entered a set; a card that a region's
+-- set covers, which lies in the noted card's region
+pub record NotesFor (may : ℕ → ℕ → Type 0) (n n' : Notes) : Type 0 where
+  pub cards : (c : ℕ) → flag n'.cards c ≡ true → (flag n.cards c ≡ true) ⊎ ((k : ℕ) × may c k)
+  pub entered : (c : ℕ) → has n'.sets.entered c ≡ true → (has n.sets.entered c ≡ true) ⊎ ((k : ℕ) × may c k)
+  pub covered : (c k : ℕ) → covers n'.sets k c ≡ true → (covers n.sets k c ≡ true)
+      ⊎ ((card : ℕ) × (card / n.sets.cards_per_region ≡ c / n.sets.cards_per_region) × may card k)
+
+-- where the word's target lies in another region, that is noted for the word's card
+abbrev pub IsCardNoted : Layout → Notes → ℕ → Option ℕ → Type 0
+IsCardNoted l noted at None = ⊤
+IsCardNoted l noted at (Some c) = (c / l.words ≡ at / l.words) ⊎ (is_noted noted (at / l.card_words) (c / l.words) ≡ true)
+
+abbrev pub IsSettled : Layout → Notes → ℕ → Option ℕ → Type 0
 IsSettled l noted at w = IsOutsideSet l w × IsCardNoted l noted at w
 
--- the word's card is noted where the word's target lies in another region, and no other card is that wasn't
-pub record NotesWord (l : Layout) (noted noted' : List Bool) (word target : ℕ) : Type 0 where
+-- the word's card, and the region of its target, which is another one than the word's
+pub record IsOfWord (l : Layout) (word target card region : ℕ) : Type 0 where
+  pub card_is : card ≡ word / l.card_words
+  pub region_is : region ≡ target / l.words
+  pub leaves : target / l.words ≢ word / l.words
+
+-- it is noted for the word's card where the word's target lies in another region, and nothing else is that wasn't
+pub record NotesWord (l : Layout) (noted noted' : Notes) (word target : ℕ) : Type 0 where
   pub is_noted : IsCardNoted l noted' word (Some target)
-  pub grows : (c : ℕ) → flag noted c ≡ true → flag noted' c ≡ true
-  pub count : length noted' ≡ length noted
-  pub only : (c : ℕ) → flag noted' c ≡ true
-      → (flag noted c ≡ true) ⊎ ((c ≡ word / l.card_words) × (target / l.words ≢ word / l.words))
+  pub grows : NotesGrow noted noted'
+  pub only : NotesFor (IsOfWord l word target) noted noted'
 
 -- a word that named the set, and is settled now
-pub record IsUpdated (l : Layout) (noted : List Bool) (at : ℕ) (was is : Option ℕ) : Type 0 where
+pub record IsUpdated (l : Layout) (noted : Notes) (at : ℕ) (was is : Option ℕ) : Type 0 where
   pub target : ℕ
   pub named : was ≡ Some target
   pub inside : set_of l target ≡ true
@@ -147,8 +190,8 @@ pub record IsUpdated (l : Layout) (noted : List Bool) (at : ℕ) (was is : Optio
 abbrev pub IsStill : Space → ℕ → ℕ → Type 0
 IsStill s b n = (y : Stored) × (s.object b ≡ Some y) × (length (fields y) ≡ n)
 
--- a field outside the set that leads to another region: a copy's, or one that named the set
-pub record NewCrossing (l : Layout) (s s' : Space) (d' : Destinations) (card : ℕ) : Type 0 where
+-- a field outside the set that leads into the region from another one: a copy's, or one that named the set
+pub record NewCrossing (l : Layout) (s s' : Space) (d' : Destinations) (card region : ℕ) : Type 0 where
   pub at : ℕ
   pub index : ℕ
   pub target : ℕ
@@ -158,16 +201,16 @@ pub record NewCrossing (l : Layout) (s s' : Space) (d' : Destinations) (card : �
   pub field : slice_get (fields object) index ≡ Some (Some target)
   pub clean : set_of l target ≡ false
   pub in_card : field_word at index / l.card_words ≡ card
+  pub into : target / l.words ≡ region
   pub leaves : target / l.words ≢ field_word at index / l.words
   pub is_new : IsDestination d' (at / l.words)
       ⊎ ((y : Stored) → s.object at ≡ Some y → (v : ℕ) × (slice_get (fields y) index ≡ Some (Some v)) × (set_of l v ≡ true))
 
 -- Objects outside the set stay, and each of their fields is as it was or was updated. New ones stand above what was handed out
 -- before, and none in a closed destination
-pub record IsAfter (l : Layout) (noted noted' : List Bool) (s s' : Space) (d d' : Destinations) : Type 0 where
-  pub noted_grows : (c : ℕ) → flag noted c ≡ true → flag noted' c ≡ true
-  pub noted_length : length noted' ≡ length noted
-  pub noted_for : (c : ℕ) → flag noted' c ≡ true → (flag noted c ≡ true) ⊎ NewCrossing l s s' d' c
+pub record IsAfter (l : Layout) (noted noted' : Notes) (s s' : Space) (d d' : Destinations) : Type 0 where
+  pub noted_grows : NotesGrow noted noted'
+  pub noted_for : NotesFor (NewCrossing l s s' d') noted noted'
   pub forward_grows : (a b : ℕ) → s.forward a ≡ Some b → s'.forward a ≡ Some b
   pub taken_grows : (i k : ℕ) → slice_get d.regions i ≡ Some k → slice_get d'.regions i ≡ Some k
   pub used_grows : (k : ℕ) → s.used k ≤ s'.used k
@@ -183,15 +226,15 @@ pub record IsAfter (l : Layout) (noted noted' : List Bool) (s s' : Space) (d d' 
 abbrev pub IsFieldClean : Layout → Space → ℕ → ℕ → Type 0
 IsFieldClean l s b i = (y : Stored) (w : Option ℕ) → s.object b ≡ Some y → slice_get (fields y) i ≡ Some w → IsOutsideSet l w
 
-abbrev pub IsFieldSettled : Layout → List Bool → Space → ℕ → ℕ → Type 0
+abbrev pub IsFieldSettled : Layout → Notes → Space → ℕ → ℕ → Type 0
 IsFieldSettled l noted s b i =
     (y : Stored) (w : Option ℕ) → s.object b ≡ Some y → slice_get (fields y) i ≡ Some w → IsSettled l noted (field_word b i) w
 
-abbrev pub IsObjectSettled : Layout → List Bool → Space → ℕ → Type 0
+abbrev pub IsObjectSettled : Layout → Notes → Space → ℕ → Type 0
 IsObjectSettled l noted s b = (i : ℕ) → IsFieldSettled l noted s b i
 
 -- each object of the region is settled
-abbrev pub IsRegionSettled : Layout → List Bool → Space → ℕ → Type 0
+abbrev pub IsRegionSettled : Layout → Notes → Space → ℕ → Type 0
 IsRegionSettled l noted s k = (b : ℕ) (y : Stored) → b / l.words ≡ k → s.object b ≡ Some y → IsObjectSettled l noted s b
 
 -- a field of an object that stood outside the set at the start, in a card that is visited

@@ -16,6 +16,7 @@ use Rattle.evacuation.specs.Evacuates.{AreReachedWords, IsSameBut, stored_words}
 use Rattle.refinement.specs.Remembering.{field_word}
 use Rattle.evacuation.specs.Space.{Layout, Plan, Space, AllVisited, IsAfter, IsCopying, IsPlan, IsSettled, IsDestination, flag, set_of}
 use Rattle.evacuation.specs.declared.room.Context.{Context}
+use Rattle.evacuation.specs.declared.room.Notes.{Notes}
 use Rattle.evacuation.specs.declared.outside.Kept.{Kept}
 use Rattle.evacuation.specs.declared.fields.CardPlace.{CardPlace}
 
@@ -109,12 +110,18 @@ pub record IsTurn (p : Pause) (t : Table) (d : Destinations) : Type 0 where
   pub table : TableStays p t
   pub taken : (k : ℕ) → IsDestination d k → (kind_of p.start k ≡ kinds.Free) × (kind_of t k ≡ kinds.Ordinary) × (k < length p.start.regions)
 
-abbrev pub After : Pause → List Bool → List Bool → Table → Table → Destinations → Destinations → Type 0
+abbrev pub After : Pause → Notes → Notes → Table → Table → Destinations → Destinations → Type 0
 After p noted noted' t t' d d' = IsAfter (layout p) noted noted' (space p t) (space p t') d d'
 
 -- a flag for each card
 abbrev pub EachCard : Pause → List Bool → Type 0
 EachCard p noted = length noted ≡ length p.start.regions * p.cards_per_region
+
+-- each card can be noted, and each region has a set of cards
+pub record AreNotes (p : Pause) (n : Notes) : Type 0 where
+  pub each_card : EachCard p n.cards
+  pub each_set : length n.sets.sets ≡ length p.start.regions
+  pub set_cards : n.sets.cards_per_region ≡ p.cards_per_region
 
 -- The pause stands: its premises hold, the turn is one of it, the flags are its set, its cards have so many words, and each of them can be
 -- noted
@@ -123,7 +130,7 @@ pub record PauseStands (p : Pause) (t : Table) (c : Context) : Type 0 where
   pub turn : IsTurn p t c.destinations
   pub flags : c.chosen.items ≡ p.chosen
   pub card : c.card_words ≡ p.card_words
-  pub each_card : EachCard p c.noted
+  pub notes : AreNotes p c.noted
 
 -- the pause went on by some turns, and stands
 pub record PauseGoesOn (p : Pause) (t t' : Table) (c c' : Context) : Type 0 where
@@ -151,7 +158,7 @@ WasField p b i w = (x : Stored) × ((plan p).heap.kept b ≡ Some x) × (slice_g
 
 -- Once all is copied: a field outside the set is the one that stood there, or settled: it names nothing of the set, and where it
 -- leads to another region, its card is noted
-pub record AreFieldsNoted (p : Pause) (noted : List Bool) (t : Table) : Type 0 where
+pub record AreFieldsNoted (p : Pause) (noted : Notes) (t : Table) : Type 0 where
   pub field : (b i : ℕ) (y : Stored) (w : Option ℕ) → kept_now p t b ≡ Some y → in_set p b ≡ false → slice_get (fields y) i ≡ Some w
       → WasField p b i w ⊎ IsSettled (layout p) noted (field_word b i) w
 

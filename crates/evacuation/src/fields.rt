@@ -1,15 +1,15 @@
 //! One word that is updated: what it names is copied, unless it was before.
 
-ghost use Rattle.std.specs.Prelude.{◌≡◌, ◌*◌, ◌/◌, ◌<◌, ℕ, Bool, true, false, List, Some, length, slice_get};
+ghost use Rattle.std.specs.Prelude.{◌≡◌, ◌/◌, ◌<◌, ℕ, true, false, Some, length, slice_get};
 ghost use Rattle.heap_model.specs.Heap.{Stored};
 ghost use Rattle.regions.specs.Table.{fields_at, tile_in, moved_to};
 ghost use Rattle.refinement.specs.Remembering.{field_word};
 ghost use Rattle.evacuation.specs.Space.{IsField, IsNamed, IsNewWord, IsFieldClean, IsFieldSettled, IsDestination, NotesWord};
-ghost use Rattle.evacuation.specs.Turns.{Pause, IsPause, IsTurn, PauseStands, After, PauseGoesOn, EachCard, IsCardPlace};
+ghost use Rattle.evacuation.specs.Turns.{Pause, IsPause, IsTurn, PauseStands, After, PauseGoesOn, AreNotes, IsCardPlace};
+ghost use Rattle.evacuation.specs.declared.room.Notes.{Notes};
 ghost use Rattle.evacuation.specs.Turns.{in_set, layout, plan, space, kept_now};
 
-use crate::room::Context;
-use bit_sets::bounded::BoundedBits;
+use crate::room::{Context, Notes, note_crossing};
 use heap_words::addr::{Addr, Ptr};
 use heap_words::powers::quotient;
 use object_copy::{Destinations, copy};
@@ -44,7 +44,7 @@ pub(crate) fn new_place(
     requires named { IsNamed (layout pause) (plan pause) from }
     ensures turn { IsTurn pause table.new destinations.new }
     ensures place { moved_to (tile_in table.new from) ≡ Some result }
-    ensures after { (noted : List Bool) → After pause noted noted table.old table.new destinations.old destinations.new }
+    ensures after { (noted : Notes) → After pause noted noted table.old table.new destinations.old destinations.new }
     ensures frame { (b : ℕ) (y : Stored) → in_set pause b ≡ false → kept_now pause table.old b ≡ Some y
         → kept_now pause table.new b ≡ Some y }
 {
@@ -69,7 +69,7 @@ pub(crate) fn new_word(
     requires named { (c : ℕ) → word ≡ Some c → in_set pause c ≡ true → IsNamed (layout pause) (plan pause) c }
     ensures turn { IsTurn pause table.new destinations.new }
     ensures word { IsNewWord (layout pause) (space pause table.new) word result }
-    ensures after { (noted : List Bool) → After pause noted noted table.old table.new destinations.old destinations.new }
+    ensures after { (noted : Notes) → After pause noted noted table.old table.new destinations.old destinations.new }
 {
     let Some(from) = word else {
         return None;
@@ -80,22 +80,6 @@ pub(crate) fn new_word(
     Some(new_place(table, destinations, from))
 }
 
-/// Notes a word's card where the word's target lies in another region.
-fn note(table: &RegionTable, noted: &mut BoundedBits, card_words: u32, word: u32, target: Addr)
-    ghost pause: { Pause }
-    requires premises { IsPause pause }
-    requires words { table.now.words_per_region ≡ pause.start.words_per_region }
-    requires card { card_words ≡ pause.card_words }
-    requires each_card { EachCard pause noted.old }
-    requires within { word < length pause.start.regions * pause.start.words_per_region }
-    ensures notes { NotesWord (layout pause) noted.old noted.new word target }
-    ensures each_card { EachCard pause noted.new }
-{
-    if table.leads_out(word, target) {
-        noted.set(quotient(word, card_words));
-    }
-}
-
 /// The numbers of a card, and of the region that it is in.
 #[derive(Clone, Copy)]
 pub(crate) struct CardPlace {
@@ -103,18 +87,22 @@ pub(crate) struct CardPlace {
     pub(crate) home: u32,
 }
 
-/// The same for a word of a card that is known.
-fn note_card(table: &RegionTable, noted: &mut BoundedBits, place: CardPlace, target: Addr)
+/// Notes for a word, whose card is known, that the word's target lies in another region, if it does.
+#[inline(always)]
+fn note(table: &RegionTable, notes: &mut Notes, place: CardPlace, target: Addr)
     ghost pause: { Pause }
+    requires premises { IsPause pause }
     requires words { table.now.words_per_region ≡ pause.start.words_per_region }
-    requires each_card { EachCard pause noted.old }
+    requires notes { AreNotes pause notes.old }
     requires place { IsCardPlace pause place }
+    requires target { target / pause.start.words_per_region < length pause.start.regions }
     ensures notes { (word : ℕ) → word / pause.card_words ≡ place.card → word / pause.start.words_per_region ≡ place.home
-        → NotesWord (layout pause) noted.old noted.new word target }
-    ensures each_card { EachCard pause noted.new }
+        → NotesWord (layout pause) notes.old notes.new word target }
+    ensures stay { AreNotes pause notes.new }
 {
-    if table.region_of(target).number() != place.home {
-        noted.set(place.card);
+    let region = table.region_of(target).number();
+    if region != place.home {
+        note_crossing(notes, place.card, place.home, region);
     }
 }
 
@@ -135,9 +123,10 @@ fn redirect(
     requires names { slice_get (fields_at table.old at) field ≡ Some (Some target) }
     requires inside { in_set pause target ≡ true }
     ensures turn { IsTurn pause table.new destinations.new }
-    ensures after { (noted noted' : List Bool) → NotesWord (layout pause) noted noted' (field_word at field) result
+    ensures known { result / pause.start.words_per_region < length pause.start.regions }
+    ensures after { (noted noted' : Notes) → NotesWord (layout pause) noted noted' (field_word at field) result
         → After pause noted noted' table.old table.new destinations.old destinations.new }
-    ensures settled { (noted noted' : List Bool) → NotesWord (layout pause) noted noted' (field_word at field) result
+    ensures settled { (noted noted' : Notes) → NotesWord (layout pause) noted noted' (field_word at field) result
         → IsFieldSettled (layout pause) noted' (space pause table.new) at field }
 {
     let to = new_place(table, destinations, target);
@@ -170,10 +159,10 @@ pub(crate) fn update_field(
         return;
     }
     let to = redirect(table, &mut context.destinations, at, field, target);
-    note_card(table, &mut context.noted, place, to);
+    note(table, &mut context.noted, place, to);
 }
 
-/// A copied field names the new place of its target, and its card is noted if it leads into another region. Its word is read once.
+/// A copied field names the new place of its target, and that is noted if it leads into another region. Its word is read once.
 pub(crate) fn settle_field(table: &mut RegionTable, context: &mut Context, at: Addr, field: u32)
     ghost pause: { Pause }
     requires stands { PauseStands pause table.old context.old }
@@ -188,10 +177,12 @@ pub(crate) fn settle_field(table: &mut RegionTable, context: &mut Context, at: A
         return;
     };
     let word = at.field(field) as u32;
+    let card = quotient(word, context.card_words);
+    let home = table.region_of(Addr::new(word)).number();
     if is_inside(table, &context.chosen, target) {
         let to = redirect(table, &mut context.destinations, at, field, target);
-        note(table, &mut context.noted, context.card_words, word, to);
+        note(table, &mut context.noted, CardPlace { card, home }, to);
         return;
     }
-    note(table, &mut context.noted, context.card_words, word, target);
+    note(table, &mut context.noted, CardPlace { card, home }, target);
 }

@@ -59,7 +59,8 @@ fn copy_reached(
 }
 
 /// Copies what is reached of the chosen regions out of them, updates what names it, and releases the regions. It takes no
-/// memory, and the free regions have room for all copies.
+/// memory, and the free regions have room for all copies. Where a field that was updated or copied leads to another region, its card enters
+/// that region's remembered set, if that is to be done at once, and else becomes dirty.
 pub fn evacuate(
     table: &mut RegionTable,
     tams: &mut Tams,
@@ -69,6 +70,7 @@ pub fn evacuate(
     roots: &mut Roots,
     room: &mut PauseRoom,
     chosen: &[LiveRow],
+    at_once: bool,
     card_words: u32,
 ) -> Moved
     requires can { CanEvacuate (all_layers table.old tams.old bitmaps.old cards.old sets.old roots.old.words) chosen.now card_words }
@@ -77,20 +79,22 @@ pub fn evacuate(
     ensures room { room.new ≡ room.old }
     ensures places { roots.new.places ≡ roots.old.places }
     ensures regions { result.regions ≡ length chosen.now }
-    ensures evacuated { HasEvacuated chosen.now card_words result.words
+    ensures evacuated { HasEvacuated chosen.now at_once card_words result.words
         (all_layers table.old tams.old bitmaps.old cards.old sets.old roots.old.words)
         (all_layers table.new tams.new bitmaps.new cards.new sets.new roots.new.words) }
 {
     table.law();
     flag_chosen(&mut room.context.chosen, chosen);
     flag_visited(&mut room.visited, table, sets, chosen, card_words);
-    room.context.noted.clear();
+    room.context.noted.cards.clear();
+    room.context.noted.at_once = at_once;
     room.context.destinations.close();
     room.context.card_words = card_words;
     let kept = Kept {
         tams,
         marks: &bitmaps.previous,
     };
+    std::mem::swap(sets, &mut room.context.noted.sets);
     copy_reached(
         table,
         &mut room.context,
@@ -99,7 +103,8 @@ pub fn evacuate(
         roots,
         chosen.len(),
     );
-    dirty_noted(cards, &room.context.noted);
+    std::mem::swap(sets, &mut room.context.noted.sets);
+    dirty_noted(cards, &room.context.noted.cards);
     release_chosen(table, tams, bitmaps, sets, chosen);
     table.law();
     Moved {

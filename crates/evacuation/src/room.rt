@@ -4,7 +4,7 @@
 //!                  in a pause                                    one entry for
 //!   destinations   where copies go                               a region
 //!   chosen         whether a region is evacuated                 a region
-//!   noted          cards with a field that crosses regions now   a card, as a bit
+//!   noted          cards with a field that crosses regions now   a card, as a bit; or none, and sets gain such cards at once
 //!   visited        cards to look at, in regions in use           a card, as a bit
 //! ```
 //!
@@ -12,12 +12,12 @@
 //!
 //! Sets of cards are bits, so that a pause goes from one member to the next, and clears a set by words of 64 cards.
 
-ghost use Rattle.std.specs.Prelude.{◌≡◌, ◌<◌, ℕ, All, false, IfOk, length};
+ghost use Rattle.std.specs.Prelude.{◌≡◌, ◌<◌, ◌/◌, ℕ, All, false, true, IfOk, length};
 ghost use Rattle.std.specs.List.Sorted.{IsStrictlyIncreasing};
 ghost use Rattle.cards.specs.Cards.{is_dirty};
 ghost use Rattle.remembered_sets.specs.Sets.{card_count, cards_into};
 ghost use Rattle.evacuation.specs.Evacuates.{is_chosen};
-ghost use Rattle.evacuation.specs.Space.{flag};
+ghost use Rattle.evacuation.specs.Space.{flag, is_noted, with_note};
 
 use bit_sets::bounded::BoundedBits;
 use cards::CardTable;
@@ -28,13 +28,21 @@ use remembered_sets::RememberedSets;
 use std::alloc::{AllocError, Global};
 use std::marker::Model;
 
-/// A pause's context: the destinations, a flag for each region that is evacuated, the set of the cards that are noted, and how many
-/// words a card has.
+/// Where a pause notes that a field leads to another region: at once in that region's remembered set, or else its card, among those that
+/// become dirty at the pause's end. The remembered sets are those of the heap within a pause alone, and else none.
+#[derive(Drop)]
+pub(crate) struct Notes {
+    pub(crate) at_once: bool,
+    pub(crate) cards: BoundedBits,
+    pub(crate) sets: RememberedSets,
+}
+
+/// A pause's context: the destinations, a flag for each region that is evacuated, what is noted, and how many words a card has.
 #[derive(Drop)]
 pub(crate) struct Context {
     pub(crate) destinations: Destinations,
     pub(crate) chosen: Vec<bool>,
-    pub(crate) noted: BoundedBits,
+    pub(crate) noted: Notes,
     pub(crate) card_words: u32,
 }
 
@@ -80,7 +88,11 @@ impl PauseRoom {
             context: Context {
                 destinations: Destinations::new(alloc, regions)?,
                 chosen: flags(alloc, regions)?,
-                noted: BoundedBits::new(alloc, cards)?,
+                noted: Notes {
+                    at_once: false,
+                    cards: BoundedBits::new(alloc, cards)?,
+                    sets: RememberedSets::new(alloc, 0, 1, 0)?,
+                },
                 card_words: 0,
             },
             visited: BoundedBits::new(alloc, cards)?,
@@ -110,6 +122,23 @@ pub(crate) fn flag_chosen(set: &mut [bool], rows: &[LiveRow])
     set.fill(false);
     for row in rows {
         set[row.region.number() as usize] = true;
+    }
+}
+
+/// Notes that a field in a card of the region `home` leads into another region.
+#[inline(never)]
+pub(crate) fn note_crossing(notes: &mut Notes, card: u32, home: u32, region: u32)
+    requires card { card < length notes.old.cards }
+    requires own { card / notes.old.sets.cards_per_region ≡ home }
+    requires region { region < length notes.old.sets.sets }
+    requires known { card < card_count notes.old.sets }
+    ensures notes { notes.new ≡ with_note notes.old card region }
+    ensures noted { is_noted notes.new card region ≡ true }
+{
+    if notes.at_once {
+        notes.sets.add_from(RegionNo::new(home), RegionNo::new(region), Card::new(card));
+    } else {
+        notes.cards.set(card);
     }
 }
 

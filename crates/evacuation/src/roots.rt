@@ -5,6 +5,7 @@ ghost use Rattle.std.specs.List.{AllZip};
 ghost use Rattle.heap_model.specs.Relocation.{IsMoved};
 ghost use Rattle.heap_model.specs.Evacuation.{place_after};
 ghost use Rattle.evacuation.specs.Turns.{Pause, IsPause, IsTurn, After, in_set, space};
+ghost use Rattle.evacuation.specs.declared.room.Notes.{Notes};
 
 use crate::fields::new_word;
 use object_copy::Destinations;
@@ -28,7 +29,7 @@ pub(crate) fn update_roots(
     requires start { roots.old.words ≡ pause.roots }
     requires none { regions ≡ 0 → (a : ℕ) → in_set pause a ≡ false }
     ensures turn { IsTurn pause table.new destinations.new }
-    ensures after { (noted : List Bool) → After pause noted noted table.old table.new destinations.old destinations.new }
+    ensures after { (noted : Notes) → After pause noted noted table.old table.new destinations.old destinations.new }
     ensures moved { AllZip (IsMoved (place_after (in_set pause) (space pause table.new).forward)) pause.roots roots.new.words }
     ensures places { roots.new.places ≡ roots.old.places }
 {

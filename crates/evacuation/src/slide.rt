@@ -15,9 +15,9 @@ ghost use Rattle.regions.specs.Table.{Table, fields_at, object_words, run_length
 ghost use Rattle.remembered_sets.specs.Sets.{card_count};
 ghost use Rattle.regions.specs.Walks.{IsHolder, IsPlacedTile};
 ghost use Rattle.refinement.specs.Remembering.{field_card, field_word};
-ghost use Rattle.evacuation.specs.Space.{NotesWord, flag};
+ghost use Rattle.evacuation.specs.Space.{flag};
 ghost use Rattle.evacuation.specs.Sliding.{Slide, SlideStands, SlideGoesOn, OwnGoesOn, AreKeptIn, IsWay, IsCardUnnamed, IsObjectUnnamed};
-ghost use Rattle.evacuation.specs.Sliding.{CanRedirect, HasRedirected, Names, RedirectsInTurn, kept_at, sizes, slide_of};
+ghost use Rattle.evacuation.specs.Sliding.{CanRedirect, HasRedirected, Names, NotesCard, RedirectsInTurn, kept_at, slide_of};
 
 use crate::outside::Kept;
 use crate::pause::Moved;
@@ -223,7 +223,7 @@ fn note_word(table: &RegionTable, noted: &mut BoundedBits, card_words: u32, word
     requires stands { SlideStands slide table.now noted.old }
     requires words { card_words ≡ slide.card_words }
     requires within { word < slide.regions * slide.words }
-    ensures notes { NotesWord (sizes slide) noted.old noted.new word target }
+    ensures notes { NotesCard slide noted.old noted.new word target }
 {
     table.law();
     if table.leads_out(word, target) {
@@ -348,7 +348,7 @@ pub fn redirect_run(
         first.number() * cards_per_region,
         (first.number() + count) * cards_per_region,
     );
-    room.context.noted.clear();
+    room.context.noted.cards.clear();
     roots.redirect(way.from, way.to);
     let kept = Kept {
         tams,
@@ -356,13 +356,13 @@ pub fn redirect_run(
     };
     redirect_fields(
         table,
-        &mut room.context.noted,
+        &mut room.context.noted.cards,
         kept,
         &way,
         card_words,
         &room.visited,
     );
-    dirty_noted(cards, &room.context.noted);
+    dirty_noted(cards, &room.context.noted.cards);
     Moved {
         regions: count as usize,
         words: size,

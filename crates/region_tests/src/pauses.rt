@@ -98,6 +98,7 @@ fn pause(
     mut table: RegionTable,
     mut sets: RememberedSets,
     row: LiveRow,
+    at_once: bool,
 ) -> Result<Paused, Fail>
     requires { IsSuited table sets row }
     ensures count { IfOk result (λ paused. length paused.table.regions ≡ 4) }
@@ -118,6 +119,7 @@ fn pause(
         &mut roots,
         &mut room,
         &rows,
+        at_once,
         8,
     );
     let root = match roots.next_named(0) {
@@ -144,7 +146,7 @@ fn pause_itself(alloc: Global) -> Result<Paused, Fail>
         region: RegionNo::new(0),
         live_bound: 4,
     };
-    pause(alloc, table, sets, row)
+    pause(alloc, table, sets, row, false)
 }
 
 /// Region 1 covers card 0, and card 4 of region 2, which is free.
@@ -159,7 +161,7 @@ fn held_sets(alloc: Global) -> Result<RememberedSets, Fail>
 }
 
 /// A pause that evacuates the region of the object that a weak slot alone names.
-fn pause_held(alloc: Global) -> Result<Paused, Fail>
+fn pause_held(alloc: Global, at_once: bool) -> Result<Paused, Fail>
     ensures count { IfOk result (λ paused. length paused.table.regions ≡ 4) }
     ensures words { IfOk result (λ paused. paused.table.words_per_region ≡ 16) }
 {
@@ -169,7 +171,7 @@ fn pause_held(alloc: Global) -> Result<Paused, Fail>
         region: RegionNo::new(1),
         live_bound: 2,
     };
-    pause(alloc, table, sets, row)
+    pause(alloc, table, sets, row, at_once)
 }
 
 /// The object is copied once, with its weak slot, to the lowest free region, and the root and the copy's fields name the copy.
@@ -191,12 +193,24 @@ fn copies_what_names_itself(rt: HostRuntime) -> Result<(), Fail> {
 /// card is dirty. That the set covers a card of a free region too, where the copy goes, changes nothing.
 #[test]
 fn updates_a_weak_slot_outside(rt: HostRuntime) -> Result<(), Fail> {
-    let paused = pause_held(rt.alloc())?;
+    let paused = pause_held(rt.alloc(), false)?;
     let place = Addr::new(32);
     assert_eq!(rt; (paused.moved.regions, paused.moved.words), (1, 2));
     assert_eq!(rt; (paused.table.free_count(), paused.queued), (2, 1));
     let last = Addr::new(33);
     assert_eq!(rt; paused.table.first_tile(last), Some(place));
+    let holder = Addr::new(0);
+    assert_eq!(rt; field(&paused.table, holder, 0), Some(place));
+    Ok(())
+}
+
+/// The same where the set of the copy's region is to have the card at once: the card isn't dirty.
+#[test]
+fn notes_a_weak_slot_at_once(rt: HostRuntime) -> Result<(), Fail> {
+    let paused = pause_held(rt.alloc(), true)?;
+    let place = Addr::new(32);
+    assert_eq!(rt; (paused.moved.regions, paused.moved.words), (1, 2));
+    assert_eq!(rt; (paused.table.free_count(), paused.queued), (2, 0));
     let holder = Addr::new(0);
     assert_eq!(rt; field(&paused.table, holder, 0), Some(place));
     Ok(())

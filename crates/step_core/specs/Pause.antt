@@ -4,6 +4,7 @@ use Rattle.std.specs.Prelude.{ℕ, All, Bool, true, false, Option, None, List, [
 use Rattle.std.specs.Prelude.{length, drop, take, count_by, slice_get, slice_index}
 use Rattle.heap_words.specs.Sizes.{size_of}
 use Rattle.heap_words.specs.Configs.{card_words}
+use Rattle.heap_steps.specs.Actors.{is_third}
 use Rattle.heap_model.specs.Graph.{Graph, Object, object_named}
 use Rattle.heap_model.specs.Heap.{Heap, Stored}
 use Rattle.heap_model.specs.Evacuation.{IsReached}
@@ -205,7 +206,7 @@ layers_of c = record {
 
 -- The chosen regions, n of them, are those of the collection set, and are reclaimed, and no others. What is reached in them, w words, at
 -- most the budget, is evacuated from the core that was made ready, their ages are forgotten, and nothing else of it changes. Cards count by
--- the sets of that core
+-- the sets of that core. In the third format fields that lead to other regions then are noted at once in the sets of these
 pub record EvacuatesSet (which : Choice) (budget n w : ℕ) (c ready c' : CoreState) : Type 0 where
   pub chosen : List LiveRow
   pub choice : IsSetOf which c.table c.marker.tams c.marker.bitmaps.previous c.marker.running ready.sets c.ages budget chosen
@@ -224,7 +225,7 @@ pub record EvacuatesSet (which : Choice) (budget n w : ℕ) (c ready c' : CoreSt
   pub marker : c'.marker ≡ record ready.marker { tams = c'.marker.tams; bitmaps = c'.marker.bitmaps; live = c'.marker.live }
   pub counts : AreForgotten chosen ready.marker.live c'.marker.live
   pub ages : AgesAfter (is_chosen chosen) ready.ages c'.ages
-  pub evacuated : HasEvacuated chosen (card_words c.config) w (layers_of ready) (layers_of c')
+  pub evacuated : HasEvacuated chosen (is_third c.config.format) (card_words c.config) w (layers_of ready) (layers_of c')
 
 -- all is made ready, then the regions of the collection set are evacuated
 pub record HasMoved (which : Choice) (budget n w : ℕ) (c c' : CoreState) : Type 0 where

@@ -7,7 +7,8 @@
 //!                  one within so many cards those of them that few cards lead into,
 //!                  a compaction the highest ordinary regions, if all copies go down,
 //!                  a young pause the young regions that were taken first, of which few cards lead into each
-//!   evacuate       what is reached in them is copied into free regions, and they are released
+//!   evacuate       what is reached in them is copied into free regions, and they are released; fields that lead to other regions
+//!                  then are noted: in the third format in the sets of these, else their cards are dirty
 //! ```
 
 ghost use Rattle.std.specs.Prelude.{◌≡◌, ℕ, ◌<◌, ◌^◌, false, None, length, All};
@@ -24,6 +25,7 @@ ghost use Rattle.step_core.specs.Sliding.{HasCompacted};
 use crate::candidates::{Choice, choose_set};
 use crate::heap::Core;
 use evacuation::{Moved, evacuate};
+use heap_steps::is_third;
 use marker::live::LiveWords;
 use region_choice::{LiveRow, RegionAges};
 
@@ -94,6 +96,7 @@ impl Core {
             &mut self.roots,
             &mut self.room,
             &self.rows[..count],
+            is_third(self.config.format),
             self.config.card_words(),
         )
     }

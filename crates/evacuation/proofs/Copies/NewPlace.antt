@@ -1,5 +1,5 @@
 -- The new place of a reached object.
-use Rattle.std.proofs.Common.{◌≡◌, ◌≢◌, ◌+◌, ◌*◌, ◌/◌, ◌<◌, ◌≤◌, ◌∙◌, ℕ, suc, zero, Bool, false, List, Option, Some, None, length, refl}
+use Rattle.std.proofs.Common.{◌≡◌, ◌≢◌, ◌+◌, ◌*◌, ◌/◌, ◌<◌, ◌≤◌, ◌∙◌, ℕ, suc, zero, false, Option, Some, None, length, refl}
 use Rattle.std.proofs.Common.{sym, ap, subst, inl, inr, arith, IsSome, IfSome}
 use Rattle.std.proofs.lemmas.Bool.{cases_lt}
 use Rattle.heap_model.specs.Heap.{Stored}
@@ -17,6 +17,7 @@ use Rattle.evacuation.proofs.Copies.LeftWords.{left_has}
 use Rattle.evacuation.proofs.Turns.KeptObjects.{kept_object, object_of}
 use Rattle.evacuation.proofs.Copies.ObjectCopied.{named_object, named_small, copied_copying, copied_after, frame}
 use Rattle.evacuation.proofs.Copies.TableCopied.{copies_to, copy_stays, copy_taken, filled_is}
+use Rattle.evacuation.specs.declared.room.Notes.{Notes}
 
 positive : (words free : ℕ) → 0 < free * words → 0 < free
 positive words zero h = omega arith
@@ -136,7 +137,7 @@ module _ (p : Pause) (q : IsPause p) (t : Table) (d : Destinations) (turn : IsTu
       }
 
       -- the turn after the copy, where the copy is, and what stays
-      pub placed : IsTurn p t' d' × ((moved_to (tile_in t' from) ≡ Some to) × (((noted : List Bool) → After p noted noted t t' d d')
+      pub placed : IsTurn p t' d' × ((moved_to (tile_in t' from) ≡ Some to) × (((noted : Notes) → After p noted noted t t' d d')
           × ((b : ℕ) (y : Stored) → in_set p b ≡ false → kept_now p t b ≡ Some y → kept_now p t' b ≡ Some y)))
       placed = (
         placed_turn,

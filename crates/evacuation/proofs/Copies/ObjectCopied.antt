@@ -9,8 +9,10 @@ use Rattle.heap_model.proofs.Evacuated as evacuated
 use Rattle.object_copy.specs.Copies.{Destinations}
 use Rattle.evacuation.specs.Evacuates.{stored_words, words_at}
 use Rattle.evacuation.specs.Space.{Layout, Plan, Space, IsPlan, IsCopying, IsDestination, IsTally, IsNamed, IsAfter, CopiesTo, GoesOn}
-use Rattle.evacuation.specs.Space.{TakesNext, HasCopyRoom, AreFilled, AreSpared, filled, set_of, seen_as, words_of}
+use Rattle.evacuation.proofs.Notes.{none_for, notes_stay}
+use Rattle.evacuation.specs.Space.{NewCrossing, TakesNext, HasCopyRoom, AreFilled, AreSpared, filled, set_of, seen_as, words_of}
 use Rattle.evacuation.proofs.Lists.{push_place}
+use Rattle.evacuation.specs.declared.room.Notes.{Notes}
 
 total_push : (kept : ℕ → Option Stored) (xs : List ℕ) (a : ℕ) → words_at kept (xs ++ a ∷ []) ≡ words_at kept xs + stored_words (kept a)
 total_push kept [] a = omega arith
@@ -280,11 +282,10 @@ module _ (l : Layout) (p : Plan) (s s' : Space) (d d' : Destinations) (from to :
     | inr g ↦ let a = c.apart k (subst (IsDestination d) q w) in let b = g.was_free in absurd cc
   ]
 
-  pub copied_after : (noted : List Bool) → IsAfter l noted noted s s' d d'
+  pub copied_after : (noted : Notes) → IsAfter l noted noted s s' d d'
   copied_after noted = record {
-    noted_grows = λ j e. e;
-    noted_length = refl;
-    noted_for = λ c e. inl e;
+    noted_grows = notes_stay noted;
+    noted_for = none_for (NewCrossing l s s' d') noted;
     forward_grows = forward_on;
     taken_grows = taken_grows;
     used_grows = λ j. elim (cases_eq j k) [

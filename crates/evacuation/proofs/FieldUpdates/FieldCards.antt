@@ -1,18 +1,28 @@
 -- The word of a field, and its card.
 use Rattle.heap_words.specs.Configs.{max_words}
-use Rattle.std.proofs.Common.{◌≡◌, ◌+◌, ◌*◌, ◌/◌, ◌<◌, ◌≤◌, ◌∙◌, ◌⊎◌, ◌≢◌, ℕ, Bool, true, false, List, Option, Some, None, length, refl}
-use Rattle.std.proofs.Common.{sym, ap, subst, inl, inr, arith, slice_get, slice_set}
-use Rattle.std.proofs.lemmas.Bool.{cases_eq, cases_lt}
+use Rattle.std.proofs.Common.{◌≡◌, ◌+◌, ◌*◌, ◌/◌, ◌<◌, ◌≤◌, ◌∙◌, ◌≢◌, ℕ, Bool, true, false, List, Option, Some, None, length, refl}
+use Rattle.std.proofs.Common.{sym, ap, subst, inl, inr, arith, slice_get}
+use Rattle.std.proofs.lemmas.Bool.{cases_lt}
 use Rattle.std.proofs.lemmas.Nat.{mul-le}
-use Rattle.std.proofs.lemmas.List.{get_or-set_same, get_or-set_other, length-set}
 use Rattle.heap_model.specs.Heap.{Stored, fields}
 use Rattle.regions.specs.Table.{Table, fields_at}
 use Rattle.regions.specs.Shaped.{IsShaped}
 use Rattle.regions.proofs.Words.Divides.{div_low, card_has_words}
 use Rattle.refinement.proofs.Holders.{fields_are, fields_of, object_within}
-use Rattle.evacuation.specs.Space.{Layout, IsOutsideSet, IsField, IsFieldClean, IsStill, NotesWord, flag}
-use Rattle.evacuation.specs.Turns.{Pause, IsPause, TableStays, EachCard, kept_now, layout, space}
-use Rattle.evacuation.proofs.Turns.KeptObjects.{kept_object}
+use Rattle.std.proofs.lemmas.Bool.{cases_Bool}
+use Rattle.heap_model.specs.Relocation.{IsMoved}
+use Rattle.heap_model.specs.Evacuation.{IsWord, place_after}
+use Rattle.heap_model.proofs.Lists.{AllZip-get_right}
+use Rattle.object_copy.specs.Copies.{Destinations}
+use Rattle.refinement.proofs.Holders.{object_known}
+use Rattle.refinement.proofs.Fields.{region_of_card}
+use Rattle.evacuation.specs.Space.{Layout, IsOutsideSet, IsField, IsFieldClean, IsOfWord, IsStill, NotesFor, NotesGrow, NotesWord, is_noted}
+use Rattle.evacuation.specs.Space.{with_note}
+use Rattle.evacuation.specs.Turns.{AreNotes, IsCardPlace, Pause, IsPause, IsTurn, TableStays, EachCard}
+use Rattle.evacuation.specs.Turns.{in_set, kept_now, layout, plan, space}
+use Rattle.evacuation.specs.declared.room.Notes.{Notes}
+use Rattle.evacuation.proofs.Notes.{IsNoteOf, for_others, none_for, note_for, note_grows, notes_stay}
+use Rattle.evacuation.proofs.Turns.KeptObjects.{kept_object, start_kept}
 
 pub field_pointer : (p : Pause) (t : Table) (at i : ℕ) → (f : IsField (space p t) at i) → i < length (fields_at t at)
 field_pointer p t at i f = let e = fields_of t at f.object (kept_object p t at f.object f.at) in let w = f.within in rw e w
@@ -64,30 +74,71 @@ card_within p noted word len q e n h =
     (word / p.card_words) z q.whole_cards h low in
     subst (λ (m : ℕ). word / m < length noted) (sym e) (omega (arith, k, n))
 
-pub flag_set : (noted : List Bool) (c d : ℕ) → c < length noted → c ≡ d → flag (slice_set noted c true) d ≡ true
-flag_set noted c d h e = subst (λ (m : ℕ). flag (slice_set noted c true) m ≡ true) e (get_or-set_same noted c true false h)
-
-pub flag_only : (noted : List Bool) (c d : ℕ) → flag (slice_set noted c true) d ≡ true → (flag noted d ≡ true) ⊎ (d ≡ c)
-flag_only noted c d e = elim (cases_eq d c) [ inl q ↦ inr q | inr q ↦ inl (sym (get_or-set_other noted c d true false q) ∙ e) ]
-
 -- a word's card is noted, and no other one
-pub notes_card : (l : Layout) (noted noted' : List Bool) (word target card : ℕ) → card < length noted → card ≡ word / l.card_words
-    → target / l.words ≢ word / l.words → noted' ≡ slice_set noted card true → NotesWord l noted noted' word target
-notes_card l noted noted' word target card known place out is = record {
-  is_noted = inr (ap (λ (m : List Bool). flag m (word / l.card_words)) is ∙ flag_set noted card (word / l.card_words) known place);
-  grows = λ c e. elim (cases_eq c card) [
-    | inl q ↦ ap (λ (m : List Bool). flag m c) is ∙ flag_set noted card c known (sym q)
-    | inr q ↦ ap (λ (m : List Bool). flag m c) is ∙ get_or-set_other noted card c true false q ∙ e
-  ];
-  count = ap (λ (m : List Bool). length m) is ∙ length-set noted card true;
-  only = λ c e. elim (flag_only noted card c (ap (λ (m : List Bool). flag m c) (sym is) ∙ e)) [
-    | inl o ↦ inl o
-    | inr q ↦ inr (q ∙ place, out)
-  ];
+pub notes_crossing : (l : Layout) (n n' : Notes) (word target card region : ℕ) → card < length n.cards → region < length n.sets.sets
+    → word / l.card_words ≡ card → region ≡ target / l.words → target / l.words ≢ word / l.words → n' ≡ with_note n card region
+    → is_noted n' card region ≡ true → NotesWord l n n' word target
+notes_crossing l n n' word target card region in_cards known in_card into out is noted = record {
+  is_noted = inr (ap (λ (c : ℕ). is_noted n' c (target / l.words)) in_card ∙ ap (is_noted n' card) (sym into) ∙ noted);
+  grows = subst (NotesGrow n) (sym is) (note_grows n card region in_cards known);
+  only = for_others (IsNoteOf card region) (IsOfWord l word target) n n'
+      (λ c k q. record { card_is = q.0 ∙ sym in_card; region_is = q.1 ∙ into; leaves = out })
+      (subst (NotesFor (IsNoteOf card region) n) (sym is) (note_for n card region in_cards known));
 }
 
--- the word leads to its own region, and no card is noted for it
-pub notes_none : (l : Layout) (noted : List Bool) (word target : ℕ) → target / l.words ≡ word / l.words
-    → NotesWord l noted noted word target
-notes_none l noted word target same =
-    record { is_noted = inl same; grows = λ c e. e; count = refl; only = λ c e. inl e }
+-- the word leads to its own region, and nothing is noted for it
+pub notes_none : (l : Layout) (n : Notes) (word target : ℕ) → target / l.words ≡ word / l.words → NotesWord l n n word target
+notes_none l n word target same =
+    record { is_noted = inl same; grows = notes_stay n; only = none_for (IsOfWord l word target) n }
+
+-- each card can be noted still
+pub notes_on : (p : Pause) (n n' : Notes) → AreNotes p n → NotesGrow n n' → AreNotes p n'
+notes_on p n n' are grows = record {
+  each_card = grows.count ∙ are.each_card;
+  each_set = grows.sets.count ∙ are.each_set;
+  set_cards = grows.sets.cards ∙ are.set_cards;
+}
+
+-- what a field outside the set names, if that is outside too, lies in one of the regions: it stood there, or it is a copy
+pub target_known : (p : Pause) → IsPause p → (t : Table) (d : Destinations) → IsTurn p t d → (at i c : ℕ) (y : Stored)
+    → kept_now p t at ≡ Some y → in_set p at ≡ false → slice_get (fields y) i ≡ Some (Some c)
+    → c / p.start.words_per_region < length p.start.regions
+target_known p q t d turn at i c y here out names =
+    let h = turn.copying.heap in
+    let o = h.came at y here out in
+    let k = h.objects o.from at o.object o.at o.placed in
+    let same : y ≡ k.part = let e1 = k.at in cc in
+    let e = subst (λ (z : Stored). slice_get (fields z) i ≡ Some (Some c)) same names in
+    let (w, is, v) =
+    AllZip-get_right (IsWord (place_after (in_set p) (space p t).forward)) (fields o.object) (fields k.part) k.words i (Some c) e in
+    elim v [
+      | inl was ↦ stood i c o.from o.object o.at (is ∙ ap Some (sym was))
+      | inr moved ↦ place w is moved
+    ]
+  where
+    stood : (i c a : ℕ) (x : Stored) → (plan p).heap.kept a ≡ Some x → slice_get (fields x) i ≡ Some (Some c)
+        → c / p.start.words_per_region < length p.start.regions
+    stood i c a x at e =
+        let (z, f) = q.plan_is.closed.field a i c x at e in
+        object_known p.start c z (kept_object p p.start c z (start_kept p c ∙ f))
+
+    place : (w : Option ℕ) → slice_get (fields (turn.copying.heap.came at y here out).object) i ≡ Some w
+        → IsMoved (place_after (in_set p) (space p t).forward) w (Some c) → c / p.start.words_per_region < length p.start.regions
+    place None is m = absurd m
+    place (Some a) is m = elim (cases_Bool (in_set p a)) [
+      | inl inside ↦ (let f : (space p t).forward a ≡ Some c = rw inside at m in
+          (turn.taken (c / p.start.words_per_region) (turn.copying.placed a c inside f)).2)
+      | inr outside ↦ (let f : Some a ≡ Some c = rw outside at m in
+          let o = turn.copying.heap.came at y here out in
+          stood i c o.from o.object o.at (is ∙ ap Some f))
+    ]
+
+-- a word's card, and the region that both are in
+pub place_of_word : (p : Pause) → IsPause p → (noted : List Bool) → EachCard p noted → (word len card home : ℕ) → len ≡ p.card_words
+    → word < length p.start.regions * p.start.words_per_region → card ≡ word / len → home ≡ word / p.start.words_per_region
+    → IsCardPlace p (record { card = card; home = home })
+place_of_word p q noted each word len card home e h own region = record {
+  known = let k = card_within p noted word len q e each h in omega (arith, k, own, each);
+  home = ap (λ (n : ℕ). n / p.cards_per_region) (own ∙ ap (λ (n : ℕ). word / n) e)
+      ∙ region_of_card p.start.words_per_region p.card_words p.cards_per_region word q.shaped.positive q.whole_cards ∙ sym region;
+}

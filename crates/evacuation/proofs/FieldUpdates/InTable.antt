@@ -1,5 +1,5 @@
 -- A field that names the set, over the table: its target is copied, and it is written.
-use Rattle.std.proofs.Common.{◌≡◌, ℕ, ◌<◌, Bool, true, false, List, Option, Some, subst, slice_get}
+use Rattle.std.proofs.Common.{◌≡◌, ℕ, ◌<◌, true, false, Option, Some, subst, slice_get}
 use Rattle.heap_model.specs.Heap.{Stored, fields}
 use Rattle.regions.specs.Table.{Table, moved_to, fields_at, set_field, tile_in}
 use Rattle.object_copy.specs.Copies.{Destinations}
@@ -10,6 +10,7 @@ use Rattle.evacuation.proofs.Turns.Following.{after_after}
 use Rattle.evacuation.proofs.FieldUpdates.Updated.{field_named, updated_after, updated_copying, updated_settled}
 use Rattle.evacuation.proofs.FieldUpdates.FieldCards.{pointer_is}
 use Rattle.evacuation.proofs.FieldUpdates.Written.{sets_field, write_stays, write_taken}
+use Rattle.evacuation.specs.declared.room.Notes.{Notes}
 
 module _ (p : Pause) (q : IsPause p) (t : Table) (d : Destinations) (turn : IsTurn p t d) (at i : ℕ) (out : in_set p at ≡ false)
     (field : IsField (space p t) at i) where
@@ -22,7 +23,7 @@ module _ (p : Pause) (q : IsPause p) (t : Table) (d : Destinations) (turn : IsTu
       → IsFieldClean (layout p) (space p t) at i
   unchanged v e c y w here f = let k = pointer_is p t at i y v here e in let same : v ≡ w = cc in subst (IsOutsideSet (layout p)) same c
 
-  module _ (t1 t2 : Table) (d1 : Destinations) (turn1 : IsTurn p t1 d1) (after1 : (noted : List Bool) → After p noted noted t t1 d d1)
+  module _ (t1 t2 : Table) (d1 : Destinations) (turn1 : IsTurn p t1 d1) (after1 : (noted : Notes) → After p noted noted t t1 d d1)
       (frame : (b : ℕ) (y : Stored) → in_set p b ≡ false → kept_now p t b ≡ Some y → kept_now p t1 b ≡ Some y) (a b : ℕ)
       (names : slice_get (fields_at t at) i ≡ Some (Some a)) (inside : in_set p a ≡ true)
       (place : moved_to (tile_in t1 a) ≡ Some b) where
@@ -51,7 +52,7 @@ module _ (p : Pause) (q : IsPause p) (t : Table) (d : Destinations) (turn : IsTu
       }
 
       -- what stays once the word's card is noted, and that the field is settled then
-      pub updated : IsTurn p t2 d1 × ((noted noted' : List Bool) → NotesWord (layout p) noted noted' (field_word at i) b
+      pub updated : IsTurn p t2 d1 × ((noted noted' : Notes) → NotesWord (layout p) noted noted' (field_word at i) b
           → After p noted noted' t t2 d d1 × IsFieldSettled (layout p) noted' (space p t2) at i)
       updated = (
         update_turn,
@@ -65,7 +66,7 @@ module _ (p : Pause) (q : IsPause p) (t : Table) (d : Destinations) (turn : IsTu
       )
 
 -- a clean field whose card is noted
-pub noted_settled : (p : Pause) (t : Table) (at i : ℕ) (noted : List Bool) (v : Option ℕ) → slice_get (fields_at t at) i ≡ Some v
+pub noted_settled : (p : Pause) (t : Table) (at i : ℕ) (noted : Notes) (v : Option ℕ) → slice_get (fields_at t at) i ≡ Some v
     → IsFieldClean (layout p) (space p t) at i → IsCardNoted (layout p) noted (field_word at i) v
     → IsFieldSettled (layout p) noted (space p t) at i
 noted_settled p t at i noted v e c n y w here f =

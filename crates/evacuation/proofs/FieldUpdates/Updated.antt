@@ -11,7 +11,9 @@ use Rattle.heap_model.proofs.Evacuated.{field_reached, field_updated}
 use Rattle.object_copy.specs.Copies.{Destinations}
 use Rattle.refinement.specs.Remembering.{field_word}
 use Rattle.evacuation.specs.Space.{Layout, Plan, Space, WritesField, IsPlan, IsCopying, IsNamed, IsAfter, IsSpaceObject, IsSettled}
-use Rattle.evacuation.specs.Space.{IsUpdated, IsFieldSettled, NotesWord, filled, set_of, seen_as}
+use Rattle.evacuation.specs.Space.{IsOfWord, IsUpdated, IsFieldSettled, NewCrossing, NotesWord, filled, set_of, seen_as}
+use Rattle.evacuation.specs.declared.room.Notes.{Notes}
+use Rattle.evacuation.proofs.Notes.{for_others}
 use Rattle.evacuation.proofs.Copies.ObjectCopied.{same_evacuating, same_tally}
 
 -- what is reached stands there
@@ -73,7 +75,7 @@ module _ (l : Layout) (p : Plan) (s s' : Space) (d : Destinations) (c : IsCopyin
   new_outside : set_of l b ≡ false
   new_outside = c.heap.out a b inside f
 
-  module _ (t t' : List Bool) (notes : NotesWord l t t' (field_word at i) b) where
+  module _ (t t' : Notes) (notes : NotesWord l t t' (field_word at i) b) where
     word_settled : (w : Option ℕ) → w ≡ Some b → IsSettled l t' (field_word at i) w
     word_settled None e = cc
     word_settled (Some x) e =
@@ -111,23 +113,20 @@ module _ (l : Layout) (p : Plan) (s s' : Space) (d : Destinations) (c : IsCopyin
     pub updated_after : IsAfter l t t' s s' d d
     updated_after = record {
       noted_grows = notes.grows;
-      noted_length = notes.count;
-      noted_for = λ c e. elim (notes.only c e) [
-        | inl o ↦ inl o
-        | inr o ↦ inr (record {
-          at = at;
-          index = i;
-          target = b;
-          object = updated;
-          here = u.object;
-          outside = out;
-          field = ap (λ (ws : List (Option ℕ)). slice_get ws i) is_set.fields_are ∙ get-set_same (fields y) i (Some b) (Some a) names;
-          clean = new_outside;
-          in_card = sym o.0;
-          leaves = o.1;
-          is_new = inr (λ z f. (a, (let k : y ≡ z = cc in subst (λ (m : Stored). slice_get (fields m) i ≡ Some (Some a)) k names), inside));
-        })
-      ];
+      noted_for = for_others (IsOfWord l (field_word at i) b) (NewCrossing l s s' d) t t' (λ c k o. record {
+        at = at;
+        index = i;
+        target = b;
+        object = updated;
+        here = u.object;
+        outside = out;
+        field = ap (λ (ws : List (Option ℕ)). slice_get ws i) is_set.fields_are ∙ get-set_same (fields y) i (Some b) (Some a) names;
+        clean = new_outside;
+        in_card = sym o.card_is;
+        into = sym o.region_is;
+        leaves = o.leaves;
+        is_new = inr (λ z f. (a, (let k : y ≡ z = cc in subst (λ (m : Stored). slice_get (fields m) i ≡ Some (Some a)) k names), inside));
+      }) notes.only;
       forward_grows = λ x z e. u.forward x ∙ e;
       taken_grows = λ j k e. e;
       used_grows = λ k. let e = u.used k in omega arith;

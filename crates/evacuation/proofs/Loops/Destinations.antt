@@ -1,5 +1,5 @@
 -- What scans of copies keep.
-use Rattle.std.proofs.Common.{◌≡◌, ◌+◌, ◌*◌, ◌/◌, ◌%◌, ◌<◌, ◌∙◌, ℕ, Bool, false, List, Option, Some, None, length, refl, sym, ap, subst}
+use Rattle.std.proofs.Common.{◌≡◌, ◌+◌, ◌*◌, ◌/◌, ◌%◌, ◌<◌, ◌∙◌, ℕ, false, Option, Some, None, length, refl, sym, ap, subst}
 use Rattle.std.proofs.Common.{inl, inr, arith, slice_get, IsSome}
 use Rattle.std.proofs.lemmas.Bool.{cases_eq, cases_lt}
 use Rattle.heap_model.specs.Heap.{Stored}
@@ -18,6 +18,7 @@ use Rattle.evacuation.specs.Cursors.{AreSettledBelow}
 use Rattle.evacuation.proofs.Lists.{get_within, get_before}
 use Rattle.evacuation.proofs.Turns.KeptObjects.{kept_fresh, kept_object, object_of}
 use Rattle.evacuation.proofs.Turns.Following.{settled_after}
+use Rattle.evacuation.specs.declared.room.Notes.{Notes}
 
 -- what stands in a destination is a kept object
 pub copy_there : (p : Pause) (t : Table) (c : Context) → PauseStands p t c → (k : ℕ) → IsDestination c.destinations k → (a : ℕ)
@@ -60,7 +61,7 @@ module _ (p : Pause) (t : Table) (c : Context) (stands : PauseStands p t c) (g :
       let m = ap (λ (n : ℕ). k * n + used_of t k) words in
       omega arith
 
-  pub none_there : used_of t k ≡ 0 → (noted : List Bool) → IsRegionSettled (layout p) noted (space p t) k
+  pub none_there : used_of t k ≡ 0 → (noted : Notes) → IsRegionSettled (layout p) noted (space p t) k
   none_there z noted b y r e = absurd (
       let low = kept_low b y r e in
       let zz = q.shaped.positive in
@@ -110,7 +111,7 @@ module _ (p : Pause) (t : Table) (c : Context) (stands : PauseStands p t c) (g :
     ]
 
 -- ---- destination after destination
-pub record AreRegionsSettled (p : Pause) (noted : List Bool) (t : Table) (d : Destinations) (n : ℕ) : Type 0 where
+pub record AreRegionsSettled (p : Pause) (noted : Notes) (t : Table) (d : Destinations) (n : ℕ) : Type 0 where
   pub each : (m k : ℕ) → m < n → slice_get d.regions m ≡ Some k → IsRegionSettled (layout p) noted (space p t) k
 
 module _ (p : Pause) (t t' : Table) (c c' : Context) (stands : PauseStands p t c) (on : PauseGoesOn p t t' c c') (n k : ℕ)
@@ -143,6 +144,6 @@ module _ (p : Pause) (t t' : Table) (c c' : Context) (stands : PauseStands p t c
     ];
   }
 
-pub regions_all : (p : Pause) (noted : List Bool) (t : Table) (d : Destinations) (n : ℕ) → AreRegionsSettled p noted t d n
+pub regions_all : (p : Pause) (noted : Notes) (t : Table) (d : Destinations) (n : ℕ) → AreRegionsSettled p noted t d n
     → slice_get d.regions n ≡ None → (k : ℕ) → IsDestination d k → IsRegionSettled (layout p) noted (space p t) k
 regions_all p noted t d n done none k w = done.each w.at k (get_before d.regions n w.at k none w.is) w.is

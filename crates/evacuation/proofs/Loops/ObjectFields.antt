@@ -1,5 +1,5 @@
 -- The fields of an object, one after another.
-use Rattle.std.proofs.Common.{◌≡◌, ℕ, ◌+◌, ◌<◌, ◌≤◌, Bool, List, length, sym, ap, subst, inl, inr, arith, false}
+use Rattle.std.proofs.Common.{◌≡◌, ℕ, ◌+◌, ◌<◌, ◌≤◌, length, sym, ap, subst, inl, inr, arith, false}
 use Rattle.std.proofs.lemmas.Bool.{cases_eq}
 use Rattle.heap_model.specs.Heap.{Stored, fields}
 use Rattle.regions.specs.Table.{Table}
@@ -9,6 +9,7 @@ use Rattle.evacuation.specs.declared.room.Context.{Context}
 use Rattle.evacuation.specs.Cursors.{AreFieldsSettled}
 use Rattle.evacuation.proofs.Lists.{get_below}
 use Rattle.evacuation.proofs.Turns.Following.{settled_after}
+use Rattle.evacuation.specs.declared.room.Notes.{Notes}
 
 pub still_field : (p : Pause) (t : Table) (at n i : ℕ) → IsStill (space p t) at n → i < n → IsField (space p t) at i
 still_field p t at n i s h = let (y, e, c) = s in record { object = y; at = e; within = omega arith }
@@ -21,7 +22,7 @@ fields_more {p} {t} {t'} {c} {c'} at n on out o settled last i k = elim (cases_e
   | inr q ↦ settled_after on at i out o (settled i (omega arith))
 ]
 
-pub fields_all : (p : Pause) (noted : List Bool) (t : Table) (at m n : ℕ) → AreFieldsSettled p noted t at n → IsStill (space p t) at m
+pub fields_all : (p : Pause) (noted : Notes) (t : Table) (at m n : ℕ) → AreFieldsSettled p noted t at n → IsStill (space p t) at m
     → m ≤ n → IsObjectSettled (layout p) noted (space p t) at
 fields_all p noted t at m n settled still h i y w e f =
     let (z, e1, count) = still in

@@ -1,7 +1,7 @@
 -- The fields of a card, tile by tile.
-use Rattle.std.proofs.Common.{◌≡◌, ◌≢◌, ◌+◌, ◌*◌, ◌/◌, ◌<◌, ◌≤◌, ◌∙◌, ℕ, true, List, Bool, Option, Some, None, length, refl, sym, ap}
+use Rattle.std.proofs.Common.{◌≡◌, ◌≢◌, ◌+◌, ◌*◌, ◌/◌, ◌<◌, ◌≤◌, ◌∙◌, ℕ, List, Bool, Option, Some, None, length, refl, sym, ap}
 use Rattle.std.proofs.Common.{subst, inl, inr, arith}
-use Rattle.std.proofs.Common.{slice_get, IfSome, IsSome}
+use Rattle.std.proofs.Common.{IsSome}
 use Rattle.std.proofs.lemmas.Bool.{cases_eq, cases_lt}
 use Rattle.std.proofs.lemmas.Nat.{mul-le}
 use Rattle.std.proofs.lemmas.Option.{slice_get_within}
@@ -15,8 +15,7 @@ use Rattle.regions.proofs.Words.Divides.{card_has_words, card_region, card_withi
 use Rattle.object_copy.proofs.Copied.{tile_of_object}
 use Rattle.refinement.specs.Remembering.{field_card, field_word}
 use Rattle.refinement.proofs.Holders.{word_holder}
-use Rattle.evacuation.specs.Space.{flag}
-use Rattle.evacuation.specs.Sliding.{Slide, SlideStands, RedirectsSome, Names, IsObjectUnnamed, IsCardUnnamed, kept_at}
+use Rattle.evacuation.specs.Sliding.{Slide, SlideStands, RedirectsSome, Names, IsObjectUnnamed, IsCardUnnamed}
 use Rattle.evacuation.proofs.Slides.KeptObjects.{kept_object, kept_none}
 use Rattle.evacuation.proofs.Slides.Redirecting.{as_large, object_unnamed, names_before}
 use Rattle.regions.proofs.Tiles.Steps.{some_tile}

@@ -1,8 +1,7 @@
 -- What is kept while fields are redirected: tops at mark start and marks stay.
 use Rattle.std.proofs.Common.{◌≡◌, ◌∙◌, ℕ, Bool, true, false, List, Option, Some, None, refl, sym, ap, subst, if◌then◌else◌, IsSome, IsTrue}
 use Rattle.heap_model.specs.Heap.{Stored}
-use Rattle.regions.specs.Table.{Table, object_at, tile_in}
-use Rattle.regions.proofs.Tiles.Changes.{object_same}
+use Rattle.regions.specs.Table.{Table, object_at}
 use Rattle.mark_bitmap.specs.Marks.{is_marked}
 use Rattle.mark_bitmap.specs.Tops.{is_below}
 use Rattle.mark_bitmap.specs.Tops.{Tops}

@@ -2,17 +2,16 @@
 use Rattle.std.proofs.Common.{◌≡◌, ◌≢◌, ◌⊎◌, ◌+◌, ◌/◌, ◌<◌, ◌∙◌, ℕ, Bool, true, List, Option, Some, None, length, refl, sym, ap, subst}
 use Rattle.std.proofs.Common.{inl, inr}
 use Rattle.std.proofs.Common.{arith, slice_get, ◌*◌, IsSome}
-use Rattle.std.proofs.lemmas.List.{length-append}
 use Rattle.std.proofs.lemmas.Bool.{cases_eq}
 use Rattle.heap_model.specs.Heap.{Stored, fields}
 use Rattle.regions.specs.Table.{Table, fields_at, set_field, tile_in}
 use Rattle.refinement.specs.Remembering.{field_card, field_word}
-use Rattle.evacuation.specs.Space.{NotesWord, flag}
-use Rattle.evacuation.specs.Sliding.{Slide, SlideStands, RedirectsSome, Names, LeadsOut, OwnGoesOn, kept_at, sizes}
+use Rattle.evacuation.specs.Space.{flag}
+use Rattle.evacuation.specs.Sliding.{Slide, SlideStands, RedirectsSome, Names, LeadsOut, NotesCard, OwnGoesOn, kept_at}
 use Rattle.evacuation.proofs.Slides.KeptObjects.{kept_object, some_kept}
 use Rattle.regions.specs.Shaped.{IsShaped}
 use Rattle.refinement.proofs.Holders.{fields_are, fields_of, object_within}
-use Rattle.evacuation.proofs.Slides.Redirecting.{none_redirected, redirected_then, names_before, names_on}
+use Rattle.evacuation.proofs.Slides.Redirecting.{none_redirected, redirected_then, names_on}
 use Rattle.evacuation.proofs.Slides.Written.{names_by, names_nil, names_other_than, write_redirects, write_others, names_now, names_same}
 use Rattle.evacuation.proofs.Slides.Written.{written_unnamed}
 
@@ -86,7 +85,7 @@ one_settled s n old t t' noted0 noted noted' g f = record {
 
 -- the field's word is noted where its target is in another region
 leads_noted : (s : Slide) (t : Table) (n target : ℕ) (noted noted' : List Bool)
-    → NotesWord (sizes s) noted noted' (field_word s.to n) target
+    → NotesCard s noted noted' (field_word s.to n) target
     → Names s t s.from n target → LeadsOut s t n → flag noted' (field_card s.card_words s.to n) ≡ true
 leads_noted s t n target noted noted' notes names l = elim notes.is_noted [
   | inl near ↦ absurd (l.leaves (ap (λ (a : ℕ). a / s.words) (same_target s t s.from n l.target target l.names names) ∙ near))
@@ -94,7 +93,7 @@ leads_noted s t n target noted noted' notes names l = elim notes.is_noted [
 ]
 
 noted_leads : (s : Slide) (t : Table) (n target : ℕ) (noted noted' : List Bool)
-    → NotesWord (sizes s) noted noted' (field_word s.to n) target
+    → NotesCard s noted noted' (field_word s.to n) target
     → Names s t s.from n target → (card : ℕ) → flag noted' card ≡ true
     → (flag noted card ≡ true) ⊎ (LeadsOut s t n × (field_card s.card_words s.to n ≡ card))
 noted_leads s t n target noted noted' notes names card e = elim (notes.only card e) [
@@ -103,7 +102,7 @@ noted_leads s t n target noted noted' notes names card e = elim (notes.only card
 ]
 
 stands_noted : (s : Slide) (t : Table) (noted noted' : List Bool) (word target : ℕ) → SlideStands s t noted
-    → NotesWord (sizes s) noted noted' word target → SlideStands s t noted'
+    → NotesCard s noted noted' word target → SlideStands s t noted'
 stands_noted s t noted noted' word target stands notes = record {
   size = stands.size;
   count = stands.count;
@@ -144,7 +143,7 @@ module _ (s : Slide) (n : ℕ) (old t : Table) (noted0 noted : List Bool) (y : S
     field = names_by s t s.from n y (Some target) here names
 
     -- it names another object
-    pub other_settled : target ≢ s.from → NotesWord (sizes s) noted noted' (field_word s.to n) target → OwnGoesOn s n old t noted0 noted
+    pub other_settled : target ≢ s.from → NotesCard s noted noted' (field_word s.to n) target → OwnGoesOn s n old t noted0 noted
         → OwnGoesOn s (n + 1) old t noted0 noted'
     other_settled away notes g =
         let m : Names s t s.from n target = record { object = y; is = here; field = field } in
@@ -161,7 +160,7 @@ module _ (s : Slide) (n : ℕ) (old t : Table) (noted0 noted : List Bool) (y : S
 
     -- it names the object itself
     pub own_settled : (t' : Table) → 0 < t.words_per_region → target ≡ s.from → t' ≡ set_field t s.from n (Some s.to)
-        → NotesWord (sizes s) noted noted' (field_word s.to n) s.to → OwnGoesOn s n old t noted0 noted
+        → NotesCard s noted noted' (field_word s.to n) s.to → OwnGoesOn s n old t noted0 noted
         → OwnGoesOn s (n + 1) old t' noted0 noted'
     own_settled t' positive same is notes g =
         let f : slice_get (fields y) n ≡ Some (Some s.from) = field ∙ ap (λ (a : ℕ). Some (Some a)) same in

@@ -1,16 +1,15 @@
 -- Fields that are redirected, one after another.
-use Rattle.std.proofs.Common.{◌≡◌, ◌≢◌, ◌⊎◌, ◌<◌, ◌∷◌, ◌∙◌, ℕ, zero, suc, Bool, true, List, [], Option, Some, None, length, refl, sym, ap}
+use Rattle.std.proofs.Common.{◌≡◌, ◌≢◌, ◌⊎◌, ◌<◌, ◌∷◌, ◌∙◌, ℕ, zero, suc, Bool, List, [], Option, Some, None, length, refl, sym, ap}
 use Rattle.std.proofs.Common.{subst, inl, inr, arith, slice_get, IsSome, ◌++◌}
 use Rattle.std.proofs.lemmas.List.{length-append}
 use Rattle.evacuation.proofs.Lists.{get_below}
 use Rattle.heap_model.specs.Heap.{Stored, fields}
 use Rattle.regions.specs.Tiles.{Object, tile_size}
-use Rattle.regions.specs.Table.{Table, fields_at, object_at, tile_in}
+use Rattle.regions.specs.Table.{Table, fields_at}
 use Rattle.regions.proofs.Tiles.Changes.{object_same}
 use Rattle.refinement.specs.Remembering.{field_card}
 use Rattle.evacuation.specs.Evacuates.{IsSameBut}
-use Rattle.evacuation.specs.Space.{flag}
-use Rattle.evacuation.specs.Sliding.{Slide, SlideStands, SlideGoesOn, RedirectsSome, IsRedirectedInPart, Names, IsChanged, HasChanged}
+use Rattle.evacuation.specs.Sliding.{Slide, SlideStands, SlideGoesOn, RedirectsSome, IsRedirectedInPart, Names}
 use Rattle.evacuation.specs.Sliding.{kept_at}
 use Rattle.evacuation.specs.Sliding.{IsObjectUnnamed, IsCardUnnamed}
 use Rattle.evacuation.proofs.Slides.KeptObjects.{kept_as, kept_some, kept_object, some_kept, is_some}

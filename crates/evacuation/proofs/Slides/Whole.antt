@@ -1,21 +1,19 @@
 -- All that names the object of a run.
-use Rattle.std.proofs.Common.{◌≡◌, ◌≢◌, ◌⊎◌, ◌+◌, ◌-◌, ◌*◌, ◌/◌, ◌<◌, ◌≤◌, ◌∙◌, ℕ, Bool, true, false, List, [], ◌∷◌, Option, Some, None}
+use Rattle.std.proofs.Common.{◌≡◌, ◌≢◌, ◌+◌, ◌-◌, ◌*◌, ◌/◌, ◌<◌, ◌≤◌, ◌∙◌, ℕ, Bool, true, false, List, Some}
 use Rattle.std.proofs.Common.{length, refl, sym, ap}
 use Rattle.std.proofs.Common.{subst, inl, inr, arith, if◌then◌else◌, IsSome}
-use Rattle.std.proofs.lemmas.Bool.{cases_eq, cases_lt, cases_Bool}
-use Rattle.std.proofs.lemmas.Option.{slice_get_within}
+use Rattle.std.proofs.lemmas.Bool.{cases_eq, cases_lt}
 use Rattle.std.proofs.lemmas.Nat.{mul-le}
-use Rattle.std.specs.List.{list_any}
 use Rattle.std.specs.List.Sorted.{IsStrictlyIncreasing}
-use Rattle.bit_sets.specs.Bits.{has, is_between}
+use Rattle.bit_sets.specs.Bits.{is_between}
 use Rattle.bit_sets.proofs.BitRanges.{between_yes, between_no_below, between_no_above}
-use Rattle.heap_model.specs.Heap.{Stored, fields}
+use Rattle.heap_model.specs.Heap.{Stored}
 use Rattle.regions.specs.Tiles.{Object, tile_size}
-use Rattle.regions.specs.Table.{Table, Region, First, object_at, kind_of, nth_region, run_length, tile_in, used_of, top_of}
+use Rattle.regions.specs.Table.{Table, First, object_at, kind_of, nth_region, run_length, tile_in}
 use Rattle.regions.specs.Shaped.{IsShaped}
 use Rattle.regions.specs.Walks.{IsHolder}
 use Rattle.regions.specs.declared.row.Kind.TheVariants as kinds
-use Rattle.regions.proofs.LongRuns.Blocks.{block_within, first_number, first_void, reached, reaches, product_le, void_object}
+use Rattle.regions.proofs.LongRuns.Blocks.{first_number, first_void, reached, reaches, product_le}
 use Rattle.regions.proofs.Tiles.Holders.{holder_onward, holder_below}
 use Rattle.regions.proofs.Tiles.Changes.{object_same}
 use Rattle.regions.proofs.Tiles.ShapedMade.{first_object}
@@ -25,13 +23,11 @@ use Rattle.mark_bitmap.specs.Kept.{kept_in}
 use Rattle.object_copy.proofs.Copied.{tile_of_object}
 use Rattle.cards.specs.Cards.{Cards, is_dirty}
 use Rattle.remembered_sets.specs.Sets.{Sets, card_count, may_lead}
-use Rattle.refinement.specs.Remembering.{Remembers, IsCrossing, field_card, field_word}
-use Rattle.refinement.specs.Refining.{SetsFit}
+use Rattle.refinement.specs.Remembering.{IsCrossing, field_card, field_word}
 use Rattle.refinement.proofs.Fields.{region_of_card}
-use Rattle.refinement.proofs.Holders.{word_holder, object_within}
 use Rattle.evacuation.specs.Space.{flag}
-use Rattle.evacuation.specs.Sliding.{Slide, SlideStands, SlideGoesOn, OwnGoesOn, RedirectsInTurn, RedirectsSome, CanRedirect, HasRedirected}
-use Rattle.evacuation.specs.Sliding.{Names, IsChanged, LeadsOut, kept_at, slide_of}
+use Rattle.evacuation.specs.Sliding.{Slide, SlideStands, RedirectsInTurn, CanRedirect, HasRedirected}
+use Rattle.evacuation.specs.Sliding.{Names, kept_at, slide_of}
 use Rattle.evacuation.proofs.Turns.KeptObjects.{free_used}
 use Rattle.evacuation.proofs.Slides.KeptObjects.{kept_as, is_some}
 use Rattle.evacuation.proofs.Slides.Redirecting.{redirected_then, names_before, count_stays, object_stays}

@@ -10,14 +10,13 @@ use Rattle.regions.specs.Table.{Table, fields_at, object_at, set_field, tile_in}
 use Rattle.regions.proofs.Tiles.Changes.{WritesObject, field_put, field_weaks, object_same}
 use Rattle.refinement.specs.Remembering.{field_card}
 use Rattle.refinement.proofs.Holders.{fields_of}
-use Rattle.evacuation.specs.Evacuates.{IsSameBut}
 use Rattle.evacuation.specs.Space.{flag}
 use Rattle.evacuation.specs.Sliding.{Slide, SlideStands, SlideGoesOn, RedirectsSome, IsRedirectedInPart, Names, IsChanged, kept_at}
 use Rattle.evacuation.proofs.Lists.{get_below}
-use Rattle.evacuation.proofs.FieldUpdates.FieldCards.{flag_set, flag_only}
+use Rattle.evacuation.proofs.Notes.{flag_only}
+use Rattle.evacuation.proofs.Slides.Noted.{flag_set}
 use Rattle.evacuation.proofs.FieldUpdates.Written.{field_held}
 use Rattle.evacuation.proofs.Slides.KeptObjects.{kept_as, kept_some, kept_object}
-use Rattle.evacuation.proofs.Slides.Redirecting.{none_redirected, stays_on}
 
 get_set : (xs : List (Option ℕ)) (i : ℕ) (v : Option ℕ) → i < length xs → slice_get (slice_set xs i v) i ≡ Some v
 get_set [] i v h = absurd (omega arith)

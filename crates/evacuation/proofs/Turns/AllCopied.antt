@@ -18,18 +18,13 @@ use Rattle.evacuation.specs.Turns.{Pause, IsPause, IsTurn, PauseGoesOn, AreField
 use Rattle.evacuation.specs.Turns.{in_set, kept_now, layout, plan, space}
 use Rattle.evacuation.specs.declared.room.Context.{Context}
 use Rattle.evacuation.proofs.Lists.{get_below}
-use Rattle.evacuation.proofs.Turns.KeptObjects.{kept_object}
+use Rattle.evacuation.proofs.Turns.KeptObjects.{kept_object, start_kept}
 use Rattle.evacuation.proofs.FieldUpdates.FieldCards.{card_within}
 
 pub reached_inside : (set : ℕ → Bool) (h : Heap) (a : ℕ) → IsReached set h a → set a ≡ true
 reached_inside set h a (ByRootWord b r i) = i
 reached_inside set h a (ByOutside b d o p i) = i
 reached_inside set h a (ByInside b d o p i) = i
-
--- the heap at the start is what is kept in its table
-start_kept : (p : Pause) (a : ℕ) → kept_now p p.start a ≡ (plan p).heap.kept a
-unfolding kept_now
-start_kept p a = refl
 
 module _ (p : Pause) (visited : List Bool) (t t' : Table) (c c' : Context) (roots : List (Option ℕ)) (on : PauseGoesOn p t t' c c')
     (started : t ≡ p.start) (moved : AllZip (IsMoved (place_after (in_set p) (space p t').forward)) p.roots roots)

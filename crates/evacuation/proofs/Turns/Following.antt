@@ -1,5 +1,5 @@
 -- One turn after another.
-use Rattle.std.proofs.Common.{◌≡◌, ◌+◌, ◌*◌, ◌/◌, ◌≤◌, ◌∙◌, ◌⊎◌, ℕ, get_or, ap, Bool, true, false, List, Option, Some, None, length, refl}
+use Rattle.std.proofs.Common.{◌≡◌, ◌+◌, ◌*◌, ◌/◌, ◌≤◌, ◌∙◌, ℕ, get_or, ap, false, Option, Some, None, refl}
 use Rattle.std.proofs.Common.{sym, subst, inl, inr, arith, slice_get}
 use Rattle.std.proofs.lemmas.Option.{slice_get-get_or}
 use Rattle.evacuation.proofs.Lists.{get_below}
@@ -9,21 +9,20 @@ use Rattle.object_copy.specs.Copies.{Destinations}
 use Rattle.refinement.specs.Remembering.{field_word}
 use Rattle.evacuation.specs.Space.{Layout, Space, IsDestination, IsAfter, NewCrossing, IsSpaceObject, IsOutsideSet, IsCardNoted}
 use Rattle.evacuation.specs.Space.{IsSettled, IsUpdated}
-use Rattle.evacuation.specs.Space.{IsFieldClean, IsFieldSettled, flag}
-use Rattle.evacuation.specs.Turns.{EachCard, IsTurn, Pause, PauseStands, PauseGoesOn, in_set, layout, space}
+use Rattle.evacuation.specs.Space.{IsFieldClean, IsFieldSettled, NotesFor, NotesGrow}
+use Rattle.evacuation.specs.declared.room.Notes.{Notes}
+use Rattle.evacuation.proofs.Notes.{for_further, for_others, none_for, notes_further, notes_stay}
+use Rattle.evacuation.specs.Turns.{AreNotes, IsTurn, Pause, PauseStands, PauseGoesOn, in_set, layout, space}
 use Rattle.evacuation.specs.declared.room.Context.{Context}
 
-pub noted_grows : (l : Layout) (t t' : List Bool) (at : ℕ) (w : Option ℕ)
-    → ((c : ℕ) → flag t c ≡ true → flag t' c ≡ true) → IsCardNoted l t at w → IsCardNoted l t' at w
+pub noted_grows : (l : Layout) (t t' : Notes) (at : ℕ) (w : Option ℕ) → NotesGrow t t' → IsCardNoted l t at w → IsCardNoted l t' at w
 noted_grows l t t' at None f s = tt
-noted_grows l t t' at (Some c) f s = elim s [ inl q ↦ inl q | inr q ↦ inr (f (at / l.card_words) q) ]
+noted_grows l t t' at (Some c) f s = elim s [ inl q ↦ inl q | inr q ↦ inr (f.noted (at / l.card_words) (c / l.words) q) ]
 
-pub settled_grows : (l : Layout) (t t' : List Bool) (at : ℕ) (w : Option ℕ) → ((c : ℕ) → flag t c ≡ true → flag t' c ≡ true)
-    → IsSettled l t at w → IsSettled l t' at w
+pub settled_grows : (l : Layout) (t t' : Notes) (at : ℕ) (w : Option ℕ) → NotesGrow t t' → IsSettled l t at w → IsSettled l t' at w
 settled_grows l t t' at w f s = (s.0, noted_grows l t t' at w f s.1)
 
-pub updated_grows : (l : Layout) (t t' : List Bool) (at : ℕ) (v w : Option ℕ) → ((c : ℕ) → flag t c ≡ true → flag t' c ≡ true)
-    → IsUpdated l t at v w → IsUpdated l t' at v w
+pub updated_grows : (l : Layout) (t t' : Notes) (at : ℕ) (v w : Option ℕ) → NotesGrow t t' → IsUpdated l t at v w → IsUpdated l t' at v w
 updated_grows l t t' at v w f u = record {
   target = u.target;
   named = u.named;
@@ -32,17 +31,16 @@ updated_grows l t t' at v w f u = record {
 }
 
 -- a word that names nothing of the set isn't updated
-clean_stays : (l : Layout) (t : List Bool) (at : ℕ) (v w : Option ℕ) → IsOutsideSet l v → IsUpdated l t at v w → ⊥
+clean_stays : (l : Layout) (t : Notes) (at : ℕ) (v w : Option ℕ) → IsOutsideSet l v → IsUpdated l t at v w → ⊥
 clean_stays l t at v w c u =
     let c' : IsOutsideSet l (Some u.target) = subst (IsOutsideSet l) u.named c in
     let i = u.inside in
     absurd cc
 
-pub same_after : (l : Layout) (t : List Bool) (s : Space) (d : Destinations) → IsAfter l t t s s d d
+pub same_after : (l : Layout) (t : Notes) (s : Space) (d : Destinations) → IsAfter l t t s s d d
 same_after l t s d = record {
-  noted_grows = λ j e. e;
-  noted_length = refl;
-  noted_for = λ c e. inl e;
+  noted_grows = notes_stay t;
+  noted_for = none_for (NewCrossing l s s d) t;
   forward_grows = λ a b e. e;
   taken_grows = λ i j e. e;
   used_grows = λ k. omega arith;
@@ -53,11 +51,10 @@ same_after l t s d = record {
 }
 
 -- more is noted, and nothing else changes
-pub noted_after : (l : Layout) (t t' : List Bool) (s : Space) (d : Destinations) → ((c : ℕ) → flag t c ≡ true → flag t' c ≡ true)
-    → length t' ≡ length t → ((c : ℕ) → flag t' c ≡ true → (flag t c ≡ true) ⊎ NewCrossing l s s d c) → IsAfter l t t' s s d d
-noted_after l t t' s d f n g = record {
+pub noted_after : (l : Layout) (t t' : Notes) (s : Space) (d : Destinations) → NotesGrow t t' → NotesFor (NewCrossing l s s d) t t'
+    → IsAfter l t t' s s d d
+noted_after l t t' s d f g = record {
   noted_grows = f;
-  noted_length = n;
   noted_for = g;
   forward_grows = λ a b e. e;
   taken_grows = λ i j e. e;
@@ -72,9 +69,9 @@ above_more : (at a b c : ℕ) → at + b ≤ c → a ≤ b → at + a ≤ c
 above_more at a b c h k = omega arith
 
 -- a clean field stays as it is
-crossing_on : (l : Layout) (t t' t'' : List Bool) (s s' s'' : Space) (d d' d'' : Destinations) (c : ℕ) → IsAfter l t' t'' s' s'' d' d''
-    → NewCrossing l s s' d' c → NewCrossing l s s'' d'' c
-crossing_on l t t' t'' s s' s'' d d' d'' c b x =
+crossing_on : (l : Layout) (t t' t'' : Notes) (s s' s'' : Space) (d d' d'' : Destinations) (c r : ℕ) → IsAfter l t' t'' s' s'' d' d''
+    → NewCrossing l s s' d' c r → NewCrossing l s s'' d'' c r
+crossing_on l t t' t'' s s' s'' d d' d'' c r b x =
     let (z, e, n) = b.stays x.at x.object x.outside x.here in
     let within = get_below (fields x.object) x.index (Some x.target) x.field in
     let w = get_or (fields z) x.index None in
@@ -94,13 +91,14 @@ crossing_on l t t' t'' s s' s'' d d' d'' c b x =
       ];
       clean = x.clean;
       in_card = x.in_card;
+      into = x.into;
       leaves = x.leaves;
       is_new = elim x.is_new [ inl k ↦ inl (record { at = k.at; is = b.taken_grows k.at (x.at / l.words) k.is }) | inr k ↦ inr k ];
     }
 
-crossing_back : (l : Layout) (t t' : List Bool) (s s' s'' : Space) (d d' d'' : Destinations) (c : ℕ) → IsAfter l t t' s s' d d'
-    → NewCrossing l s' s'' d'' c → NewCrossing l s s'' d'' c
-crossing_back l t t' s s' s'' d d' d'' c a x = record {
+crossing_back : (l : Layout) (t t' : Notes) (s s' s'' : Space) (d d' d'' : Destinations) (c r : ℕ) → IsAfter l t t' s s' d d'
+    → NewCrossing l s' s'' d'' c r → NewCrossing l s s'' d'' c r
+crossing_back l t t' s s' s'' d d' d'' c r a x = record {
   at = x.at;
   index = x.index;
   target = x.target;
@@ -110,6 +108,7 @@ crossing_back l t t' s s' s'' d d' d'' c a x = record {
   field = x.field;
   clean = x.clean;
   in_card = x.in_card;
+  into = x.into;
   leaves = x.leaves;
   is_new = elim x.is_new [
     | inl k ↦ inl k
@@ -120,15 +119,15 @@ crossing_back l t t' s s' s'' d d' d'' c a x = record {
   ];
 }
 
-pub after_after : (l : Layout) (t t' t'' : List Bool) (s s' s'' : Space) (d d' d'' : Destinations) → IsAfter l t t' s s' d d'
+pub after_after : (l : Layout) (t t' t'' : Notes) (s s' s'' : Space) (d d' d'' : Destinations) → IsAfter l t t' s s' d d'
     → IsAfter l t' t'' s' s'' d' d'' → IsAfter l t t'' s s'' d d''
 after_after l t t' t'' s s' s'' d d' d'' a b = record {
-  noted_grows = λ j e. b.noted_grows j (a.noted_grows j e);
-  noted_length = b.noted_length ∙ a.noted_length;
-  noted_for = λ c e. elim (b.noted_for c e) [
-    | inl o ↦ elim (a.noted_for c o) [ inl z ↦ inl z | inr x ↦ inr (crossing_on l t t' t'' s s' s'' d d' d'' c b x) ]
-    | inr x ↦ inr (crossing_back l t t' s s' s'' d d' d'' c a x)
-  ];
+  noted_grows = notes_further t t' t'' a.noted_grows b.noted_grows;
+  noted_for = for_further (NewCrossing l s s'' d'') t t' t'' a.noted_grows
+      (for_others (NewCrossing l s s' d') (NewCrossing l s s'' d'') t t' (λ c r x. crossing_on l t t' t'' s s' s'' d d' d'' c r b x)
+      a.noted_for)
+      (for_others (NewCrossing l s' s'' d'') (NewCrossing l s s'' d'') t' t'' (λ c r x. crossing_back l t t' s s' s'' d d' d'' c r a x)
+      b.noted_for);
   forward_grows = λ c f e. b.forward_grows c f (a.forward_grows c f e);
   taken_grows = λ i j e. b.taken_grows i j (a.taken_grows i j e);
   used_grows = λ k. let p = a.used_grows k in let q = b.used_grows k in omega arith;
@@ -159,15 +158,15 @@ after_after l t t' t'' s s' s'' d d' d'' a b = record {
 pub stays_on : {p : Pause} {t : Table} {c : Context} → PauseStands p t c → PauseGoesOn p t t c c
 stays_on {p} {t} {c} s = record { stands = s; after = same_after (layout p) c.noted (space p t) c.destinations }
 
--- its next state stands: the turn does, the notes are as many, and the rest of the context is the same
+-- its next state stands: the turn does, the notes are, and the rest of the context is the same
 pub turned : {p : Pause} {t t' : Table} {c c' : Context} → PauseStands p t c → c'.chosen ≡ c.chosen → c'.card_words ≡ c.card_words
-    → IsTurn p t' c'.destinations → EachCard p c'.noted → PauseStands p t' c'
-turned {p} {t} {t'} {c} {c'} s chosen words turn each = record {
+    → IsTurn p t' c'.destinations → AreNotes p c'.noted → PauseStands p t' c'
+turned {p} {t} {t'} {c} {c'} s chosen words turn notes = record {
   premises = s.premises;
   turn = turn;
   flags = rw chosen s.flags;
   card = words ∙ s.card;
-  each_card = each;
+  notes = notes;
 }
 
 pub goes_further : {p : Pause} {t t' t'' : Table} {c c' c'' : Context} → PauseGoesOn p t t' c c' → PauseGoesOn p t' t'' c' c''

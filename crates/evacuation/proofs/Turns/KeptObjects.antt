@@ -10,7 +10,7 @@ use Rattle.regions.specs.declared.row.Kind.{Kind}
 use Rattle.regions.specs.declared.row.Kind.TheVariants as kinds
 use Rattle.mark_bitmap.specs.Marks.{is_marked}
 use Rattle.mark_bitmap.specs.Tops.{is_below}
-use Rattle.evacuation.specs.Turns.{Pause, IsPause, kept_now}
+use Rattle.evacuation.specs.Turns.{Pause, IsPause, kept_now, plan}
 
 keep : Bool → Bool → Option Stored → Option Stored
 keep below marked x = if below then (if marked then x else None) else x
@@ -93,3 +93,8 @@ kept_fresh p t a q w known f =
     let above = not_below p.start.words_per_region a p.tams.previous top (omega (arith, whole)) in
     keep_same p p.start t a w ∙ ap (λ (b : Bool). keep b (is_marked p.previous a) (object_at t a)) above
     ∙ clear (is_marked p.previous a) (object_at t a)
+
+-- the heap at the start is what is kept in its table
+pub start_kept : (p : Pause) (a : ℕ) → kept_now p p.start a ≡ (plan p).heap.kept a
+unfolding kept_now
+start_kept p a = refl

@@ -18,7 +18,7 @@ use Rattle.mark_bitmap.proofs.LiveBounds as live
 use Rattle.region_choice.specs.Choice.{live_sum}
 use Rattle.region_choice.specs.declared.LiveRow.{LiveRow}
 use Rattle.regions.specs.Walks.{IsHolder}
-use Rattle.remembered_sets.specs.Sets.{card_count, may_lead}
+use Rattle.remembered_sets.specs.Sets.{Sets, card_count, may_lead}
 use Rattle.refinement.specs.Remembering.{IsCrossing, field_word}
 use Rattle.regions.proofs.Words.Divides.{card_has_words, card_region, div_is, div_low, div_high}
 use Rattle.regions.proofs.Tiles.Holders.{holder_start}
@@ -181,13 +181,17 @@ module _ (h : Layers) (rows : List LiveRow) (cw : ℕ) (can : CanEvacuate h rows
 
   -- it stands where there is no destination yet
   pub stands : (n : ℕ) (c : Context) → c.destinations ≡ no_destinations n → n ≡ length h.table.regions → c.chosen.items ≡ flags
-      → c.card_words ≡ cw → length c.noted ≡ card_count h.sets → PauseStands pause h.table c
-  stands n c none room set card each = record {
+      → c.card_words ≡ cw → length c.noted.cards ≡ card_count h.sets → c.noted.sets ≡ h.sets → PauseStands pause h.table c
+  stands n c none room set card each sets = record {
     premises = is_pause;
     turn = subst (IsTurn pause h.table) (sym none) (start_is n room);
     flags = set;
     card = card;
-    each_card = cards_are (length c.noted) each;
+    notes = record {
+      each_card = cards_are (length c.noted.cards) each;
+      each_set = ap (λ (s : Sets). length s.sets) sets ∙ can.fit.each_region;
+      set_cards = ap (λ (s : Sets). s.cards_per_region) sets ∙ sym per_region;
+    };
   }
 
   apart : (c w : ℕ) → IsHolder h.table c w → flag flags (c / words) ≡ false → flag flags (w / words) ≡ true → ⊥

@@ -6,7 +6,7 @@ use Rattle.heap_model.specs.Heap.{Stored}
 use Rattle.heap_model.specs.Evacuation.{IsEvacuating}
 use Rattle.heap_model.proofs.Evacuated.{start}
 use Rattle.regions.specs.Tiles.{Tile, Object, Forwarded}
-use Rattle.regions.specs.Table.{Region, Free, Ordinary, Table, HasNoForwarded, is_free, kind_of, moved_to, region_at}
+use Rattle.regions.specs.Table.{Region, Free, Table, HasNoForwarded, is_free, kind_of, moved_to, region_at}
 use Rattle.regions.specs.Table.{region_kind, nth_region, region_tile, tile_in, free_count}
 use Rattle.regions.specs.Rows.{kind_is_free}
 use Rattle.regions.specs.Tiles.{Filler}

@@ -3,7 +3,7 @@ use Rattle.evacuation.proofs.WholePause.Beginning.{no_tile}
 use Rattle.std.proofs.Common.{◌≡◌, ◌≢◌, ◌+◌, ◌-◌, ◌*◌, ◌/◌, ◌%◌, ◌<◌, ◌≤◌, ◌∷◌, ◌∙◌, ℕ, suc, Bool, true, false, List, [], Option, Some}
 use Rattle.std.proofs.Common.{None, length, get_or, refl, sym, ap, subst, inl, inr, arith, nat_lt, slice_get, ◌↔◌, if◌then◌else◌}
 use Rattle.std.specs.List.Sorted.{IsStrictlyIncreasing}
-use Rattle.std.proofs.lemmas.Bool.{cases_Bool}
+use Rattle.std.proofs.lemmas.Bool.{cases_Bool, cases_lt, or_cases}
 use Rattle.heap_model.specs.Heap.{Stored}
 use Rattle.heap_model.specs.Heap as stored
 use Rattle.heap_model.specs.Relocation.{Relocates}
@@ -25,8 +25,14 @@ use Rattle.mark_bitmap.proofs.KeptLaws.{gone_kept}
 use Rattle.region_choice.specs.declared.LiveRow.{LiveRow}
 use Rattle.evacuation.specs.declared.room.Context.{Context}
 use Rattle.evacuation.specs.Evacuates.{AreReachedWords, CanEvacuate, Layers, MarksAfter, RegionsAfter, SparesRegions}
-use Rattle.evacuation.specs.Evacuates.{heap_of, kept_of, is_chosen, set_by, IsNewCrossing}
-use Rattle.evacuation.specs.Space.{flag, filled, AreSpared, NewCrossing}
+use Rattle.evacuation.specs.Evacuates.{heap_of, kept_of, is_chosen, set_by, IsNewCrossing, SetsGain}
+use Rattle.regions.specs.Walks.{IsHolder}
+use Rattle.regions.proofs.Tiles.Holders.{holder_start}
+use Rattle.refinement.proofs.Holders.{word_holder}
+use Rattle.refinement.proofs.Holders as holders
+use Rattle.evacuation.specs.Space.{flag, filled, AreSpared, NewCrossing, NotesFor, NotesGrow}
+use Rattle.evacuation.specs.declared.room.Notes.{Notes}
+use Rattle.evacuation.proofs.Lists.{get_below}
 use Rattle.evacuation.specs.Turns.{Pause, IsTurn, in_set, kept_now, space, layout}
 use Rattle.evacuation.specs.Releasing.{AreReleased}
 use Rattle.heap_model.specs.Marking.{Marking}
@@ -34,7 +40,7 @@ use Rattle.heap_model.specs.Relocation.{KeepsOld}
 use Rattle.mark_bitmap.specs.Tops.{below_next}
 use Rattle.cards.specs.Cards.{Cards, is_dirty}
 use Rattle.bit_sets.specs.Bits.{has}
-use Rattle.remembered_sets.specs.Sets.{Sets, may_lead}
+use Rattle.remembered_sets.specs.Sets.{CardSet, Sets, covers, emptied, may_lead, set_covers, set_of}
 use Rattle.remembered_sets.proofs.Laws.{leads_alike}
 use Rattle.refinement.specs.Remembering.{Remembers, field_card, field_word}
 use Rattle.evacuation.specs.Evacuates.{HasEvacuated, IsNewSet}
@@ -270,10 +276,11 @@ module _ (h : Layers) (rows : List LiveRow) (cw : ℕ) (can : CanEvacuate h rows
       (roots' : List (Option ℕ)) (g : IsShaped t2)
       (previous : MarksAfter words (is_chosen rows) h.tams.previous tams'.previous h.previous previous')
       (next : MarksAfter words (is_chosen rows) h.tams.next tams'.next h.next next')
-      (cleared : AreCleared (is_chosen rows) h.sets sets') (dirty : (card : ℕ) → is_dirty cards' card ≡ flag c1.noted card)
+      (cleared : AreCleared (is_chosen rows) c1.noted.sets sets') (dirty : (card : ℕ) → is_dirty cards' card ≡ flag c1.noted.cards card)
       (logs : cards'.logs ≡ h.cards.logs) (rising : IsStrictlyIncreasing cards'.queue) (each : length cards'.dirty ≡ length h.cards.dirty)
       (done : HasCopied p t1 c1 roots')
-      (only : (c : ℕ) → flag c1.noted c ≡ true → NewCrossing (layout p) (space p h.table) (space p t1) c1.destinations c) where
+      (n0 : Notes) (at_first : n0.sets ≡ h.sets) (none : (c : ℕ) → flag n0.cards c ≡ true → ⊥) (grow : NotesGrow n0 c1.noted)
+      (only : NotesFor (NewCrossing (layout p) (space p h.table) (space p t1) c1.destinations) n0 c1.noted) where
     abbrev h' : Layers
     h' = record { table = t2; tams = tams'; previous = previous'; next = next'; cards = cards'; sets = sets'; roots = roots' }
 
@@ -308,15 +315,50 @@ module _ (h : Layers) (rows : List LiveRow) (cw : ℕ) (can : CanEvacuate h rows
       | inr o ↦ (o, sym (kept_after b ∙ ap (λ (c : Bool). if c then None else kept_now p t1 b) o) ∙ e)
     ]
 
-    same_lead : (k card : ℕ) → is_chosen rows k ≡ false → is_chosen rows (card / h.sets.cards_per_region) ≡ false
-        → may_lead sets' k card ≡ may_lead h.sets k card
-    same_lead k card e own =
-        leads_alike h.sets sets' k card cleared.cards (cleared.others k e)
-        (cleared.entered card ∙ ap (λ (b : Bool). if b then false else has h.sets.entered card) own)
+    -- as many cards a region as before
+    now_cards : c1.noted.sets.cards_per_region ≡ h.sets.cards_per_region
+    now_cards = grow.sets.cards ∙ ap (λ (s : Sets). s.cards_per_region) at_first
 
     -- the region of a field's card is the one of the field's word
     own_region : (b i : ℕ) → field_card cw b i / h.sets.cards_per_region ≡ field_word b i / words
     own_region b i = region_of_card words cw h.sets.cards_per_region (field_word b i) shaped.positive can.fit.whole_cards
+
+    same_lead : (k card : ℕ) → is_chosen rows k ≡ false → is_chosen rows (card / h.sets.cards_per_region) ≡ false
+        → may_lead sets' k card ≡ may_lead c1.noted.sets k card
+    same_lead k card e own =
+        leads_alike c1.noted.sets sets' k card cleared.cards (cleared.others k e)
+        (cleared.entered card ∙ ap (λ (b : Bool). if b then false else has c1.noted.sets.entered card)
+        (ap (λ (n : ℕ). is_chosen rows (card / n)) now_cards ∙ own))
+
+    -- what may have led there still may
+    leads_on : (k card : ℕ) → is_chosen rows k ≡ false → is_chosen rows (card / h.sets.cards_per_region) ≡ false
+        → may_lead h.sets k card ≡ true → may_lead sets' k card ≡ true
+    leads_on k card e own d = same_lead k card e own ∙ grow.sets.leads k card (ap (λ (s : Sets). may_lead s k card) at_first ∙ d)
+
+    -- a field of an object that stays isn't in a region that is gone
+    field_stays : (b i : ℕ) (y : Stored) (v : Option ℕ) → kept_in t2 tams' previous' b ≡ Some y → slice_get (stored.fields y) i ≡ Some v
+        → is_chosen rows (field_card cw b i / h.sets.cards_per_region) ≡ false
+    field_stays b i y v at e = elim (cases_Bool (is_chosen rows (field_card cw b i / h.sets.cards_per_region))) [
+      | inl gone ↦ absurd (
+          let holder = word_holder t2 b i y g (holders.kept_object t2 tams' previous' b y at) (get_below (stored.fields y) i v e) in
+          free_apart b (field_word b i) holder
+          (ap (λ (n : ℕ). kind_of t2 (field_word b i / n)) size
+          ∙ regions.chosen (field_word b i / words) (ap (is_chosen rows) (sym (own_region b i)) ∙ gone)))
+      | inr stays ↦ stays
+    ]
+      where
+        free_apart : (c w : ℕ) → IsHolder t2 c w → kind_of t2 (w / t2.words_per_region) ≡ kinds.Free → ⊥
+        free_apart c w holder f =
+            let s = holder_start t2 c w g holder in
+            elim (cases_lt (c / t2.words_per_region) (w / t2.words_per_region)) [
+              | inl lt ↦ (let r = s.run.rest (w / t2.words_per_region) lt (omega arith) in
+                  let n : kinds.Free ≡ kinds.Rest = sym f ∙ r in absurd cc)
+              | inr ge ↦ (let low = s.run.below in
+                  let same : c / t2.words_per_region ≡ w / t2.words_per_region = omega arith in
+                  let n = no_tile t2 c (ap (kind_of t2) same ∙ f) in
+                  let e' = holder.tile_is in
+                  absurd cc)
+            ]
 
     own_stays : (b i : ℕ) (x : Stored) (v : Option ℕ) → kept_of h b ≡ Some x → slice_get (stored.fields x) i ≡ Some v → in_set p b ≡ false
         → is_chosen rows (field_card cw b i / h.sets.cards_per_region) ≡ false
@@ -333,10 +375,18 @@ module _ (h : Layers) (rows : List LiveRow) (cw : ℕ) (can : CanEvacuate h rows
             | inl was ↦ (let (y, at, f) = was in
                 elim (can.remembers.each b i a (record { object = y; kept_is = at; field_is = f; leaves = x.leaves })) [
                   | inl d ↦ absurd (let c = can.clean (field_card cw b i) in cc)
-                  | inr d ↦ inr (same_lead (a / words) (field_card cw b i)
-                      (sym (flags_are (a / words)) ∙ outside') (own_stays b i y (Some a) at f out) ∙ d)
+                  | inr d ↦ inr (leads_on (a / words) (field_card cw b i)
+                      (sym (flags_are (a / words)) ∙ outside') (own_stays b i y (Some a) at f out) d)
                 ])
-            | inr s ↦ elim s.1 [ inl same ↦ absurd (x.leaves same) | inr n ↦ inl (dirty (field_card cw b i) ∙ n) ]
+            | inr s ↦ elim s.1 [
+              | inl same ↦ absurd (x.leaves same)
+              | inr n ↦ elim (
+                  or_cases (flag c1.noted.cards (field_card cw b i)) (may_lead c1.noted.sets (a / words) (field_card cw b i)) n) [
+                    | inl f ↦ inl (dirty (field_card cw b i) ∙ f)
+                    | inr f ↦ inr (same_lead (a / words) (field_card cw b i) (sym (flags_are (a / words)) ∙ outside')
+                        (field_stays b i x.object (Some a) x.kept_is x.field_is) ∙ f)
+                  ]
+            ]
           ];
     })
 
@@ -375,9 +425,9 @@ module _ (h : Layers) (rows : List LiveRow) (cw : ℕ) (can : CanEvacuate h rows
             let none = free_used h.table (b / words) r.0 in
             bottom_of (b / words) b refl (omega arith)
 
-    new_crossing : (card : ℕ) → is_dirty cards' card ≡ true → IsNewCrossing h h' cw card
-    new_crossing card e =
-        let x = only card (sym (dirty card) ∙ e) in
+    new_crossing : (card k : ℕ) → NewCrossing (layout p) (space p h.table) (space p t1) c1.destinations card k
+        → IsNewCrossing h h' cw card k
+    new_crossing card k x =
         record {
           at = x.at;
           index = x.index;
@@ -386,6 +436,7 @@ module _ (h : Layers) (rows : List LiveRow) (cw : ℕ) (can : CanEvacuate h rows
           is_kept = kept_after x.at ∙ ap (λ (b : Bool). if b then None else kept_now p t1 x.at) x.outside ∙ x.here;
           field = x.field;
           in_card = x.in_card;
+          into = ap (λ (n : ℕ). x.target / n) size ∙ x.into;
           leaves = subst (λ (n : ℕ). x.target / n ≢ field_word x.at x.index / n) (sym size) x.leaves;
           is_new = λ before at f. elim x.is_new [
             | inl w ↦ stood_free x.at before (turn.taken (x.at / words) w).0
@@ -408,7 +459,57 @@ module _ (h : Layers) (rows : List LiveRow) (cw : ℕ) (can : CanEvacuate h rows
         let (n, f) = moved_tile (tile_in t1 a) b e in
         (turn.taken (b / words) (turn.copying.placed a b (turn.table.moved a b n f) e)).0
 
-    pub evacuated : HasEvacuated rows cw c1.destinations.words h h'
+    dirtied : (card : ℕ) → is_dirty cards' card ≡ true → (n0.at_once ≡ false) × ((k : ℕ) × IsNewCrossing h h' cw card k)
+    dirtied card e =
+        let noted = sym (dirty card) ∙ e in
+        elim (only.cards card noted) [
+          | inl o ↦ absurd (none card o)
+          | inr x ↦ elim (cases_Bool n0.at_once) [
+            | inl once ↦ absurd (none card (ap (λ (flags : List Bool). flag flags card) (sym (grow.early once)) ∙ noted))
+            | inr late ↦ (late, (x.0, new_crossing card x.0 x.1))
+          ]
+        ]
+
+    gains : SetsGain rows cw h h'
+    gains = record {
+      stays = leads_on;
+      covered = λ k c e now.
+          let w = now_cards in
+          let v = ap (λ (s : Sets). s.cards_per_region) at_first in
+          let was = covers_alike c1.noted.sets sets' k c cleared.cards (cleared.others k e) now in
+          elim (only.covered c k was) [
+            | inl o ↦ inl (ap (λ (s : Sets). covers s k c) (sym at_first) ∙ o)
+            | inr x ↦ inr (x.0, subst (λ (n : ℕ). x.0 / n ≡ c / n) v x.1, new_crossing x.0 k x.2)
+          ];
+      entered = λ card now. elim (cases_Bool (is_chosen rows (card / h.sets.cards_per_region))) [
+        | inl gone ↦ absurd (let a = entered_now card ∙ ap (λ (b : Bool). if b then false else has c1.noted.sets.entered card) gone in cc)
+        | inr stays ↦ (
+          stays,
+          (let a = entered_now card ∙ ap (λ (b : Bool). if b then false else has c1.noted.sets.entered card) stays in
+              elim (only.entered card (sym a ∙ now)) [
+                | inl o ↦ inl (ap (λ (s : Sets). has s.entered card) (sym at_first) ∙ o)
+                | inr x ↦ inr (x.0, new_crossing card x.0 x.1)
+              ]),
+        )
+      ];
+    }
+      where
+        entered_now : (card : ℕ) → has sets'.entered card
+            ≡ (if is_chosen rows (card / h.sets.cards_per_region) then false else has c1.noted.sets.entered card)
+        entered_now card = cleared.entered card
+            ∙ ap (λ (n : ℕ). if is_chosen rows (card / n) then false else has c1.noted.sets.entered card) now_cards
+
+        covers_alike : (s s' : Sets) (k c : ℕ) → s'.cards_per_region ≡ s.cards_per_region → set_of s' k ≡ set_of s k → covers s' k c ≡ true
+            → covers s k c ≡ true
+        covers_alike s s' k c cards same now =
+            ap (λ (x : CardSet). set_covers x c (c / s.cards_per_region)) (sym same)
+            ∙ ap (λ (n : ℕ). set_covers (set_of s' k) c (c / n)) (sym cards) ∙ now
+
+    -- where notes are made late the sets are those of the start
+    late_sets : n0.at_once ≡ false → c1.noted.sets ≡ h.sets
+    late_sets late = grow.late late ∙ at_first
+
+    pub evacuated : HasEvacuated rows n0.at_once cw c1.destinations.words h h'
     evacuated = record {
       forward = forward;
       placed = λ a b e. place_free a b e;
@@ -429,14 +530,19 @@ module _ (h : Layers) (rows : List LiveRow) (cw : ℕ) (can : CanEvacuate h rows
       next_stands = marks_stand h.tams.next tams'.next h.next next' can.next next;
       remembers = remembers;
       fit = record {
-        whole_cards = size ∙ can.fit.whole_cards ∙ ap (λ (n : ℕ). n * cw) (sym cleared.cards);
-        each_region = cleared.count ∙ can.fit.each_region ∙ sym regions.count;
+        whole_cards = size ∙ can.fit.whole_cards ∙ ap (λ (n : ℕ). n * cw) (sym (cleared.cards ∙ now_cards));
+        each_region = cleared.count ∙ now_count ∙ can.fit.each_region ∙ sym regions.count;
       };
-      each_card = each ∙ can.each_card ∙ sym (let a = cleared.count in let b = cleared.cards in rw (a, b) refl);
+      each_card = each ∙ can.each_card ∙ sym (let a = cleared.count ∙ now_count in let b = cleared.cards ∙ now_cards in rw (a, b) refl);
       logs = logs;
       queue = rising;
-      dirty = new_crossing;
-      cleared = cleared.cleared;
-      sets_same = cleared.others;
-      entered = cleared.entered;
+      dirty = dirtied;
+      cleared = λ k e. cleared.cleared k e ∙ grow.sets.emptied_same k ∙ ap (λ (s : Sets). emptied (set_of s k)) at_first;
+      gains = gains;
+      sets_same = λ late k e. cleared.others k e ∙ ap (λ (s : Sets). set_of s k) (late_sets late);
+      entered = λ late card. cleared.entered card
+          ∙ ap (λ (s : Sets). if is_chosen rows (card / s.cards_per_region) then false else has s.entered card) (late_sets late);
     }
+      where
+        now_count : length c1.noted.sets.sets ≡ length h.sets.sets
+        now_count = grow.sets.count ∙ ap (λ (s : Sets). length s.sets) at_first

@@ -22,6 +22,7 @@ use Rattle.step_core.specs.declared.candidates.Choice.{Choice}
 use Rattle.step_core.specs.Stands.{CoreState}
 use Rattle.step_core.specs.Pause.{HasMoved, layers_of}
 use Rattle.heap_words.specs.Configs.{card_words}
+use Rattle.heap_steps.specs.Actors.{is_third}
 
 -- where each object stays, the words are the same
 words_same : (place : ℕ → Option ℕ) → ((a : ℕ) → place a ≡ Some a) → (xs ys : List (Option ℕ)) → AllZip (IsMoved place) xs ys → ys ≡ xs
@@ -35,11 +36,12 @@ words_same place stays (Some a ∷ xs) (Some b ∷ ys) z =
     let same : b ≡ a = let e = z.0 in let f = stays a in cc in
     ap₂ (λ (w : Option ℕ) (l : List (Option ℕ)). w ∷ l) (ap Some same) (words_same place stays xs ys z.1)
 
-none_dirty : (card_words w : ℕ) (h h' : Layers) → HasEvacuated [] card_words w h h' → (card : ℕ) → is_dirty h'.cards card ≡ false
-none_dirty card_words w h h' ev card = elim (cases_Bool (is_dirty h'.cards card)) [
+none_dirty : (at_once : Bool) (card_words w : ℕ) (h h' : Layers) → HasEvacuated [] at_once card_words w h h' → (card : ℕ)
+    → is_dirty h'.cards card ≡ false
+none_dirty at_once card_words w h h' ev card = elim (cases_Bool (is_dirty h'.cards card)) [
   | inr clean ↦ clean
   | inl dirty ↦ absurd (
-      let x = ev.dirty card dirty in
+      let x = (ev.dirty card dirty).1.1 in
       let r = ev.relocates in
       let stays : (a : ℕ) → place_after (set_by h []) ev.forward a ≡ Some a = λ a. refl in
       let c = r.came x.at x.object x.is_kept in
@@ -59,8 +61,8 @@ no_rows (r ∷ rows) e = absurd (omega arith)
 
 module _ (which : Choice) (budget w : ℕ) (c d : CoreState) (h : HasMoved which budget 0 w c d) where
   pub still_clean : (card : ℕ) → is_dirty d.cards card ≡ false
-  still_clean = none_dirty (card_words c.config) w (layers_of h.ready) (layers_of d) (subst (λ (rows : List LiveRow).
-      HasEvacuated rows (card_words c.config) w (layers_of h.ready) (layers_of d)) (no_rows h.evacuates.chosen h.evacuates.regions)
+  still_clean = none_dirty (is_third c.config.format) (card_words c.config) w (layers_of h.ready) (layers_of d) (subst (λ (rows : List LiveRow).
+      HasEvacuated rows (is_third c.config.format) (card_words c.config) w (layers_of h.ready) (layers_of d)) (no_rows h.evacuates.chosen h.evacuates.regions)
       h.evacuates.evacuated)
 
   pub still_settled : c.clearing ≡ None → d.clearing ≡ None

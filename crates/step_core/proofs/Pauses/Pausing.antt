@@ -35,6 +35,7 @@ use Rattle.marker.specs.declared.marker.Marker.{Marker}
 use Rattle.region_choice.specs.declared.LiveRow.{LiveRow}
 use Rattle.region_choice.specs.Ages.{Ages, AgesAfter}
 use Rattle.evacuation.proofs.WholePause.ChosenReleased.{mark_gone, mark_left, top_gone, top_left}
+use Rattle.heap_steps.specs.Actors.{is_third}
 use Rattle.evacuation.specs.Evacuates.{CanEvacuate, HasEvacuated, IsLiveRow, IsNewSet, IsSameBut, MarksAfter, is_chosen, set_in}
 use Rattle.heap_words.specs.Configs.{card_words, object_limit}
 use Rattle.step_core.proofs.Mutating.Noting.{cards_a_region}
@@ -101,7 +102,7 @@ module _ (k : CoreState) (core : IsCore k) (which : Choice) (budget : ℕ) (chos
 
   module _ (t : Table) (tams : Tops) (bm : Bitmaps) (cs : Cards) (ss : Sets) (roots : List (Option ℕ)) (w : ℕ)
       (live : LiveCounts)
-      (ev : HasEvacuated chosen (card_words k.config) w (layers_of k)
+      (ev : HasEvacuated chosen (is_third k.config.format) (card_words k.config) w (layers_of k)
       (record { table = t; tams = tams; previous = bm.previous; next = bm.next; cards = cs; sets = ss; roots = roots }))
       (forgets : AreForgotten chosen k.marker.live live) (ages : Ages) (aged : AgesAfter (is_chosen chosen) k.ages ages) where
     abbrev marker : Marker
@@ -421,6 +422,7 @@ moved_ready which c k c' budget n w ready p = record {
     counts = p.counts;
     ages = p.ages;
     evacuated =
-        subst (λ (g : Config). HasEvacuated p.chosen (card_words g) w (layers_of k) (layers_of c')) (ready_config c k ready) p.evacuated;
+        subst (λ (g : Config). HasEvacuated p.chosen (is_third g.format) (card_words g) w (layers_of k) (layers_of c'))
+        (ready_config c k ready) p.evacuated;
   };
 }

@@ -24,4 +24,10 @@ returns g c =
     c.new_place-to.new.table c.set_field.new.self c.new_place-to.new.destinations c.new_place-to.ensures.turn
     c.new_place-to.ensures.after c.new_place-to.ensures.frame c.args.target c.new_place-to.result names inside c.new_place-to.ensures.place
     c.law.ensures.positive c.set_field.ensures in
-    record { turn = now; after = λ was is notes. (noted was is notes).0; settled = λ was is notes. (noted was is notes).1 }
+    let w = c.new_place-to.ensures.turn.copying.placed c.args.target c.new_place-to.result inside c.new_place-to.ensures.place in
+    record {
+      turn = now;
+      known = (c.new_place-to.ensures.turn.taken _ w).2;
+      after = λ was is notes. (noted was is notes).0;
+      settled = λ was is notes. (noted was is notes).1;
+    }

@@ -19,10 +19,10 @@ redirect-to-requires g c =
     let (stands, (place, (in_card, (outside, (field, names))))) = c.requires in
     (stands.premises, (stands.turn, (outside, (field, (names, sym c.is_inside.ensures ∙ c.if-not-is_inside.false)))))
 
-pub note_card-requires : goal.note_card-requires
-note_card-requires g c =
+pub note-requires : goal.note-requires
+note-requires g c =
     let (stands, (place, (in_card, (outside, (field, names))))) = c.requires in
-    (c.redirect-to.ensures.turn.table.size, (stands.each_card, place))
+    (stands.premises, (c.redirect-to.ensures.turn.table.size, (stands.notes, (place, c.redirect-to.ensures.known))))
 
 pub returns : goal.returns
 returns g c =
@@ -32,11 +32,11 @@ returns g c =
     sym (region_of_card g.pause.start.words_per_region g.pause.card_words g.pause.cards_per_region word
     stands.premises.shaped.positive stands.premises.whole_cards)
     ∙ ap (λ (n : ℕ). n / g.pause.cards_per_region) in_card ∙ place.home in
-    let notes = c.note_card.ensures.notes word in_card home in
+    let notes = c.note.ensures.notes word in_card home in
     record {
       goes_on = record {
-        stands = turned stands refl refl c.redirect-to.ensures.turn c.note_card.ensures.each_card;
-        after = c.redirect-to.ensures.after c.args.context.now.noted c.note_card.new.noted notes;
+        stands = turned stands refl refl c.redirect-to.ensures.turn c.note.ensures.stay;
+        after = c.redirect-to.ensures.after c.args.context.now.noted c.note.new.notes notes;
       };
-      clean = λ y w here is. (c.redirect-to.ensures.settled c.args.context.now.noted c.note_card.new.noted notes y w here is).0;
+      clean = λ y w here is. (c.redirect-to.ensures.settled c.args.context.now.noted c.note.new.notes notes y w here is).0;
     }

@@ -6,5 +6,5 @@ ghost-is_inside g a = g.pause
 abbrev pub ghost-redirect : goal.ghost-redirect
 ghost-redirect g a = g.pause
 
-abbrev pub ghost-note_card : goal.ghost-note_card
-ghost-note_card g a = g.pause
+abbrev pub ghost-note : goal.ghost-note
+ghost-note g a = g.pause

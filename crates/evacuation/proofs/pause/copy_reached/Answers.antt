@@ -15,7 +15,7 @@ pub update_cards-requires : goal.update_cards-requires
 update_cards-requires g c =
     let (stands, (kept, (visited, (start, (roots, none))))) = c.requires in
     let now : PauseStands g.pause c.update_roots.new.table (record c.args.context.now { destinations = c.update_roots.new.destinations }) =
-    turned stands refl refl c.update_roots.ensures.turn stands.each_card in
+    turned stands refl refl c.update_roots.ensures.turn stands.notes in
     (now, (kept, visited.each_card))
 
 pub settle_copies-requires : goal.settle_copies-requires
@@ -27,7 +27,7 @@ returns g c =
     let rooted : PauseGoesOn g.pause c.args.table.now c.update_roots.new.table c.args.context.now
     (record c.args.context.now { destinations = c.update_roots.new.destinations }) =
     record {
-      stands = turned stands refl refl c.update_roots.ensures.turn stands.each_card;
+      stands = turned stands refl refl c.update_roots.ensures.turn stands.notes;
       after = c.update_roots.ensures.after c.args.context.now.noted;
     } in
     let cards = c.update_cards.ensures.goes_on in

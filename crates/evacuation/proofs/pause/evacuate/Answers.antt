@@ -1,10 +1,12 @@
-use Rattle.std.proofs.Common.{◌≡◌, ◌∙◌, ◌+◌, ◌*◌, ◌/◌, ◌∷◌, ℕ, sym, ap, refl, subst, length, false, zero, suc, inl, inr, true, List, []}
+use Rattle.std.proofs.Common.{◌≡◌, ◌∙◌, ◌+◌, ◌*◌, ◌/◌, ◌∷◌, ℕ, sym, ap, refl, subst, length, false, zero, suc, true, List, []}
 use Rattle.std.proofs.Common.{Bool, replicate, arith, Vec, vec_len}
 use Rattle.std.specs.Vec.{with_items}
 use Rattle.std.proofs.lemmas.List.{length-replicate, with_items_is}
 use Rattle.regions.proofs.Words.Sizes.{EachForwardedIn-imp}
 use Rattle.region_choice.specs.declared.LiveRow.{LiveRow}
 use Rattle.evacuation.specs.Evacuates.{HasEvacuated, Layers, MarksAfter, all_layers, is_chosen}
+use Rattle.remembered_sets.specs.Sets.{Sets}
+use Rattle.evacuation.specs.Releasing.{AreCleared}
 use Rattle.evacuation.specs.Rooms.{RoomSizes}
 use Rattle.evacuation.specs.Space.{flag}
 use Rattle.evacuation.specs.Turns.{Pause, PauseStands, in_set}
@@ -43,7 +45,7 @@ copy_reached-requires c =
     let flags = (with_items room.chosen c.flag_chosen.new.set).items in
     let stands = asked.stands h c.args.chosen.now c.args.card_words c.requires.can c.law.ensures flags are len
     (length room.destinations.regions + room.destinations.room) _ c.close.ensures (c.room.invariant.each_region ∙ regions) refl refl
-    (ap length c.clear.ensures ∙ length-replicate (length room.noted) false ∙ cards) in
+    (ap length c.clear.ensures ∙ length-replicate (length room.noted.cards) false ∙ cards) c.swap.ensures.y_after in
     let visited = asked.visits_all h c.args.chosen.now c.args.card_words c.requires.can c.law.ensures flags are len
     c.flag_visited.new.visited c.flag_visited.ensures.flags (c.flag_visited.ensures.len ∙ c.room.invariant.each_card ∙ cards) in (
       stands,
@@ -90,7 +92,8 @@ release_chosen-requires-clause-layers c =
       next = can.next.each_word ∙ words;
       previous_tops = can.previous.each_region ∙ sym s.count;
       next_tops = can.next.each_region ∙ sym s.count;
-      each_set = can.fit.each_region ∙ sym s.count;
+      each_set = ap (λ (x : Sets). length x.sets) c.swap-2.ensures.x_after ∙ c.copy_reached.ensures.goes_on.stands.notes.each_set
+          ∙ sym s.count;
     }
 
 pub returns-clause-evacuated : goal.returns-clause-evacuated
@@ -113,13 +116,13 @@ returns-clause-evacuated c =
     let all = final.evacuated h c.args.chosen.now c.args.card_words c.requires.can c.law.ensures flags are len c.copy_reached.new.table
     c.copy_reached.new.context on.stands.turn c.release_chosen.new.table gone.table gone.count
     c.release_chosen.new.tams c.release_chosen.new.bitmaps.previous c.release_chosen.new.bitmaps.next c.dirty_noted.new.cards
-    c.release_chosen.new.sets c.copy_reached.new.roots.words c.law-2.ensures previous next gone.sets dirty.dirty dirty.logs
-    dirty.queue dirty.len c.copy_reached.ensures.copied
-    (λ k e. elim (on.after.noted_for k e) [
-      | inl o ↦ absurd (none_noted (length room.noted) k (ap (λ (m : List Bool). flag m k) (sym c.clear.ensures) ∙ o))
-      | inr x ↦ x
-    ]) in
-    subst (λ (n : ℕ). HasEvacuated c.args.chosen.now c.args.card_words n h
+    c.release_chosen.new.sets c.copy_reached.new.roots.words c.law-2.ensures previous next
+    (subst (λ (x : Sets). AreCleared (is_chosen c.args.chosen.now) x c.release_chosen.new.sets) c.swap-2.ensures.x_after gone.sets)
+    dirty.dirty dirty.logs
+    dirty.queue dirty.len c.copy_reached.ensures.copied _ c.swap.ensures.y_after
+    (λ k e. none_noted (length room.noted.cards) k (ap (λ (m : List Bool). flag m k) (sym c.clear.ensures) ∙ e))
+    on.after.noted_grows on.after.noted_for in
+    subst (λ (n : ℕ). HasEvacuated c.args.chosen.now c.args.at_once c.args.card_words n h
     (all_layers c.release_chosen.new.table c.release_chosen.new.tams c.release_chosen.new.bitmaps c.dirty_noted.new.cards
     c.release_chosen.new.sets c.copy_reached.new.roots.words)) (sym c.words.ensures) all
 
@@ -142,14 +145,14 @@ returns-clause-room c =
     let on = c.copy_reached.ensures.goes_on in
     let room = c.room.inside.context in
     let regions = ap (λ (s : RoomSizes). s.regions) c.room.view_is ∙ c.requires.each_region in
-    let cards = on.after.noted_length ∙ ap length c.clear.ensures ∙ length-replicate (length room.noted) false in
+    let cards = on.after.noted_grows.count ∙ ap length c.clear.ensures ∙ length-replicate (length room.noted.cards) false in
     same_sizes _ _ _ _ (each_flag _ _ _ on.stands ∙ sym regions) cards ∙ c.room.view_is
 
 pub invariant_of-room : goal.invariant_of-room
 invariant_of-room c =
     let on = c.copy_reached.ensures.goes_on in
     let room = c.room.inside.context in
-    let cards = on.after.noted_length ∙ ap length c.clear.ensures ∙ length-replicate (length room.noted) false in
+    let cards = on.after.noted_grows.count ∙ ap length c.clear.ensures ∙ length-replicate (length room.noted.cards) false in
     record {
       each_card = c.flag_visited.ensures.len ∙ c.room.invariant.each_card ∙ sym cards;
       each_region = on.stands.turn.copying.places ∙ sym (each_flag _ _ _ on.stands);

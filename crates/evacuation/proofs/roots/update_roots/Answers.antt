@@ -1,4 +1,4 @@
-use Rattle.std.proofs.Common.{◌+◌, ◌∙◌, ℕ, List, Option, sym, ap, subst, length, Some, [], arith}
+use Rattle.std.proofs.Common.{◌+◌, ◌∙◌, ℕ, List, Option, sym, ap, subst, length, Some, [], arith, false}
 use Rattle.std.specs.List.{AllZip}
 use Rattle.heap_model.specs.Relocation.{IsMoved}
 use Rattle.root_table.specs.Roots.{RootTable}
@@ -7,6 +7,8 @@ use Rattle.heap_model.specs.Evacuation.{place_after}
 use Rattle.evacuation.specs.Turns.{in_set, layout, plan, space}
 use Rattle.evacuation.proofs.Turns.Following.{after_after}
 use Rattle.evacuation.proofs.Loops.RootWords.{roots_all, roots_more, roots_past, roots_rest, roots_stay, root_named, word_at}
+use Rattle.remembered_sets.specs.Sets.{empty_sets}
+use Rattle.evacuation.specs.declared.room.Notes.{Notes}
 use Rattle.evacuation.proofs.roots.update_roots.Goals as goal
 
 pub returns-then-regions-eq0-clause-moved : goal.returns-then-regions-eq0-clause-moved
@@ -48,10 +50,14 @@ new_word-new-requires g c =
       ),
     )
 
+-- what is noted doesn't matter for where copies are
+no_notes : Notes
+no_notes = record { at_once = false; cards = []; sets = empty_sets 0 1 0 }
+
 pub loop-place-preserved : goal.loop-place-preserved
 loop-place-preserved g c =
     let here = word_at c.loop-place.roots.words c.loop-place.place c.in-Some.target c.in-Some.ensures in
-    let after = c.new_word-new.ensures.after [] in
+    let after = c.new_word-new.ensures.after no_notes in
     record {
       turn = c.new_word-new.ensures.turn;
       after = λ noted. after_after (layout g.pause) noted noted noted _ _ _ _ _ _

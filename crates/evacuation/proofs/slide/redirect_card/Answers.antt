@@ -1,4 +1,4 @@
-use Rattle.std.proofs.Common.{◌≡◌, ◌∙◌, ℕ, sym, ap, subst, arith, ◌<◌, ◌*◌, ◌+◌, ◌/◌, length}
+use Rattle.std.proofs.Common.{ℕ, sym, subst, arith, ◌<◌, ◌/◌}
 use Rattle.regions.specs.Table.{top_of}
 use Rattle.regions.specs.Walks.{IsHolder}
 use Rattle.evacuation.proofs.Slides.Redirecting.{stays_on}

@@ -1,4 +1,4 @@
-use Rattle.std.proofs.Common.{◌≡◌, ◌∙◌, ◌<◌, ◌≤◌, ℕ, true, sym, subst, ap, inl, inr, arith, length}
+use Rattle.std.proofs.Common.{◌∙◌, sym, subst, ap, inl, inr, arith}
 use Rattle.std.proofs.lemmas.Bool.{cases_eq, cases_lt}
 use Rattle.evacuation.specs.Space.{flag}
 use Rattle.evacuation.specs.Sliding.{IsCardUnnamed}

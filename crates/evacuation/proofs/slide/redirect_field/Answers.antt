@@ -1,5 +1,5 @@
 use Rattle.std.proofs.Common.{◌≡◌, ◌∙◌, ℕ, Some, sym, ap}
-use Rattle.regions.specs.Table.{Table, set_field}
+use Rattle.regions.specs.Table.{set_field}
 use Rattle.evacuation.proofs.Slides.KeptObjects.{some_kept}
 use Rattle.evacuation.proofs.Slides.Redirecting.{stays_on}
 use Rattle.evacuation.proofs.Slides.Written.{names_by, names_other_than, written_goes_on, written_unnamed}

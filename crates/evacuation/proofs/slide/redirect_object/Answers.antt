@@ -1,11 +1,7 @@
-use Rattle.std.proofs.Common.{◌≡◌, ◌∙◌, ◌<◌, ◌/◌, ◌*◌, ◌+◌, ℕ, Some, refl, sym, ap, subst, inl, inr, arith, length}
+use Rattle.std.proofs.Common.{◌∙◌, refl, sym, inl, inr, arith}
 use Rattle.std.proofs.lemmas.Bool.{cases_eq, cases_lt}
-use Rattle.std.proofs.lemmas.Option.{slice_get_within}
-use Rattle.heap_model.specs.Heap.{Stored, fields}
-use Rattle.regions.specs.Table.{fields_at}
-use Rattle.refinement.specs.Remembering.{field_card}
 use Rattle.refinement.proofs.Fields.{fields_in_card}
-use Rattle.refinement.proofs.Holders.{fields_of, object_within}
+use Rattle.refinement.proofs.Holders.{object_within}
 use Rattle.evacuation.proofs.Slides.KeptObjects.{some_kept, kept_object, is_some}
 use Rattle.evacuation.proofs.Slides.Redirecting.{stays_on, goes_further, names_before, object_stays, count_stays}
 use Rattle.evacuation.proofs.Slides.Written.{names_nil, names_within, names_at}

@@ -1,16 +1,14 @@
-use Rattle.std.proofs.Common.{◌≡◌, ◌∙◌, ◌+◌, ◌*◌, ◌/◌, ◌<◌, ◌≤◌, ◌||◌, ℕ, zero, suc, List, Bool, true, false, refl, sym, ap, ap₂, subst}
+use Rattle.std.proofs.Common.{◌≡◌, ◌∙◌, ◌+◌, ◌*◌, ◌/◌, ◌||◌, ℕ, zero, suc, List, Bool, true, false, refl, sym, ap, ap₂, subst}
 use Rattle.std.proofs.Common.{arith, length, replicate, vec_len}
-use Rattle.std.specs.Prelude.{if◌then◌else◌}
 use Rattle.std.proofs.lemmas.List.{length-replicate}
 use Rattle.std.proofs.lemmas.Nat.{mul-le}
-use Rattle.bit_sets.specs.Bits.{is_between}
 use Rattle.mark_bitmap.specs.Tops.{Tops}
 use Rattle.regions.specs.Table.{Table, run_length}
 use Rattle.regions.proofs.LongRuns.Blocks.{block_within, product_le}
 use Rattle.remembered_sets.specs.Sets.{card_count, may_lead}
 use Rattle.evacuation.specs.Rooms.{RoomSizes}
 use Rattle.evacuation.specs.Space.{flag}
-use Rattle.evacuation.specs.Sliding.{Slide, SlideStands, RedirectsInTurn, slide_of, kept_at}
+use Rattle.evacuation.specs.Sliding.{Slide, RedirectsInTurn, slide_of}
 use Rattle.evacuation.proofs.Slides.KeptObjects.{is_some}
 use Rattle.evacuation.proofs.Slides.Whole as whole
 use Rattle.evacuation.proofs.slide.redirect_run.Goals as goal
@@ -76,7 +74,7 @@ redirect_fields-requires c =
     let t = c.args.table.now in
     let tams = c.args.tams.now in
     let marks = c.args.bitmaps.now.previous in
-    let n = length c.room.inside.context.noted in
+    let n = length c.room.inside.context.noted.cards in
     let cards = ap (λ (s : RoomSizes). s.cards) c.room.view_is ∙ c.requires.room in
     let from : c.new.result ≡ c.args.first * t.words_per_region =
     c.new.ensures ∙ ap₂ (λ (a b : ℕ). a * b) c.number.ensures c.words_per_region-words.ensures in
@@ -148,5 +146,5 @@ returns-clause-redirected c =
     c.flag_visited.new.visited c.clear_range.new.self
     (λ card used. c.flag_visited.ensures.flags card used ∙ or_false (may_lead c.args.sets.now c.args.first card)) cleared
     c.redirect_fields.new.table c.clear.new.self c.redirect_fields.new.noted turn
-    (λ card. ap (λ (l : List Bool). flag l card) c.clear.ensures ∙ none_noted (length c.room.inside.context.noted) card)
+    (λ card. ap (λ (l : List Bool). flag l card) c.clear.ensures ∙ none_noted (length c.room.inside.context.noted.cards) card)
     c.dirty_noted.new.cards c.dirty_noted.ensures.dirty c.dirty_noted.ensures.logs c.dirty_noted.ensures.queue c.dirty_noted.ensures.len

@@ -1,4 +1,3 @@
-use Rattle.std.proofs.Common.{◌≡◌, ◌∙◌, sym, List, Bool, None, true, false}
 use Rattle.evacuation.proofs.Slides.Redirecting.{stays_on}
 use Rattle.evacuation.proofs.Slides.KeptObjects.{kept_by, not_kept}
 use Rattle.evacuation.proofs.slide.redirect_tile.Goals as goal

@@ -1,4 +1,4 @@
-use Rattle.std.proofs.Common.{◌≡◌, ◌∙◌, ℕ, sym, ap, refl, subst, arith, ◌<◌, ◌≤◌, ◌+◌, ◌*◌, ◌/◌, ◌-◌}
+use Rattle.std.proofs.Common.{◌∙◌, ℕ, sym, refl, subst, arith, ◌<◌, ◌≤◌, ◌+◌, ◌*◌, ◌/◌, ◌-◌}
 use Rattle.regions.specs.Table.{tile_in}
 use Rattle.regions.specs.Walks.{IsHolder}
 use Rattle.regions.proofs.Words.Divides.{div_high}
@@ -6,7 +6,7 @@ use Rattle.regions.proofs.Tiles.Steps.{some_tile}
 use Rattle.refinement.proofs.Scanned.{tile_words}
 use Rattle.evacuation.proofs.Loops.OutsideCards.{placed_tile, region_by}
 use Rattle.evacuation.proofs.Slides.Redirecting.{stays_on, goes_further}
-use Rattle.evacuation.proofs.Slides.Cards.{card_small, holder_still, tile_still, none_below, none_next, none_over, none_last, unnamed_still}
+use Rattle.evacuation.proofs.Slides.Cards.{card_small, tile_still, none_below, none_next, none_over, none_last, unnamed_still}
 use Rattle.evacuation.proofs.slide.redirect_tiles.Goals as goal
 
 smaller : (end at next : ℕ) → at < next → next < end → end - next < end - at

@@ -1,8 +1,7 @@
-use Rattle.std.proofs.Common.{◌≡◌, ◌∙◌, ◌*◌, ◌<◌, ℕ, List, Bool, Option, Some, None, length, sym, ap, subst, arith, slice_get}
-use Rattle.regions.specs.Table.{Table, fields_at, set_field}
+use Rattle.std.proofs.Common.{◌≡◌, ◌∙◌, ◌*◌, ◌<◌, ℕ, Some, None, sym, ap, subst, slice_get}
+use Rattle.regions.specs.Table.{fields_at, set_field}
 use Rattle.refinement.specs.Remembering.{field_word}
-use Rattle.evacuation.specs.Space.{NotesWord}
-use Rattle.evacuation.specs.Sliding.{sizes}
+use Rattle.evacuation.specs.Sliding.{NotesCard}
 use Rattle.evacuation.proofs.Slides.KeptObjects.{some_kept}
 use Rattle.evacuation.proofs.Slides.Own.{nil_settled, other_settled, own_settled, own_stands}
 use Rattle.evacuation.proofs.slide.settle_field.Goals as goal
@@ -51,8 +50,8 @@ returns-then-word g c =
     ∙ ap (λ (a : ℕ). set_field c.args.table.now g.slide.from c.args.field (Some a)) way.1 in
     let word : c.field-word.result ≡ field_word g.slide.to c.args.field =
     c.field-word.ensures ∙ ap (λ (a : ℕ). field_word a c.args.field) way.1 in
-    let notes = subst (λ (n : ℕ). NotesWord (sizes g.slide) c.args.noted.now c.note_word.new.noted n g.slide.to) word
-    (subst (λ (a : ℕ). NotesWord (sizes g.slide) c.args.noted.now c.note_word.new.noted c.field-word.result a) way.1
+    let notes = subst (λ (n : ℕ). NotesCard g.slide c.args.noted.now c.note_word.new.noted n g.slide.to) word
+    (subst (λ (a : ℕ). NotesCard g.slide c.args.noted.now c.note_word.new.noted c.field-word.result a) way.1
     c.note_word.ensures.notes) in
     record {
       goes_on = λ old noted'. own_settled g.slide c.args.field old c.args.table.now noted' c.args.noted.now y here stands
@@ -71,6 +70,6 @@ returns g c =
       goes_on = λ old noted'. other_settled g.slide c.args.field old c.args.table.now noted' c.args.noted.now y here stands
           c.note_word-2.new.noted c.in-Some.target names
           (λ e. c.if-word.false (c.word.ensures ∙ e ∙ sym way.0 ∙ sym c.word-2.ensures))
-          (subst (λ (n : ℕ). NotesWord (sizes g.slide) c.args.noted.now c.note_word-2.new.noted n c.in-Some.target) word
+          (subst (λ (n : ℕ). NotesCard g.slide c.args.noted.now c.note_word-2.new.noted n c.in-Some.target) word
           c.note_word-2.ensures.notes);
     }

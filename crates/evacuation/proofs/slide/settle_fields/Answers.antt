@@ -1,4 +1,4 @@
-use Rattle.std.proofs.Common.{◌≡◌, ◌∙◌, ◌<◌, ◌*◌, ℕ, sym, ap, subst, arith, length, IsSome}
+use Rattle.std.proofs.Common.{◌∙◌, ◌<◌, ℕ, sym, ap, subst, arith, length, IsSome}
 use Rattle.regions.specs.Table.{fields_at, object_at}
 use Rattle.evacuation.proofs.Slides.KeptObjects.{some_kept, kept_object, is_some}
 use Rattle.evacuation.proofs.Slides.Redirecting.{object_stays, count_stays}

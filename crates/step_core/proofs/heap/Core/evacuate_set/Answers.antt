@@ -62,7 +62,7 @@ invariant_of-self c =
     let closed_all =
     to_fields _ _ c.self.view_is (λ d. d.buffers ≡ closed d.buffers.words (length d.buffers.open_buffers)) c.requires.closed in
     let e = c.evacuate.ensures in
-    let ev = rw (c.card_words.ensures, c.deref-3.ensures.value) at e.evacuated in
+    let ev = rw (c.is_third.ensures, c.card_words.ensures, c.deref-3.ensures.value) at e.evacuated in
     let places = sym (AllZip-length _ _ _ ev.relocates.roots) in
     rw (e.places, e.room, c.choose_set-count.ensures.pause_room, c.choose_set-count.ensures.room)
     (paused_kept _ c.self.invariant c.args.choice c.args.budget _ c.choose_set-count.ensures.chosen clean none _ _ _ _ _ _ _ _ ev
@@ -75,7 +75,7 @@ returns c =
     let closed_all =
     to_fields _ _ c.self.view_is (λ d. d.buffers ≡ closed d.buffers.words (length d.buffers.open_buffers)) c.requires.closed in
     let e = c.evacuate.ensures in
-    let ev = rw (c.card_words.ensures, c.deref-3.ensures.value) at e.evacuated in
+    let ev = rw (c.is_third.ensures, c.card_words.ensures, c.deref-3.ensures.value) at e.evacuated in
     let forgets = rw c.deref.ensures.value at c.forget_counts.ensures in
     let aged = rw c.deref-2.ensures.value at c.forget_ages.ensures in
     let rows = c.choose_set-count.ensures in
