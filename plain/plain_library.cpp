@@ -134,6 +134,13 @@ public:
             if (region.kind == plain::Kind::Ordinary) ++count, bounds += live_bound(region);
         return count;
     }
+
+    // The number above the highest ordinary region, 0 where there is none.
+    Number ordinary_end() const {
+        auto end = static_cast<Number>(regions_.size());
+        while (end > 0 && regions_[end - 1].kind != plain::Kind::Ordinary) --end;
+        return end;
+    }
 };
 
 Heap& in(const g1_heap* heap) { return *static_cast<Heap*>(heap->at); }
@@ -196,8 +203,10 @@ std::uint64_t next_name(g1_heap* heap) { return in(heap).next_name(); }
 
 std::uint32_t ordinary(g1_heap* heap, std::uint64_t* bounds) { return in(heap).ordinary(*bounds); }
 
+std::uint32_t ordinary_end(g1_heap* heap) { return in(heap).ordinary_end(); }
+
 policy_of policy_for(g1_heap* heap, g1_policy* policy, const g1_sizes& sizes) {
-    return {heap, policy, &sizes, fits_open, has_run, has_name, next_name, ordinary};
+    return {heap, policy, &sizes, fits_open, has_run, has_name, next_name, ordinary, ordinary_end};
 }
 
 }  // namespace

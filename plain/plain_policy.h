@@ -22,6 +22,7 @@ typedef struct policy_of {
     int (*has_name)(g1_heap *heap);
     uint64_t (*next_name)(g1_heap *heap);
     uint32_t (*ordinary)(g1_heap *heap, uint64_t *bounds);  /* how many regions are, and the sum of their live bounds */
+    uint32_t (*ordinary_end)(g1_heap *heap);                /* the number above the highest of them, 0 where there is none */
 } policy_of;
 
 static inline uint32_t policy_regions(const g1_sizes *sizes, uint32_t words) { return policy_most(1, words / sizes->words); }
@@ -84,12 +85,12 @@ static inline void policy_note_pause(policy_of *of, uint32_t before, g1_answer m
     else if (gained / 4 >= visits) of->policy->visits = visits / 2;
     of->policy->rest = rest < gained / 2 ? rest : gained / 2;
 }
-/* A compaction of a region of words. Answers whether it took a region. */
+/* A compaction of a region of words. Answers whether the highest ordinary region is lower then. */
 static inline int policy_compact(policy_of *of)
 {
-    g1_answer moved = g1_compact(of->heap, of->sizes->words);
-    of->policy->compactions++, of->policy->compacted += moved.first;
-    return moved.second != 0;
+    uint32_t end = of->ordinary_end(of->heap);
+    of->policy->compactions++, of->policy->compacted += g1_compact(of->heap, of->sizes->words).first;
+    return of->ordinary_end(of->heap) < end;
 }
 static inline void policy_remark(policy_of *of)
 {
@@ -327,8 +328,8 @@ static inline void policy_whole(policy_of *of)
     policy_pause_all(of, 0);
     policy_note_packed(of);
 }
-/* The same, two cycles more where half of the regions are free, pauses for as long as each frees a region, and compactions until one takes
-   no region. */
+/* The same, two cycles more where half of the regions are free, pauses for as long as each frees a region, and compactions until the highest
+   ordinary region is no lower. */
 static inline void policy_down(policy_of *of)
 {
     policy_whole(of);
