@@ -26,7 +26,7 @@ abbrev pub with_sample : Stored → Table
 with_sample s = sample (Ordinary (Object s ∷ Filler 1 ∷ Filler 5 ∷ []) ∷ Free ∷ Free ∷ Free ∷ [])
 
 abbrev pub sample_object : Option ℕ → ℕ → Stored
-sample_object p d = record { name = 7; pointers = p ∷ []; weaks = []; values = d ∷ [] }
+sample_object p d = record { name = 7; pointers = p ∷ []; weaks = []; held = []; values = d ∷ [] }
 
 pub fill_take : (t t' : Table) → t ≡ free_table 4 16 → t' ≡ taken t (first_free t) → t' ≡ filled1
 unfolding free_table

@@ -8,7 +8,7 @@ use Rattle.region_tests.specs.Samples.{one_object}
 
 abbrev pub slots : Option ℕ → Option ℕ → ℕ → Table
 slots a b d =
-    let x : Stored = record { name = 7; pointers = None ∷ []; weaks = a ∷ b ∷ []; values = d ∷ [] } in
+    let x : Stored = record { name = 7; pointers = None ∷ []; weaks = a ∷ b ∷ []; held = []; values = d ∷ [] } in
     sample (Ordinary (Object x ∷ []) ∷ Free ∷ Free ∷ Free ∷ [])
 
 pub slot_weak : (t t' : Table) (a to : ℕ) → t ≡ one_object 6 1 2 1 → t' ≡ set_weak t a 1 (Some to)

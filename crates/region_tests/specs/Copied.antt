@@ -6,7 +6,7 @@ use Rattle.regions.specs.Table.{Table, Free, Ordinary}
 
 -- its weak slot names what is at 0
 abbrev pub copied : Stored
-copied = record { name = 7; pointers = []; weaks = Some 0 ∷ []; values = 0 ∷ [] }
+copied = record { name = 7; pointers = []; weaks = Some 0 ∷ []; held = []; values = 0 ∷ [] }
 
 -- an object of four words at 0, and three free regions
 abbrev pub IsCopyable : Table → Type 0

@@ -19,7 +19,7 @@ sample_of regions = record { words_per_region = 16; regions = regions }
 
 -- an object whose one pointer and one weak slot name the address 0
 abbrev pub selfish : Stored
-selfish = record { name = 7; pointers = Some 0 ∷ []; weaks = Some 0 ∷ []; values = [] }
+selfish = record { name = 7; pointers = Some 0 ∷ []; weaks = Some 0 ∷ []; held = []; values = [] }
 
 -- it is at 0, and three regions are free
 abbrev pub itself : Table
@@ -27,10 +27,10 @@ itself = sample_of (Ordinary (Object selfish ∷ []) ∷ Free ∷ Free ∷ Free 
 
 -- an object whose one weak slot holds a word, and one with no field
 abbrev pub holder : Option ℕ → Stored
-holder w = record { name = 7; pointers = []; weaks = w ∷ []; values = [] }
+holder w = record { name = 7; pointers = []; weaks = w ∷ []; held = []; values = [] }
 
 abbrev pub held : Stored
-held = record { name = 8; pointers = []; weaks = []; values = [] }
+held = record { name = 8; pointers = []; weaks = []; held = []; values = [] }
 
 -- the first is at 0, its weak slot names the second, which is at 16, and two regions are free
 abbrev pub by_weak_slot : Table

@@ -6,7 +6,7 @@ use Rattle.regions.specs.Table.{Table, Free, Ordinary}
 
 -- its pointer names what is at 5
 abbrev pub filled : Stored
-filled = record { name = 7; pointers = Some 5 ∷ []; weaks = []; values = 9 ∷ [] }
+filled = record { name = 7; pointers = Some 5 ∷ []; weaks = []; held = []; values = 9 ∷ [] }
 
 -- an object of four words at 0, fillers of one word and of five, and three free regions
 abbrev pub IsFilledTable : Table → Type 0
@@ -17,13 +17,13 @@ IsFilledTable t =
 abbrev pub stepped : Option ℕ → Table
 stepped p = record {
   words_per_region = 16;
-  regions = Ordinary (Object (record { name = 7; pointers = p ∷ []; weaks = []; values = 0 ∷ [] }) ∷ Filler 2 ∷ [])
+  regions = Ordinary (Object (record { name = 7; pointers = p ∷ []; weaks = []; held = []; values = 0 ∷ [] }) ∷ Filler 2 ∷ [])
       ∷ Free ∷ Free ∷ Free ∷ [];
 }
 
 -- an object of two weak slots
 abbrev pub moving : Stored
-moving = record { name = 7; pointers = []; weaks = None ∷ None ∷ []; values = [] }
+moving = record { name = 7; pointers = []; weaks = None ∷ None ∷ []; held = []; values = [] }
 
 -- it is at 0 and at 16
 abbrev pub twice : Table
@@ -33,6 +33,6 @@ twice = record { words_per_region = 16; regions = Ordinary (Object moving ∷ []
 abbrev pub slotted : Table
 slotted = record {
   words_per_region = 16;
-  regions = Ordinary (Object (record { name = 7; pointers = None ∷ []; weaks = Some 0 ∷ Some 9 ∷ []; values = 9 ∷ [] }) ∷ [])
+  regions = Ordinary (Object (record { name = 7; pointers = None ∷ []; weaks = Some 0 ∷ Some 9 ∷ []; held = []; values = 9 ∷ [] }) ∷ [])
       ∷ Free ∷ Free ∷ Free ∷ [];
 }

@@ -50,8 +50,10 @@ none_dirty at_once card_words w h h' ev card = elim (cases_Bool (is_dirty h'.car
       let copy : k.copy ≡ x.object = let e = k.at in let f = x.is_kept in cc in
       let pointers = words_same (place_after (set_by h []) ev.forward) stays c.object.pointers k.copy.pointers k.pointers in
       let weaks = words_same (place_after (set_by h []) ev.forward) stays c.object.weaks k.copy.weaks k.weaks in
+      let held = words_same (place_after (set_by h []) ev.forward) stays c.object.held k.copy.held k.held in
+      let behind = ap₂ (λ (p q : List (Option ℕ)). p ++ q) weaks held in
       let whole : fields x.object ≡ fields c.object =
-      ap (λ (s : Stored). fields s) (sym copy) ∙ ap₂ (λ (p q : List (Option ℕ)). p ++ q) pointers weaks in
+      ap (λ (s : Stored). fields s) (sym copy) ∙ ap₂ (λ (p q : List (Option ℕ)). p ++ q) pointers behind in
       x.is_new c.object (ap (layers.kept_of h) (sym here) ∙ c.at) (ap (λ (l : List (Option ℕ)). slice_get l x.index) (sym whole) ∙ x.field))
 ]
 
@@ -61,9 +63,9 @@ no_rows (r ∷ rows) e = absurd (omega arith)
 
 module _ (which : Choice) (budget w : ℕ) (c d : CoreState) (h : HasMoved which budget 0 w c d) where
   pub still_clean : (card : ℕ) → is_dirty d.cards card ≡ false
-  still_clean = none_dirty (is_third c.config.format) (card_words c.config) w (layers_of h.ready) (layers_of d) (subst (λ (rows : List LiveRow).
-      HasEvacuated rows (is_third c.config.format) (card_words c.config) w (layers_of h.ready) (layers_of d)) (no_rows h.evacuates.chosen h.evacuates.regions)
-      h.evacuates.evacuated)
+  still_clean = none_dirty (is_third c.config.format) (card_words c.config) w (layers_of h.ready) (layers_of d)
+      (subst (λ (rows : List LiveRow). HasEvacuated rows (is_third c.config.format) (card_words c.config) w (layers_of h.ready) (layers_of d))
+      (no_rows h.evacuates.chosen h.evacuates.regions) h.evacuates.evacuated)
 
   pub still_settled : c.clearing ≡ None → d.clearing ≡ None
   still_settled e = ap (λ (k : CoreState). k.clearing) h.evacuates.same ∙ ap (λ (k : CoreState). k.clearing) h.is_ready.same ∙ e
