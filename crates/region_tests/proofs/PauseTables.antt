@@ -9,7 +9,8 @@ use Rattle.region_tests.specs.Evacuated.{by_weak_slot, held, holder, itself, sam
 -- ---- an object at 0 of one pointer and one weak slot
 abbrev made : Option ℕ → Option ℕ → Table
 made p weak =
-    sample_of (Ordinary (Object (record { name = 7; pointers = p ∷ []; weaks = weak ∷ []; held = []; values = [] }) ∷ []) ∷ Free ∷ Free ∷ Free ∷ [])
+    sample_of (Ordinary (Object (record { name = 7; pointers = p ∷ []; weaks = weak ∷ []; held = []; values = [] }) ∷ [])
+    ∷ Free ∷ Free ∷ Free ∷ [])
 
 pub has_field : (p weak : Option ℕ) (t : Table) (a i : ℕ) → t ≡ made p weak → a ≡ 0 → i < 2 → i < length (fields_at t a)
 unfolding fields_at object_at tile_in region_at

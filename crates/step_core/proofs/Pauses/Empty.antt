@@ -64,7 +64,7 @@ no_rows (r ∷ rows) e = absurd (omega arith)
 module _ (which : Choice) (budget w : ℕ) (c d : CoreState) (h : HasMoved which budget 0 w c d) where
   pub still_clean : (card : ℕ) → is_dirty d.cards card ≡ false
   still_clean = none_dirty (is_third c.config.format) (card_words c.config) w (layers_of h.ready) (layers_of d)
-      (subst (λ (rows : List LiveRow). HasEvacuated rows (is_third c.config.format) (card_words c.config) w (layers_of h.ready) (layers_of d))
+      (subst (λ (rs : List LiveRow). HasEvacuated rs (is_third c.config.format) (card_words c.config) w (layers_of h.ready) (layers_of d))
       (no_rows h.evacuates.chosen h.evacuates.regions) h.evacuates.evacuated)
 
   pub still_settled : c.clearing ≡ None → d.clearing ≡ None
