@@ -210,6 +210,7 @@ impl Core {
         ensures { FillsField self.old (writing mutator object field word) at self.new }
     {
         self.law_remembers();
+        self.law_shaped();
         self.write_known(mutator, object, at, fields, field, word);
     }
 
@@ -236,6 +237,7 @@ impl Core {
         ensures { HasStored self.old (writing_each mutator object from word) at count self.new }
     {
         self.law_remembers();
+        self.law_shaped();
         let fields = self.table.field_count(at);
         for number in 0..count {
             self.write_at(mutator, object, at, fields, from + number, word);

@@ -48,8 +48,10 @@ none_dirty card_words w h h' ev card = elim (cases_Bool (is_dirty h'.cards card)
       let copy : k.copy ≡ x.object = let e = k.at in let f = x.is_kept in cc in
       let pointers = words_same (place_after (set_by h []) ev.forward) stays c.object.pointers k.copy.pointers k.pointers in
       let weaks = words_same (place_after (set_by h []) ev.forward) stays c.object.weaks k.copy.weaks k.weaks in
+      let held = words_same (place_after (set_by h []) ev.forward) stays c.object.held k.copy.held k.held in
+      let behind = ap₂ (λ (p q : List (Option ℕ)). p ++ q) weaks held in
       let whole : fields x.object ≡ fields c.object =
-      ap (λ (s : Stored). fields s) (sym copy) ∙ ap₂ (λ (p q : List (Option ℕ)). p ++ q) pointers weaks in
+      ap (λ (s : Stored). fields s) (sym copy) ∙ ap₂ (λ (p q : List (Option ℕ)). p ++ q) pointers behind in
       x.is_new c.object (ap (layers.kept_of h) (sym here) ∙ c.at) (ap (λ (l : List (Option ℕ)). slice_get l x.index) (sym whole) ∙ x.field))
 ]
 

@@ -155,7 +155,7 @@ module _ (k : CoreState) (core : IsCore k) (shaped : IsShaped k.table) (first to
   pub can_redirect : CanRedirect k.table k.marker.tams k.marker.bitmaps.previous k.cards k.sets (card_words k.config) first to
   unfolding kept_of
   can_redirect = record {
-    fit = (can_scan k core).fit;
+    fit = (can_scan k core shaped).fit;
     each_mark = core.layers.marker.previous.each_word;
     each_card = core.cards.each_card;
     clean = clean;

@@ -3,7 +3,7 @@ use Rattle.regions.specs.Table.{fields_at}
 use Rattle.step_core.specs.Stands.{CoreState}
 use Rattle.step_core.proofs.Cores.Filling.{names_at}
 use Rattle.step_core.proofs.Cores.Keeping.{object_led}
-use Rattle.step_core.proofs.Mutating.Fields.{fields_count}
+use Rattle.step_core.proofs.Mutating.Fields.{fields_exact}
 use Rattle.step_core.proofs.heap.Core.write_row.Goals as goal
 
 pub field_count-fields-requires : goal.field_count-fields-requires
@@ -15,6 +15,6 @@ field_count-fields-requires c =
 pub write_at-requires-clause-fields : goal.write_at-requires-clause-fields
 write_at-requires-clause-fields c =
     let kept = c.loop-number.invariant in
-    let count = fields_count c.args.self.now.table c.args.at in
+    let count = fields_exact c.args.self.now.table c.args.at c.law_shaped.ensures in
     let is = c.field_count-fields.ensures ∙ ap (λ (d : CoreState). length (fields_at d.table c.args.at)) c.self.view_is in
     omega (arith, kept.pointers, kept.weaks, count, is)
