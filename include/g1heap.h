@@ -96,7 +96,7 @@ enum {
     G1_MARKED = 5,     /* g1_remark: `first` objects were marked in this cycle */
     G1_RECLAIMED = 6,  /* g1_cleanup: `first` regions are free again */
     G1_REFINED = 7,    /* g1_refine: `first` cards were refined */
-    G1_MOVED = 8,      /* pauses and g1_compact: `first` words were copied, `second` regions are free again */
+    G1_MOVED = 8,      /* pauses and g1_compact: `first` words were copied, out of `second` regions */
     G1_SCANNED = 9,    /* g1_mark: the scans of `first` objects ended */
     G1_NUMBER = 10,    /* what a reader tells: `first` */
 
@@ -246,8 +246,10 @@ g1_answer g1_new_filled(g1_heap *heap, uint32_t mutator, uint32_t to, const uint
                                        free again
    g1_compact       gc compact         the same, within the same limit, of the highest ordinary regions, full   MOVED
                                        ones too, as many as go down: so free regions are side by side, for
-                                       objects of more than half a region, which never move. While marking
-                                       runs nothing is copied, and no region is freed
+                                       objects of more than half a region. If none go down, one of these
+                                       objects does: of those of at most so many words that have a free
+                                       region directly below their first, the lowest. `first` are its words
+                                       then, `second` its regions. While marking runs nothing moves
    g1_pause_within  gc pausewithin     the same as g1_pause, of those of its regions that at most `cards`       MOVED
                                        cards lead into, as long as these are at most so many together: a
                                        pause takes time for words that it copies and for cards that it visits
@@ -367,7 +369,7 @@ g1_answer g1_give_back(g1_heap *heap);
 
    TWO REGIONS ARE KEPT, since live objects are copied into free regions alone. No region is taken for an object where fewer than 2 would
    stay free. Before that comes a whole collection: a marking from begin to remark with nothing between, a cleanup, and pauses for as long
-   as each frees a region; and for an object of more than half a region compactions, until one of them takes no region. G1_FULL comes only
+   as each frees a region; and for an object of more than half a region compactions, until one takes no ordinary region. G1_FULL comes only
    after that, and then it is proved:
    - for an object of at most half a region, if 2 regions were free before, that 2 are free, each larger object that is left is reachable,
      and reachable objects have more than half of the words of all regions but 3;
@@ -442,7 +444,7 @@ g1_answer g1_collect(g1_heap *heap, g1_policy *policy);
    always moved together: the regions of objects may be little more than half full. DONE, or NO_HEAP. */
 g1_answer g1_collect_all(g1_heap *heap, g1_policy *policy);
 
-/* Gives back as much memory as can be: a whole collection, compactions until one takes no region, so that regions in use are below the free
+/* Gives back as much memory as can be: a whole collection, compactions until one takes no ordinary region, so that these are below the free
    ones, and g1_give_back. For a moment at which the program is idle: it takes as long as these. DONE, NO_HEAP, or NO_MEMORY, where less
    goes back or nothing, but the collection is done.
 

@@ -341,8 +341,8 @@ impl Heap {
     }
 
     /// Gives back as much memory as can be, for a moment at which the program is idle: a whole collection, which moves what lives down
-    /// into the lowest regions, and then [`give_back`](Heap::give_back). False where the system refuses what that asks for; the collection
-    /// is done then. [`is_idle`](Heap::is_idle) tells when it pays.
+    /// into the lowest regions, but for objects of more than half a region, and then [`give_back`](Heap::give_back). False where the system
+    /// refuses what that asks for; the collection is done then. [`is_idle`](Heap::is_idle) tells when it pays.
     ///
     /// ```
     /// # use g1heap::*;

@@ -48,7 +48,7 @@ impl fmt::Debug for Steps<'_> {
 pub struct Moved {
     /// Words that were copied.
     pub words: u64,
-    /// Regions that were evacuated, and are free again.
+    /// Regions that were evacuated, and are free again; or those of an object of more than half a region that moved down.
     pub regions: u32,
 }
 
@@ -97,8 +97,9 @@ impl<'a> Steps<'a> {
     pub fn pause(&self, words: u32) -> Moved {
         moved(self.raw.pause(words))
     }
-    /// The same of the highest ordinary regions, as many as go down, so that free regions are side by side: for objects of more than
-    /// half a region, which never move. While marking runs, nothing is copied.
+    /// The same of the highest ordinary regions, as many as go down, so that free regions are side by side, for objects of more than half a
+    /// region. If none go down, one of these objects does: of those of at most so many words that have a free region directly below their
+    /// first, the lowest. While marking runs, nothing moves.
     pub fn compact(&self, words: u32) -> Moved {
         moved(self.raw.compact(words))
     }
