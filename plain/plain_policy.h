@@ -45,6 +45,11 @@ static inline uint32_t policy_reserve(const g1_policy *policy, const g1_sizes *s
     uint32_t share = (uint32_t)((uint64_t)policy->reserve * policy_in_play(policy, sizes) / policy_most(sizes->regions, 1));
     return policy_least(policy->reserve, policy_most(3, share));
 }
+/* The same, and those held back. */
+static inline uint32_t policy_kept(const g1_policy *policy, const g1_sizes *sizes)
+{
+    return policy_within((uint64_t)policy->held + policy_reserve(policy, sizes));
+}
 static inline void policy_start(g1_policy *policy, const g1_sizes *sizes)
 {
     g1_policy start;
@@ -119,7 +124,7 @@ static inline void policy_plan_size(policy_of *of, uint64_t live)
 }
 static inline void policy_plan_cycle(policy_of *of, uint32_t free)
 {
-    uint32_t kept = of->policy->held + policy_reserve(of->policy, of->sizes), room = policy_above(free, kept), needed;
+    uint32_t kept = policy_kept(of->policy, of->sizes), room = policy_above(free, kept), needed;
     uint64_t words = policy_within(of->policy->marked), marking = words * 3 / 2 / policy_most(of->policy->mark_words, 1) + of->policy->cleared;
     needed = policy_least(policy_within(marking), room / 4 * 3);
     of->policy->wanted = 0;
@@ -165,7 +170,7 @@ static inline void policy_reclaim(policy_of *of)
     all = (uint64_t)policy_in_play(policy, of->sizes) * of->sizes->words;
     most = (uint32_t)((all > live ? all - live : 0) / of->sizes->words);
     policy->wanted = policy_most(1, policy_most(most - most / 4, policy_within((uint64_t)2 * policy_reserve(policy, of->sizes))));
-    policy->wanted += policy->held;
+    policy->wanted = policy_within((uint64_t)policy->wanted + policy->held);
     most = policy_free_in_play(policy, free);
     most = policy_most(policy_borrowed(policy, of->sizes, free), most - (uint32_t)((uint64_t)3 * most / 4));
     policy->begin_at = policy_least(policy->begin_at, policy_above(free, most));
@@ -220,7 +225,7 @@ static inline int policy_begin(policy_of *of)
     uint64_t most = (uint64_t)policy->cycle_words * policy_in_play(policy, of->sizes) / of->sizes->regions;
     if (free > policy->begin_at && policy->asked < most) return 0;
     words = policy->cycles == 0 ? g1_used_words(of->heap).first / 2 : policy->marked;
-    pace = 64 + policy_within(words) * 3ull / 2 / policy_most(1, policy_above(free, policy->held + policy_reserve(policy, of->sizes)));
+    pace = 64 + policy_within(words) * 3ull / 2 / policy_most(1, policy_above(free, policy_kept(policy, of->sizes)));
     policy->pace = pace < policy->mark_words ? (uint32_t)pace : policy->mark_words, policy->asked = 0, policy->wanted = 0;
     policy->looked = 0;
     g1_begin(of->heap);
