@@ -336,8 +336,8 @@ typedef struct g1_holder {
     uint32_t fields; /* how many of the object's pointers and weak slots name it; 1 of a root */
 } g1_holder;
 
-/* Who holds an object: the roots, and then the objects of a walk, that name the object of a name, each once. Nothing changes, and a record has
-   no line for it.
+/* Who holds an object: the roots, and then the objects of a walk, that name the object of a name, each once. Nothing changes, and a record
+   has no line for it.
 
        uint64_t cursor = 0, leaked = g1_name(&heap, 0, SOME).first;
        g1_holder by[16];
