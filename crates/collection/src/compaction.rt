@@ -62,7 +62,7 @@ fn compact_once<W: Watch>(core: &mut Core, policy: &mut Policy, watch: &mut W) -
     end_of_ordinary(core) < end
 }
 
-/// Compactions until the object has a run of free regions, or one takes no region. Answers whether it has.
+/// Compactions until the object has a run of free regions, or one takes no ordinary region. Answers whether it has.
 pub(crate) fn compact_for<W: Watch>(
     core: &mut Core,
     policy: &mut Policy,
@@ -92,7 +92,7 @@ pub(crate) fn compact_for<W: Watch>(
     }
 }
 
-/// Compactions until one takes no region: no free region is below an ordinary one then.
+/// Compactions until one takes no ordinary region: no free region is below one then.
 fn compact_down<W: Watch>(core: &mut Core, policy: &mut Policy, watch: &mut W)
     requires third { IsThird core.old.config.format }
     ensures collects { CollectsWithin W.sees (core.old.config.regions + 1) core.old watch.old core.new watch.new }
@@ -108,8 +108,8 @@ fn compact_down<W: Watch>(core: &mut Core, policy: &mut Policy, watch: &mut W)
     }
 }
 
-/// A whole collection, pauses for as long as each frees a region, and in the third format compactions until one takes no region: then each
-/// ordinary region is below each free one, if two regions were free. What is kept is what roots reach, as after `collect`.
+/// A whole collection, pauses for as long as each frees a region, and in the third format compactions until one takes no ordinary region:
+/// then each of these is below each free one, if two regions were free. What is kept is what roots reach, as after `collect`.
 ///
 /// ```rust
 /// collect_down(&mut core, &mut policy, &mut Unwatched);

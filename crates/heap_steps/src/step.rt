@@ -156,7 +156,8 @@ pub enum CollectorStep {
     /// Live objects are copied out of some regions, at most so many words, and these regions are reclaimed.
     Pause(u32),
     /// Live objects of the highest ordinary regions are copied down into the lowest free ones, at most so many words, and these regions
-    /// are reclaimed, so that free regions are side by side.
+    /// are reclaimed, so that free regions are side by side. If there are none, an object of more than half a region, of at most so many
+    /// words, moves down.
     Compact(u32),
     /// A pause that takes only as many of its regions as few cards lead into.
     PauseWithin(Limits),
@@ -212,7 +213,7 @@ pub enum Reply {
     Reclaimed(u32),
     /// How many cards were refined.
     Refined(u32),
-    /// How many regions a pause or a compaction reclaimed, and how many words it copied.
+    /// How many words a pause or a compaction copied, and out of how many regions.
     Moved { regions: u32, words: u32 },
     /// The step changed nothing.
     Refused(Refusal),

@@ -103,7 +103,8 @@ impl Core {
     /// Does a step. The reply is one that the graph and its snapshot give, and the core stands for those after it. It is Full exactly
     /// where the graph would create an object and the heap has no place for it; a step of the collector is refused exactly
     /// where marking runs and it mustn't, or doesn't and it must. Regions are reclaimed by a cleanup, those that
-    /// hold nothing live, and by a pause or a compaction, those that it evacuates. No step takes memory.
+    /// hold nothing live, and by a pause or a compaction, those that it evacuates, or that the run leaves which it moves. No step takes
+    /// memory.
     ///
     /// ```rust
     /// assert_eq!(rt; core.step(new), Reply::Named(Some(0)));
