@@ -39,7 +39,7 @@ fn is_ordinary(table: &RegionTable, region: RegionNo) -> bool
 
 /// Whether a region is free.
 #[inline(always)]
-fn is_free(table: &RegionTable, region: RegionNo) -> bool
+pub(crate) fn is_free(table: &RegionTable, region: RegionNo) -> bool
     requires { region < length table.now.regions }
     ensures { IsTrue result ↔ (kind_of table.now region ≡ kinds.Free) }
 {

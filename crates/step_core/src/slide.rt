@@ -18,6 +18,7 @@ ghost use Rattle.step_core.specs.Sliding.{IsMovable, IsLowestMovable, MovesRun, 
 
 use crate::cleanup::forget;
 use crate::heap::Core;
+use crate::highest::is_free;
 use evacuation::{Moved, redirect_run};
 use heap_words::addr::{Addr, RegionNo};
 use regions::{Kind, RegionTable};
@@ -27,15 +28,6 @@ use regions::{Kind, RegionTable};
 pub(crate) struct RunWay {
     pub(crate) first: RegionNo,
     pub(crate) to: RegionNo,
-}
-
-/// Whether a region is free.
-#[inline(always)]
-fn is_free(table: &RegionTable, region: RegionNo) -> bool
-    requires { region < length table.now.regions }
-    ensures { IsTrue result ↔ (kind_of table.now region ≡ kinds.Free) }
-{
-    matches!(table.kind(region), Kind::Free)
 }
 
 /// Whether a region is the first of a run.
