@@ -16,6 +16,10 @@
 
 #include <g1heap.h>
 
+#if !defined(MEMORY_MALLOC) && !defined(MEMORY_BOEHM)
+#include "holders.h"
+#endif
+
 typedef uint32_t reg;
 
 /* What a program may change before m_start: some memories look at globals and registers alone. */
@@ -52,8 +56,21 @@ static inline void m_start(void)
     if (code != G1_DONE) m_die(code == G1_NO_MEMORY ? "no memory for the heap" : "no heap has these sizes");
     g1_policy_start(&m_policy, &m_sizes);
 }
+/* What a program calls a global, where it says so: it declares this again, with its function. */
+static holders_names *m_name_of;
+/* At the end, when no frame is open: of which kinds the objects are that globals reach, or who holds the object of a name. */
+static inline void m_tell_holders(const char *asked)
+{
+    char *end;
+    unsigned long long name = strtoull(asked, &end, 10);
+    g1_scope(&m_heap, 0, 0);
+    g1_collect_all(&m_heap, &m_policy);
+    if (*asked != 0 && *end == 0) holders_way(&m_heap, name, m_name_of, stderr);
+    else holders_census(&m_heap, stderr);
+}
 static inline void m_stop(int verbose)
 {
+    if (getenv("G1HEAP_HOLDERS") != NULL) m_tell_holders(getenv("G1HEAP_HOLDERS"));
     if (verbose) {
         m_tell();
         fprintf(stderr, ", %llu cycles, %llu pauses, %llu objects scanned, %llu words copied\n", (unsigned long long)m_policy.cycles,
@@ -82,6 +99,12 @@ static inline int m_new(reg to, uint32_t pointers, uint32_t values)
 {
     m_objects++;
     return g1_make(&m_heap, &m_policy, 0, to, pointers, 0, values).code == G1_NAME;
+}
+/* The same of what registers hold, or nil, and of data words; `to` is none of these registers. */
+static inline int m_new_filled(reg to, const reg *from, uint32_t pointers, const uint64_t *words, uint32_t values)
+{
+    m_objects++;
+    return g1_make_filled(&m_heap, &m_policy, 0, to, from, pointers, words, values).code == G1_NAME;
 }
 /* 0 where it is nil. */
 static inline int m_get(reg to, reg object, uint32_t field) { return m_done(g1_get(&m_heap, 0, to, object, field)).code == G1_NAME; }
@@ -200,6 +223,13 @@ static inline void m_read_words(reg object, uint32_t from, uint64_t *out, size_t
 static inline void m_write_words(reg object, uint32_t from, const uint64_t *in, size_t count)
 {
     memcpy(&m_registers[object]->words[m_registers[object]->pointers + from].value, in, 8 * count);
+}
+static inline int m_new_filled(reg to, const reg *from, uint32_t pointers, const uint64_t *words, uint32_t values)
+{
+    if (!m_new(to, pointers, values)) return 0;
+    for (uint32_t i = 0; i < pointers; i++) m_put(to, i, from[i]);
+    m_write_words(to, 0, words, values);
+    return 1;
 }
 static inline void m_move(reg to, reg from) { m_set(to, m_registers[from]); }
 static inline void m_drop(reg it) { m_set(it, NULL); }

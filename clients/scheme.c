@@ -20,7 +20,8 @@
 
 /* Registers: those of the machine, and after them its stack, a row of frames. WHOLE holds what is evaluated at the top. */
 enum { EXPRESSION, ENVIRONMENT, VALUE, REST, PART, OTHER, WHOLE, STACK };
-enum { MOST_REGISTERS = 65536, MOST_SYMBOLS = 4096, MOST_NAME = 255, MOST_NESTED = 10000, MOST_PORTS = 64, MOST_TOLD = 60 };
+enum { MOST_REGISTERS = 65536, MOST_SYMBOLS = 4096, MOST_NAME = 255, MOST_NESTED = 10000, MOST_PORTS = 64, MOST_TOLD = 60,
+       MOST_LEFT = 32 };
 /* Globals: the symbols, the current ports, and the first ones. */
 enum { CURRENT_INPUT = MOST_SYMBOLS, CURRENT_OUTPUT, FIRST_INPUT, FIRST_OUTPUT, GLOBALS };
 /* An object's data word 0 is its head: the tag in four bits, and from bit SHIFT on what else one read is to tell. That of nil, the empty
@@ -58,10 +59,10 @@ static jmp_buf after_mistake;
 /* The stack: a frame begins at a register, and says what is to be done with a value. It holds the form that it is of, or of a sequence
    what is left of it, and the environment; one of a call then the procedure and the arguments so far. From frame `kept` on the environment
    is still that in ENVIRONMENT, and a frame gets it before another one comes there. */
-typedef struct frame { uint32_t base, what; } frame;
+typedef struct frame { uint32_t base, what; uint64_t head; } frame; /* the head of a call's procedure, where it is known */
 static frame frames[MOST_REGISTERS];
 static uint32_t depth, kept;
-static reg top = STACK;
+static reg top = STACK, used = STACK;    /* what frames left may be in registers from `top` up to `used`; all after these are nil */
 enum { DO_IF, DO_SET, DO_DEFINE, DO_SEQUENCE, DO_AND, DO_OR, DO_CALL, DO_LAST, DO_MACRO };
 
 static char *names[MOST_SYMBOLS];
@@ -95,7 +96,7 @@ static _Noreturn void mistake(int has_value, reg value, const char *why, ...)
     if (has_value) m_move(VALUE, value);
     place = find_form();
     if (reading || place == 0) place = (uint64_t)source->name << 32 | source->line;
-    depth = 0, kept = 0, nested = 0, m_scope(STACK), top = STACK;
+    depth = 0, kept = 0, nested = 0, m_scope(STACK), top = used = STACK;
     fflush(stdout), output = stderr;
     if (place >> 32 != NO_NAME && place >> 32 != PRELUDE) fprintf(stderr, "%s, ", names[place >> 32]);
     fprintf(stderr, "line %u, %s", (uint32_t)place, !reading ? "in " : recently > sizeof recent ? "after .." : "after ");
@@ -126,19 +127,31 @@ static void go_deeper(void)
     nested++;
 }
 static void push(reg it) { m_move(room(1), it), top++; }
-static void leave(reg base) { m_scope(base), top = base; }
+/* Registers are left nil some frames at a time, since a frame mostly comes where the last one was. */
+static void leave(reg base)
+{
+    if (used < top) used = top;
+    if (used - base > MOST_LEFT) m_scope(base), used = base;
+    top = base;
+}
 
+static void need_made(int is)
+{
+    if (!is) mistake(0, 0, "the heap is full of live objects: give it more by G1HEAP_REGIONS=%u", 2 * m_sizes.regions);
+}
 /* An object with a head, its pointers nil and `values` more words 0. */
 static void make(reg to, uint64_t head, uint32_t pointers, uint32_t values)
 {
-    if (!m_new(to, pointers, values + 1))
-        mistake(0, 0, "the heap is full of live objects: give it more by G1HEAP_REGIONS=%u", 2 * m_sizes.regions);
-    m_write(to, 0, head);
+    need_made(m_new(to, pointers, values + 1)), m_write(to, 0, head);
 }
 /* An object of a head and two pointers; `to` is neither of these. */
-static void make_two(reg to, uint64_t head, reg one, reg two) { make(to, head, 2, 0), m_put(to, 0, one), m_put(to, 1, two); }
+static void make_two(reg to, uint64_t head, reg one, reg two) { need_made(m_new_filled(to, (reg[]){one, two}, 2, &head, 1)); }
 /* A character, a port or a primitive. */
-static void make_word(reg to, unsigned tag, uint64_t value) { make(to, head(tag, value), 0, 0); }
+static void make_word(reg to, unsigned tag, uint64_t value)
+{
+    uint64_t word = head(tag, value);
+    need_made(m_new_filled(to, NULL, 0, &word, 1));
+}
 static void number(reg to, int64_t value)
 {
     if ((int64_t)((uint64_t)value << SHIFT) >> SHIFT == value) make_word(to, NUMBER, (uint64_t)value);
@@ -331,7 +344,7 @@ static void read_list(const char *what)
     reg base = room(3);
     unsigned line = source->line, begin;
     int c;
-    for (top += 2; (c = next_mark()) != ')'; m_move(base + 1, VALUE)) {
+    for (m_drop(base), top += 2; (c = next_mark()) != ')'; m_move(base + 1, VALUE)) {
         put_back(c), begin = source->line;
         need_expression(what, line);
         if (is_dot(VALUE)) {                                     /* one expression more, for the last pair */
@@ -450,7 +463,7 @@ static void print(reg it, int quoted)
 static void begin_frame(uint32_t what, reg form)
 {
     reg base = room(4);
-    frames[depth++] = (frame){base, what}, m_move(base, form), top += 2;
+    frames[depth++] = (frame){base, what, 0}, m_move(base, form), top += 2;
 }
 static reg end_frame(void) { return frames[--depth].base; }
 /* Before another environment comes: so many frames get theirs, but those that want none again. */
@@ -471,16 +484,18 @@ static reg find(reg name, uint64_t symbol)
     return at;
 }
 static _Noreturn void want_name(reg it) { mistake(1, it, "a name is wanted here, not %s", kinds[tag_of(it)]); }
-static void bind(reg name, reg value)
+static void bind(reg name, uint64_t symbol, reg value)
 {
-    uint64_t symbol = m_head(name), id = symbol >> SHIFT;
+    uint64_t id = symbol >> SHIFT;
     if ((symbol & TAG) != SYMBOL) want_name(name);
     make_two(PART, head(BINDING, id), ENVIRONMENT, value);
     m_move(ENVIRONMENT, PART), is_bound[id] = 1;
 }
-static void need_part(const char *form)
+/* The tag of what is left of a form, which is loaded. */
+static unsigned rest_of(reg form) { return m_get_head(REST, form, 1) & TAG; }
+static void need_part(unsigned rest, const char *form)
 {
-    if (tag_of(REST) == PAIR) return;
+    if (rest == PAIR) return;
     begin_frame(DO_IF, EXPRESSION);
     mistake(0, 0, "%s lacks a part", form);
 }
@@ -494,13 +509,16 @@ static int has_more(reg list) { return is_more(list, tag_of(list)); }
 /* Goes on in such a list, and answers whether there is more. */
 static int goes_on(reg list) { return is_more(list, m_get_head(list, list, 1) & TAG); }
 /* A closure of the parameters in PART and the body in REST. */
-static void closure(void) { make(VALUE, CLOSURE, 3, 0), m_put(VALUE, 0, PART), m_put(VALUE, 1, REST), m_put(VALUE, 2, ENVIRONMENT); }
-/* What a name stands for, into another register; answers whether that is a binding's value. */
-static int look_up(reg to, reg name, uint64_t symbol)
+static void closure(void)
+{
+    uint64_t word = CLOSURE;
+    need_made(m_new_filled(VALUE, (reg[]){PART, REST, ENVIRONMENT}, 3, &word, 1));
+}
+/* What a name stands for, into another register. */
+static void look_up(reg to, reg name, uint64_t symbol)
 {
     reg at = find(name, symbol);
     if (!m_get(to, at, at != name) && at == name && m_read(name, 1) == 0) mistake(1, name, "a name that isn't defined");
-    return at != name;
 }
 
 /* Binds the parameters of a procedure to the arguments from a register on, `count` of them. */
@@ -509,11 +527,11 @@ static void bind_arguments(reg first, uint32_t count, reg procedure)
     uint32_t taken = 0;
     unsigned tag = m_get_head(REST, procedure, 0) & TAG;
     for (; tag == PAIR && taken < count; taken++)
-        car(OTHER, REST), bind(OTHER, first + taken), tag = m_get_head(REST, REST, 1) & TAG;
+        bind(OTHER, m_get_head(OTHER, REST, 0), first + taken), tag = rest_of(REST);
     if (tag == SYMBOL) {
         m_drop(VALUE);
         for (uint32_t i = count; i > taken; i--) cons(VALUE, first + i - 1, VALUE);
-        bind(REST, VALUE);
+        bind(REST, m_head(REST), VALUE);
     } else if (tag != NIL || taken < count) {
         m_get(REST, procedure, 0);
         mistake(1, REST, "a procedure got %u arguments for its parameters", count);
@@ -532,19 +550,22 @@ static void resume(reg from)
 {
     depth = kept = (uint32_t)value_of(from);
     leave(STACK);
-    for (uint32_t i = 0; i < depth; i++) frames[i] = (frame){(uint32_t)(m_read(from, 1 + i) >> 8), m_read(from, 1 + i) & 255};
+    for (uint32_t i = 0; i < depth; i++) frames[i] = (frame){(uint32_t)(m_read(from, 1 + i) >> 8), m_read(from, 1 + i) & 255, 0};
     top = STACK + m_pointers(from);
     for (uint32_t i = 0; i < m_pointers(from); i++) m_get(STACK + i, from, i);
 }
 
 /* How the machine goes on: with an expression, with one that is known to be a pair, with a value, with the call whose frame is on top. */
 enum { EVALUATE, EVALUATE_FORM, RETURN, CALL };
+static uint64_t expression_head; /* of EXPRESSION, where it goes on with that */
+static int evaluate_first(reg list) { return expression_head = m_get_head(EXPRESSION, list, 0), EVALUATE; }
+static int evaluate_it(void) { return expression_head = m_head(EXPRESSION), EVALUATE; }
 
 /* Evaluates the operands in REST, for the frame on top. Before one that isn't simple what is left is pushed where its value is to stand;
    before the last one nothing is, so a recursion there takes no register more. */
-static int operands(void)
+static int operands(unsigned rest)
 {
-    for (int more = has_more(REST); more; more = goes_on(REST)) {
+    for (int more = is_more(REST, rest); more; more = goes_on(REST)) {
         uint64_t head = m_get_head(EXPRESSION, REST, 0);
         if ((head & TAG) == SYMBOL) look_up(room(1), EXPRESSION, head), top++;
         else if ((head & TAG) != PAIR) push(EXPRESSION);
@@ -554,23 +575,22 @@ static int operands(void)
     return CALL;
 }
 /* Evaluates what REST lists, one after the other: a body, or the operands of `and` or `or`. The last one has no frame: a tail call. */
-static int parts(uint32_t what)
+static int parts(uint32_t what, unsigned rest)
 {
-    if (!has_more(REST)) {
+    if (!is_more(REST, rest)) {
         if (what == DO_SEQUENCE) m_drop(VALUE);
         else truth(what == DO_AND);
         return RETURN;
     }
-    car(EXPRESSION, REST);
     if (cdr(PART, REST)) begin_frame(what, REST);
-    return EVALUATE;
+    return evaluate_first(REST);
 }
 
-static int define(void)
+static int define(unsigned rest)
 {
     reg name;
     begin_frame(DO_DEFINE, EXPRESSION), name = top;
-    need_part("define");
+    need_part(rest, "define");
     car(PART, REST), cdr(REST, REST);
     if (tag_of(PART) == PAIR) {                                   /* (define (f x) ..) is (define f (lambda (x) ..)) */
         car(EXPRESSION, PART), push(EXPRESSION), cdr(PART, PART);
@@ -580,21 +600,20 @@ static int define(void)
         cons(REST, REST, G1_NIL_REGISTER);
     } else push(PART);
     if (tag_of(name) != SYMBOL) want_name(name);
-    need_part("define");
+    need_part(tag_of(REST), "define");
     if (tag_of(ENVIRONMENT) == BINDING) {                         /* what is left of the body sees it too */
-        keep_environment(depth), bind(name, G1_NIL_REGISTER), m_move(name - 1, ENVIRONMENT);
+        keep_environment(depth), bind(name, m_head(name), G1_NIL_REGISTER), m_move(name - 1, ENVIRONMENT);
         if (depth > 1 && frames[depth - 2].what == DO_SEQUENCE) m_move(frames[depth - 2].base + 1, ENVIRONMENT);
         frames[depth - 1].what = DO_SET;
     }
-    car(EXPRESSION, REST);
-    return EVALUATE;
+    return evaluate_first(REST);
 }
 /* (%local a b ..) begins a body that defines: what is left of it sees these names. */
 static int define_local(void)
 {
     if (depth == 0 || frames[depth - 1].what != DO_SEQUENCE) mistake(0, 0, "%%local begins no body");
     keep_environment(depth), m_drop(VALUE);
-    for (int more = has_more(REST); more; more = goes_on(REST)) car(OTHER, REST), bind(OTHER, VALUE);
+    for (int more = has_more(REST); more; more = goes_on(REST)) bind(OTHER, m_get_head(OTHER, REST, 0), VALUE);
     m_move(frames[depth - 1].base + 1, ENVIRONMENT);
     return RETURN;
 }
@@ -609,36 +628,42 @@ static int expand(void)
 
 static int evaluate(int is_form)
 {
-    uint64_t head = is_form ? PAIR : m_head(EXPRESSION);
+    uint64_t head = is_form ? PAIR : expression_head;
+    unsigned rest;
     if ((head & TAG) == SYMBOL) return look_up(VALUE, EXPRESSION, head), RETURN;
     if ((head & TAG) != PAIR) return m_move(VALUE, EXPRESSION), RETURN;
-    cdr(REST, EXPRESSION), head = m_get_head(OTHER, EXPRESSION, 0);
+    rest = rest_of(EXPRESSION), head = m_get_head(OTHER, EXPRESSION, 0);
     switch ((head & TAG) == SYMBOL ? head >> SHIFT : NO_NAME) {
-    case QUOTE: need_part("quote"), car(VALUE, REST); return RETURN;
-    case IF: begin_frame(DO_IF, EXPRESSION), need_part("if"), car(EXPRESSION, REST); return EVALUATE;
-    case DEFINE: return define();
+    case QUOTE: need_part(rest, "quote"), car(VALUE, REST); return RETURN;
+    case IF: begin_frame(DO_IF, EXPRESSION), need_part(rest, "if"); return evaluate_first(REST);
+    case DEFINE: return define(rest);
     case SET:
-        begin_frame(DO_SET, EXPRESSION), need_part("set!"), car(PART, REST), cdr(REST, REST), need_part("set!");
+        begin_frame(DO_SET, EXPRESSION), need_part(rest, "set!"), car(PART, REST), need_part(rest_of(REST), "set!");
         if (tag_of(PART) != SYMBOL) want_name(PART);
-        push(PART), car(EXPRESSION, REST);
-        return EVALUATE;
-    case RAW_LAMBDA: need_part("lambda"), car(PART, REST), cdr(REST, REST), closure(); return RETURN;
-    case BEGIN: return parts(DO_SEQUENCE);
-    case AND: return parts(DO_AND);
-    case OR: return parts(DO_OR);
+        push(PART);
+        return evaluate_first(REST);
+    case RAW_LAMBDA: need_part(rest, "lambda"), car(PART, REST), cdr(REST, REST), closure(); return RETURN;
+    case BEGIN: return parts(DO_SEQUENCE, rest);
+    case AND: return parts(DO_AND, rest);
+    case OR: return parts(DO_OR, rest);
     case LOCAL: return define_local();
     }
     begin_frame(DO_CALL, EXPRESSION);
     if ((head & TAG) == PAIR) {
         m_move(EXPRESSION, OTHER);
-        if (tag_of(REST) != NIL) push(REST);
+        if (rest != NIL) push(REST);
         else frames[depth - 1].what = DO_LAST;
         return EVALUATE_FORM;
     }
     if ((head & TAG) != SYMBOL) push(OTHER);
-    else if (!look_up(top, OTHER, head) && is_macro[head >> SHIFT] && tag_of(top) == MACRO) return m_move(OTHER, top), expand();
-    else top++;
-    return operands();
+    else {
+        reg at = find(OTHER, head);
+        uint64_t procedure = m_get_head(top, at, at != OTHER);
+        if (procedure == NIL && at == OTHER && m_read(OTHER, 1) == 0) mistake(1, OTHER, "a name that isn't defined");
+        if ((procedure & TAG) == MACRO && at == OTHER) return m_move(OTHER, top), expand();
+        frames[depth - 1].head = procedure, top++;
+    }
+    return operands(rest);
 }
 
 static int assign(uint32_t what, reg name)
@@ -656,31 +681,30 @@ static int give_value(void)
 {
     reg base = frames[depth - 1].base;
     uint32_t what = frames[depth - 1].what;
+    unsigned rest;
     if (kept == depth && (kept--, what != DO_LAST)) m_move(ENVIRONMENT, base + 1);
     if (what == DO_LAST) return push(VALUE), CALL;
     switch (what) {
     case DO_CALL:
         m_move(REST, top - 1), m_move(top - 1, VALUE);
-        return operands();
+        return operands(tag_of(REST));
     case DO_SET: case DO_DEFINE: return assign(what, base + 2);
     case DO_IF:
-        cdr(REST, base);
-        if (tag_of(REST) != PAIR || !cdr(REST, REST) || tag_of(REST) != PAIR) mistake(0, 0, "if lacks a part");
+        if (rest_of(base) != PAIR || rest_of(REST) != PAIR) mistake(0, 0, "if lacks a part");
         leave(end_frame());
         if (is_false(VALUE) && !goes_on(REST)) return m_drop(VALUE), RETURN;
-        car(EXPRESSION, REST);
-        return EVALUATE;
+        return evaluate_first(REST);
     case DO_MACRO:                                               /* the expansion takes the place of the expression, for good */
         m_move(EXPRESSION, base);
         if (tag_of(VALUE) != PAIR) cons(VALUE, VALUE, G1_NIL_REGISTER), symbol(PART, BEGIN), cons(VALUE, PART, VALUE);
         car(PART, VALUE), m_put(EXPRESSION, 0, PART), cdr(PART, VALUE), m_put(EXPRESSION, 1, PART);
         leave(end_frame());
-        return EVALUATE;
+        return evaluate_it();
     default:                                                     /* a sequence, `and`, `or` */
-        cdr(REST, base);
+        rest = rest_of(base);
         leave(end_frame());
         if (what != DO_SEQUENCE && is_false(VALUE) == (what == DO_AND)) return RETURN;
-        return parts(what);
+        return parts(what, rest);
     }
 }
 
@@ -688,18 +712,19 @@ static int call(void)
 {
     reg base = frames[depth - 1].base, procedure = base + 2, first = base + 3;
     uint32_t count = top - first, which;
-    uint64_t head = m_head(procedure);
+    uint64_t head = frames[depth - 1].head != 0 ? frames[depth - 1].head : m_head(procedure);
+    unsigned rest;
     switch (head & TAG) {
     case PRIMITIVE:
         which = (uint32_t)(head >> SHIFT);
         need_count(which, count);
         if (which == CALL_CC) {                                  /* (f k) in place of (call/cc f) */
             end_frame(), capture(VALUE, base), depth++;
-            m_move(procedure, first), m_move(first, VALUE);
+            frames[depth - 1].head = 0, m_move(procedure, first), m_move(first, VALUE);
             return CALL;
         }
         if (which == APPLY) {                                    /* (f a b c) in place of (apply f a '(b c)) */
-            m_move(REST, top - 1), m_move(EXPRESSION, REST);
+            frames[depth - 1].head = 0, m_move(REST, top - 1), m_move(EXPRESSION, REST);
             for (reg it = procedure; it + 2 < top; it++) m_move(it, it + 1);
             for (leave(top - 2); tag_of(REST) == PAIR; cdr(REST, REST)) car(room(1), REST), top++;
             if (tag_of(REST) != NIL) mistake(1, EXPRESSION, "apply wants a list of arguments");
@@ -707,7 +732,7 @@ static int call(void)
         }
         if (which == EVAL) {
             m_move(EXPRESSION, first), m_move(WHOLE, first), leave(end_frame());
-            return keep_environment(depth), m_drop(ENVIRONMENT), EVALUATE;
+            return keep_environment(depth), m_drop(ENVIRONMENT), evaluate_it();
         }
         primitive(which, first, count);
         return leave(end_frame()), RETURN;
@@ -718,8 +743,8 @@ static int call(void)
     case CLOSURE: case MACRO:
         keep_environment(depth - 1), m_get(ENVIRONMENT, procedure, 2);
         bind_arguments(first, count, procedure);
-        m_get(REST, procedure, 1);
-        return leave(end_frame()), parts(DO_SEQUENCE);
+        rest = m_get_head(REST, procedure, 1) & TAG;
+        return leave(end_frame()), parts(DO_SEQUENCE, rest);
     default: mistake(1, procedure, "%s can't be called", kinds[head & TAG]);
     }
 }
@@ -727,7 +752,7 @@ static int call(void)
 static void run(void)
 {
     m_move(WHOLE, VALUE), m_move(EXPRESSION, VALUE), m_drop(ENVIRONMENT);
-    for (int next = EVALUATE; next != RETURN || depth != 0;)
+    for (int next = evaluate_it(); next != RETURN || depth != 0;)
         next = next <= EVALUATE_FORM ? evaluate(next == EVALUATE_FORM) : next == CALL ? call() : give_value();
 }
 

@@ -28,6 +28,12 @@
     X(READ, "read", 0, 1) X(READ_CHAR, "read-char", 0, 1) X(PEEK_CHAR, "peek-char", 0, 1) X(WRITE, "write", 1, 2)                         \
     X(DISPLAY, "display", 1, 2) X(WRITE_CHAR, "write-char", 1, 2) X(ERROR, "error", 1, 2) X(COUNT, "%count", 1, 1)                        \
     X(CALL_CC, "call/cc", 1, 1) X(APPLY, "apply", 2, ANY) X(EVAL, "eval", 1, 1) X(DEFINE_MACRO, "%define-macro", 2, 2)
+#ifdef HOLDERS_H
+/* Who looks for what holds an object is told the symbol of a global. */
+static const char *name_of_global(uint32_t global) { return global < symbols ? names[global] : NULL; }
+static holders_names *m_name_of = name_of_global;
+#endif
+
 enum { ANY = 255 };
 #define NUMBER_OF(number, name, least, most) number,
 #define ROW_OF(number, name, least, most) {name, least, most},

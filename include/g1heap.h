@@ -78,11 +78,13 @@ typedef struct g1_sizes {
 #define G1_MAX_OBJECT_WORDS 16777216 /* its header and its name are two of them */
 #define G1_MAX_WEAKS 255
 
-/* The version of this header and of the library, as pkg-config tells it, and its numbers, for #if. VERSIONING.md tells what may change. */
+/* The version of this header, as pkg-config tells it, and its numbers, for #if; and that of the library that a program was linked to, as
+   G1_VERSION_MAJOR * 65536 + G1_VERSION_MINOR * 256 + G1_VERSION_PATCH. VERSIONING.md tells what may change. */
 #define G1_VERSION "0.1.0"
 #define G1_VERSION_MAJOR 0
 #define G1_VERSION_MINOR 1
 #define G1_VERSION_PATCH 0
+uint32_t g1_version(void);
 
 /* What came of a call. Below 16 it was done. From 16 on it wasn't, and objects and roots are as they were; but g1_make and g1_make_filled
    may take steps of the collector before they refuse an object, so that weak slots become nil, and counts and the policy's numbers differ.
@@ -135,6 +137,10 @@ typedef struct g1_answer {
 
 /* Makes a heap: G1_DONE, or why there is none, and `heap` is then as it was. */
 uint32_t g1_new(g1_heap *heap, const g1_sizes *sizes);
+
+/* How many bytes g1_new asks malloc for with these sizes, in all; 0 where they don't suit. Where the system refuses what it may not have
+   (a limit of address space, or vm.overcommit_memory 2), take sizes for which it is enough: malloc takes some pages more. */
+uint64_t g1_sizes_bytes(const g1_sizes *sizes);
 
 /* Frees a heap, and leaves none. Where there is none it does nothing. */
 void g1_free(g1_heap *heap);
@@ -369,12 +375,10 @@ g1_answer g1_give_back(g1_heap *heap);
 
    TWO REGIONS ARE KEPT, since live objects are copied into free regions alone. No region is taken for an object where fewer than 2 would
    stay free. Before that comes a whole collection: a marking from begin to remark with nothing between, a cleanup, and pauses for as long
-   as each frees a region; and for an object of more than half a region compactions, until one takes no ordinary region. G1_FULL comes only
-   after that, and then it is proved:
-   - for an object of at most half a region, if 2 regions were free before, that 2 are free, each larger object that is left is reachable,
-     and reachable objects have more than half of the words of all regions but 3;
-   - for a larger one, which takes whole regions, that too few free ones are side by side, or fewer than 2 would stay free; and that from
-     the lowest free region on nothing but reachable objects of more than half a region parts the free ones, if 2 were free before.
+   as each frees a region; and for an object of more than half a region compactions, until none moves anything. G1_FULL comes only after
+   that. Let the object take c regions, 1 if it has at most half a region's words, and let the heap have more than c + 2. Then it is proved,
+   if 2 regions were free before, that 2 are free, and fewer than c more; that each larger object that is left is reachable; and that
+   reachable objects have more than half of the words of all regions but 2 and those c.
    Each G1_FULL costs a whole collection: what is dropped isn't seen here, so the next g1_make has to look again. docs/SPACE.md has the
    theorem.
 
@@ -384,12 +388,12 @@ g1_answer g1_give_back(g1_heap *heap);
 typedef struct g1_policy {
     uint32_t reserve;      /* regions: a cycle of marking ends before fewer are free */
     uint32_t pause_words;  /* words: the budget of a pause, but for those of a whole collection */
-    uint32_t mark_words;   /* words: as many are looked at by marking at a look, at most */
+    uint32_t mark_words;   /* words: as many are looked at by marking at a look, at most, and up to 16 times as many near the reserve */
     uint32_t cycle_words;  /* words: where so many were asked for since the last cycle began, another one begins */
     uint32_t young_words;  /* words: new regions of so many are evacuated first, and no fewer later */
     uint32_t cards_left;   /* cards: where more are queued at a look, it refines all but half as many */
     uint32_t visit_cards;  /* cards: as many may lead into the regions of a pause, and more only after one that gained little for them */
-    uint32_t clear_objects;/* objects with weak slots: so many are cleared at a look after marking */
+    uint32_t clear_objects;/* objects with weak slots: so many are cleared at a look, and up to 4 times as many near the reserve */
     uint32_t least;        /* regions: so many are in play at least */
     uint32_t look, left;   /* words that may be asked for before the next look, as it was set, and what is left of them */
     uint32_t begin_at;     /* regions: where so many are free, or fewer, a cycle begins */
@@ -401,9 +405,9 @@ typedef struct g1_policy {
     uint32_t held;         /* regions: so many are held back, the others are in play */
     uint32_t most;         /* regions: the most that were in play since g1_shrink, or since the program set this to 0 */
     uint32_t idle;         /* 1 if no more than half of these are in play since the last cycle: memory may go back; else 0 */
-    uint32_t pace;         /* words that marking looks at, at each look of a cycle */
+    uint32_t pace;         /* words that marking looks at, at each look of a cycle, or more near the reserve */
     uint32_t visits;       /* cards that may lead into the regions of the next pause, if more than visit_cards */
-    uint32_t clears;       /* looks at which weak slots were cleared since the last marking, */
+    uint32_t clears;       /* looks at which weak slots were cleared since the last marking, one of n times as many objects counted as n, */
     uint32_t cleared;      /* and after the marking before it */
     uint32_t last;         /* what the last look did: 1 if it refined alone, 2 if it evacuated new regions, else 0 */
     uint32_t packed_free;  /* what the last whole collection left: free regions, */
@@ -444,9 +448,9 @@ g1_answer g1_collect(g1_heap *heap, g1_policy *policy);
    always moved together: the regions of objects may be little more than half full. DONE, or NO_HEAP. */
 g1_answer g1_collect_all(g1_heap *heap, g1_policy *policy);
 
-/* Gives back as much memory as can be: a whole collection, compactions until one takes no ordinary region, so that these are below the free
-   ones, and g1_give_back. For a moment at which the program is idle: it takes as long as these. DONE, NO_HEAP, or NO_MEMORY, where less
-   goes back or nothing, but the collection is done.
+/* Gives back as much memory as can be: a whole collection, compactions until none moves anything, so that no region in use is above a free
+   one, and g1_give_back. For a moment at which the program is idle: it takes as long as these. DONE, NO_HEAP, or NO_MEMORY, where less goes
+   back or nothing, but the collection is done.
 
        if (policy.idle) g1_shrink(&heap, &policy);              // half of the regions that were in play are held back again */
 g1_answer g1_shrink(g1_heap *heap, g1_policy *policy);

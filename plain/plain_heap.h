@@ -91,6 +91,10 @@ struct Buffer {
     Address next, end;
 };
 
+// What a step does, by counts: words copied, cards visited by pauses, cards refined, words that marking looks at, objects whose weak slots
+// are cleared, words of flags that tell which cards lead into a region. Where PLAIN_COUNTS is defined they are counted.
+enum Work : std::uint8_t { Copied, Visited, Refined, Looked, Cleared, Flagged, works };
+
 class Heap {
 public:
     explicit Heap(const Sizes& sizes)
@@ -232,7 +236,7 @@ public:
 
     Reply begin() {
         if (marking_) return refused(Refusal::MarkRunning);
-        uncleared_ = nowhere;
+        end_clearing();
         retire_buffers();
         next_marks_.clear();
         for (Region& region : regions_) {
@@ -272,7 +276,7 @@ public:
 
     Reply cleanup() {
         if (marking_) return refused(Refusal::MarkRunning);
-        uncleared_ = nowhere;
+        end_clearing();
         Number reclaimed = 0;
         for (Number region = 0; region < sizes_.regions; ++region) {
             if (regions_[region].kind == Kind::Ordinary) {
@@ -322,7 +326,7 @@ public:
     Reply clear(Number units) {
         if (uncleared_ == nowhere) return reply(Form::Ok);
         Address at = uncleared_ == 0 ? with_weaks(0, 0) : uncleared_;
-        for (; at != nowhere && units != 0; --units) at = with_weaks(region_of(at), at + tile_size(words_[at]));
+        for (; at != nowhere && units != 0; --units, count(Cleared, 1)) at = with_weaks(region_of(at), at + tile_size(words_[at]));
         uncleared_ = at;
         return reply(Form::Ok);
     }
@@ -335,7 +339,19 @@ public:
         return evacuate();
     }
 
+#ifdef PLAIN_COUNTS
+    Word work(Work kind) const { return work_[kind]; }
+#endif
+
 protected:
+#ifdef PLAIN_COUNTS
+    void count(Work kind, Word number) { work_[kind] += number; }
+    void end_clearing() { clear(~Number(0)); }
+#else
+    void count(Work, Word) {}
+    void end_clearing() { uncleared_ = nowhere; }
+#endif
+
     // What the words of the tiles that start in a region are: of objects that the last finished marking marked, of objects that it didn't,
     // of objects made since it began, of fillers.
     struct Shares {
@@ -525,6 +541,7 @@ protected:
         Number card = queue_[queue_first_];
         if (++queue_first_ == queue_.size()) queue_first_ = 0;
         --queue_count_;
+        count(Refined, 1);
         dirty_[card] = 0;
         Number source = region_of(card << card_shift_);
         visit_fields(card, [&](Word& field) {
@@ -611,6 +628,7 @@ protected:
         std::size_t stride = source_stride(sizes_.regions);
         for (std::size_t index = 0; index < stride; ++index) {
             for (Word bits = sources_[region * stride + index]; bits != 0; bits &= bits - 1) {
+                count(Flagged, region_cards_ / 64 + 1);
                 Number first = (Number(index << 6) + Number(__builtin_ctzll(bits))) * region_cards_;
                 if (filter_rows_ == 0) covered_.add_members(first, region_cards_, entered_);
                 else covered_.add_members(first, region_cards_, entered_, filter_row(region, first, true), filter_row(region, first, false));
@@ -687,6 +705,7 @@ protected:
     }
 
     void mark_targets(Address field, Address end) {
+        count(Looked, Word(1) + end - field);
         for (; field < end; ++field)
             if (words_[field] != 0) mark_object(Address(words_[field] - 1));
     }
@@ -761,7 +780,7 @@ protected:
     // The pause, and the compaction.
 
     void make_ready() {
-        uncleared_ = nowhere;
+        end_clearing();
         retire_buffers();
         current_ = no_region;
         for (Number mutator = 0; mutator < sizes_.mutators; ++mutator) flush_card_log(mutator);
@@ -852,6 +871,7 @@ protected:
         covered_.drain([&](Number card) {
             // A card of a chosen region isn't outside; nor is one of a region that was free when the pause began.
             if (regions_[region_of(card << card_shift_)].role != Role::None) return;
+            count(Visited, 1);
             visit_fields(card, [&](Word& field) {
                 if (regions_[region_of(Address(field - 1))].role != Role::Chosen) return;
                 field = moved(field);
@@ -903,6 +923,7 @@ protected:
             // The run's own fields aren't outside. What is at their old place now is free, or the object itself.
             Number region = region_of(card << card_shift_);
             if (first <= region && region < end) return;
+            count(Visited, 1);
             visit_fields(card, [&](Word& field) { if (redirect(field)) noted_.add(card); });
         });
         for (Address field = to + 2; field < to + 2 + field_count(words_[to]); ++field) {
@@ -955,6 +976,7 @@ protected:
         note_tile(to, size);
         if (weak_count(words_[to]) != 0) weak_regions_.add(destinations_.back());
         copied_ += size;
+        count(Copied, size);
         return to;
     }
 
@@ -1011,6 +1033,9 @@ protected:
     std::vector<Number> chosen_;
     std::vector<Number> destinations_;
     Word copied_ = 0;
+#ifdef PLAIN_COUNTS
+    Word work_[works] = {};
+#endif
 };
 
 }  // namespace plain

@@ -189,6 +189,23 @@ std::uint32_t size_fault(const g1_sizes& sizes) {
     return G1_DONE;
 }
 
+// How many parts of so much a count has, the last one not whole.
+Word parts(Word count, Word size) { return (count + size - 1) / size; }
+
+// The bytes of a set of numbers below a count, as the proved heap keeps it.
+Word set_bytes(Word count) { return 8 * parts(count, 64) + 4 * parts(count, 64 * 512); }
+
+// The bytes that the proved heap asks for.
+Word bytes_of(const g1_sizes& sizes) {
+    Word words = Word(sizes.regions) * sizes.words, cards = words / sizes.card, in_region = sizes.words / sizes.card;
+    Word roots = sizes.globals + Word(sizes.registers) * sizes.mutators;
+    Word rows = in_region % 64 == 0 ? 21 * sizes.card / 32 : 0;
+    Word bytes = 8 * words + 4 * set_bytes(words);
+    for (Word size : {64 * 64, 64 * 64 * 64, 64 * 64 * 64 * 64}) bytes += 8 * parts(words, size);
+    bytes += 9 * cards + 3 * set_bytes(cards) + parts(sizes.regions, 4) * (80 + set_bytes(4 * 3 * rows * in_region));
+    return bytes + sizes.regions * (181 + set_bytes(sizes.regions)) + set_bytes(sizes.regions) + 72 * sizes.mutators + 12 * roots + 2064;
+}
+
 g1_sizes sizes_of(const Heap& heap) {
     const plain::Sizes& of = heap.sizes();
     return {of.regions, of.words, of.buffer, of.mutators, of.first_name, of.card, of.globals, of.registers};
@@ -374,6 +391,10 @@ g1_answer g1_who(const g1_heap* heap, std::uint64_t name, std::uint64_t* cursor,
     return answer(G1_NUMBER, told);
 }
 
+std::uint32_t g1_version() { return G1_VERSION_MAJOR * 65536 + G1_VERSION_MINOR * 256 + G1_VERSION_PATCH; }
+
+std::uint64_t g1_sizes_bytes(const g1_sizes* sizes) { return size_fault(*sizes) == G1_DONE ? bytes_of(*sizes) : 0; }
+
 void g1_policy_start(g1_policy* policy, const g1_sizes* sizes) { policy_start(policy, sizes); }
 
 g1_answer g1_make(g1_heap* heap, g1_policy* policy, std::uint32_t mutator, std::uint32_t to, std::uint32_t pointers, std::uint32_t weaks,
@@ -410,6 +431,11 @@ g1_answer g1_collect_all(g1_heap* heap, g1_policy* policy) {
     policy_whole(&of);
     return answer(G1_DONE);
 }
+
+#ifdef PLAIN_COUNTS
+// How much work of a kind the heap did, as plain_heap.h numbers them.
+std::uint64_t plain_work(const g1_heap* heap, std::uint32_t kind) { return in(heap).work(static_cast<plain::Work>(kind)); }
+#endif
 
 g1_answer g1_shrink(g1_heap* heap, g1_policy* policy) {
     if (!heap->live) return answer(G1_NO_HEAP);

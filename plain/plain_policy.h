@@ -57,6 +57,7 @@ static inline void policy_start(g1_policy *policy, const g1_sizes *sizes)
     start.reserve = policy_most(3, sizes->regions / 24);
     start.pause_words = policy_pause_budget(sizes);
     start.mark_words = policy_least(524288, policy_most(131072, policy_within((uint64_t)16 * sizes->words)));
+    start.mark_words = policy_most(start.mark_words, policy_within((uint64_t)4 * sizes->words));
     start.cycle_words = policy_within((uint64_t)4 * policy_within((uint64_t)sizes->regions * sizes->words));
     start.young_words = 131072, start.cards_left = 4096, start.clear_objects = 16384, start.packed_next = UINT64_MAX;
     start.visit_cards = policy_most(16384, policy_least(65536, sizes->words));
@@ -97,6 +98,13 @@ static inline int policy_compact(policy_of *of)
     of->policy->compactions++, of->policy->compacted += g1_compact(of->heap, of->sizes->words).first;
     return of->ordinary_end(of->heap) < end;
 }
+/* A compaction with no budget. Answers whether a run moved. */
+static inline int policy_slide(policy_of *of)
+{
+    g1_answer moved = g1_compact(of->heap, UINT32_MAX);
+    of->policy->compactions++, of->policy->compacted += moved.first;
+    return moved.second != 0;
+}
 static inline void policy_remark(policy_of *of)
 {
     g1_policy *policy = of->policy;
@@ -111,22 +119,39 @@ static inline void policy_plan_young(policy_of *of, uint32_t free, uint32_t span
     of->policy->span = policy_least(way, policy_most(span, policy_regions(of->sizes, of->policy->young_words)));
     of->policy->young_at = way <= policy_in_play(of->policy, of->sizes) / 64 ? 0 : free - of->policy->span;
 }
-/* Sets how many regions are in play: where 40 to 50 percent of them live they stay, else so many that 40 percent do. */
+/* Sets how many regions are in play: where 40 to 55 percent of them live they stay, else so many that 40 percent do. */
 static inline void policy_plan_size(policy_of *of, uint64_t live)
 {
     g1_policy *policy = of->policy;
     uint64_t all = live / of->sizes->words, full = (all < of->sizes->regions ? all : of->sizes->regions) + 1;
     uint64_t apt = policy_in_play(policy, of->sizes);
-    if (apt * 2 > full * 5 || apt < full * 2) apt = full * 5 / 2;
+    if (apt * 2 > full * 5 || apt * 11 < full * 20) apt = full * 5 / 2;
     apt = policy_least(of->sizes->regions, policy_most(policy->least, (uint32_t)apt));
     policy->held = of->sizes->regions - (uint32_t)apt;
     policy->most = policy_most(policy->most, (uint32_t)apt), policy->idle = apt <= policy->most / 2;
 }
+/* Looks: as many as a cycle takes that marks and clears as much as the last one, and half as many more for marking. */
+static inline uint64_t policy_cycle_looks(const g1_policy *policy)
+{
+    return policy_within(policy->marked) * 3ull / 2 / policy_most(policy->mark_words, 1) + policy->cleared;
+}
+/* Regions: so many are free where a quarter of those in play that are free now is used up, or as many as are borrowed. */
+static inline uint32_t policy_spent_to(const g1_policy *policy, const g1_sizes *sizes, uint32_t free)
+{
+    uint32_t most = policy_free_in_play(policy, free);
+    return policy_above(free, policy_most(policy_borrowed(policy, sizes, free), most - (uint32_t)((uint64_t)3 * most / 4)));
+}
+/* After a pause that follows a cycle: the next one begins as early as it must to end before the reserve is reached. */
+static inline void policy_plan_next(policy_of *of, uint32_t free)
+{
+    uint32_t due = policy_within(policy_kept(of->policy, of->sizes) + policy_cycle_looks(of->policy));
+    uint32_t begin_at = policy_least(due, policy_spent_to(of->policy, of->sizes, free));
+    of->policy->begin_at = policy_most(of->policy->begin_at, begin_at);
+}
 static inline void policy_plan_cycle(policy_of *of, uint32_t free)
 {
     uint32_t kept = policy_kept(of->policy, of->sizes), room = policy_above(free, kept), needed;
-    uint64_t words = policy_within(of->policy->marked), marking = words * 3 / 2 / policy_most(of->policy->mark_words, 1) + of->policy->cleared;
-    needed = policy_least(policy_within(marking), room / 4 * 3);
+    needed = policy_least(policy_within(policy_cycle_looks(of->policy)), room / 4 * 3);
     of->policy->wanted = 0;
     of->policy->begin_at = room < 2 ? policy_above(free, policy_most(1, policy_borrowed(of->policy, of->sizes, free)))
         : policy_within((uint64_t)kept + policy_most(policy_least(room / 4, policy_in_play(of->policy, of->sizes) / 8), needed));
@@ -171,9 +196,7 @@ static inline void policy_reclaim(policy_of *of)
     most = (uint32_t)((all > live ? all - live : 0) / of->sizes->words);
     policy->wanted = policy_most(1, policy_most(most - most / 4, policy_within((uint64_t)2 * policy_reserve(policy, of->sizes))));
     policy->wanted = policy_within((uint64_t)policy->wanted + policy->held);
-    most = policy_free_in_play(policy, free);
-    most = policy_most(policy_borrowed(policy, of->sizes, free), most - (uint32_t)((uint64_t)3 * most / 4));
-    policy->begin_at = policy_least(policy->begin_at, policy_above(free, most));
+    policy->begin_at = policy_least(policy->begin_at, policy_spent_to(policy, of->sizes, free));
     policy->visits /= 2, policy->cleared = policy->clears, policy->clears = 0;
 }
 static inline void policy_end(policy_of *of)
@@ -207,6 +230,7 @@ static inline int policy_evacuate_some(policy_of *of, uint32_t *left, int is_wit
     } else moved = policy_pause(of, (uint32_t)budget);
     copied = moved.first, after = policy_free(of->heap);
     *left = copied < *left ? *left - (uint32_t)copied : 0;
+    policy_plan_next(of, after);
     if (after > before && after < policy->wanted && (after <= policy->reserve || copied <= 4 * (after - before) * words)) return 1;
     if (!is_cut_short || after >= policy->wanted) policy_plan_cycle(of, after);
     return 0;
@@ -227,15 +251,35 @@ static inline int policy_begin(policy_of *of)
     words = policy->cycles == 0 ? g1_used_words(of->heap).first / 2 : policy->marked;
     pace = 64 + policy_within(words) * 3ull / 2 / policy_most(1, policy_above(free, policy_kept(policy, of->sizes)));
     policy->pace = pace < policy->mark_words ? (uint32_t)pace : policy->mark_words, policy->asked = 0, policy->wanted = 0;
-    policy->looked = 0;
+    policy->looked = 0, policy->marked = words;
     g1_begin(of->heap);
     if (free <= policy->reserve) policy_end(of);
     return 1;
 }
+/* How many objects with weak slots are cleared at a look: more where few regions are free above the reserve. */
+static inline uint32_t policy_spend_clears(policy_of *of, uint32_t free)
+{
+    g1_policy *policy = of->policy;
+    uint32_t room = policy_most(1, policy_above(free, policy_kept(policy, of->sizes)));
+    uint32_t looks = 1 + policy_least(3, policy_above(policy->cleared, policy->clears) / room);
+    policy->clears = policy_within((uint64_t)policy->clears + looks);
+    return policy_within((uint64_t)policy->clear_objects * looks);
+}
+/* Words that marking looks at: more where few regions are free above the reserve. */
+static inline uint32_t policy_spend_marks(policy_of *of)
+{
+    g1_policy *policy = of->policy;
+    uint32_t room = policy_most(1, policy_above(policy_free(of->heap), policy->reserve)), words;
+    uint64_t left = policy->marked > policy->looked ? policy->marked - policy->looked : 0;
+    uint64_t due = policy_within(left > policy->marked / 16 ? left : policy->marked / 16) * 5ull / 4 / room;
+    words = policy_least(policy_within(due), policy_within((uint64_t)16 * policy->mark_words));
+    words = policy_most(policy_least(policy->pace, policy->mark_words), words);
+    policy->looked += words;
+    return words;
+}
 static inline void policy_mark(policy_of *of)
 {
-    uint32_t words = policy_least(of->policy->pace, of->policy->mark_words);
-    g1_mark(of->heap, words), of->policy->looked += words;
+    g1_mark(of->heap, policy_spend_marks(of));
     if (policy_free(of->heap) <= of->policy->reserve) policy_end(of);
     else if (g1_grey(of->heap).first == 0) policy_remark(of);
 }
@@ -273,7 +317,7 @@ static inline uint32_t policy_work(policy_of *of)
         && free > policy_within((uint64_t)policy->held + policy_most(reserve, policy_free_in_play(policy, policy->wanted) / 3));
     if (policy_refine(of)) return 1;
     if (g1_clearing(of->heap).first == 1) {
-        g1_clear(of->heap, policy->clear_objects), policy->clears++;
+        g1_clear(of->heap, policy_spend_clears(of, free));
         if (g1_clearing(of->heap).first == 0) policy_reclaim(of);
         return 0;
     }
@@ -333,8 +377,8 @@ static inline void policy_whole(policy_of *of)
     policy_pause_all(of, 0);
     policy_note_packed(of);
 }
-/* The same, two cycles more where half of the regions are free, pauses for as long as each frees a region, and compactions until the highest
-   ordinary region is no lower. */
+/* The same, two cycles more where half of the regions are free, pauses for as long as each frees a region, and compactions until none moves
+   anything. */
 static inline void policy_down(policy_of *of)
 {
     policy_whole(of);
@@ -343,6 +387,7 @@ static inline void policy_down(policy_of *of)
     policy_note_packed(of);
     of->policy->most = policy_in_play(of->policy, of->sizes), of->policy->idle = 0;
     while (policy_compact(of)) {}
+    for (uint32_t moves = 0; moves < of->sizes->regions && policy_slide(of);) moves++;
 }
 static inline int policy_spared(policy_of *of, uint32_t mutator, uint64_t size)
 {
@@ -377,6 +422,10 @@ static inline int policy_room(policy_of *of, uint32_t mutator, uint64_t size)
     if (2 * size > of->sizes->words) {
         while (policy_compact(of))
             if (policy_spared(of, mutator, size)) return 1;
+        for (uint32_t moves = 0; moves < of->sizes->regions; moves++) {
+            if (policy_spared(of, mutator, size)) return 1;
+            if (!policy_slide(of)) break;
+        }
         if (policy_spared(of, mutator, size)) return 1;
     }
     return taken + 2 >= of->sizes->regions;

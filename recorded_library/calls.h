@@ -1,5 +1,7 @@
 /* Made of include/g1heap.h by tools/write_calls: change the header, and run that. */
+uint32_t g1raw_version(void);
 uint32_t g1raw_new(g1_heap *heap, const g1_sizes *sizes);
+uint64_t g1raw_sizes_bytes(const g1_sizes *sizes);
 void g1raw_free(g1_heap *heap);
 g1_answer g1raw_new_object(g1_heap *heap, uint32_t mutator, uint32_t to, uint32_t pointers, uint32_t values);
 g1_answer g1raw_new_weak(g1_heap *heap, uint32_t mutator, uint32_t to, uint32_t pointers, uint32_t weaks, uint32_t values);
@@ -61,6 +63,16 @@ g1_answer g1_shrink_noted(g1_heap *heap, g1_policy *policy, entry *entries, size
 /* The lines of the collector's steps, by the numbers of entries. */
 static const char *const collector_forms[] = {"gc begin", "gc mark %", "gc remark", "gc cleanup", "gc refine %", "gc pause %",
                                               "gc compact %", "gc pausewithin % %", "gc young % %", "gc clear %"};
+
+uint32_t g1_version(void)
+{
+    return g1raw_version();
+}
+
+uint64_t g1_sizes_bytes(const g1_sizes *sizes)
+{
+    return g1raw_sizes_bytes(sizes);
+}
 
 g1_answer g1_new_object(g1_heap *heap, uint32_t mutator, uint32_t to, uint32_t pointers, uint32_t values)
 {

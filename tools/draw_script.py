@@ -140,6 +140,9 @@ class Drawer:
         # In the third format some of the pauses are compactions, drawn apart too.
         self.compactions = random.Random(f"compactions {seed}")
         self.compacted = self.compactions.choice((0, 0.2, 0.5, 0.9)) if self.third else 0
+        # And some of the objects between gaps take more than half a region each.
+        self.runs = random.Random(f"runs {seed}")
+        self.large_share = self.runs.choice((0, 0.2, 0.5))
         # Some of the others are within cards, or of young regions.
         self.limits = random.Random(f"limits {seed}")
         self.limited = self.limits.choice((0, 0.2, 0.5, 0.9)) if self.third else 0
@@ -502,13 +505,15 @@ class Drawer:
             self.pause()
 
     def many_gaps(self):
-        """Objects over many regions, of which the first and some others are lost, and compactions of what is left."""
+        """Objects over many regions, some of them large, of which the first and some others are lost, and compactions of what is left."""
         mutator = self.any_mutator()
         registers = self.roots[mutator]
         if self.marking:
             self.mark_step("remark")
         for place in range(self.number(8, 30)):
             size = self.pick((self.words // 2, self.words // 2, self.words // 4 + 2, self.number(3, self.words // 2)))
+            if self.runs.random() < self.large_share:
+                size = self.words // 2 + self.runs.randint(1, 2 * self.words)
             pointers = self.number(1, size - 2)
             self.make(mutator, place % 8, pointers, size - 2 - pointers)
             self.fill(mutator, place % 8, 0, self.number(0, 7))

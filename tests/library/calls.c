@@ -341,6 +341,7 @@ static void within_cards(g1_heap *h)
 
 int main(void)
 {
+    is_code("version", g1_version(), G1_VERSION_MAJOR * 65536 + G1_VERSION_MINOR * 256 + G1_VERSION_PATCH);
     g1_sizes sizes = {4, 16, 8, 2, 0, 8, 3, 4};
     g1_heap one = G1_HEAP_NONE, other = G1_HEAP_NONE;
     refuse_sizes();

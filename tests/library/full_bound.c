@@ -2,8 +2,8 @@
    collector that come as they like. Half of the loads fill a heap until an object is refused, drop some or most of it, and fill it again. A
    graph of objects of its own tells after each G1_FULL what roots reached: for an object of at most half a region more than half of the
    words of all regions but three, of all but two unless just one region is ordinary, and, of objects of at most half a region, of all
-   ordinary ones if these are two or more. For a larger one there is no run of free regions, or fewer than two are free beside it, and only
-   larger objects that roots reach part the free ones.
+   ordinary ones if these are two or more. For a larger one that takes c regions fewer than c + 2 are free, side by side, and roots reached
+   more than half of the words of all but c + 2, of all but c + 1 unless just one region is ordinary.
 
      full_bound [LOADS [FIRST]]        1,400 loads from number 1 on, where they are left out: a load hangs on its number alone
 
@@ -19,7 +19,7 @@ enum { HALF, BELOW_HALF, THIRD, LEAST, THESE, MIXED, LARGE, KINDS };
 static const char *const kinds[KINDS] = {"R/2", "R/2 - 1", "R/3 + 1", "2", "these four", "2 to R/2", "2 to R/2, and larger"};
 
 typedef struct object { uint32_t size, pointers, weaks; int32_t fields[FIELDS]; } object; /* pointers, then weak slots */
-typedef struct reach { uint64_t small, all; uint32_t wide, larger; } reach_of;
+typedef struct reach { uint64_t small, all; uint32_t wide; } reach_of;
 /* Of so many words so many were reachable: in the load of this number, in so many regions of so many words. */
 typedef struct share { uint64_t live, of; int load; uint32_t regions, words; } share;
 enum { BUT_TWO, BUT_THREE, ORDINARY, SHARES };
@@ -67,17 +67,17 @@ static void reach(int32_t which, uint32_t *last)
 {
     if (which >= 0 && !reached[which]) reached[which] = 1, queue[(*last)++] = which;
 }
-/* The words of reachable objects of at most half a region, and of all; how many regions the larger ones take, and how many these are. */
+/* The words of reachable objects of at most half a region, and of all; and how many regions the larger ones take. */
 static reach_of what_is_reached(void)
 {
-    reach_of all = {0, 0, 0, 0};
+    reach_of all = {0, 0, 0};
     uint32_t last = 0;
     memset(reached, 0, (size_t)count);
     for (uint32_t i = 0; i < ROOTS; i++) reach(roots[i], &last);
     for (uint32_t i = 0; i < last; i++) {
         object *it = &objects[queue[i]];
         all.all += it->size;
-        if (is_larger(it->size)) all.wide += regions_for(it->size), all.larger++;
+        if (is_larger(it->size)) all.wide += regions_for(it->size);
         else all.small += it->size;
         for (uint32_t k = 0; k < it->pointers; k++) reach(it->fields[k], &last);
     }
@@ -104,13 +104,18 @@ static void look(int kind)
     if (ordinary != 1) is_half(kind, BUT_TWO, "refused while half of all regions but two is dead", all.all, sizes.regions - 2);
     if (ordinary >= 2) is_half(kind, ORDINARY, "refused while half of the ordinary regions is dead", all.small, ordinary);
 }
-/* A larger one was: between free regions are larger objects alone, so there are at most as many runs of free ones, and one more. */
+/* A larger one was. */
 static void look_at_runs(uint32_t size)
 {
+    reach_of all = what_is_reached();
     uint32_t free = free_regions(), run = (uint32_t)g1_free_run(&heap).first, taken = regions_for(size);
+    uint64_t words = (uint64_t)(sizes.regions - 2 - taken) * sizes.words;
     full_larger++;
-    is(run < taken || free < taken + 2, "refused though there is a run of free regions", run, taken);
-    is(free <= (what_is_reached().larger + 1) * run, "free regions lie apart", free, run);
+    is(free < taken + 2, "refused though there is a run of free regions", free, taken);
+    is(free == run, "free regions lie apart", free, run);
+    is(words < 2 * all.all, "refused while half of all but two and its own regions is dead", all.all, words);
+    words += sizes.words;
+    if (all.wide + free + 1 != sizes.regions) is(words < 2 * all.all, "refused while half of one region more is dead", all.all, words);
 }
 
 static uint32_t size_of(int kind)

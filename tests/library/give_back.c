@@ -1,9 +1,9 @@
 /* Memory that goes back to the system by g1_shrink and g1_give_back, by what /proc/self/statm tells of the process: so it needs Linux.
 
      give_back               heaps of 64 MiB, 1 GiB and 4 GiB, in which a program makes objects of which up to 50 MB live: while it does it
-                             holds at most 3 times these and 80 MiB. Then heaps that are filled, with up to 1 GB, and all but 50 MB of that
+                             holds at most 3 times these and 32 MiB. Then heaps that are filled, with up to 1 GB, and all but 50 MB of that
                              dropped: the policy's hint comes, after g1_shrink the process holds at most 1.5 times what lives and 16 MiB,
-                             and while the program goes on 3 times and 80 MiB; then all is filled once more. A heap that grows and shrinks
+                             and while the program goes on 3 times and 32 MiB; then all is filled once more. A heap that grows and shrinks
                              100 times
      give_back same COUNT    a drawn program, which gives back COUNT times: its record is the same whatever COUNT is
 
@@ -119,7 +119,7 @@ static uint32_t renew(uint64_t live, uint32_t lists)
     return add_to(list, 61);
 }
 
-/* Makes so many bytes of them. While it runs the process holds 3 times what lives and 80 MiB at most. */
+/* Makes so many bytes of them. While it runs the process holds 3 times what lives and 32 MiB at most. */
 static int run_on(uint64_t bytes, uint64_t live, uint32_t lists)
 {
     uint64_t most = 0, held;
@@ -129,7 +129,7 @@ static int run_on(uint64_t bytes, uint64_t live, uint32_t lists)
     }
     printf("%llu bytes made, of which %llu live: %llu held at most, %u regions in play\n", (unsigned long long)bytes,
            (unsigned long long)live, (unsigned long long)most, sizes.regions - policy.held);
-    return most <= 3 * live + 80 * MEBIBYTE ? 0 : fails("too much is held");
+    return most <= 3 * live + 32 * MEBIBYTE ? 0 : fails("too much is held");
 }
 
 /* Makes such objects until the policy says that memory could go back, which comes before so many bytes. */
@@ -156,8 +156,8 @@ static int in_heap(uint32_t mebibytes, uint32_t regions, uint32_t left)
         uint64_t live = 8 * g1_live_words(&heap).first, held = resident();
         printf("%u MiB: %llu bytes live, %llu held, %llu before\n", mebibytes, (unsigned long long)live, (unsigned long long)held,
                (unsigned long long)most);
-        if (held > live + live / 2 + 16 * MEBIBYTE || most < filled) return fails("too much is held, or too little was");
         if (live < (uint64_t)left * MEBIBYTE) live = (uint64_t)left * MEBIBYTE;
+        if (held > live + live / 2 + 16 * MEBIBYTE || most < filled) return fails("too much is held, or too little was");
         if (!are_whole() || run_on(filled, live, lists) || !are_whole()) return fails("objects are lost, or too much is held");
     }
     if (mebibytes <= 64 && (fill(61) || !are_whole())) return fails("the heap can't be used whole");

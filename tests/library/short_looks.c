@@ -4,6 +4,7 @@
 
    - while more regions are free than are kept in reserve, a look takes one pause at most, which copies at most `pause_words`; it ends a
      cycle or takes a pause, and not both; two looks in turn don't both refine alone; and after a pause no card is queued
+   - a look that clears weak slots counts as one to four, and at 85 percent too the clearing ends before the reserve is reached
    - at 20 and 50 percent live no look finds as few regions free, and no whole collection comes
    - trees, lists and entries of which nine of ten words die at once, at 50 percent live: at most 0.15 words are copied and 0.04 objects
      scanned for each word made
@@ -18,10 +19,12 @@
 
 enum { TABLE, ROW, ELEMENT, PART, OTHER };      /* registers */
 enum { LEAVES = 8, CELLS = 16, DEAD = 5, SLOTS = 4 };
-enum { BOTH, PAUSES, COPIES, REFINES, QUEUES, SHORT, WHOLE, FAULTS };
+enum { BOTH, PAUSES, COPIES, REFINES, QUEUES, CLEARS, LATE, SHORT, WHOLE, FAULTS };
 
 static const char *const faults[FAULTS] = {"a pause and the end of a cycle", "two pauses", "more words copied than a pause may",
-                                           "two looks that refine alone", "cards queued after a pause", "looks with the reserve reached", "whole collections"};
+                                           "two looks that refine alone", "cards queued after a pause",
+                                           "more weak slots cleared than at four looks", "weak slots left where the reserve was reached",
+                                           "looks with the reserve reached", "whole collections"};
 static g1_heap heap = G1_HEAP_NONE;
 static g1_policy policy;
 static g1_sizes sizes;
@@ -36,10 +39,12 @@ static uint32_t draw(uint32_t below)
 static uint64_t all_words(void) { return (uint64_t)sizes.regions * sizes.words; }
 
 /* Counts what a look did that it shouldn't have. */
-static void look_at(const g1_policy *before, uint32_t free)
+static void look_at(const g1_policy *before, uint32_t free, int clearing)
 {
     uint64_t pauses = policy.pauses - before->pauses, cycles = policy.cycles - before->cycles;
     if (policy.packed_next != before->packed_next) counts[WHOLE]++;
+    counts[CLEARS] += policy.clears > before->clears && policy.clears - before->clears > 4;
+    counts[LATE] += clearing && free <= policy.reserve;
     if (free <= policy.reserve) {
         counts[SHORT]++;
         return;
@@ -52,12 +57,12 @@ static void look_at(const g1_policy *before, uint32_t free)
 static uint32_t make(uint32_t to, uint32_t pointers, uint32_t weaks, uint32_t values)
 {
     uint32_t size = 2 + pointers + weaks + values, free = 0;
-    int looks = size >= policy.left;
+    int looks = size >= policy.left, clearing = 0;
     g1_policy before = policy;
-    if (looks) free = (uint32_t)g1_free_regions(&heap).first;
+    if (looks) free = (uint32_t)g1_free_regions(&heap).first, clearing = g1_clearing(&heap).first == 1;
     uint32_t code = g1_make(&heap, &policy, 0, to, pointers, weaks, values).code;
     if (code != G1_NAME) printf("code %u\n", code), exit(1);
-    if (looks) look_at(&before, free);
+    if (looks) look_at(&before, free, clearing);
     made += size;
     return size;
 }
@@ -151,6 +156,7 @@ int main(void)
         run("trees", make_tree, 91, shares[i], 10), run("lists", make_list, 81, shares[i], 10);
         run("entries", make_entry, 13, shares[i], 10), run("weak", make_weak, 9, shares[i], 10);
     }
+    run("weak", make_weak, 9, 85, 10);
     run("trees", make_tree, 91, 50, 90), run("lists", make_list, 81, 50, 90), run("entries", make_entry, 13, 50, 90);
     g1_free(&heap);
     return failed;

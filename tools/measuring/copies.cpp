@@ -2,13 +2,21 @@
 // for tools/measure costs.
 //
 //     copies OBJECTS TIMES
+//     copies WORDS TIMES WAY          the words of one object move down by so many, so many times over: nothing is printed
 #include <cstdio>
 #include <cstdlib>
 #include <cstring>
 #include <ctime>
 #include <vector>
 
-int main(int, char** arguments) {
+int main(int count, char** arguments) {
+    if (count > 3) {
+        const std::size_t words = std::strtoul(arguments[1], nullptr, 10), way = std::strtoul(arguments[3], nullptr, 10);
+        std::vector<unsigned long> row(words + way, 1);
+        volatile std::size_t bytes = words * sizeof(unsigned long);
+        for (int time = std::atoi(arguments[2]); time > 0; --time) std::memmove(row.data(), row.data() + way, bytes);
+        return row[0] == 1 ? 0 : 1;
+    }
     const std::size_t size = 32, objects = std::strtoul(arguments[1], nullptr, 10);
     const int times = std::atoi(arguments[2]);
     std::vector<unsigned long> from(objects * size, 1), to(objects * size, 2);

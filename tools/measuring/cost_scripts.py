@@ -398,6 +398,20 @@ def third(is_used, steps):
     return lines + steps
 
 
+def run_moves(size, pointers, words, regions, budget, times):
+    """An object of so many words near the heap's end, above runs of a region each, of which the highest ones are lost one at a time: a
+    compaction moves it down by a region then, if the budget allows. A search for it passes nearly all regions, whether it finds it or not."""
+    kept, chain = times + 1, times + 2
+    lines = [f"heap3 {regions} {words} 4 1 0 8 0 {times + 3}"]
+    for _ in range(regions - times - -(-size // words) - 2):
+        lines += [f"0 new r{kept} {shape(words, 1)}", f"0 put r{kept} 0 r{chain}", f"0 move r{chain} r{kept}"]
+    lines += [f"0 new r{register} {shape(words, 0)}" for register in range(times)]
+    lines.append(f"0 new r{times} {shape(size, pointers)}")
+    for register in reversed(range(times)):
+        lines += [f"0 drop r{register}", "gc begin", "gc remark", "gc cleanup", f"gc compact {budget}"]
+    return lines
+
+
 SCRIPTS = {
     "no_steps": no_steps,
     "pauses": pauses,

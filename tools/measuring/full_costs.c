@@ -1,21 +1,26 @@
-/* What a refused object, a whole collection and a heap's end cost where a share of the heap lives.
+/* What a refused object, a whole collection, memory that goes back and a heap's end cost where a share of the heap lives.
 
    A list of cells with a leaf each, and as many leaves that die at once, are made until the share lives. Then there come, each pair in a
-   heap of its own, a g1_make of an object of half the heap, which is refused as Full, and the same again; a g1_collect_all, and the same
-   again; and each heap's g1_free. Of several runs the least is told, in milliseconds of the thread's processor time.
+   heap of its own, a g1_make of an object of half the heap, which is refused as Full, and the same again, where an object may be so large;
+   a g1_collect_all, and the same again; a g1_give_back after all was dropped and collected, and beside it munmap of as much memory as went
+   back; and each heap's g1_free. Of several runs the least is told, in milliseconds of the thread's processor time.
 
      cc -O2 -D_DEFAULT_SOURCE -Iinclude tools/measuring/full_costs.c -Llib -lg1heap -o full_costs
      ./full_costs [MEBIBYTES=128 [PERCENT=70 [RUNS=5]]] */
 #include <g1heap.h>
 #include <stdio.h>
 #include <stdlib.h>
+#include <string.h>
+#include <sys/mman.h>
 #include <time.h>
+#include <unistd.h>
 
 enum { LIST, CELL, LEAF };                                /* registers */
 enum { NEXT, HELD };                                      /* a cell's pointers */
 enum { CELL_WORDS = 5, LEAF_DATA = 5, LEAF_WORDS = 7 };   /* with header and name */
-enum { FULL, FULL_AGAIN, COLLECT, COLLECT_AGAIN, FREE, WHATS };
-static const char *const whats[WHATS] = {"g1_make, refused as Full", "the same again", "g1_collect_all", "the same again", "g1_free"};
+enum { FULL, FULL_AGAIN, COLLECT, COLLECT_AGAIN, GIVE, UNMAP, FREE, WHATS };
+static const char *const whats[WHATS] = {"g1_make, refused as Full", "the same again", "g1_collect_all", "the same again", "g1_give_back",
+                                          "munmap of what went back", "g1_free"};
 static double least[WHATS];
 static g1_heap heap = G1_HEAP_NONE;
 static g1_policy policy;
@@ -73,6 +78,31 @@ static void collect(int what)
     g1_collect_all(&heap, &policy);
     note(what, start);
 }
+/* The bytes that the process holds. */
+static uint64_t resident(void)
+{
+    unsigned long long all, held;
+    FILE *file = fopen("/proc/self/statm", "r");
+    if (file == NULL || fscanf(file, "%llu %llu", &all, &held) != 2) fail("statm can't be read");
+    fclose(file);
+    return held * (uint64_t)sysconf(_SC_PAGESIZE);
+}
+/* All is dropped, collected and given back. */
+static void give_back(void)
+{
+    g1_drop(&heap, 0, LIST), g1_collect_all(&heap, &policy);
+    uint64_t held = resident();
+    double start = now();
+    if (g1_give_back(&heap).code != G1_DONE) fail("memory is refused");
+    note(GIVE, start);
+    held -= resident();
+    char *pages = mmap(NULL, held, PROT_READ | PROT_WRITE, MAP_PRIVATE | MAP_ANONYMOUS, -1, 0);
+    if (pages == MAP_FAILED) fail("memory is refused");
+    memset(pages, 1, held);
+    start = now();
+    munmap(pages, held);
+    note(UNMAP, start);
+}
 static uint32_t number(char **words, int count, int at, uint32_t left_out)
 {
     return at < count ? (uint32_t)strtoul(words[at], NULL, 10) : left_out;
@@ -84,8 +114,9 @@ int main(int count, char **words)
     g1_sizes sizes = {regions, region, 511, 1, 0, 64, 0, 16};
     uint64_t live = (uint64_t)all * percent / 100;
     for (uint32_t run = 0; run < runs; run++) {
-        fill(&sizes, live), refuse(FULL, all / 2), refuse(FULL_AGAIN, all / 2), empty();
+        if (all / 2 < G1_MAX_OBJECT_WORDS) fill(&sizes, live), refuse(FULL, all / 2), refuse(FULL_AGAIN, all / 2), empty();
         fill(&sizes, live), collect(COLLECT), collect(COLLECT_AGAIN), empty();
+        fill(&sizes, live), give_back(), empty();
     }
     for (int what = 0; what < WHATS; what++) printf("%8.1f ms  %s\n", least[what], whats[what]);
     return 0;

@@ -11,14 +11,26 @@
      weak      objects of 4 weak slots that lead to drawn elements
 
      cc -O2 -D_DEFAULT_SOURCE -Iinclude tools/measuring/live_loads.c -Llib -lg1heap -o live_loads
-     ./live_loads LOAD MEBIBYTES PERCENT [runs=2] [dying=10] [card=64] [pause_words=0] [words=0]
+     ./live_loads LOAD MEBIBYTES PERCENT [runs=2] [dying=10] [card=64] [pause_words=0] [words=0] [like=0]
 
    `dying`: for ten words of an element so many others are made that die at once. `card`: the words of a card. Where they aren't 0,
-   `pause_words` is set in the policy, and `words` are made after the filling.
+   `pause_words` is set in the policy, and `words` are made after the filling; and `like` is a larger heap's mebibytes: there are as many
+   regions as in that, which are smaller, and the policy's numbers of words, cards and objects are as much smaller. So it goes the ways of
+   that heap, in less time, and looks are as much shorter.
 
    It prints a row: the heap, percent live, the load; the longest look, and the longest while the table was filled; which part of the time
    looks took; objects scanned and words copied for each word made; cycles of marking; and the time of all for each object made. Times are
    processor time of the thread. Each run does the same in a process of its own; of each look, and of the whole, the least time counts.
+
+   By -DMODEL over the plain heap the time is that of a model, the same on any machine however busy it is: what each kind of work costs by
+   the table `costs`, and 20 ns for each word that is made.
+
+     g++ -O2 -std=c++17 -DPLAIN_COUNTS -Iinclude -c plain/plain_library.cpp -o plain.o
+     cc -O2 -D_DEFAULT_SOURCE -DMODEL -Iinclude tools/measuring/live_loads.c plain.o -lstdc++ -o live_model
+     ./live_model LOAD MEBIBYTES PERCENT [dying=10] [card=64] [pause_words=0] [words=0] [like=0]
+
+   Its row has more: the least part of any 100 ms that the program has; the collector's time for each word made; whole collections; and what
+   the longest look did, in thousands.
 
    By -DMEMORY_BOEHM with -lgc the same on Boehm's collector, with one thread and, at first, as large a heap, without `weak`: weak slots
    are left out there. A look is a collection, whose sweeping comes later; the heap's size is that at the end. */
@@ -44,20 +56,72 @@ typedef struct shared {
 
 static shared *least;
 static const load *loaded;
-static uint64_t seed = 88172645463325252u, words_made, look_count, owed;
-static uint32_t elements, columns, dying = 10, card = 64, pause_words, runs = 2, wanted_words;
+static uint64_t seed = 88172645463325252u, words_made, filled_words, look_count, owed;
+static int is_filled;
+static uint32_t elements, columns, dying = 10, card = 64, pause_words, runs = 2, wanted_words, like, shrunk = 1;
 
 static uint32_t draw(uint32_t below)
 {
     seed ^= seed << 13, seed ^= seed >> 7, seed ^= seed << 17;
     return (uint32_t)((seed >> 20) % below);
 }
+#ifdef MODEL
+/* What plain_work counts, and what one costs in nanoseconds. */
+enum { WORKS = 6 };
+uint64_t plain_work(const g1_heap *heap, uint32_t kind);
+static const struct cost { const char *of; uint64_t each; } costs[WORKS] = {
+    {"words copied", 15}, {"cards visited", 300}, {"cards refined", 400}, {"words marked", 25}, {"objects cleared", 150}, {"flags", 2}};
+static uint64_t longest_look, longest_work[WORKS], work_before[WORKS], starts[MOST_LOOKS], whole, packed_before;
+
+static uint64_t now(void)
+{
+    uint64_t sum = 0;
+    for (uint32_t kind = 0; kind < WORKS; kind++) sum += costs[kind].each * plain_work(&m_heap, kind);
+    return sum;
+}
+/* Notes where a look of so much time starts, and what the longest one did. */
+static void note_work(uint64_t time)
+{
+    uint64_t work[WORKS], program = 20 * (words_made + filled_words);
+    for (uint32_t kind = 0; kind < WORKS; kind++) work[kind] = plain_work(&m_heap, kind);
+    starts[look_count] = program + now() - time;
+    for (uint32_t kind = 0; kind < WORKS && is_filled && time > longest_look; kind++) longest_work[kind] = work[kind] - work_before[kind];
+    if (is_filled && time > longest_look) longest_look = time;
+    memcpy(work_before, work, sizeof work);
+    whole += is_filled && m_policy.packed_next != packed_before, packed_before = m_policy.packed_next;
+}
+/* The least part of any so many nanoseconds from the filling on that the program has. */
+static double least_share(uint64_t window)
+{
+    uint64_t most = 0, sum = 0, end = least->filling;
+    for (uint64_t from = end; from < least->count; from++) {
+        for (; end < least->count && starts[end] + least->looks[end] <= starts[from] + window; end++) sum += least->looks[end];
+        uint64_t in = sum, until = starts[from] + window;
+        if (end < least->count && starts[end] < until) in += until - starts[end];
+        if (in > most) most = in;
+        if (end > from) sum -= least->looks[from];
+        else end = from + 1;
+    }
+    return most < window ? 1 - (double)most / (double)window : 0;
+}
+static void print_model(void)
+{
+    uint64_t sum = 0;
+    for (uint64_t i = least->filling; i < least->count; i++) sum += least->looks[i] - 1;
+    printf("| %.3f | %.1f ns | %" PRIu64 " |", least_share(100000000), (double)sum / (double)least->words, whole);
+    for (uint32_t kind = 0; kind < WORKS; kind++)
+        if (longest_work[kind] >= 1000) printf(" %s %.0f", costs[kind].of, (double)longest_work[kind] / 1e3);
+}
+#else
+static void note_work(uint64_t time) { (void)time; }
+static void print_model(void) {}
 static uint64_t now(void)
 {
     struct timespec at;
     clock_gettime(CLOCK_THREAD_CPUTIME_ID, &at);
     return (uint64_t)at.tv_sec * 1000000000u + (uint64_t)at.tv_nsec;
 }
+#endif
 static uint64_t sized_words(void) { return (uint64_t)m_sizes.regions * m_sizes.words; }
 static void least_of(uint64_t *kept, uint64_t time)
 {
@@ -66,6 +130,7 @@ static void least_of(uint64_t *kept, uint64_t time)
 static void note_look(uint64_t time)
 {
     if (look_count == MOST_LOOKS) m_die("too many looks");
+    note_work(time);
     least_of(&least->looks[look_count++], time + 1);
 }
 
@@ -95,9 +160,20 @@ static void count_steps(uint64_t counts[M_COUNTS]) { m_count(counts), counts[M_C
 #else
 
 static uint64_t heap_words(void) { return sized_words(); }
+/* The numbers of a policy for regions that are so many times larger, each as many times smaller. */
+static void shrink(void)
+{
+    g1_sizes large = m_sizes;
+    large.words *= shrunk;
+    g1_policy_start(&m_policy, &large);
+    uint32_t *numbers[] = {&m_policy.pause_words, &m_policy.mark_words, &m_policy.cycle_words, &m_policy.young_words, &m_policy.cards_left,
+                           &m_policy.visit_cards, &m_policy.clear_objects};
+    for (size_t i = 0; i < sizeof numbers / sizeof *numbers; i++) *numbers[i] /= shrunk;
+}
 static void start(void)
 {
     m_start();
+    if (shrunk > 1) shrink();
     if (pause_words != 0) m_policy.pause_words = pause_words;
 }
 /* Only a call that may run the collector is timed. */
@@ -196,7 +272,7 @@ static void run(void)
     if (wanted == 0) wanted = sized_words() > LEAST_WORDS ? sized_words() : LEAST_WORDS;
     start();
     fill();
-    least->filling = look_count, words_made = 0, count_steps(before), from = now();
+    least->filling = look_count, filled_words = words_made, words_made = 0, is_filled = 1, count_steps(before), from = now();
     while (words_made < wanted)
         if (loaded->element) replace(draw(elements));
         else change(draw(2 * elements));
@@ -217,15 +293,18 @@ static void print_row(uint32_t percent)
     double made = (double)least->words, spent = (double)least->spent;
     printf("| %" PRIu64 " MiB | %" PRIu32 " %% | %s | %.1f ms | %.1f ms | %.0f %% ", least->heap / 131072, percent, loaded->name,
            (double)longest[0] / 1e6, (double)longest[1] / 1e6, 100.0 * (double)sum / spent);
-    printf("| %.3f | %.2f | %" PRIu64 " | %.3f us |\n", (double)least->scanned / made, (double)least->copied / made, least->cycles,
+    printf("| %.3f | %.2f | %" PRIu64 " | %.3f us ", (double)least->scanned / made, (double)least->copied / made, least->cycles,
            spent / (double)least->objects / 1e3);
+    print_model();
+    puts("|");
 }
 
 /* A word NAME=NUMBER sets an option. */
 static int set_option(const char *word)
 {
     static const struct option { const char *name; uint32_t *number; } options[] = {
-        {"runs=", &runs}, {"dying=", &dying}, {"card=", &card}, {"pause_words=", &pause_words}, {"words=", &wanted_words}};
+        {"runs=", &runs}, {"dying=", &dying}, {"card=", &card}, {"pause_words=", &pause_words}, {"words=", &wanted_words},
+        {"like=", &like}};
     for (size_t i = 0; i < sizeof options / sizeof *options; i++) {
         size_t length = strlen(options[i].name);
         if (strncmp(word, options[i].name, length) == 0) return *options[i].number = (uint32_t)atoi(word + length), 1;
@@ -236,10 +315,12 @@ static int set_option(const char *word)
 /* Sizes of a heap of so many mebibytes, and of a table that keeps this share live. */
 static void set_sizes(uint32_t mebibytes, uint32_t percent)
 {
-    uint64_t all = (uint64_t)mebibytes * 131072;
+    uint64_t all;
+    if (like > mebibytes) shrunk = like / mebibytes;
+    mebibytes *= shrunk, all = (uint64_t)mebibytes * 131072;
     m_sizes.words = mebibytes > 16 ? 16384 : 4096;
     while (m_sizes.words * (uint64_t)2048 < all) m_sizes.words *= 2;
-    m_sizes.regions = (uint32_t)(all / m_sizes.words);
+    m_sizes.regions = (uint32_t)(all / m_sizes.words), m_sizes.words /= shrunk;
     m_sizes.buffer = m_sizes.words / 8 - 1 < 1023 ? m_sizes.words / 8 - 1 : 1023;
     m_sizes.card = card;
     elements = (uint32_t)(sized_words() * percent / 100 / loaded->words), columns = 1;
@@ -256,6 +337,9 @@ int main(int count, char **words)
     set_sizes((uint32_t)atoi(words[2]), (uint32_t)atoi(words[3]));
     least = mmap(NULL, sizeof *least, PROT_READ | PROT_WRITE, MAP_SHARED | MAP_ANONYMOUS, -1, 0);
     if (least == MAP_FAILED) m_die("no memory for the times");
+#ifdef MODEL
+    run(), runs = 0;
+#endif
     for (uint32_t i = 0; i < runs; i++) {
         int status = 1;
         if (fork() == 0) run(), _exit(0);

@@ -5,6 +5,7 @@
     tools/measure costs [PROGRAM] --steps
     tools/measure costs [PROGRAM] --parts
     tools/measure costs [PROGRAM] --weak
+    tools/measure costs [PROGRAM] --moves
     tools/measure costs [PROGRAM] [--runs 5] --pages
 
 The times are processor seconds, user and system, the best of some runs in which the two programs take turns; so other
@@ -18,6 +19,8 @@ With --steps the instructions of single steps by `run` are counted, from bytes t
 and 20,000 steps; and of the same events by `check` and by `check --follow`. With --parts those of parts of the collector's work, of both
 programs: the difference of two scripts. With --weak those of a marking cycle with weak slots and without, by `run` and by `check`: the
 difference of scripts that differ by some cycles.
+
+With --moves a compaction that moves a run down by one region is counted, on top of one with budget 0, beside memmove of as many words.
 
 With --pages `draw` is measured beside the `run` of the same script: seconds, instructions, the page's bytes and moments.
 """
@@ -75,6 +78,7 @@ def main():
     parser.add_argument("--steps", action="store_true", help="the instructions of single steps")
     parser.add_argument("--parts", action="store_true", help="the instructions of parts of the collector's work, of both programs")
     parser.add_argument("--weak", action="store_true", help="the instructions of cycles with weak slots")
+    parser.add_argument("--moves", action="store_true", help="the instructions of compactions that move a run")
     parser.add_argument("--pages", action="store_true", help="`draw` beside `run`")
     parser.add_argument("--only", nargs="+", choices=cost_scripts.SCRIPTS, metavar="SCRIPT", help="these scripts alone")
     words = parser.parse_args()
@@ -85,7 +89,8 @@ def main():
     if words.pages:
         measure_pages(program, words.runs)
         return
-    for is_asked, counted in ((words.steps, measure_steps), (words.parts, measure_parts), (words.weak, measure_weak)):
+    for is_asked, counted in ((words.steps, measure_steps), (words.parts, measure_parts), (words.weak, measure_weak),
+                              (words.moves, measure_moves)):
         if is_asked:
             counted(program)
             return
@@ -226,6 +231,32 @@ def measure_weak(program):
             counts = [instructions_by_verb(program, folder, script) for script in (lines, fewer)]
             run, check = ((long - short) / cycles for long, short in list(zip(*counts))[:2])
             print(f"{what} | {name} | {run:.0f} | {check:.0f}", flush=True)
+
+
+# Runs that move down by one region: words of the object, words of a region, how many regions the heap has.
+MOVES = ((16, 16, 64), (64, 16, 64), (1024, 16, 256), (4096, 16, 512), (512, 512, 64), (1024, 1024, 64), (4096, 1024, 64), (4096, 1024, 1024),
+         (65536, 1024, 128), (65536, 1024, 1024))
+MOVE_TIMES = 20
+
+
+def measure_moves(program):
+    """The instructions of a run's move, of both programs, and of memmove."""
+    print("words | of a region | regions | pointers | g1heap | plain heap | memmove | g1heap to memmove")
+    print("---|---|---|---|---|---|---|---")
+    with tempfile.TemporaryDirectory(prefix="measure_costs.") as folder:
+        plain, copies, path = (os.path.join(folder, name) for name in ("plain_heap", "copies", "moves.heap"))
+        compile_program(os.path.join(TOP, "plain", "plain_heap.cpp"), plain)
+        compile_program(os.path.join(HERE, "copies.cpp"), copies)
+        for size, words, regions in MOVES:
+            long, short = (instructions(copies, size, times, words) for times in (1000, 500))
+            bare = (long - short) / 500
+            for pointers in (0, size // 2):
+                counts = []
+                for budget in (size, 0):
+                    cost_scripts.write_lines(path, cost_scripts.run_moves(size, pointers, words, regions, budget, MOVE_TIMES))
+                    counts.append([instructions(tried, "run", path) for tried in (program, plain)])
+                one, other = ((moved - still) / MOVE_TIMES for moved, still in zip(*counts))
+                print(f"{size} | {words} | {regions} | {pointers} | {one:.0f} | {other:.0f} | {bare:.0f} | {ratio(one, bare)}", flush=True)
 
 
 def instructions_by_verb(program, folder, lines):

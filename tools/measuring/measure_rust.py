@@ -6,7 +6,7 @@ FOLDER has libg1heap.a; lib/ where it is left out. `calls` counts the instructio
 from two runs that differ by 20,000 calls: of tools/measuring/library_costs.c and of the crate's example `costs`. `programs` counts those of
 whole programs: clients/gcbench.c, clients/binary_trees.c and tools/measuring/stack_vm.c, and the crate's examples of the same; these also
 inlined, as the crate's page has it, where the kit and the module are there. `lox` counts those of the crate's two interpreters of Lox, over
-the heap and over Rc, for each program of examples/lox that comes to its end. `seconds` takes the user time of larger ones, the best of some
+the heap, also inlined, and over Rc, for each program of examples/lox that comes to its end. `seconds` takes the user time of larger ones, the best of some
 runs in turns. It needs cc, cargo and valgrind.
 """
 import argparse
@@ -58,7 +58,7 @@ def build_inlined(folder, scratch):
     flags = ["target-cpu=x86-64-v2", "linker-plugin-lto", f"linker={kit}/toolchain/bin/clang",
              *(f"link-arg={it}" for it in said.stdout.split())]
     target = "x86_64-unknown-linux-gnu"
-    subprocess.run(["cargo", "build", "--quiet", "--release", "--target", target, *(f"--example={it[2]}" for it in PROGRAMS)],
+    subprocess.run(["cargo", "build", "--quiet", "--release", "--target", target, *(f"--example={it[2]}" for it in PROGRAMS), "--example=lox"],
                    cwd=TOP / "bindings" / "rust", check=True,
                    env={**os.environ, "G1HEAP_LIB_DIR": str(scratch / "inlined"), "CARGO_TARGET_DIR": str(scratch / "lto"),
                         "CARGO_PROFILE_RELEASE_LTO": "fat", "CARGO_PROFILE_RELEASE_CODEGEN_UNITS": "1",
@@ -95,18 +95,21 @@ def main():
                 row(name, *counts, 0)
         programs = [(name, compile_c(source, scratch / f"c_{example}", folder), examples / example, few, many)
                     for name, source, example, few, many in PROGRAMS]
+        inlined = build_inlined(folder, scratch) if {"programs", "lox"} & set(chosen.only) else None
         if "programs" in chosen.only:
-            inlined = build_inlined(folder, scratch)
             table(["Millions of instructions", "C", "Rust", "Rust to C", "Rust, inlined"])
             for name, c, rust, few, _ in programs:
                 counts = [instructions(it, *few.split()) / 1e6 for it in (c, rust, *([inlined / rust.name] if inlined else []))]
                 print(f"| {name}, {few} | {counts[0]:,.0f} | {counts[1]:,.0f} | {counts[1] / counts[0]:.2f} | "
                       f"{f'{counts[2]:,.0f}' if inlined else '-'} |", flush=True)
         if "lox" in chosen.only:
-            table(["Millions of instructions", "Rc", "g1heap", "g1heap to Rc"])
+            table(["Millions of instructions", "Rc", "g1heap", "g1heap to Rc", "inlined", "inlined to Rc"])
+            interpreters = [examples / "lox_rc", examples / "lox", *([inlined / "lox"] if inlined else [])]
             for program in sorted((TOP / "bindings" / "rust" / "examples" / "lox").glob("*.lox")):
                 if "\n[line " not in program.with_suffix(".out").read_text():
-                    row(program.name, *(instructions(examples / name, program) / 1e6 for name in ("lox_rc", "lox")), 0)
+                    counts = [instructions(it, program) / 1e6 for it in interpreters]
+                    cells = [f"{counts[0]:,.0f}", *(f"{it:,.0f} | {it / counts[0]:.2f}" for it in counts[1:])]
+                    print(f"| {program.name} | {' | '.join(cells if inlined else [*cells, '-', '-'])} |", flush=True)
         if "seconds" in chosen.only:
             table(["Seconds", "C", "Rust", "Rust to C"])
             for name, c, rust, _, many in programs:

@@ -259,6 +259,22 @@ def broad():
     return "\n".join(lines)
 
 
+def moved_runs():
+    """Scripts whose compactions move runs, by name: over their own words and past them, among folded regions, where no objects are told."""
+    cycle = ["gc begin", "gc remark", "gc cleanup"]
+    near = ["heap3 12 16 8 1 0 8 2 8", "0 new r0 0 6", "0 new r1 0 30", "0 new r2 20 26", "0 new r3 1 15", "0 put r2 0 r2"]
+    near += ["0 put r2 19 r3", "0 put r3 0 r2", "0 drop r1", *cycle, "0 put r2 19 r2", "gc compact 47", *["gc compact 48"] * 3]
+    near += ["0 new r1 0 16", "0 drop r2", "0 put r3 0 nil", *cycle, *["gc compact 99"] * 3]
+
+    def far(sizes, lost, words):
+        lines = [f"heap3 {sizes} 2 8", "0 new r0 0 6", f"0 new r1 0 {lost}", f"0 new r2 3 {words}", "0 put r2 1 r2", f"0 new r3 0 {words}"]
+        return [*lines, "0 drop r1", *cycle, *["gc compact 99999"] * 3]
+
+    scripts = {"runs that move": near, "a run among folds": far("100 16 8 1 0 8", 400, 300),
+               "a run that isn't told": far("64 2048 8 1 0 64", 9000, 13000)}
+    return {name: "\n".join([*lines, ""]) for name, lines in scripts.items()}
+
+
 def special():
     """Scripts that are short enough to be tried whole, by name."""
     return {"exact numbers": exact(), "fields that lead nowhere": dangling(), "many of each kind": broad()}

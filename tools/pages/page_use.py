@@ -2,6 +2,8 @@
 import re
 import time
 
+from pages import page_worked
+
 # The least of what WCAG 2.2 asks for at level AA: contrast of text and of large text, of a focus's outline; pixels of what is clicked.
 CONTRAST, LARGE_CONTRAST, OUTLINE_CONTRAST, TARGET, LETTERS = 4.5, 3, 3, 24, 12
 WINDOWS = [(1280, 800), (390, 844)]
@@ -456,6 +458,74 @@ def check_folds(count, browser, name, path, moments):
     shown = [chosen, chosen, ""] in boxes and browser.run("return document.querySelectorAll('.lane.chosen').length") == 1
     count.note(f"{name}: a free region that is open", shown, boxes[-3:])
     browser.run("heapLife.openRegion(null)")
+
+
+# What is drawn of a run that moved: the regions in broken frames and in whole ones, and the rows that these are in; the pale regions; the
+# regions between which arrows lead; what is said.
+MOVED = """
+heapLife.show(heapLife.life.moments.findIndex((moment) => moment.event === arguments[0]));
+heapLife.setTiles(arguments[1]);
+const lanes = [...document.querySelectorAll('#lanes .lane:not(.fold)')].map((lane) => {
+  return { region: Number(lane.dataset.region), box: lane.querySelector('.bed').getBBox(), at: lane.transform.baseVal[0].matrix };
+});
+const spots = lanes.map(({ region, box, at }) => ({ region, x: at.e + box.width / 2, y: at.f + box.height / 2, box, at }));
+const frames = [...document.querySelectorAll('#lanes .evacuated')];
+const framed = (frame) => {
+  const { x, y, width, height } = frame.getBBox();
+  return spots.filter((spot) => x < spot.x && spot.x < x + width && y < spot.y && spot.y < y + height).map(({ region }) => region);
+};
+const isWhole = (frame) => getComputedStyle(frame).strokeDasharray === 'none';
+const rows = (regions) => new Set(spots.filter(({ region }) => regions.includes(region)).map(({ y }) => y)).size;
+const told = (some) => { const regions = some.flatMap(framed); return [regions, some.length === rows(regions)]; };
+const regionAt = ({ x, y }) => {
+  const found = spots.find(({ box, at }) => at.e <= x && x <= at.e + box.width && at.f <= y && y <= at.f + box.height);
+  return found ? found.region : null;
+};
+const cornerOf = ({ transform }) => ({ x: transform.baseVal[0].matrix.e, y: transform.baseVal[0].matrix.f });
+const ends = (arrow) => [regionAt(arrow.getPointAtLength(0)), regionAt(arrow.getPointAtLength(arrow.getTotalLength()))];
+return {
+  broken: told(frames.filter((frame) => !isWhole(frame))), whole: told(frames.filter(isWhole)),
+  pale: [...document.querySelectorAll('#lanes .ghost')].map((ghost) => cornerOf(ghost)).map(regionAt),
+  arrows: [...document.querySelectorAll('#lanes .arrow.copy')].map(ends),
+  said: [...document.querySelectorAll('#what li')].map((line) => line.textContent),
+};
+"""
+
+
+def regions_said(regions):
+    return f"region {regions[0]}" if len(regions) == 1 else f"regions {regions[0]} to {regions[-1]}"
+
+
+def check_moved_runs(count, browser, name, path, lives, tells_objects):
+    """A run that a compaction moved is shown as one object with its old and its new place; what else a compaction did as ever."""
+    browser.open(path)
+    steps = browser.run("return [...heapLife.life.events.values()].filter((event) => event.verb === 'compact').map((event) => event.count)")
+    moves = 0
+    for event in steps:
+        run = page_worked.moved_run(lives[event - 1], lives[event])
+        for tiles in (False, True):
+            shown = browser.run(MOVED, event, tiles)
+            where = f"{name}: a compaction, event {event}, {'tiles' if tiles else 'shares'}"
+            if not run:
+                is_none = not shown["whole"][0] and not any("moved as one" in line for line in shown["said"])
+                count.note(f"{where}: no run moved", is_none and shown["said"][0].startswith("Its set"), shown)
+                continue
+            object_name, words, was, now = run
+            own = f"#{object_name}, the object of a run," if tells_objects else "The object of a run"
+            freed = [region for region in was if region not in now]
+            wanted = {
+                "broken": [was, True], "whole": [now, True], "pale": freed, "arrows": [[was[0], now[0]]],
+                "said": [f"{own} moved as one: {words:,} words from {regions_said(was)} to {regions_said(now)}.",
+                         f"Free now: {'region' if len(freed) == 1 else 'regions'} {', '.join(map(str, freed[:24]))}"
+                         f"{f' and {len(freed) - 24} more' if len(freed) > 24 else ''}."],
+            }
+            count.note(f"{where}: a run moved", {**shown, "said": shown["said"][:2]} == wanted, (shown, wanted))
+            moves += 1
+    count.note(f"{name}: runs moved", moves > 0)
+    legend = browser.run("return document.getElementById('marks').textContent")
+    count.note(f"{name}: the legend", "where a compaction moved a run" in legend, legend)
+    said = browser.said()
+    count.note(f"{name}: the console", not said, said)
 
 
 def check_end_of_objects(count, browser, name, path):

@@ -142,3 +142,27 @@ def lives_of_objects(lives, sizes):
             notes.setdefault(name, []).extend([event, text] for text in said)
         last = here
     return notes
+
+
+# ---- runs that move
+
+def runs_of(moment):
+    """The runs of a moment, by the names of their objects: the object's words, and the regions."""
+    runs = {}
+    for region, lines in enumerate(moment.regions):
+        kind = lines[0].split()[2]
+        if kind == "h":
+            # the plain heap tells each field: a line is `o OFFSET NAME STATE`, the fields, and two semicolons
+            words = next(line for line in lines if line[0] == "o").split()
+            regions = [region]
+            runs[words[2]] = len(words) - 4, regions
+        elif kind == "t":
+            regions.append(region)
+    return runs
+
+
+def moved_run(before, after):
+    """The run that is at another place after a step: its name, its words, its old regions, its new ones; nothing where there is none."""
+    was, now = runs_of(before), runs_of(after)
+    moved = [(name, words, was[name][1], regions) for name, (words, regions) in now.items() if name in was and was[name][1] != regions]
+    return moved[0] if moved else None

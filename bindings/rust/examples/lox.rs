@@ -8,9 +8,11 @@ use std::io::Write;
 mod compiler;
 #[path = "lox/objects.rs"]
 mod objects;
+#[path = "lox/table.rs"]
+mod table;
 #[path = "lox/values.rs"]
 mod values;
-use compiler::{compile, Call, Op, Program, NATIVES};
+use compiler::{compile, Call, Handler, Op, Program, NATIVES};
 use values::*;
 
 /// Why a program stops.
@@ -36,7 +38,9 @@ struct Vm<'p, 'o, 'h> {
     program: &'p Program,
     words: Vec<Scalar>,
     calls: Vec<Call>,
-    globals: Local<'o, 'h>,
+    handlers: Vec<Handler>,
+    /// The words of variables, and what objects they hold.
+    globals: (Vec<Scalar>, Local<'o, 'h, Array>),
     /// Those of the program, by number.
     texts: Local<'o, 'h, Array<Text>>,
     interned: Interned<'o, 'h>,
@@ -45,7 +49,10 @@ struct Vm<'p, 'o, 'h> {
     places: Vec<usize>,
     /// The names of the fields that instances of a class have.
     fields: Vec<Vec<u32>>,
+    names: Names,
     init: Option<u32>,
+    /// A text that is being made.
+    both: String,
     out: std::io::BufWriter<std::io::StdoutLock<'static>>,
 }
 
@@ -59,22 +66,22 @@ impl<'p, 'o, 'h> Vm<'p, 'o, 'h> {
                 g.set_item(texts, index, text)
             })?;
         }
-        let count = program.globals.len() as u32;
-        let globals = f.alloc_any(count, 0, count)?;
-        for native in 0..NATIVES.len() as u32 {
-            f.write_at(globals, native, NATIVE + u64::from(native))?;
-        }
+        let mut globals = vec![UNDEFINED; program.globals.len()];
+        (0..NATIVES.len()).for_each(|native| globals[native] = Scalar(NATIVE + native as u64));
         Ok(Vm {
             program,
             words: Vec::new(),
             calls: Vec::new(),
-            globals,
+            handlers: Vec::new(),
+            globals: (globals, f.alloc_array(program.globals.len() as u32)?),
             texts,
             interned,
             open: f.nil_var()?,
             places: Vec::new(),
             fields: vec![Vec::new(); program.classes as usize],
+            names: Names::new(),
             init: program.texts.iter().position(|it| it == "init").map(|it| it as u32),
+            both: String::new(),
             out: std::io::BufWriter::new(std::io::stdout().lock()),
         })
     }
@@ -86,11 +93,13 @@ impl<'p, 'o, 'h> Vm<'p, 'o, 'h> {
     }
 
     /// Values that hold no object.
+    #[inline(always)]
     fn push(&mut self, stack: &mut Stack<'_, 'h>, word: Scalar) -> Answer {
         stack.push(Nil)?;
         self.words.push(word);
         Ok(())
     }
+    #[inline(always)]
     fn pick(&mut self, stack: &mut Stack<'_, 'h>, place: usize) -> Answer {
         stack.pick(place)?;
         self.words.push(self.words[place]);
@@ -123,7 +132,7 @@ impl<'p, 'o, 'h> Vm<'p, 'o, 'h> {
         self.words.push(word);
         Ok(())
     }
-    /// The same into a place below.
+    /// What `body` makes replaces the value of a place.
     #[inline]
     fn put<'s>(
         &mut self,
@@ -131,8 +140,13 @@ impl<'p, 'o, 'h> Vm<'p, 'o, 'h> {
         place: usize,
         body: impl for<'g> FnOnce(&mut Self, &mut Frame<'g, 'h>, &Stack<'s, 'h>) -> Answer<Slot<'g, 'h>>,
     ) -> Answer {
-        self.make(stack, 0, body)?;
-        self.store(stack, place);
+        let mut word = NIL;
+        stack.replace(place, |g, s| {
+            let (scalar, object) = body(self, g, s)?;
+            word = scalar;
+            Ok::<_, Stop>(object)
+        })?;
+        self.words[place] = word;
         Ok(())
     }
 
@@ -178,10 +192,11 @@ impl<'p, 'o, 'h> Vm<'p, 'o, 'h> {
     fn rarer(&mut self, stack: &mut Stack<'_, 'h>, op: Op, base: usize) -> Answer {
         match op {
             Op::Text(text) => self.make(stack, 0, |vm, g, _| Ok((OBJECT, g.item(vm.texts, text)?.map(Local::any)))),
-            Op::GetGlobal(global) => self.make(stack, 0, |vm, g, _| match load(g, vm.globals, global)? {
-                (UNDEFINED, _) => wrong(format!("Undefined variable '{}'.", vm.program.globals[global as usize])),
-                found => Ok(found),
-            }),
+            Op::GetGlobal(global) => match self.globals.0[global as usize] {
+                UNDEFINED => self.undefined(global),
+                OBJECT => self.make(stack, 0, |vm, g, _| Ok((OBJECT, g.item(vm.globals.1, global)?))),
+                scalar => self.push(stack, scalar),
+            },
             Op::SetGlobal(_) | Op::DefineGlobal(_) => self.set_global(stack, op),
             Op::GetUpvalue(index) => self.get_upvalue(stack, base, index),
             Op::SetUpvalue(index) => self.set_upvalue(stack, base, index),
@@ -204,27 +219,55 @@ impl<'p, 'o, 'h> Vm<'p, 'o, 'h> {
                 Ok(())
             }
             Op::Closure(function) => self.closure(stack, function as usize, base),
-            Op::Class(name, number) => self.class(stack, name, number as usize),
+            Op::Class(name, number) => self.class(stack, name, number),
             Op::Inherit => self.inherit(stack),
             Op::Method(name) => self.add_method(stack, name),
+            Op::Try(pc) => {
+                self.handlers.push(Handler { calls: self.calls.len(), pc: pc as usize, len: self.words.len() });
+                Ok(())
+            }
+            Op::EndTry => {
+                self.handlers.pop();
+                Ok(())
+            }
+            Op::Throw => self.throw(stack),
             other => unreachable!("{:?}", other),
         }
     }
     fn set_global(&mut self, stack: &mut Stack<'_, 'h>, op: Op) -> Answer {
-        let value = self.top(0);
-        match op {
-            Op::SetGlobal(global) => {
-                if stack.scope(|g, _| g.read_at(self.globals, global))? == UNDEFINED.0 {
-                    return wrong(format!("Undefined variable '{}'.", self.program.globals[global as usize]));
-                }
-                stack.scope(|g, s| store(g, self.globals, global, (value, s.top(0))))?;
-            }
-            Op::DefineGlobal(global) => {
-                stack.scope(|g, s| store(g, self.globals, global, (value, s.top(0))))?;
-                self.truncate(stack, self.words.len() - 1);
-            }
+        let (value, global) = match op {
+            Op::SetGlobal(global) if self.globals.0[global as usize] == UNDEFINED => return self.undefined(global),
+            Op::SetGlobal(global) | Op::DefineGlobal(global) => (self.top(0), global),
             other => unreachable!("{:?}", other),
+        };
+        let old = std::mem::replace(&mut self.globals.0[global as usize], value);
+        if old == OBJECT || value == OBJECT {
+            stack.scope(|g, s| g.set_item(self.globals.1, global, s.top(0)))?;
         }
+        if matches!(op, Op::DefineGlobal(_)) {
+            self.truncate(stack, self.words.len() - 1);
+        }
+        Ok(())
+    }
+    fn undefined(&self, global: u32) -> Answer {
+        wrong(format!("Undefined variable '{}'.", self.program.globals[global as usize]))
+    }
+    /// What is thrown goes to the last handler.
+    fn throw(&mut self, stack: &mut Stack<'_, 'h>) -> Answer {
+        let Handler { calls, pc, len } = match self.handlers.pop() {
+            Some(handler) => handler,
+            None => {
+                let shown = stack.scope(|g, s| self.shown(g, self.top(0), s.top(0)))?;
+                return wrong(format!("Uncaught {shown}."));
+            }
+        };
+        self.close(stack, len)?;
+        if self.words.len() > len + 1 {
+            self.store(stack, len);
+            self.truncate(stack, len + 1);
+        }
+        self.calls.truncate(calls);
+        self.calls[calls - 1].pc = pc;
         Ok(())
     }
 
@@ -253,12 +296,12 @@ impl<'p, 'o, 'h> Vm<'p, 'o, 'h> {
         Ok(())
     }
     fn join(&mut self, stack: &mut Stack<'_, 'h>) -> Answer {
-        self.make(stack, 2, |vm, g, s| match (as_a::<Text>(g, s.top(1), Tag::Text), as_a::<Text>(g, s.top(0), Tag::Text)) {
-            (Some(one), Some(other)) => {
-                let mut both = String::new();
-                g.text_into(one, &mut both);
-                g.text_into(other, &mut both);
-                Ok((OBJECT, Some(vm.interned.text(g, &both)?.any())))
+        self.make(stack, 2, |vm, g, s| match (as_a(g, s.top(1), Tag::Text), as_a(g, s.top(0), Tag::Text)) {
+            (Some((one, _)), Some((other, _))) => {
+                vm.both.clear();
+                g.text_into(one, &mut vm.both);
+                g.text_into(other, &mut vm.both);
+                Ok((OBJECT, Some(vm.interned.text(g, &vm.both)?.any())))
             }
             _ => wrong("Operands must be two numbers or two strings."),
         })
@@ -314,8 +357,7 @@ impl<'p, 'o, 'h> Vm<'p, 'o, 'h> {
         let captures = &self.program.functions[function].captures;
         self.make(stack, 0, |_, g, _| {
             let closure = g.alloc_with::<Closure>(captures.len() as u32)?;
-            g.write(closure, Closure::tag, Tag::Closure);
-            g.write(closure, Closure::function, function);
+            g.write(closure, Closure::head, Head(Tag::Closure, function as u32));
             Ok(object(closure))
         })?;
         stack.scope(|g, s| {

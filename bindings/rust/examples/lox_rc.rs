@@ -1,14 +1,19 @@
 //! The interpreter of Lox of the example `lox`, by `Rc` and `RefCell` and without the heap, so that the two can be compared: they do the
-//! same steps. What holds itself is never freed here.
+//! same steps, and each string is there once in both. What holds itself is never freed here.
 //!
 //!     lox_rc [FILE]
 use std::cell::RefCell;
 use std::collections::HashMap;
+use std::convert::Infallible;
+use std::hash::{BuildHasherDefault, Hash, Hasher};
 use std::io::Write;
-use std::rc::Rc;
+use std::rc::{Rc, Weak};
 #[path = "lox/compiler.rs"]
 mod compiler;
-use compiler::{compile, Call, Op, Program, NATIVES};
+#[path = "lox/table.rs"]
+mod table;
+use compiler::{compile, Call, Handler, Op, Program, NATIVES};
+use table::Table;
 
 #[derive(Clone)]
 enum Value {
@@ -23,7 +28,52 @@ enum Value {
     Instance(Rc<Instance>),
     Bound(Rc<(Value, Rc<Closure>)>),
     List(Rc<RefCell<Vec<Value>>>),
-    Map(Rc<RefCell<HashMap<Rc<str>, Value>>>),
+    Map(Rc<RefCell<HashMap<Key, Value, BuildHasherDefault<Mixed>>>>),
+}
+/// A string as a key, by where it is: there is only one of its text.
+struct Key(Rc<str>);
+impl PartialEq for Key {
+    fn eq(&self, other: &Key) -> bool {
+        Rc::ptr_eq(&self.0, &other.0)
+    }
+}
+impl Eq for Key {}
+impl Hash for Key {
+    fn hash<H: Hasher>(&self, hasher: &mut H) {
+        hasher.write_usize(self.0.as_ptr() as usize);
+    }
+}
+#[derive(Default)]
+struct Mixed(u64);
+impl Hasher for Mixed {
+    fn write(&mut self, _: &[u8]) {
+        unreachable!("a key is a number");
+    }
+    fn write_usize(&mut self, place: usize) {
+        self.0 = (place as u64).wrapping_mul(0x9e37_79b9_7f4a_7c15);
+        self.0 ^= self.0 >> 32;
+    }
+    fn finish(&self) -> u64 {
+        self.0
+    }
+}
+/// The strings that the program has, each once.
+struct Interned(Table<Weak<str>>);
+impl Interned {
+    fn text(&mut self, text: &str) -> Rc<str> {
+        let hash = g1heap::Text::hash_of(text);
+        let mut found = self.0.of(hash).filter_map(Weak::upgrade);
+        if let Some(found) = found.find(|it| **it == *text) {
+            return found;
+        }
+        drop(found);
+        let new = Rc::from(text);
+        if self.0.is_full() {
+            let _ = self.0.keep(|it| Ok::<_, Infallible>(it.strong_count() > 0));
+        }
+        self.0.add(hash, Rc::downgrade(&new));
+        new
+    }
 }
 struct Closure {
     function: usize,
@@ -58,7 +108,7 @@ impl Value {
             (Value::Bool(one), Value::Bool(other)) => one == other,
             (Value::Number(one), Value::Number(other)) => one == other,
             (Value::Native(one), Value::Native(other)) => one == other,
-            (Value::Text(one), Value::Text(other)) => one == other,
+            (Value::Text(one), Value::Text(other)) => Rc::ptr_eq(one, other),
             (Value::Closure(one), Value::Closure(other)) => Rc::ptr_eq(one, other),
             (Value::Class(one), Value::Class(other)) => Rc::ptr_eq(one, other),
             (Value::Instance(one), Value::Instance(other)) => Rc::ptr_eq(one, other),
@@ -82,13 +132,17 @@ struct Vm<'p> {
     program: &'p Program,
     stack: Vec<Value>,
     calls: Vec<Call>,
+    handlers: Vec<Handler>,
     globals: Vec<Value>,
     texts: Vec<Rc<str>>,
+    interned: Interned,
     /// Those that are open, the highest last.
     open: Vec<(usize, Rc<RefCell<Upvalue>>)>,
     /// The names of the fields that instances of a class have.
     fields: Vec<Vec<u32>>,
     init: Option<u32>,
+    /// A string that is being made.
+    both: String,
     out: std::io::BufWriter<std::io::StdoutLock<'static>>,
 }
 
@@ -96,15 +150,19 @@ impl<'p> Vm<'p> {
     fn new(program: &'p Program) -> Self {
         let mut globals = vec![Value::Undefined; program.globals.len()];
         (0..NATIVES.len()).for_each(|native| globals[native] = Value::Native(native));
+        let mut interned = Interned(Table::new());
         Vm {
             program,
             stack: Vec::new(),
             calls: Vec::new(),
+            handlers: Vec::new(),
             globals,
-            texts: program.texts.iter().map(|it| it.as_str().into()).collect(),
+            texts: program.texts.iter().map(|it| interned.text(it)).collect(),
+            interned,
             open: Vec::new(),
             fields: vec![Vec::new(); program.classes as usize],
             init: program.texts.iter().position(|it| it == "init").map(|it| it as u32),
+            both: String::new(),
             out: std::io::BufWriter::new(std::io::stdout().lock()),
         }
     }
@@ -184,6 +242,9 @@ impl<'p> Vm<'p> {
                 self.stack.pop();
             }
             Op::Closure(function) => self.closure(function as usize, base),
+            Op::Try(pc) => self.handlers.push(Handler { calls: self.calls.len(), pc: pc as usize, len: self.stack.len() }),
+            Op::EndTry => drop(self.handlers.pop()),
+            Op::Throw => self.throw()?,
             _ => self.class(op)?,
         }
         Ok(())
@@ -227,6 +288,20 @@ impl<'p> Vm<'p> {
     fn undefined(&self, global: u32) -> Answer {
         wrong(format!("Undefined variable '{}'.", self.program.globals[global as usize]))
     }
+    /// What is thrown goes to the last handler.
+    fn throw(&mut self) -> Answer {
+        let Handler { calls, pc, len } = match self.handlers.pop() {
+            Some(handler) => handler,
+            None => return wrong(format!("Uncaught {}.", self.shown(self.top(0)))),
+        };
+        self.close(len);
+        let thrown = self.pop();
+        self.stack.truncate(len);
+        self.stack.push(thrown);
+        self.calls.truncate(calls);
+        self.calls[calls - 1].pc = pc;
+        Ok(())
+    }
 
     fn binary(&mut self, op: Op) -> Answer {
         let result = match (op, self.top(1), self.top(0)) {
@@ -237,7 +312,13 @@ impl<'p> Vm<'p> {
             (Op::Sub, Value::Number(one), Value::Number(other)) => Value::Number(one - other),
             (Op::Mul, Value::Number(one), Value::Number(other)) => Value::Number(one * other),
             (Op::Div, Value::Number(one), Value::Number(other)) => Value::Number(one / other),
-            (Op::Add, Value::Text(one), Value::Text(other)) => Value::Text((one.to_string() + other).into()),
+            (Op::Add, Value::Text(one), Value::Text(other)) => {
+                let (one, other) = (one.clone(), other.clone());
+                self.both.clear();
+                self.both.push_str(&one);
+                self.both.push_str(&other);
+                Value::Text(self.interned.text(&self.both))
+            }
             (Op::Add, ..) => return wrong("Operands must be two numbers or two strings."),
             _ => return wrong("Operands must be numbers."),
         };
@@ -406,11 +487,11 @@ impl<'p> Vm<'p> {
         let key = self.pop();
         let found = match (self.pop(), &key) {
             (Value::List(list), key) => list.borrow()[place_in(key, list.borrow().len())?].clone(),
-            (Value::Map(map), Value::Text(key)) => map.borrow().get(key).cloned().unwrap_or(Value::Nil),
+            (Value::Map(map), Value::Text(key)) => map.borrow().get(&Key(key.clone())).cloned().unwrap_or(Value::Nil),
             (Value::Map(_), _) => return wrong("Only strings are keys."),
             (Value::Text(text), key) => {
                 let at = place_in(key, text.len())?;
-                Value::Text(text.get(at..at + 1).unwrap_or("?").into())
+                Value::Text(self.interned.text(text.get(at..at + 1).unwrap_or("?")))
             }
             _ => return wrong("Only lists, maps and strings have items."),
         };
@@ -425,7 +506,7 @@ impl<'p> Vm<'p> {
                 let at = place_in(&key, list.borrow().len())?;
                 list.borrow_mut()[at] = value.clone();
             }
-            (Value::Map(map), Value::Text(key)) => drop(map.borrow_mut().insert(key, value.clone())),
+            (Value::Map(map), Value::Text(key)) => drop(map.borrow_mut().insert(Key(key), value.clone())),
             (Value::Map(_), _) => return wrong("Only strings are keys."),
             _ => return wrong("Only lists and maps take items."),
         }
@@ -449,10 +530,13 @@ impl<'p> Vm<'p> {
                 value.clone()
             }
             ("push", ..) => return wrong("Only lists can be pushed to."),
-            ("has", Value::Map(map), Value::Text(key)) => Value::Bool(map.borrow().contains_key(key)),
+            ("has", Value::Map(map), Value::Text(key)) => Value::Bool(map.borrow().contains_key(&Key(key.clone()))),
             ("has", Value::Map(_), _) => return wrong("Only strings are keys."),
             ("has", ..) => return wrong("Only maps have keys."),
-            (_, _, value) => Value::Text(self.shown(value).into()),
+            (_, _, value) => {
+                let shown = self.shown(value);
+                Value::Text(self.interned.text(&shown))
+            }
         };
         self.reduce(args as usize + 2, result);
         Ok(())

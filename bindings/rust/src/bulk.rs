@@ -1,6 +1,6 @@
 //! Objects of any length: bytes, texts, arrays, and runs of words.
 use crate::frame::{done, of_field, Frame};
-use crate::layout::{Any, Word};
+use crate::layout::{Any, Bits, Word};
 use crate::local::{Local, Source, Typed};
 use crate::Error;
 use std::convert::Infallible;
@@ -95,6 +95,9 @@ pub(crate) fn word_of(bytes: &[u8]) -> u64 {
     eight[..bytes.len()].copy_from_slice(bytes);
     u64::from_le_bytes(eight)
 }
+pub(crate) fn word_of_eight(bytes: &[u8]) -> u64 {
+    u64::from_le_bytes(bytes.try_into().expect("8 bytes"))
+}
 /// How many bytes of the last word are none of those of the object.
 #[track_caller]
 fn lacks(last: u64) -> usize {
@@ -184,26 +187,34 @@ impl<'f, 'h> Frame<'f, 'h> {
         Ok(object)
     }
 
-    fn new_bytes<T>(&self, bytes: &[u8]) -> Result<Local<'f, 'h, T>, Error> {
+    fn new_bytes<T>(&self, bytes: &[u8], own: u64) -> Result<Local<'f, 'h, T>, Error> {
         let last = count(bytes.len() / 8 + 1)?;
         let object = self.make::<T>(0, 0, last + 1)?;
-        let (raw, mutator, register) = (self.raw(), self.mutator(), object.register());
-        let (eights, rest) = bytes.split_at(bytes.len() / 8 * 8);
-        for (part, from) in eights.chunks(8 * RUN).zip((1..).step_by(RUN)) {
-            let mut words = [0; RUN];
-            for (word, eight) in words.iter_mut().zip(part.chunks(8)) {
-                *word = word_of(eight);
+        let (mut words, mut len, mut from) = ([own; RUN], 1, 0);
+        let mut add = |word, is_last| {
+            words[len] = word;
+            len += 1;
+            if len == RUN || is_last {
+                done(self.raw().write_words(self.mutator(), object.register(), from, &words[..len]));
+                (from, len) = (from + len as u32, 0);
             }
-            done(raw.write_words(mutator, register, from, &words[..part.len() / 8]));
-        }
-        done(raw.write(mutator, register, last, word_of(rest) | (LAST - rest.len() as u64) << LACKS));
+        };
+        let eights = bytes.chunks_exact(8);
+        let rest = eights.remainder();
+        eights.for_each(|eight| add(word_of_eight(eight), false));
+        add(word_of(rest) | (LAST - rest.len() as u64) << LACKS, true);
         Ok(object)
     }
     /// Hands the bytes to `take`, some at a time, until it answers false; a multiple of 8 of them but at the end. Answers whether it
     /// took all.
     #[track_caller]
-    pub(crate) fn runs_of<T>(&self, object: Local<'_, 'h, T>, mut take: impl FnMut(&[u8]) -> bool) -> bool {
-        let (raw, mutator, register, end) = (self.raw(), self.mutator(), object.register(), self.shape(object).1);
+    pub(crate) fn runs_of<T>(&self, object: Local<'_, 'h, T>, take: impl FnMut(&[u8]) -> bool) -> bool {
+        self.runs_up_to(object, self.shape(object).1, take)
+    }
+    /// The same of an object of `end` data words.
+    #[track_caller]
+    pub(crate) fn runs_up_to<T>(&self, object: Local<'_, 'h, T>, end: u32, mut take: impl FnMut(&[u8]) -> bool) -> bool {
+        let (raw, mutator, register) = (self.raw(), self.mutator(), object.register());
         let (mut words, mut bytes) = ([0; RUN], [0; 8 * RUN]);
         for from in (1..end).step_by(RUN) {
             let run = &mut words[..RUN.min((end - from) as usize)];
@@ -248,7 +259,22 @@ impl<'f, 'h> Frame<'f, 'h> {
     /// # Ok::<_, Box<dyn std::error::Error>>(())
     /// ```
     pub fn alloc_bytes(&self, bytes: &[u8]) -> Result<Local<'f, 'h, Bytes>, Error> {
-        self.new_bytes(bytes)
+        self.new_bytes(bytes, 0)
+    }
+    /// The same with [a word of the program's own](Bytes::own), in no more calls.
+    ///
+    /// ```
+    /// # use g1heap::*;
+    /// # let mut heap = Heap::new(&Sizes::default())?;
+    /// # heap.run(|f| {
+    /// let bytes = f.alloc_bytes_own(&[1, 2, 255], 7u8)?;
+    /// assert_eq!((f.bytes(bytes), f.read(bytes, Bytes::own::<u8>())), (vec![1, 2, 255], 7));
+    /// # Ok::<_, Error>(())
+    /// # })?;
+    /// # Ok::<_, Box<dyn std::error::Error>>(())
+    /// ```
+    pub fn alloc_bytes_own<V: Bits>(&self, bytes: &[u8], own: V) -> Result<Local<'f, 'h, Bytes>, Error> {
+        self.new_bytes(bytes, own.to_word())
     }
     /// A copy of the bytes.
     ///
@@ -295,7 +321,23 @@ impl<'f, 'h> Frame<'f, 'h> {
     /// # Ok::<_, Box<dyn std::error::Error>>(())
     /// ```
     pub fn alloc_text(&self, text: &str) -> Result<Local<'f, 'h, Text>, Error> {
-        self.new_bytes(text.as_bytes())
+        self.new_bytes(text.as_bytes(), 0)
+    }
+    /// The same with [a word of the program's own](Text::own), in no more calls: so nobody sees the text without its tag.
+    ///
+    /// ```
+    /// # use g1heap::*;
+    /// layout! { struct Tagged { words { tag: u8 } } }
+    /// # let mut heap = Heap::new(&Sizes::default())?;
+    /// # heap.run(|f| {
+    /// let text = f.alloc_text_own("name", 7u8)?;
+    /// assert_eq!((f.text(text).as_str(), f.read(text.any().assume(), Tagged::tag)), ("name", 7));
+    /// # Ok::<_, Error>(())
+    /// # })?;
+    /// # Ok::<_, Box<dyn std::error::Error>>(())
+    /// ```
+    pub fn alloc_text_own<V: Bits>(&self, text: &str, own: V) -> Result<Local<'f, 'h, Text>, Error> {
+        self.new_bytes(text.as_bytes(), own.to_word())
     }
     /// A copy of the text. What isn't UTF-8 in an object that was wrongly [assumed](Local::assume) to be one, becomes U+FFFD.
     ///

@@ -146,7 +146,7 @@ pub struct Sizes {
     pub words: u32,
     /// Words of an allocation buffer: 4 to half of a region's; an eighth of them less 1 is a good one.
     pub buffer: u32,
-    /// Words of a card: a power of two, 8 to 512, and at most a region's.
+    /// Words of a card: a power of two, 8 to 512, and at most a region's; 64 are the usual ones.
     pub card: u32,
     /// Globals, for [`Global`] and [`Kept`]: 0 to 65,536.
     pub globals: u32,
@@ -158,9 +158,9 @@ pub struct Sizes {
 }
 with! { Sizes { regions: u32, words: u32, buffer: u32, card: u32, globals: u32, registers: u32, policy: bool } }
 impl Default for Sizes {
-    /// 2 MiB in regions of 1,024 words, 64 globals, 4,096 registers, and the policy.
+    /// 2 MiB in regions of 1,024 words, cards of 64 words, 64 globals, 4,096 registers, and the policy.
     fn default() -> Self {
-        Sizes { regions: 256, words: 1024, buffer: 127, card: 8, globals: 64, registers: 4096, policy: true }
+        Sizes { regions: 256, words: 1024, buffer: 127, card: 64, globals: 64, registers: 4096, policy: true }
     }
 }
 impl Sizes {
@@ -178,6 +178,26 @@ impl Sizes {
         let words = (all.max(1) / 1024).next_power_of_two().clamp(1024, 1 << 31);
         let regions = u32::try_from(all / words).unwrap_or(u32::MAX);
         Sizes { regions, words: words as u32, buffer: ((words / 8 - 1) as u32).min(511), ..Sizes::default() }
+    }
+
+    /// How many bytes of memory a heap of these sizes with so many seats asks for when it is made; a [`Heap`] has one seat. None where no heap
+    /// can have the sizes.
+    ///
+    /// ```
+    /// # use g1heap::Sizes;
+    /// assert!((64 << 20..80 << 20).contains(&Sizes::mebibytes(64).bytes(1).unwrap()));
+    /// assert_eq!(Sizes::default().card(9).bytes(1), None);
+    /// ```
+    pub fn bytes(&self, seats: u32) -> Option<u64> {
+        match sys::bytes_of(&self.numbers(seats)) {
+            0 => None,
+            bytes => Some(bytes),
+        }
+    }
+
+    fn numbers(&self, mutators: u32) -> sys::g1_sizes {
+        let Sizes { regions, words, buffer, card, globals, registers, policy: _ } = *self;
+        sys::g1_sizes { regions, words, buffer, mutators, first_name: 1, card, globals, registers }
     }
 }
 
@@ -232,7 +252,7 @@ pub struct Pace {
     pub reserve: u32,
     /// Words: the budget of a pause, but for those of a whole collection.
     pub pause_words: u32,
-    /// Words: as many are looked at by marking at a look, at most.
+    /// Words: as many are looked at by marking at a look, at most, and up to 16 times as many where few regions are free.
     pub mark_words: u32,
     /// Words: where so many were asked for since the last cycle began, another one begins.
     pub cycle_words: u32,
@@ -242,7 +262,7 @@ pub struct Pace {
     pub cards_left: u32,
     /// Cards: as many may lead into the regions of a pause, and more only after one that gained little for them.
     pub visit_cards: u32,
-    /// Objects with weak slots: so many are cleared at a look after marking.
+    /// Objects with weak slots: so many are cleared at a look after marking, up to four times as many where few regions are free.
     pub clear_objects: u32,
     /// Regions: so many are in play at least. More are while more live; the others are held back, and take no memory.
     pub least: u32,
@@ -341,8 +361,8 @@ impl Heap {
     }
 
     /// Gives back as much memory as can be, for a moment at which the program is idle: a whole collection, which moves what lives down
-    /// into the lowest regions, but for objects of more than half a region, and then [`give_back`](Heap::give_back). False where the system
-    /// refuses what that asks for; the collection is done then. [`is_idle`](Heap::is_idle) tells when it pays.
+    /// into the lowest regions, and then [`give_back`](Heap::give_back). False where the system refuses what that asks for; the collection
+    /// is done then. [`is_idle`](Heap::is_idle) tells when it pays.
     ///
     /// ```
     /// # use g1heap::*;
@@ -441,9 +461,7 @@ impl Heap {
 }
 
 pub(crate) fn new_core(sizes: &Sizes, mutators: u32, lock: Option<Lock>) -> Result<Box<Core>, BadSizes> {
-    let Sizes { regions, words, buffer, card, globals, registers, policy } = *sizes;
-    let sizes = sys::g1_sizes { regions, words, buffer, mutators, first_name: 1, card, globals, registers };
-    Core::new(&sizes, policy, lock).map_err(BadSizes::of)
+    Core::new(&sizes.numbers(mutators), sizes.policy, lock).map_err(BadSizes::of)
 }
 
 impl fmt::Debug for Heap {

@@ -324,4 +324,33 @@ impl<'h> Stack<'_, 'h> {
         }
         Ok(())
     }
+    /// The same into a place of the stack, 0 is that of the first value: what it held is replaced by what `body` answers, and nothing is
+    /// popped. Panics where there is none.
+    ///
+    /// ```
+    /// # use g1heap::*;
+    /// # layout! { struct Pair { pointers { car: Any, cdr: Any } } }
+    /// # let mut heap = Heap::new(&Sizes::default())?;
+    /// # heap.run(|f| { let pair = f.alloc::<Pair>()?; f.stack(|stack| {
+    /// stack.push(pair)?;
+    /// stack.push(Nil)?;
+    /// stack.replace(0, |g, s| g.get(s.at(0).expect("a pair").assume(), Pair::car))?;
+    /// assert!(stack.len() == 2 && stack.at(0).is_none());
+    /// # Ok::<_, Error>(())
+    /// # }) })?;
+    /// # Ok::<_, Box<dyn std::error::Error>>(())
+    /// ```
+    #[inline]
+    #[track_caller]
+    pub fn replace<E: From<Error>>(
+        &mut self,
+        index: usize,
+        body: impl for<'g> FnOnce(&mut Frame<'g, 'h>, &Self) -> Result<Option<Local<'g, 'h>>, E>,
+    ) -> Result<(), E> {
+        assert!(index < self.len(), "there is no such value");
+        let from = body(&mut self.frame.inner(self.register(self.len())), self)?.code();
+        self.frame.place(self.register(index), from)?;
+        self.holds[index] = from != NIL_REGISTER;
+        Ok(())
+    }
 }

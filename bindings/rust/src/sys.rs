@@ -12,6 +12,12 @@ use std::cell::{Cell, UnsafeCell};
 
 const _: () = assert!(is_version(env!("CARGO_PKG_VERSION")), "g1heap-sys is of another version than the crate");
 
+/// How many bytes a heap of these sizes asks for, 0 where none can have them.
+pub fn bytes_of(sizes: &g1_sizes) -> u64 {
+    // SAFETY: the pointer leads to sizes, which may be any numbers.
+    unsafe { g1_sizes_bytes(sizes) }
+}
+
 /// A heap of the library with its policy, or none yet. It isn't `Sync`, so one call is made at a time; and none is made from within
 /// another, since the library calls nothing back but the writer of a record, which has no way to a heap that is in use.
 #[repr(C)] // the heap first

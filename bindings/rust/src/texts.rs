@@ -1,5 +1,5 @@
 //! What texts tell without a copy of them.
-use crate::bulk::{word_of, Text};
+use crate::bulk::{word_of, word_of_eight, Text};
 use crate::frame::Frame;
 use crate::local::Local;
 use std::str;
@@ -31,7 +31,13 @@ fn push_text(out: &mut String, mut bytes: &[u8]) -> usize {
 
 /// A hash with some more bytes, which are a multiple of 8 but at the end.
 fn mixed(hash: u64, bytes: &[u8]) -> u64 {
-    bytes.chunks(8).fold(hash, |hash, eight| stirred(hash ^ word_of(eight)))
+    let eights = bytes.chunks_exact(8);
+    let rest = eights.remainder();
+    let hash = eights.fold(hash, |hash, eight| stirred(hash ^ word_of_eight(eight)));
+    if rest.is_empty() {
+        return hash;
+    }
+    stirred(hash ^ word_of(rest))
 }
 fn stirred(hash: u64) -> u64 {
     let hash = hash.wrapping_mul(0x9e37_79b9_7f4a_7c15);
@@ -66,10 +72,11 @@ impl<'h> Frame<'_, 'h> {
     #[track_caller]
     pub fn text_is(&self, object: Local<'_, 'h, Text>, text: &str) -> bool {
         let mut left = text.as_bytes();
-        if self.shape(object).1 as usize != left.len() / 8 + 2 {
+        let end = self.shape(object).1;
+        if end as usize != left.len() / 8 + 2 {
             return false;
         }
-        let is_so = self.runs_of(object, |run| match left.split_at(run.len().min(left.len())) {
+        let is_so = self.runs_up_to(object, end, |run| match left.split_at(run.len().min(left.len())) {
             (first, others) if first == run => {
                 left = others;
                 true

@@ -32,6 +32,21 @@ fn a_byte_is_where_it_is_said_to_be() {
 }
 
 #[test]
+fn words_of_the_programs_own() {
+    heap().run(|f| {
+        for len in (0..20).chain(240..260).chain([504, 800]) {
+            f.scope(|g| {
+                let text = "x".repeat(len);
+                let (one, other) = (g.alloc_text_own(&text, 7u8).unwrap(), g.alloc_bytes_own(text.as_bytes(), -1i64).unwrap());
+                assert_eq!((g.read(one, Text::own::<u8>()), g.read(other, Bytes::own::<i64>())), (7, -1));
+                assert_eq!((g.text(one), g.bytes(other)), (text.clone(), text.clone().into_bytes()));
+                assert_eq!(g.words(one)[1..], g.words(g.alloc_text(&text).unwrap())[1..]);
+            });
+        }
+    });
+}
+
+#[test]
 fn texts_stay_while_objects_move() {
     heap().run(|f| {
         let texts = ["", "λ", "eine längere Zeile, die nicht in ein Wort passt", "12345678"];

@@ -20,7 +20,7 @@ fn a_stack_as_a_vec() {
             let mut model: Vec<Option<u64>> = Vec::new();
             for step in 0..200_000u64 {
                 let len = model.len();
-                match next(8) {
+                match next(9) {
                     0 if stack.push(Nil).is_ok() => model.push(None),
                     1 if stack.push(under).is_ok() => model.push(Some(77)),
                     2 | 3 => {
@@ -55,6 +55,19 @@ fn a_stack_as_a_vec() {
                             model[at] = last;
                         }
                     }
+                    7 if len > 0 => {
+                        let at = next(len);
+                        let done = stack.replace(at, |g, s| -> Result<_, Error> {
+                            assert_eq!(s.at(at).map(|it| g.read(it.assume(), Int::n)), model[at]);
+                            let it = g.alloc()?;
+                            g.write(it, Int::n, step);
+                            Ok(if step % 5 == 0 { None } else { Some(it.any()) })
+                        });
+                        match done {
+                            Ok(()) => model[at] = if step % 5 == 0 { None } else { Some(step) },
+                            Err(error) => assert_eq!((error, len), (Error::NoRegisters, 23)),
+                        }
+                    }
                     6 if next(4) == 0 => {
                         let to = next(len + 1);
                         stack.truncate(to);
@@ -77,4 +90,11 @@ fn a_stack_as_a_vec() {
             }
         })
     });
+}
+
+#[test]
+#[should_panic(expected = "there is no such value")]
+fn a_place_above_the_stack_is_not_replaced() {
+    let mut heap = Heap::new(&Sizes::default()).unwrap();
+    heap.run(|f| f.stack(|stack| stack.replace(0, |_, _| Ok::<_, Error>(None)))).unwrap();
 }

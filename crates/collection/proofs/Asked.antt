@@ -36,10 +36,10 @@ module _ {W : Type 0} (sees : W → Event → W → Type 0) (most : ℕ) (op : O
         let same : c' ≡ d = subst (λ (r : Reply). ActsOn op.mutator op.action r d c') e does in
         record {
           collected = subst (λ (k : CoreState). IsCollected state.graph k) (sym same) (l.collected state stands);
-          small = λ leaves. absurd (l.few leaves);
+          full = λ leaves. absurd (l.few leaves);
           large = λ leaves. absurd (l.few leaves);
           dense = λ leaves. absurd (l.few leaves);
-          side_by_side = λ third leaves. absurd (l.few leaves);
+          compact = λ third leaves. absurd (l.few leaves);
         }
 
     pub room_two : ActsOn op.mutator op.action reply d c' → IsSpared d op ⊎ IsLastResort c op d → LeavesTwo c.config op.action

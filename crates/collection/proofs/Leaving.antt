@@ -1,6 +1,7 @@
 -- Whether a heap has regions enough, of one configuration and the same.
-use Rattle.std.proofs.Common.{◌≡◌, ◌+◌, ◌*◌, ◌≤◌, ◌⊎◌, ℕ, Bool, true, false, inl, inr, sym, ap, subst, arith, if◌then◌else◌}
-use Rattle.std.proofs.lemmas.Bool.{cases_lt, le-leb}
+use Rattle.std.proofs.Common.{◌≡◌, ◌+◌, ◌*◌, ◌<◌, ◌≤◌, ◌⊎◌, ℕ, Bool, true, false, inl, inr, sym, ap, subst, arith}
+use Rattle.std.proofs.Common.{if◌then◌else◌}
+use Rattle.std.proofs.lemmas.Bool.{cases_lt, le-leb, lt-leb}
 use Rattle.heap_words.specs.declared.config.Config.{Config}
 use Rattle.heap_steps.specs.Actors.{IsThird}
 use Rattle.step_core.specs.Steps.{Action, Event, Op}
@@ -8,8 +9,9 @@ use Rattle.graph_runs.specs.State.{State}
 use Rattle.step_core.specs.Stands.{CoreState, Stands}
 use Rattle.alloc_buffers.specs.Placement.{run_count}
 use Rattle.collection.specs.Steps.{CollectsWithin, LeavesTwo, asked_words, regions_for}
+use Rattle.collection.specs.Space.{IsPackedBut}
 use Rattle.collection.specs.Rooms.{IsFilled, IsLastResort, IsSpared}
-use Rattle.collection.proofs.Reached.{packed_at_before, packed_before, then_cleared}
+use Rattle.collection.proofs.Reached.{packed_before, packed_but_before, then_cleared}
 use Rattle.collection.proofs.Took.{collected_after, reached}
 
 pub clash : (b : Bool) → b ≡ true → b ≡ false → ⊥
@@ -24,12 +26,12 @@ leaves_still k l a e not = elim (cases_lt (regions_for k.words (asked_words a) +
   | inr h ↦ absurd (not (λ f. absurd (omega (arith, f, h))))
 ]
 
--- beside a region for an object of at most half of it two are left in heaps of four regions or more
-pub leaves_four : (k : Config) (a : Action) → 2 * asked_words a ≤ k.words → LeavesTwo k a → 4 ≤ k.regions
-leaves_four k a small leaves =
-    let one : regions_for k.words (asked_words a) ≡ 1 =
-    ap (λ (b : Bool). if b then 1 else run_count k.words (asked_words a)) (le-leb (2 * asked_words a) k.words small) in
-    omega (arith, one, leaves)
+-- how many regions an object takes
+pub takes_one : (words size : ℕ) → 2 * size ≤ words → regions_for words size ≡ 1
+takes_one words size small = ap (λ (b : Bool). if b then 1 else run_count words size) (le-leb (2 * size) words small)
+
+pub takes_run : (words size : ℕ) → words < 2 * size → regions_for words size ≡ run_count words size
+takes_run words size large = ap (λ (b : Bool). if b then 1 else run_count words size) (lt-leb (2 * size) words large)
 
 -- what a last part of the work came to, after other steps
 module _ {W : Type 0} (sees : W → Event → W → Type 0) (m : ℕ) (c d : CoreState) (x y : W) (before : CollectsWithin sees m c x d y) where
@@ -54,16 +56,27 @@ module _ {W : Type 0} (sees : W → Event → W → Type 0) (m : ℕ) (c d : Cor
           quiet = w.collected.quiet;
           reached = then_cleared s.graph mid.graph w.collected.after.graph reach w.collected.reached;
         };
-        small = λ leaves small two. packed_at_before s.graph mid.graph c' reach
-            (w.small (subst (λ (k : Config). LeavesTwo k a) (sym before.config) leaves)
-            (let e = ap (λ (k : Config). k.words) before.config in omega (arith, e, small)) (before.two two));
-        large = λ leaves large. w.large (subst (λ (k : Config). LeavesTwo k a) (sym before.config) leaves)
-            (let e = ap (λ (k : Config). k.words) before.config in omega (arith, e, large));
+        full = λ leaves two how.
+            subst (λ (k : Config). IsPackedBut s.graph c' (regions_for k.words (asked_words a))) before.config
+            (packed_but_before s.graph mid.graph c' (regions_for d.config.words (asked_words a)) reach
+            (w.full (there_leaves leaves) (before.two two) (there_how how)));
+        large = λ leaves large. w.large (there_leaves leaves) (there_large large);
         dense = λ leaves large two. packed_before s.graph mid.graph c' reach
-            (w.dense (subst (λ (k : Config). LeavesTwo k a) (sym before.config) leaves)
-            (let e = ap (λ (k : Config). k.words) before.config in omega (arith, e, large)) (before.two two));
-        side_by_side = λ third leaves large two.
-            w.side_by_side (subst (λ (k : Config). IsThird k.format) (sym before.config) third)
-            (subst (λ (k : Config). LeavesTwo k a) (sym before.config) leaves)
-            (let e = ap (λ (k : Config). k.words) before.config in omega (arith, e, large)) (before.two two);
+            (w.dense (there_leaves leaves) (there_large large) (before.two two));
+        compact = λ third leaves large two.
+            w.compact (there_third third) (there_leaves leaves) (there_large large) (before.two two);
       }
+    where
+      there_leaves : LeavesTwo c.config a → LeavesTwo d.config a
+      there_leaves leaves = subst (λ (k : Config). LeavesTwo k a) (sym before.config) leaves
+
+      there_third : IsThird c.config.format → IsThird d.config.format
+      there_third third = subst (λ (k : Config). IsThird k.format) (sym before.config) third
+
+      there_large : c.config.words < 2 * asked_words a → d.config.words < 2 * asked_words a
+      there_large large = let e = ap (λ (k : Config). k.words) before.config in omega (arith, e, large)
+
+      there_how : (2 * asked_words a ≤ c.config.words) ⊎ IsThird c.config.format
+          → (2 * asked_words a ≤ d.config.words) ⊎ IsThird d.config.format
+      there_how (inl small) = inl (let e = ap (λ (k : Config). k.words) before.config in omega (arith, e, small))
+      there_how (inr third) = inr (there_third third)

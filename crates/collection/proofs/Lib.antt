@@ -24,3 +24,5 @@ pub mod Uncreated
 pub mod Leaving
 pub mod Asked
 pub mod Lowered
+pub mod Sinking
+pub mod Compact

@@ -326,6 +326,42 @@ module _ (budget n w : ℕ) (c c' : CoreState) (core : IsCore c) (shape : IsShap
           ])
         ]
 
+  -- none goes down where none is above a free one
+  pub none_down : LieBelowFree t → 0 < n → ⊥
+  none_down low some =
+      let no_row : LiveRow = record { region = 0; live_bound = 0 } in
+      let many : 0 < length rows = (let e = p.evacuates.regions in omega (arith, e, some)) in
+      let row : LiveRow = get_or rows 0 no_row in
+      let first = p.evacuates.choice.highest.are_rows.each 0 no_row many in
+      let below = p.evacuates.choice.down.below 0 no_row many in
+      let (f, less, free) = free_found t row.region (omega (arith, below, many)) in
+      low f row.region less free first.ordinary
+
+  empty : (rs : List LiveRow) → length rs ≡ 0 → rs ≡ []
+  empty [] e = refl
+  empty (r ∷ rs) e = absurd (omega (arith, e))
+
+  no_rows : n ≡ 0 → rows ≡ []
+  no_rows none = empty rows (let e = p.evacuates.regions in omega (arith, e, none))
+
+  -- where none was taken and nothing copied each region is what it was
+  pub kinds_stay : n ≡ 0 → w ≡ 0 → (k : ℕ) → kind_of t' k ≡ kind_of t k
+  kinds_stay none nothing k = elim (kind_cases (kind_of t k)) [
+    | inl free ↦ elim (regions.was_free k free) [
+      | inl still ↦ still ∙ sym free
+      | inr taken ↦ absurd (
+          let known = ordinary_known t' k taken in
+          let count = regions.count in
+          let one = sum_one (λ j. taken_by (kind_of t j) (kind_of t' j)) (length t.regions) k (omega (arith, known, count)) in
+          let a = ap (λ (x : Kind). taken_by x (kind_of t' k)) free in
+          let b = ap (λ (x : Kind). taken_by kinds.Free x) taken in
+          let sum = taken_sum in
+          let z = p.evacuates.evacuated.spares.none nothing in
+          omega (arith, one, a, b, sum, z))
+    ]
+    | inr used ↦ regions.kinds_same k (ap (λ (rs : List LiveRow). is_chosen rs k) (no_rows none)) used
+  ]
+
   -- where nothing was taken no ordinary region is above a free one
   pub nothing_above : n ≡ 0 → IsExact c → 2 ≤ free_count t → t.words_per_region ≤ budget → LieBelowFree t'
   nothing_above none exact two enough j k less free' ordinary' = elim (kind_cases (kind_of t k)) [
@@ -333,15 +369,8 @@ module _ (budget n w : ℕ) (c c' : CoreState) (core : IsCore c) (shape : IsShap
     | inr used ↦ still k less (out_same k (not_chosen k ordinary') ordinary' used)
   ]
     where
-      empty : (rs : List LiveRow) → length rs ≡ 0 → rs ≡ []
-      empty [] e = refl
-      empty (r ∷ rs) e = absurd (omega (arith, e))
-
-      no_rows : rows ≡ []
-      no_rows = empty rows (let e = p.evacuates.regions in omega (arith, e, none))
-
       free : kind_of t j ≡ kinds.Free
-      free = was_free j free' (ap (λ (rs : List LiveRow). is_chosen rs j) no_rows)
+      free = was_free j free' (ap (λ (rs : List LiveRow). is_chosen rs j) (no_rows none))
 
       at_most_one : (i : ℕ) (row : LiveRow) → count_by (λ (r : LiveRow). r.region == i) (row ∷ []) ≤ 1
       at_most_one i row = elim (cases_Bool (row.region == i)) [
@@ -365,7 +394,7 @@ module _ (budget n w : ℕ) (c c' : CoreState) (core : IsCore c) (shape : IsShap
           let b = fewer_free t.regions (j + 1) o (omega (arith, low)) in omega (arith, a, b)) in
           let half = mul-le 2 t.words_per_region (free_count t) t.words_per_region two (omega arith) in
           subst (λ (rs : List LiveRow). AreHighest t c.marker.tams.previous c.marker.bitmaps.previous (rs ++ row ∷ [])
-          → GoesDown t (copy_limit t.words_per_region budget (count_by is_free t.regions)) (rs ++ row ∷ []) → ⊥) no_rows
+          → GoesDown t (copy_limit t.words_per_region budget (count_by is_free t.regions)) (rs ++ row ∷ []) → ⊥) (no_rows none)
           (p.evacuates.choice.next exact.idle row)
           (record {
             are_rows = record {

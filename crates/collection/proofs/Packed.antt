@@ -301,9 +301,9 @@ module _ (g : Graph) (c c' : CoreState) (size : c'.table.words_per_region ≡ c.
     in_runs = λ one some. by_runs some;
   }
 
--- a compaction of a region of words takes one destination at most
+-- a compaction that copies a region of words or fewer takes one destination at most
 pub set_packed : (budget n w : ℕ) (c c' : CoreState) (shape : IsShaped c.table) → HasMoved choices.Highest budget n w c c'
-    → budget ≤ c.table.words_per_region → (g : Graph) → IsPacked g c → IsPacked g c'
+    → w ≤ c.table.words_per_region → (g : Graph) → IsPacked g c → IsPacked g c'
 set_packed budget n w c c' shape p few g packed =
     let words : ℕ = c.table.words_per_region in
     let d : ℕ = p.evacuates.evacuated.spares.taken in
@@ -314,8 +314,7 @@ set_packed budget n w c c' shape p few g packed =
     let a = count_all c.table in
     let b = count_all c'.table in
     let e = regions.count in
-    let le = no_more words (free_count c.table) (length p.evacuates.chosen) d w (live_sum p.evacuates.chosen) t
-    (let q = p.evacuates.within in omega (arith, few, q)) in
+    let le = no_more words (free_count c.table) (length p.evacuates.chosen) d w (live_sum p.evacuates.chosen) t few in
     still_packed g c c' regions.size runs (omega (arith, count, runs, a, b, e, le)) packed
   where
     no_more : (r f k d w s : ℕ) → Taken r f k d w s → w ≤ r → d ≤ k
@@ -330,18 +329,18 @@ set_packed budget n w c c' shape p few g packed =
       ]
     ]
 
--- where two of four regions or more are free
-module _ (g : Graph) (c : CoreState) (p : IsPacked g c)
-    (counts : ordinary_count c.table + run_count c.table + 2 ≡ c.config.regions) (four : 4 ≤ c.config.regions) where
-  pub but_two : ordinary_count c.table ≢ 1 → FillHalf g c (c.config.regions - 2)
-  but_two ne = fewer_filled g c (c.config.regions - 2) (ordinary_count c.table + run_count c.table) (omega (arith, counts))
-      (p.in_use ne (omega (arith, counts, four)))
+-- where fewer regions are free than two and so many, which leave some of all
+module _ (g : Graph) (c : CoreState) (more : ℕ) (p : IsPacked g c) (few : free_count c.table < 2 + more)
+    (counts : ordinary_count c.table + run_count c.table + free_count c.table ≡ c.config.regions) (some : 2 + more < c.config.regions) where
+  pub all_but_fewer : ordinary_count c.table ≢ 1 → FillHalf g c (c.config.regions - (1 + more))
+  all_but_fewer ne = fewer_filled g c (c.config.regions - (1 + more)) (ordinary_count c.table + run_count c.table)
+      (omega (arith, counts, few)) (p.in_use ne (omega (arith, counts, few, some)))
 
-  pub but_three : FillHalf g c (c.config.regions - 3)
-  but_three = elim (cases_eq (ordinary_count c.table) 1) [
-    | inl one ↦ fewer_filled g c (c.config.regions - 3) (run_count c.table) (omega (arith, counts, one))
-        (p.in_runs one (omega (arith, counts, four, one)))
-    | inr ne ↦ fewer_filled g c (c.config.regions - 3) (c.config.regions - 2) (omega arith) (but_two ne)
+  pub all_but : FillHalf g c (c.config.regions - (2 + more))
+  all_but = elim (cases_eq (ordinary_count c.table) 1) [
+    | inl one ↦ fewer_filled g c (c.config.regions - (2 + more)) (run_count c.table) (omega (arith, counts, few, one))
+        (p.in_runs one (omega (arith, counts, few, some, one)))
+    | inr ne ↦ fewer_filled g c (c.config.regions - (2 + more)) (c.config.regions - (1 + more)) (omega arith) (all_but_fewer ne)
   ]
 
 -- where all regions are free there is nothing to be reachable

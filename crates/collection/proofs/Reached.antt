@@ -3,11 +3,12 @@ use Rattle.std.proofs.Common.{◌≡◌, ◌+◌, ◌-◌, ◌∷◌, ◌∙◌,
 use Rattle.heap_model.specs.Graph.{Graph, Object, object_named}
 use Rattle.heap_model.specs.Weak.{Clears, IsClearedSlot}
 use Rattle.heap_model.proofs.Cleared.{cleared_named, cleared_named_back, reach_back}
+use Rattle.regions.proofs.Words.Fields.{held_by_long}
 use Rattle.step_core.specs.Stands.{CoreState}
 use Rattle.step_core.specs.Pause.{words_of, named_words}
 use Rattle.step_core.proofs.Mutating.Reading.{AllZip-length}
 use Rattle.graph_runs.specs.Run.{ClearsBy}
-use Rattle.collection.specs.Space.{AreReachable, FillHalf, HasReached, IsPacked, IsPackedAt, ordinary_count, run_count}
+use Rattle.collection.specs.Space.{AreReachable, FillHalf, HasReached, IsPacked, IsPackedBut, ordinary_count, run_count}
 
 pub none_cleared : (g : Graph) → HasReached g g
 none_cleared g = record { back = λ n r. r; words = λ n. refl }
@@ -28,9 +29,10 @@ cleared_reached s g g' c = record { back = reach_back s g g' c; words = λ n. go
         let a = AllZip-length (IsClearedSlot s) x.weaks p.weaks z.weaks in
         let b = ap (λ (l : List (Option ℕ)). length l) z.pointers in
         let d = ap (λ (l : List ℕ). length l) z.values in
+        let c = ap (λ (l : List (Option ℕ)). length l) z.held ∙ held_by_long p.weaks x.held in
         let h = ap named_words e in
         let i = ap named_words is in
-        omega (arith, a, b, d, h, i)
+        omega (arith, a, b, c, d, h, i)
     go n None e (Some x) f = absurd (let (p, is, z) = cleared_named s g g' c n x f in some_clash (object_named g' n) p e is)
     go n None e None f = ap named_words e ∙ sym (ap named_words f)
 
@@ -65,12 +67,13 @@ packed_before g g' c h p = record {
   in_runs = λ one some. fill_before g g' c (run_count c.table) h (p.in_runs one some);
 }
 
-pub packed_at_before : (g g' : Graph) (c : CoreState) → HasReached g g' → IsPackedAt g' c → IsPackedAt g c
-packed_at_before g g' c h p = record {
+pub packed_but_before : (g g' : Graph) (c : CoreState) (more : ℕ) → HasReached g g' → IsPackedBut g' c more → IsPackedBut g c more
+packed_but_before g g' c more h p = record {
   packed = packed_before g g' c h p.packed;
-  free = p.free;
+  two = p.two;
+  few = p.few;
   regions = p.regions;
-  all_but_three = fill_before g g' c (c.config.regions - 3) h p.all_but_three;
-  all_but_two = λ ne. fill_before g g' c (c.config.regions - 2) h (p.all_but_two ne);
+  all_but = fill_before g g' c (c.config.regions - (2 + more)) h p.all_but;
+  all_but_fewer = λ ne. fill_before g g' c (c.config.regions - (1 + more)) h (p.all_but_fewer ne);
   runs = λ k e. let (x, is, reach) = p.runs k e in (x, is, h.back x.name reach);
 }

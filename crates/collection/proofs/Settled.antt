@@ -59,7 +59,7 @@ free_looked k n c d h =
     omega (arith, a, b)
 
 module _ (c d : CoreState) (h : HasSettled c d) where
-  kinds_are : (k : ℕ) → kind_of d.table k ≡ kind_of c.table k
+  pub kinds_are : (k : ℕ) → kind_of d.table k ≡ kind_of c.table k
   kinds_are = h.cleared.kinds
 
   pub next_settled : d.next ≡ c.next

@@ -19,6 +19,7 @@ use Rattle.mark_bitmap.specs.Kept.{kept_in}
 use Rattle.marker.specs.declared.marker.Marker.{Marker}
 use Rattle.step_core.specs.declared.candidates.Choice.TheVariants as choices
 use Rattle.step_core.specs.Measures.{sum_below}
+use Rattle.step_core.specs.Pause.{HasMoved}
 use Rattle.step_core.specs.Stands.{CoreState, Stands, IsCore, kept_of}
 use Rattle.step_core.specs.Sliding.{HasCompacted, IsLeft, MovesRun, RunKinds, Slides}
 use Rattle.graph_runs.specs.State.{State}
@@ -27,7 +28,7 @@ use Rattle.collection.specs.Space.{run_count, run_one}
 use Rattle.collection.proofs.Counts.{count_all}
 use Rattle.collection.proofs.Exact.{ordinary_known}
 use Rattle.collection.proofs.Sums.{sum_same}
-use Rattle.collection.proofs.Lowered.{lowered, nothing_above}
+use Rattle.collection.proofs.Lowered.{lowered, none_down, nothing_above}
 use Rattle.collection.proofs.Packed.{set_packed, still_packed, two_free}
 use Rattle.collection.proofs.Paused as paused
 use Rattle.collection.proofs.Runs.{AreKept, paused_runs}
@@ -88,7 +89,7 @@ kept_words_same t t' tops tops' marks marks' (suc n) a same =
     let rest = kept_words_same t t' tops tops' marks marks' n (suc a) (λ x low high. same x (omega (arith, low)) (omega (arith, high))) in
     omega (arith, here, rest)
 
-first_known : (t : Table) (k : ℕ) → kind_of t k ≡ kinds.First → k < length t.regions
+pub first_known : (t : Table) (k : ℕ) → kind_of t k ≡ kinds.First → k < length t.regions
 unfolding kind_of nth_region
 first_known t k e = elim (cases_lt k (length t.regions)) [
   | inl h ↦ h
@@ -106,7 +107,7 @@ module _ (first to n w : ℕ) (c c' : CoreState) (shape : IsShaped c.table) (p :
   fits : first + n ≤ length c.table.regions
   fits = let b = block_within c.table first run_known in let e = p.regions in omega (arith, b, e)
 
-  some_run : 0 < n
+  pub some_run : 0 < n
   some_run = let e = p.regions in omega (arith, e)
 
   rests : (k : ℕ) → first < k → k < first + n → kind_of c.table k ≡ kinds.Rest
@@ -293,19 +294,28 @@ module _ (budget n w : ℕ) (c c' : CoreState) (core : IsCore c) (shape : IsShap
           by_slide (inl still) = ap (λ (x : CoreState). x.next) still.same
           by_slide (inr (first, to, idle, lowest, moves)) = ap (λ (x : CoreState). x.next) moves.same
 
-  pub compacted_packed : budget ≤ c.table.words_per_region → (g : Graph) → IsPacked g c → IsPacked g c'
-  compacted_packed few g packed = go p
+  -- ordinary regions stay as many at most, if they do where some are evacuated
+  by_parts : (g : Graph) → ((0 < n) × HasMoved choices.Highest budget n w c c' → IsPacked g c') → IsPacked g c → IsPacked g c'
+  by_parts g moved packed = go p
     where
       go : HasCompacted budget n w c c' → IsPacked g c'
-      go (inl h) = set_packed budget n w c c' shape h.1 few g packed
+      go (inl h) = moved h
       go (inr q) = by_slide q.slides
         where
           between : IsPacked g q.after
-          between = set_packed budget 0 0 c q.after shape q.empty few g packed
+          between = set_packed budget 0 0 c q.after shape q.empty (omega arith) g packed
 
           by_slide : Slides budget n w q.after c' → IsPacked g c'
           by_slide (inl still) = subst (λ (k : CoreState). IsPacked g k) (sym still.same) between
           by_slide (inr (first, to, idle, lowest, moves)) = slid_packed first to n w q.after c' q.shaped moves g between
+
+  pub compacted_packed : budget ≤ c.table.words_per_region → (g : Graph) → IsPacked g c → IsPacked g c'
+  compacted_packed few g packed =
+      by_parts g (λ h. (let q = h.1.evacuates.within in set_packed budget n w c c' shape h.1 (omega (arith, few, q)) g packed)) packed
+
+  -- where no ordinary region is above a free one none is evacuated
+  pub low_packed : LieBelowFree c.table → (g : Graph) → IsPacked g c → IsPacked g c'
+  low_packed low g packed = by_parts g (λ h. absurd (none_down budget n w c c' core shape h.1 low h.0)) packed
 
   pub compacted_quiet : IsShaped c'.table → (s : State) → Stands s c' → IsQuiet s c → IsQuiet s c'
   compacted_quiet shape' s stands quiet = go p

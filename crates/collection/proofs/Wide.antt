@@ -25,7 +25,7 @@ one_at_most kinds.Free = omega arith
 one_at_most _ = omega arith
 
 -- so many more numbers add at most one each
-few_more : (f : ℕ → ℕ) → ((k : ℕ) → f k ≤ 1) → (m n : ℕ) → sum_below f (n + m) ≤ sum_below f n + m
+pub few_more : (f : ℕ → ℕ) → ((k : ℕ) → f k ≤ 1) → (m n : ℕ) → sum_below f (n + m) ≤ sum_below f n + m
 few_more f one zero n = let e : n + 0 ≡ n = omega arith in let a = ap (sum_below f) e in omega (arith, a)
 few_more f one (suc m) n =
     let e : n + suc m ≡ suc (n + m) = omega arith in

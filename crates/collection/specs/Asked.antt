@@ -23,7 +23,7 @@ pub record MakesRoom {W : Type 0} (sees : W → Event → W → Type 0) (due : B
   pub look : CollectsWithin sees (due_steps c.config due) c x looked seen
   pub some : due ≡ true → IsDue c begin_at → CollectsSome sees (c.config.regions + 5) c x looked seen
   pub rest : ℕ
-  pub few : rest ≤ 3 * c.config.regions + 7
+  pub few : rest ≤ 4 * c.config.regions + 7
   pub none : FitsLeavingTwo looked op → rest ≡ 0
   pub more : CollectsWithin sees rest looked seen c' x'
 
@@ -39,7 +39,7 @@ pub record IsPaced {W : Type 0} (sees : W → Event → W → Type 0) (due : Boo
 -- the object and after it. Nothing is due for an object that the graph doesn't create
 pub record MakesByPolicy {W : Type 0} (sees : W → Event → W → Type 0) (due : Bool) (left left' begin_at : ℕ) (op : Op) (reply : Reply)
     (c : CoreState) (x : W) (c' : CoreState) (x' : W) : Type 0 where
-  pub makes : Makes sees (4 * c.config.regions + 12) op reply c x c' x'
+  pub makes : Makes sees (5 * c.config.regions + 12) op reply c x c' x'
   pub paced : IsCreatable c op.action → IsPaced sees due begin_at op reply c x c' x'
   pub uncreated : (IsCreatable c op.action → ⊥) → Makes sees 0 op reply c x c' x'
   pub spent : due ≡ false → left' ≡ left

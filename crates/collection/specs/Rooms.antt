@@ -1,5 +1,5 @@
 -- Room for an object that is asked for.
-use Rattle.std.specs.Prelude.{◌≡◌, ◌≢◌, ◌+◌, ◌-◌, ◌*◌, ◌^◌, ◌<◌, ◌≤◌, ℕ, Bool, false, Option, None, Some, nat_le}
+use Rattle.std.specs.Prelude.{◌≡◌, ◌≢◌, ◌⊎◌, ◌+◌, ◌-◌, ◌*◌, ◌^◌, ◌<◌, ◌≤◌, ℕ, Bool, false, Option, None, Some, nat_le}
 use Rattle.heap_words.specs.Configs.{object_limit}
 use Rattle.heap_model.specs.Graph.{Graph}
 use Rattle.heap_model.specs.Heap.{Stored}
@@ -10,8 +10,8 @@ use Rattle.step_core.specs.Steps.{Action, Op}
 use Rattle.graph_runs.specs.State.{State}
 use Rattle.step_core.specs.Stands.{CoreState, Stands}
 use Rattle.step_core.specs.Mutators.{core_after}
-use Rattle.collection.specs.Space.{IsCollected, IsPacked, IsPackedAt, LieBelowFree}
-use Rattle.collection.specs.Steps.{LeavesTwo, asked_words}
+use Rattle.collection.specs.Space.{IsCollected, IsCompact, IsPacked, IsPackedBut}
+use Rattle.collection.specs.Steps.{LeavesTwo, asked_words, regions_for}
 
 -- the graph would create the object: it isn't larger than an object may be, and a name is left
 pub record IsCreatable (c : CoreState) (a : Action) : Type 0 where
@@ -50,14 +50,16 @@ pub record IsLastResort (c : CoreState) (op : Op) (c' : CoreState) : Type 0 wher
   pub collected : (s : State) → Stands s c → IsCollected s.graph c'
 
 -- Why an object is refused as Full, of the graph as it was when it was asked for. A whole collection was just done. And if the heap has
--- regions enough to leave two beside the object: for one of at most half a region only two are free, and what roots reach has more than
--- half of the words of all regions but three; for a larger one there is no run of free regions, or fewer than two are free beside it, what
--- roots reach has more than half of the words of the regions in use, and in the third format each ordinary region is below each free one,
--- so that objects which roots reach are all that parts free regions
+-- regions enough to leave two beside those that the object takes, and two were free: fewer are free than these and two, and what roots
+-- reach has more than half of the words of all regions but two and those that the object takes. In the first two formats, which have no
+-- compactions, this is so of an object of at most half a region; for a larger one there is no run of free regions, or fewer than two are
+-- free beside it, and what roots reach has more than half of the words of the regions in use. In the third format no region in use is above
+-- a free one then
 pub record IsFilled (g : Graph) (c : CoreState) (a : Action) (c' : CoreState) : Type 0 where
   pub collected : IsCollected g c'
-  pub small : LeavesTwo c.config a → 2 * asked_words a ≤ c.config.words → 2 ≤ free_count c.table → IsPackedAt g c'
+  pub full : LeavesTwo c.config a → 2 ≤ free_count c.table → (2 * asked_words a ≤ c.config.words) ⊎ IsThird c.config.format
+      → IsPackedBut g c' (regions_for c.config.words (asked_words a))
   pub large : LeavesTwo c.config a → c.config.words < 2 * asked_words a → HasRun c' (asked_words a) → ⊥
   pub dense : LeavesTwo c.config a → c.config.words < 2 * asked_words a → 2 ≤ free_count c.table → IsPacked g c'
-  pub side_by_side : IsThird c.config.format → LeavesTwo c.config a → c.config.words < 2 * asked_words a → 2 ≤ free_count c.table
-      → LieBelowFree c'.table
+  pub compact : IsThird c.config.format → LeavesTwo c.config a → c.config.words < 2 * asked_words a → 2 ≤ free_count c.table
+      → IsCompact c'.table

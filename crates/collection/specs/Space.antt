@@ -59,6 +59,14 @@ ordinary_end t = ordinary_end_of t (length t.regions)
 abbrev pub LieBelowFree : Table → Type 0
 LieBelowFree t = (j k : ℕ) → j < k → kind_of t j ≡ kinds.Free → kind_of t k ≢ kinds.Ordinary
 
+-- each run that has a free region directly below begins at region n or above
+abbrev pub RunsRestBelow : ℕ → Table → Type 0
+RunsRestBelow n t = (j : ℕ) → kind_of t j ≡ kinds.Free → kind_of t (suc j) ≡ kinds.First → n ≤ suc j
+
+-- no region in use is above a free one: from the lowest free region on all are free
+abbrev pub IsCompact : Table → Type 0
+IsCompact t = (j k : ℕ) → j < k → kind_of t j ≡ kinds.Free → kind_of t k ≡ kinds.Free
+
 -- how many regions are ordinary, and how many belong to humongous objects
 abbrev pub ordinary_count : Table → ℕ
 ordinary_count t = sum_below (λ k. ordinary_one (kind_of t k)) (length t.regions)
@@ -131,14 +139,16 @@ pub record IsPacked (g : Graph) (c : CoreState) : Type 0 where
       → FillHalf g c (ordinary_count c.table + run_count c.table)
   pub in_runs : ordinary_count c.table ≡ 1 → 0 < run_count c.table → FillHalf g c (run_count c.table)
 
--- Two regions are free, and distinct objects that roots reach, humongous ones among them, have more than half of the words of all regions
--- but three; of all but two, unless just one region is ordinary. Each humongous object is one that roots reach
-pub record IsPackedAt (g : Graph) (c : CoreState) : Type 0 where
+-- Two regions are free, and fewer than so many more. Distinct objects that roots reach, humongous ones among them, have more than half of
+-- the words of all regions but two and so many; of one more, unless just one region is ordinary. Each humongous object is one that roots
+-- reach
+pub record IsPackedBut (g : Graph) (c : CoreState) (more : ℕ) : Type 0 where
   pub packed : IsPacked g c
-  pub free : free_count c.table ≡ 2
-  pub regions : ordinary_count c.table + run_count c.table + 2 ≡ c.config.regions
-  pub all_but_three : FillHalf g c (c.config.regions - 3)
-  pub all_but_two : ordinary_count c.table ≢ 1 → FillHalf g c (c.config.regions - 2)
+  pub two : 2 ≤ free_count c.table
+  pub few : free_count c.table < 2 + more
+  pub regions : ordinary_count c.table + run_count c.table + free_count c.table ≡ c.config.regions
+  pub all_but : FillHalf g c (c.config.regions - (2 + more))
+  pub all_but_fewer : ordinary_count c.table ≢ 1 → FillHalf g c (c.config.regions - (1 + more))
   pub runs : (k : ℕ) → kind_of c.table k ≡ kinds.First
       → (x : Stored) × (kept_of c (k * c.table.words_per_region) ≡ Some x) × IsReachable g x.name
 

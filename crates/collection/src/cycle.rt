@@ -101,8 +101,7 @@ fn end_marking<W: Watch>(core: &mut Core, policy: &mut Policy, watch: &mut W)
 fn mark_on<W: Watch>(core: &mut Core, policy: &mut Policy, watch: &mut W)
     ensures { CollectsSome W.sees 3 core.old watch.old core.new watch.new }
 {
-    let words = policy.pace.min(policy.mark_words);
-    policy.looked = policy.looked.saturating_add(u64::from(words));
+    let words = policy.spend_marks(core.free_regions());
     take(core, policy, CollectorStep::Mark(words), watch);
     if core.free_regions() <= policy.reserve {
         end_cycle(core, policy, watch);
@@ -119,8 +118,7 @@ fn clear_on<W: Watch>(core: &mut Core, policy: &mut Policy, watch: &mut W)
         reclaim(core, policy, watch);
         return;
     }
-    let objects = policy.clear_objects;
-    policy.clears = policy.clears.saturating_add(1);
+    let objects = policy.spend_clears(&core.config(), core.free_regions());
     take(core, policy, CollectorStep::Clear(objects), watch);
     if !core.clearing() {
         reclaim(core, policy, watch);
@@ -173,6 +171,7 @@ fn evacuate_some<W: Watch>(
     let is_few = regions == 0 || copied < u64::from(budget / 2);
     let is_cut_short = budget == *left && budget < policy.pause_words || is_bounded && is_few;
     *left = u64::from(*left).saturating_sub(copied) as u32;
+    policy.plan_next(&config, after);
     if policy.pays(&config, before, after, copied) {
         return true;
     }

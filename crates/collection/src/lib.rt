@@ -13,8 +13,8 @@
 //! ```
 //!
 //! `steps` takes the steps, and shows each to who watches, `whole` is the whole collection, which `density` ends, `compaction` what brings
-//! free regions side by side, `cycle` what is due at a look, by the `numbers` of the policy, `room` whether there is room for an object,
-//! `making` all together. `laws` has what a pause that frees no region says.
+//! free regions side by side, above all that are in use, `cycle` what is due at a look, by the `numbers` of the policy, `room` whether
+//! there is room for an object, `making` all together. `laws` has what a pause that frees no region says.
 //!
 //! Examples of calls go on from this one, in which `rt` is a test's `HostRuntime` and `alloc` its allocator:
 //!

@@ -5,14 +5,14 @@ ghost use Rattle.heap_model.specs.Graph.{Graph};
 ghost use Rattle.regions.specs.Table.{free_count};
 ghost use Rattle.graph_runs.specs.State.{State};
 ghost use Rattle.graph_runs.specs.Run.{IsNew};
-ghost use Rattle.step_core.specs.Stands.{Stands};
+ghost use Rattle.step_core.specs.Stands.{Stands, IsCore};
 ghost use Rattle.step_core.specs.Making.{HasMade};
 ghost use Rattle.heap_steps.specs.Actors.{IsOp, IsThird};
 ghost use Rattle.heap_steps.specs.declared.step.Reply.TheVariants as replies;
 ghost use Rattle.heap_steps.specs.declared.step.Refusal.TheVariants as refusals;
 ghost use Rattle.collection.specs.Asked.{MakesByPolicy, MakesRoom, due_steps};
 ghost use Rattle.collection.specs.Steps.{CollectsWithin, CollectsSome, FitsLeavingTwo, AsksFor, AsksWithin, IsDue, LeavesTwo, asked_words};
-ghost use Rattle.collection.specs.Space.{IsPacked, IsQuiet, LieBelowFree};
+ghost use Rattle.collection.specs.Space.{IsCompact, IsPacked, IsQuiet};
 ghost use Rattle.collection.specs.Rooms.{HasRun, IsCreatable, IsFilled, IsLastResort, IsSpared};
 
 use crate::compaction::compact_for;
@@ -47,14 +47,16 @@ fn compact_all<W: Watch>(
     requires third { IsThird core.old.config.format }
     requires asked { AsksWithin core.old.config op.now size }
     requires large { core.old.config.words < 2 * size }
-    ensures collects { CollectsWithin W.sees (core.old.config.regions + 1) core.old watch.old core.new watch.new }
+    ensures collects { CollectsWithin W.sees (2 * core.old.config.regions + 1) core.old watch.old core.new watch.new }
     ensures quiet { (s : State) → IsQuiet s core.old → IsQuiet s core.new }
-    ensures packed { (g : Graph) → IsPacked g core.old → IsPacked g core.new }
+    ensures packed { (s : State) → IsQuiet s core.old → 2 ≤ free_count core.old.table → (g : Graph) → IsPacked g core.old
+        → IsPacked g core.new }
     ensures room { result ≡ true → IsSpared core.new op.now ⊎ (LeavesTwo core.old.config op.now.action → ⊥) }
     ensures leaves { result ≡ false → LeavesTwo core.old.config op.now.action }
     ensures full { result ≡ false → FitsLeavingTwo core.new op.now → ⊥ }
     ensures none { result ≡ false → HasRun core.new size → ⊥ }
-    ensures below { result ≡ false → (s : State) → IsQuiet s core.old → 2 ≤ free_count core.old.table → LieBelowFree core.new.table }
+    ensures compact { result ≡ false → (s : State) → IsQuiet s core.old → 2 ≤ free_count core.old.table → IsCompact core.new.table }
+    ensures core { result ≡ false → IsCore core.new }
 {
     if compact_for(core, policy, op, size, watch) {
         return true;
@@ -74,7 +76,7 @@ fn collect_all<W: Watch>(
     watch: &mut W,
 ) -> bool
     requires asked { AsksWithin core.old.config op.now size }
-    ensures collects { CollectsWithin W.sees (5 + 2 * core.old.config.regions) core.old watch.old core.new watch.new }
+    ensures collects { CollectsWithin W.sees (5 + 3 * core.old.config.regions) core.old watch.old core.new watch.new }
     ensures room { result ≡ true → IsSpared core.new op.now ⊎ IsLastResort core.old op.now core.new }
     ensures leaves { result ≡ false → LeavesTwo core.old.config op.now.action }
     ensures full { result ≡ false → FitsLeavingTwo core.new op.now → ⊥ }
@@ -103,7 +105,7 @@ fn make_room<W: Watch>(
     watch: &mut W,
 ) -> bool
     requires asked { AsksWithin core.old.config op.now size }
-    ensures collects { CollectsWithin W.sees (4 * core.old.config.regions + 12) core.old watch.old core.new watch.new }
+    ensures collects { CollectsWithin W.sees (5 * core.old.config.regions + 12) core.old watch.old core.new watch.new }
     ensures paced { MakesRoom W.sees due policy.old.begin_at op.now core.old watch.old core.new watch.new }
     ensures room { result ≡ true → IsSpared core.new op.now ⊎ IsLastResort core.old op.now core.new }
     ensures leaves { result ≡ false → LeavesTwo core.old.config op.now.action }
@@ -182,12 +184,12 @@ fn make_apart<W: Watch>(
 }
 
 /// Makes an object, with the steps of the collector that are due before it. Like any step that makes one it may be refused; as Full only
-/// after a whole collection. If the heap has regions enough to leave two beside the object, then one of at most half a region is refused as
-/// Full only where two regions are free, if two were so before, and what roots reach has more than half of the words of all but three;
-/// and a larger one where there is no run of free regions for it, or fewer than two are free beside it. In the third format compactions
-/// come before that, so that from the lowest free region on only objects which roots reach part the free ones. Two regions that were free
-/// stay free then. While words are left to ask for no step of the collector comes, else those that are due; and more, up to a whole
-/// collection, only where there is no room for the object then.
+/// after a whole collection, and in the third format compactions, where it is one of more than half a region. If the heap has regions
+/// enough to leave two beside those that the object takes, and two were free, then it is refused as Full only where fewer are free than
+/// these and two, and what roots reach has more than half of the words of all regions but two and those that it takes. In the first two
+/// formats one of more than half a region may also want for free regions that are side by side. Two regions that were free stay free then.
+/// While words are left to ask for no step of the collector comes, else those that are due; and more, up to a whole collection, only where
+/// there is no room for the object then.
 ///
 /// ```rust
 /// let op = Op { mutator: 0, action: Action::New { to: r0, counts } };

@@ -18,7 +18,7 @@ pub struct Policy {
     pub reserve: u32,
     /// Words: the budget of a pause, but for those of a whole collection.
     pub pause_words: u32,
-    /// Words: as many are looked at by marking at a look, at most.
+    /// Words: as many are looked at by marking at a look, at most, and up to 16 times as many where few regions are free.
     pub mark_words: u32,
     /// Words: where so many were asked for since the last cycle began, another one begins.
     pub cycle_words: u32,
@@ -28,7 +28,7 @@ pub struct Policy {
     pub cards_left: u32,
     /// Cards: as many may lead into the regions of a pause, and more only after one that gained little for them.
     pub visit_cards: u32,
-    /// Objects with weak slots: so many are cleared at a look after marking.
+    /// Objects with weak slots: so many are cleared at a look after marking, and up to four times as many where few regions are free.
     pub clear_objects: u32,
     /// Regions: so many are in play at least.
     pub least: u32,
@@ -51,11 +51,12 @@ pub struct Policy {
     pub most: u32,
     /// Whether no more than half of these are in play: 1, so that a client may give memory back, else 0.
     pub idle: u32,
-    /// Words that marking looks at, at each look of a cycle.
+    /// Words that marking looks at, at each look of a cycle, or more where few regions are free.
     pub pace: u32,
     /// Cards that may lead into the regions of the next pause, if more than `visit_cards`.
     pub visits: u32,
-    /// Looks at which weak slots were cleared since the last marking, and after the marking before it.
+    /// Looks at which weak slots were cleared since the last marking, and after the marking before it. One that cleared several times
+    /// `clear_objects` counts as so many.
     pub clears: u32,
     pub cleared: u32,
     /// What the last look did: 1 if it refined alone, 2 if it evacuated new regions, else 0.
@@ -71,7 +72,7 @@ pub struct Policy {
     pub asked: u64,
     /// Words to be asked for before the next pause, while regions enough are free.
     pub rest: u64,
-    /// Words that the marking of the running cycle looked at, and that of the last one.
+    /// Words that the marking of the running cycle looked at, and that of the last one; in the first one an estimate of them.
     pub looked: u64,
     pub marked: u64,
     /// Cycles that ended, and the objects that they marked.
@@ -224,12 +225,12 @@ impl Policy {
             / u64::from(config.regions.max(1))
     }
 
-    /// Sets how many regions are in play, where so many words live: if these fill less than 40 percent of them, or more than 50, so many
+    /// Sets how many regions are in play, where so many words live: if these fill less than 40 percent of them, or more than 55, so many
     /// that they fill 40; but `least` at least.
     pub(crate) fn plan_size(&mut self, config: &Config, live: u64) {
         let full = (live / u64::from(config.words.max(1))).min(u64::from(config.regions)) + 1;
         let now = u64::from(self.in_play(config));
-        let apt = if full * 5 < now * 2 || full * 2 > now {
+        let apt = if full * 5 < now * 2 || full * 20 > now * 11 {
             full * 5 / 2
         } else {
             now
@@ -329,6 +330,47 @@ impl Policy {
         self.asked = 0;
         self.wanted = 0;
         self.looked = 0;
+        self.marked = words;
+    }
+
+    /// Words that marking looks at, at the next look. They are as many as `plan_marking` set, but more where few regions are free above
+    /// the reserve, so that it ends before that is reached; 16 times `mark_words` at most. What is left is by what the last marking
+    /// looked at, and a 16th of that at least.
+    pub(crate) fn spend_marks(&mut self, free: u32) -> u32 {
+        let room = u64::from(free.saturating_sub(self.reserve).max(1));
+        let left = self
+            .marked
+            .saturating_sub(self.looked)
+            .max(self.marked / 16);
+        let due = left.min(u64::from(u32::MAX)) * 5 / 4 / room;
+        let most = self.mark_words.saturating_mul(16);
+        let hurried = due.min(u64::from(most)) as u32;
+        let words = self.pace.min(self.mark_words).max(hurried);
+        self.looked = self.looked.saturating_add(u64::from(words));
+        words
+    }
+
+    /// Looks: as many as a cycle takes that marks and clears as much as the last one, and half as many more for marking.
+    fn cycle_looks(&self) -> u64 {
+        let words = self.marked.min(u64::from(u32::MAX));
+        let marking = words * 3 / 2 / u64::from(self.mark_words.max(1));
+        marking.saturating_add(u64::from(self.cleared))
+    }
+
+    /// Regions: so many are free, or fewer, where a quarter of those in play that are free now is used up, or as many as `borrowed` says.
+    fn spent_to(&self, config: &Config, free: u32) -> u32 {
+        let rest = u64::from(free.saturating_sub(self.held));
+        let quarter = rest - rest * 3 / 4;
+        let spent = quarter.max(u64::from(self.borrowed(config, free)));
+        u64::from(free).saturating_sub(spent).min(u64::from(free)) as u32
+    }
+
+    /// After a pause that follows a cycle: once a quarter of the regions that are free now is used up, the next cycle begins as early as it
+    /// must to end before the reserve is reached.
+    pub(crate) fn plan_next(&mut self, config: &Config, free: u32) {
+        let due = u64::from(self.kept(config)).saturating_add(self.cycle_looks());
+        let begin_at = due.min(u64::from(self.spent_to(config, free))) as u32;
+        self.begin_at = self.begin_at.max(begin_at);
     }
 
     /// Sets how many regions are in play: what was asked for since the cycle began doesn't count as live for that. And until how many free
@@ -343,10 +385,7 @@ impl Policy {
         let reserve = self.kept(config).saturating_sub(self.held);
         let wanted = (most - most / 4).max(reserve.saturating_mul(2)).max(1);
         self.wanted = self.held.saturating_add(wanted);
-        let rest = u64::from(free.saturating_sub(self.held));
-        let spent = (rest - rest * 3 / 4).max(u64::from(self.borrowed(config, free)));
-        let begin_at = u64::from(free).saturating_sub(spent);
-        self.begin_at = u64::from(self.begin_at).min(begin_at) as u32;
+        self.begin_at = self.begin_at.min(self.spent_to(config, free));
         self.visits /= 2;
         self.cleared = self.clears;
         self.clears = 0;
@@ -381,6 +420,16 @@ impl Policy {
         }
         let gained = u64::from(after - before) * u64::from(config.words);
         after <= self.reserve || copied <= gained.saturating_mul(4)
+    }
+
+    /// Objects with weak slots: so many are cleared at the next look. It is `clear_objects`; but where fewer regions are free above the
+    /// reserve than clearing has looks left, by those after the last marking, two, three or four times as many, so that it ends before the
+    /// reserve is reached. It counts as so many looks.
+    pub(crate) fn spend_clears(&mut self, config: &Config, free: u32) -> u32 {
+        let room = free.saturating_sub(self.kept(config)).max(1);
+        let looks = 1 + (self.cleared.saturating_sub(self.clears) / room).min(3);
+        self.clears = self.clears.saturating_add(looks);
+        self.clear_objects.saturating_mul(looks)
     }
 
     /// How many cards may lead into the regions of a pause.
@@ -437,10 +486,7 @@ impl Policy {
         self.begin_at = if room < 2 {
             free.saturating_sub(self.borrowed(config, free).max(1))
         } else {
-            let words = self.marked.min(u64::from(u32::MAX));
-            let marking = words * 3 / 2 / u64::from(self.mark_words.max(1));
-            let looks = marking.saturating_add(u64::from(self.cleared));
-            let needed = looks.min(u64::from(room / 4 * 3)) as u32;
+            let needed = self.cycle_looks().min(u64::from(room / 4 * 3)) as u32;
             kept.saturating_add((room / 4).min(self.in_play(config) / 8).max(needed))
         };
         self.plan_young(config, free, self.span);

@@ -5,6 +5,7 @@ use Rattle.clap.specs.Words.{Text}
 use Rattle.command_line.specs.Asked.{Asks, is_path}
 use Rattle.command_line.specs.declared.Order.TheVariants.{Concurrent, Drawn, File}
 use Rattle.command_line.specs.declared.Task.TheVariants.{Check, Draw, Script, View}
+use Rattle.command_line.specs.declared.Viewed.TheVariants.{Regions}
 use Rattle.command_line.proofs.Levels.{asks, to_check, to_draw, to_run, to_sim, to_threads, to_view}
 
 pub run : (program path : Text) → is_path path ≡ true → Asks (program ∷ codes "run" ∷ path ∷ []) (path, Script File, false)
@@ -20,7 +21,8 @@ pub follow : (program path : Text) → is_path path ≡ true
 unfolding clap_on_literals
 follow program path h = asks _ _ to_check program path (codes "--follow" ∷ []) _ h refl refl
 
-pub view : (program path : Text) → is_path path ≡ true → Asks (program ∷ codes "view" ∷ path ∷ []) (path, View false None None false, false)
+pub view : (program path : Text) → is_path path ≡ true
+    → Asks (program ∷ codes "view" ∷ path ∷ []) (path, View false None (Regions None false), false)
 unfolding clap_on_literals
 view program path h = asks _ _ to_view program path [] _ h refl refl
 

@@ -15,6 +15,8 @@ use Rattle.command_line.specs.declared.Order.{Order}
 use Rattle.command_line.specs.declared.Order.TheVariants.{File, Drawn, Concurrent}
 use Rattle.command_line.specs.declared.Task.{Task}
 use Rattle.command_line.specs.declared.Task.TheVariants.{Script, Check, View, Draw}
+use Rattle.command_line.specs.declared.Viewed.{Viewed}
+use Rattle.command_line.specs.declared.Viewed.TheVariants.{Census, Object, Regions}
 
 -- the number of so many bits that a text spells
 abbrev pub number_of : ℕ → Text → Option ℕ
@@ -42,6 +44,15 @@ threads_in rows =
 abbrev pub flag_in : Text → List Row → Bool
 flag_in name rows = option_map_or (λ text. bytes_eq text (codes "true")) (first_of name rows) false
 
+-- what of a heap is viewed where no object's name was given: its census, where that was asked for; else its regions
+abbrev pub wide_in : List Row → Viewed
+wide_in rows = if flag_in (codes "census") rows then Census
+    else Regions (number_in 32 (codes "region") rows) (flag_in (codes "summary") rows)
+
+-- what of a heap is viewed: an object, where its name was given; else something of all objects
+abbrev pub viewed_in : List Row → Viewed
+viewed_in rows = option_map_or Object (number_in 64 (codes "object") rows) (wide_in rows)
+
 -- what a subcommand does with the file
 abbrev pub task_in : Text → List Row → Option Task
 task_in name rows =
@@ -50,8 +61,7 @@ task_in name rows =
     else if bytes_eq name (codes "threads") then option_map Script (threads_in rows)
     else if bytes_eq name (codes "check") then Some (Check (flag_in (codes "follow") rows))
     else if bytes_eq name (codes "view")
-    then Some (View (flag_in (codes "record") rows) (number_in 32 (codes "at") rows) (number_in 32 (codes "region") rows)
-    (flag_in (codes "summary") rows))
+    then Some (View (flag_in (codes "record") rows) (number_in 32 (codes "at") rows) (viewed_in rows))
     else if bytes_eq name (codes "draw") then option_map (λ every. Draw every (flag_in (codes "record") rows))
     (number_in 32 (codes "every") rows)
     else None

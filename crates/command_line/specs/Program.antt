@@ -21,6 +21,9 @@ number name values = record (new_rule name) { long = Some name; action = Some Se
 abbrev pub count : Text → Rule
 count name = number name (parser.Signed (pos 0) (pos 4294967295))
 
+abbrev pub large : Text → Rule
+large name = number name (parser.Unsigned 0 18446744073709551615)
+
 -- a count of background actors, 0 where it isn't given
 abbrev pub background : Text → Rule
 background name = record (count name) { defaults = codes "0" ∷ [] }
@@ -29,7 +32,7 @@ abbrev pub workers : Rule
 workers = record (count (codes "workers")) { required = true }
 
 abbrev pub schedule : Rule
-schedule = record (number (codes "schedule") (parser.Unsigned 0 18446744073709551615)) { required = true }
+schedule = record (large (codes "schedule")) { required = true }
 
 -- an option that takes no value
 abbrev pub flag : Text → Rule
@@ -62,9 +65,11 @@ names = record (new_rule (codes "names")) { long = Some (codes "names"); action 
 -- the subcommand that views a heap
 abbrev pub viewed : App
 viewed =
-    with_rule (with_rule (with_rule (with_rule (plain (codes "view")) (flag (codes "record"))) (count (codes "at")))
+    with_rule (with_rule (with_rule (with_rule (with_rule (with_rule (plain (codes "view")) (flag (codes "record"))) (count (codes "at")))
     (count (codes "region")))
-    (flag (codes "summary"))
+    (flag (codes "summary")))
+    (large (codes "object")))
+    (flag (codes "census"))
 
 -- the subcommand that draws the life of a heap
 abbrev pub drawn : App

@@ -6,7 +6,9 @@
 //!   g1heap threads FILE --workers 2   Task::Script(Order::Concurrent { workers: 2, refiners: 0, markers: 0 })
 //!   g1heap check FILE                 Task::Check { followed: false }
 //!   g1heap check FILE --follow        Task::Check { followed: true }
-//!   g1heap view FILE --at 9           Task::View { recorded: false, at: Some(9), region: None, summary: false }
+//!   g1heap view FILE --at 9           Task::View { recorded: false, at: Some(9), viewed: Regions { region: None, summary: false } }
+//!   g1heap view FILE --object 7       Task::View { recorded: false, at: None, viewed: Object(7) }
+//!   g1heap view FILE --census         Task::View { recorded: false, at: None, viewed: Census }
 //!   g1heap draw FILE --every 10       Task::Draw { every: 10, recorded: false }
 //!   g1heap help, and every mistake    an `Error`, whose text is for the user
 //! ```
@@ -22,12 +24,12 @@ ghost use Rattle.clap.specs.Words.{App, FailsBy, HasKind, first_of, found_of, ki
 ghost use Rattle.clap.specs.Words.{subcommand_rows_of, with_rule, with_subcommand};
 ghost use Rattle.clap.specs.declared.error.kind.ErrorKind.TheVariants.{InvalidValue};
 ghost use Rattle.command_line.specs.Asked.{Asks, asked_by, asked_in, asked_of, drawn_in, faults_of, flag_in, is_path, number_in, task_in};
-ghost use Rattle.command_line.specs.Asked.{names_by, names_in, names_of, threads_in};
+ghost use Rattle.command_line.specs.Asked.{names_by, names_in, names_of, threads_in, viewed_in, wide_in};
 ghost use Rattle.command_line.specs.declared.Order.TheVariants.{Concurrent, Drawn, File};
 ghost use Rattle.command_line.specs.declared.Task.TheVariants.{Check, Draw, Script, View};
+ghost use Rattle.command_line.specs.declared.Viewed.TheVariants.{Census, Object, Regions};
 ghost use Rattle.command_line.specs.Program.{IsReadAs, background, bare, by_actors, checked, count, drawn, every, file, flag, g1heap};
-ghost use Rattle.command_line.specs.Program.{with_path};
-ghost use Rattle.command_line.specs.Program.{names, number, plain, schedule, viewed, workers};
+ghost use Rattle.command_line.specs.Program.{large, names, number, plain, schedule, viewed, with_path, workers};
 
 use clap::builder::ValueParser;
 use clap::error::ErrorKind;
@@ -53,6 +55,17 @@ pub enum Order {
     },
 }
 
+/// What of a heap is viewed.
+#[derive(Clone, Copy)]
+pub enum Viewed {
+    /// A region alone, or all; and whether it is a short view.
+    Regions { region: Option<u32>, summary: bool },
+    /// The object of a name alone.
+    Object(u64),
+    /// Its kept objects, by classes.
+    Census,
+}
+
 /// What is done with the file.
 #[derive(Clone, Copy)]
 pub enum Task {
@@ -62,13 +75,11 @@ pub enum Task {
     Check {
         followed: bool,
     },
-    /// A script is run, or a record's steps are done again, and a view of its heap written: after so many steps, or the last one; of a
-    /// region alone, or all; and whether it is a short one.
+    /// A script is run, or a record's steps are done again, and a view of its heap written: after so many steps, or the last one.
     View {
         recorded: bool,
         at: Option<u32>,
-        region: Option<u32>,
-        summary: bool,
+        viewed: Viewed,
     },
     /// A script is run, or a record's steps are done again, and the page of its heap's life written, with a moment each so many events.
     Draw {
@@ -164,6 +175,14 @@ fn count<'a>(alloc: Global, name: &'a str, help: &'a str) -> Arg<'a>
     number(alloc, name, help, value_parser!(u32))
 }
 
+/// An option that takes a number up to 18446744073709551615.
+fn large<'a>(alloc: Global, name: &'a str, help: &'a str) -> Arg<'a>
+    ensures rule { rule_of result ≡ large name.entry.now }
+    ensures own { result.global ≡ false }
+{
+    number(alloc, name, help, value_parser!(u64))
+}
+
 /// A count of background actors, none unless it is given.
 fn background<'a>(alloc: Global, name: &'a str, help: &'a str) -> Arg<'a>
     ensures rule { rule_of result ≡ background name.entry.now }
@@ -198,7 +217,7 @@ fn schedule<'a>(alloc: Global) -> Arg<'a>
     ensures own { result.global ≡ false }
 {
     let help = "The seed, 0 to 18446744073709551615";
-    number(alloc, "schedule", help, value_parser!(u64)).required(true)
+    large(alloc, "schedule", help).required(true)
 }
 
 /// The option that takes the number of worker threads.
@@ -398,7 +417,11 @@ fn view_command<'a>(alloc: Global) -> Result<Command<'a>, AllocError>
     );
     let command = with_arg(command, count(alloc, "region", "Views region N alone"));
     let help = "Prints a line a region, and what they add up to";
-    with_arg(command, flag(alloc, "summary", help))
+    let command = with_arg(command, flag(alloc, "summary", help));
+    let help = "Views object #N alone: all its fields, and who names it";
+    let command = with_arg(command, large(alloc, "object", help));
+    let help = "Counts objects and words by shape and first data word, most words first";
+    with_arg(command, flag(alloc, "census", help))
 }
 
 fn draw_command<'a>(alloc: Global) -> Result<Command<'a>, AllocError>
@@ -444,18 +467,18 @@ fn count_in(found: &ArgMatches, name: &str) -> Option<u32>
     found.get_one::<u32>(name)
 }
 
-/// The seed that was given.
-fn seed_in(found: &ArgMatches) -> Option<u64>
-    ensures { result ≡ number_in 64 (codes "schedule") (rows_of (found_of found.now)) }
+/// The number of up to 64 bits that was given for an option.
+fn large_in(found: &ArgMatches, name: &str) -> Option<u64>
+    ensures { result ≡ number_in 64 name.now (rows_of (found_of found.now)) }
 {
-    found.get_one::<u64>("schedule")
+    found.get_one::<u64>(name)
 }
 
 fn drawn_order(found: &ArgMatches) -> Option<Order>
     ensures { result ≡ drawn_in (rows_of (found_of found.now)) }
 {
     Some(Order::Drawn {
-        seed: seed_in(found)?,
+        seed: large_in(found, "schedule")?,
         refiners: count_in(found, "refiners")?,
         markers: count_in(found, "markers")?,
     })
@@ -481,6 +504,29 @@ fn flag_in(found: &ArgMatches, name: &str) -> bool
     }
 }
 
+/// What of a heap is viewed where no object's name was given: its census where that was asked for.
+fn wide_in(found: &ArgMatches) -> Viewed
+    ensures { result ≡ wide_in (rows_of (found_of found.now)) }
+{
+    if flag_in(found, "census") {
+        return Viewed::Census;
+    }
+    Viewed::Regions {
+        region: count_in(found, "region"),
+        summary: flag_in(found, "summary"),
+    }
+}
+
+/// What of a heap is viewed: an object where its name was given.
+fn viewed_in(found: &ArgMatches) -> Viewed
+    ensures { result ≡ viewed_in (rows_of (found_of found.now)) }
+{
+    match large_in(found, "object") {
+        Some(name) => Viewed::Object(name),
+        None => wide_in(found),
+    }
+}
+
 /// What a subcommand does with the file. `None`: the subcommand is unknown, or a value isn't there.
 fn task_of(name: &str, found: &ArgMatches) -> Option<Task>
     ensures { result ≡ task_in name.now (rows_of (found_of found.now)) }
@@ -495,8 +541,7 @@ fn task_of(name: &str, found: &ArgMatches) -> Option<Task>
         "view" => Some(Task::View {
             recorded: flag_in(found, "record"),
             at: count_in(found, "at"),
-            region: count_in(found, "region"),
-            summary: flag_in(found, "summary"),
+            viewed: viewed_in(found),
         }),
         "draw" => Some(Task::Draw {
             every: count_in(found, "every")?,
@@ -580,7 +625,7 @@ pub fn words_law()
     ensures follow { (program path : List ℕ) → is_path path ≡ true
         → Asks (program ∷ codes "check" ∷ path ∷ codes "--follow" ∷ []) (path, Check true, false) }
     ensures view { (program path : List ℕ) → is_path path ≡ true
-        → Asks (program ∷ codes "view" ∷ path ∷ []) (path, View false None None false, false) }
+        → Asks (program ∷ codes "view" ∷ path ∷ []) (path, View false None (Regions None false), false) }
     ensures draw { (program path : List ℕ) → is_path path ≡ true
         → Asks (program ∷ codes "draw" ∷ path ∷ []) (path, Draw 1 false, false) }
     ensures every { (program path : List ℕ) → is_path path ≡ true
@@ -592,13 +637,18 @@ pub fn words_law()
         × (names_of (program ∷ codes "draw" ∷ path ∷ codes "--names" ∷ file ∷ []) ≡ Some file) }
     ensures no_names { (program path : List ℕ) → is_path path ≡ true → names_of (program ∷ codes "draw" ∷ path ∷ []) ≡ None }
     ensures at { (program path : List ℕ) → is_path path ≡ true
-        → Asks (program ∷ codes "view" ∷ path ∷ codes "--at" ∷ codes "9" ∷ []) (path, View false (Some 9) None false, false) }
+        → Asks (program ∷ codes "view" ∷ path ∷ codes "--at" ∷ codes "9" ∷ [])
+        (path, View false (Some 9) (Regions None false), false) }
+    ensures object { (program path : List ℕ) → is_path path ≡ true
+        → Asks (program ∷ codes "view" ∷ path ∷ codes "--object" ∷ codes "7" ∷ []) (path, View false None (Object 7), false) }
+    ensures census { (program path : List ℕ) → is_path path ≡ true
+        → Asks (program ∷ codes "view" ∷ path ∷ codes "--census" ∷ []) (path, View false None Census, false) }
     ensures run_explained { (program path : List ℕ) → is_path path ≡ true
         → Asks (program ∷ codes "run" ∷ path ∷ codes "--explain" ∷ []) (path, Script File, true) }
     ensures check_explained { (program path : List ℕ) → is_path path ≡ true
         → Asks (program ∷ codes "check" ∷ path ∷ codes "--explain" ∷ []) (path, Check false, true) }
     ensures view_explained { (program path : List ℕ) → is_path path ≡ true
-        → Asks (program ∷ codes "view" ∷ path ∷ codes "--explain" ∷ []) (path, View false None None false, true) }
+        → Asks (program ∷ codes "view" ∷ path ∷ codes "--explain" ∷ []) (path, View false None (Regions None false), true) }
     ensures draw_explained { (program path : List ℕ) → is_path path ≡ true
         → Asks (program ∷ codes "draw" ∷ path ∷ codes "--explain" ∷ []) (path, Draw 1 false, true) }
 {}

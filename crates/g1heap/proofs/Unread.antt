@@ -56,8 +56,8 @@ pub unread_task : (name names : List ℕ) (task : Task) (given left : Reader) (o
 unread_task name names (Script order) given left old new err err' status other unread kept tells =
     record { outcome = Err (faults.Read reads.CannotRead); ends = (unread, kept); tells = tells }
 unread_task name names (Check followed) given left old new err err' status other unread kept tells = absurd (other followed refl)
-unread_task name names (View recorded at region summary) given left old new err err' status other unread kept tells =
-    unread_view recorded (glance_of at region summary) given left old new err err' status unread kept tells
+unread_task name names (View recorded at viewed) given left old new err err' status other unread kept tells =
+    unread_view recorded (glance_of at viewed) given left old new err err' status unread kept tells
 unread_task name names (Draw every recorded) given left old new err err' status other unread kept tells =
     unread_draw name names recorded every given left old new err err' status unread kept tells
 
@@ -67,7 +67,7 @@ pub as_job : (name names : List ℕ) (task : Task) (given left : Reader) (old ne
     → DoesJob names (name, task, true) given left old new err err' status
 as_job name names (Script order) given left old new err err' status other does = does
 as_job name names (Check followed) given left old new err err' status other does = absurd (other followed refl)
-as_job name names (View recorded at region summary) given left old new err err' status other does = does
+as_job name names (View recorded at viewed) given left old new err err' status other does = does
 as_job name names (Draw every recorded) given left old new err err' status other does = does
 
 pub unread_more : (name names : List ℕ) (task : Task) (given left : Reader) (old new err err' : Writer) (status : ℕ)

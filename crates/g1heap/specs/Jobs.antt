@@ -12,6 +12,8 @@ use Rattle.jobs.specs.Verdicts.{PerformsCheck}
 use Rattle.jobs.specs.Explanations.{PerformsExplain}
 use Rattle.jobs.specs.Followed.{PerformsFollow}
 use Rattle.heap_view.specs.declared.glance.Glance.{Glance}
+use Rattle.heap_view.specs.declared.glance.Viewed as view
+use Rattle.heap_view.specs.declared.glance.Viewed.TheVariants as views
 use Rattle.heap_view.specs.Views.{PerformsView, Views}
 use Rattle.heap_view.specs.Reviews.{PerformsReview, Reviews}
 use Rattle.heap_life.specs.Drawings.{Draws, PerformsDraw}
@@ -25,6 +27,8 @@ use Rattle.command_line.specs.declared.Order.{Order}
 use Rattle.command_line.specs.declared.Order.TheVariants.{Concurrent, Drawn, File}
 use Rattle.command_line.specs.declared.Task.{Task}
 use Rattle.command_line.specs.declared.Task.TheVariants.{Script, Check, View, Draw}
+use Rattle.command_line.specs.declared.Viewed.{Viewed}
+use Rattle.command_line.specs.declared.Viewed.TheVariants.{Census, Object, Regions}
 
 -- a record in a file of this name was judged, and the verdict explained, or the record read as it is written, where that was asked for
 abbrev pub DoesCheck : List ℕ → Bool → Bool → Reader → Reader → Writer → Writer → Writer → Writer → ℕ → Type 0
@@ -42,18 +46,23 @@ abbrev pub DoesDraw : List ℕ → List ℕ → Bool → ℕ → Reader → Read
 DoesDraw name names false every given left old new err err' status = PerformsDraw name names every given left old new err err' status
 DoesDraw name names true every given left old new err err' status = PerformsRedraw name names every given left old new err err' status
 
--- what of a heap a task views
-abbrev pub glance_of : Option ℕ → Option ℕ → Bool → Glance
-glance_of at region summary = record { at = at; region = region; summary = summary }
+-- what of a heap a task views, and when
+abbrev pub viewed_of : Viewed → view.Viewed
+viewed_of (Regions region summary) = views.Regions region summary
+viewed_of (Object name) = views.Object name
+viewed_of Census = views.Census
+
+abbrev pub glance_of : Option ℕ → Viewed → Glance
+glance_of at viewed = record { at = at; viewed = viewed_of viewed }
 
 -- How a task that does a heap's steps, of a file of this name, ended, whatever is told of it: what was read, what was written, and its
 -- outcome. A page has these names for shapes.
 abbrev pub EndsAs : List ℕ → List ℕ → Task → Reader → Reader → Writer → Writer → Result ⊤ JobFault → Type 0
 EndsAs name names (Script order) given left old new outcome = EndsIn order given left old new outcome
-EndsAs name names (View false at region summary) given left old new outcome =
-    Views (glance_of at region summary) given left old new outcome
-EndsAs name names (View true at region summary) given left old new outcome =
-    Reviews (glance_of at region summary) given left old new outcome
+EndsAs name names (View false at viewed) given left old new outcome =
+    Views (glance_of at viewed) given left old new outcome
+EndsAs name names (View true at viewed) given left old new outcome =
+    Reviews (glance_of at viewed) given left old new outcome
 EndsAs name names (Draw every false) given left old new outcome = Draws name names every given left old new outcome
 EndsAs name names (Draw every true) given left old new outcome = Redraws name names every given left old new outcome
 EndsAs name names (Check followed) given left old new outcome = ⊥
@@ -62,7 +71,7 @@ EndsAs name names (Check followed) given left old new outcome = ⊥
 abbrev pub kind_of : Task → TextKind
 kind_of (Script order) = texts.Script
 kind_of (Check followed) = texts.Record
-kind_of (View recorded at region summary) = if recorded then texts.Record else texts.Script
+kind_of (View recorded at viewed) = if recorded then texts.Record else texts.Script
 kind_of (Draw every recorded) = if recorded then texts.Record else texts.Script
 
 -- how many threads and background actors an order has, and a task was asked for
@@ -114,8 +123,8 @@ DoesJob names (name, Check followed, explained) given left old new err err' stat
     DoesCheck name explained followed given left old new err err' status
 DoesJob names (name, Script order, false) given left old new err err' status =
     Performs (MakesRecord order) (MayFail order) given left old new err err' status
-DoesJob names (name, View recorded at region summary, false) given left old new err err' status =
-    DoesView recorded (glance_of at region summary) given left old new err err' status
+DoesJob names (name, View recorded at viewed, false) given left old new err err' status =
+    DoesView recorded (glance_of at viewed) given left old new err err' status
 DoesJob names (name, Draw every recorded, false) given left old new err err' status =
     DoesDraw name names recorded every given left old new err err' status
 DoesJob names (name, task, true) given left old new err err' status = DoesExplained name names task given left old new err err' status

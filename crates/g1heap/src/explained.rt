@@ -4,10 +4,10 @@ ghost use Rattle.std.specs.Prelude.{◌≡◌, ◌≢◌, Bool, if◌then◌else
 ghost use Rattle.command_line.specs.declared.Task.TheVariants.{Check};
 ghost use Rattle.g1heap.specs.Jobs.{DoesExplained, EndsAs, TellsOver, kind_of, no_counts, counts_in, counts_of};
 
-use crate::job::do_script;
+use crate::job::{do_script, glance_of};
 use command_line::{Order, Task};
 use heap_life::{draw_record, draw_script};
-use heap_view::{Glance, view_record, view_script};
+use heap_view::{view_record, view_script};
 use job_ends::JobFault;
 use jobs::{Counts, conclude_explained, conclude_unread};
 use script_text::{TextKind, WatchedReader, WatchedWriter, read_text};
@@ -34,14 +34,9 @@ fn do_task<H: Threads + Wait + Sync, R: Read, W: Write>(
         Task::View {
             recorded,
             at,
-            region,
-            summary,
+            viewed,
         } => {
-            let glance = Glance {
-                at,
-                region,
-                summary,
-            };
+            let glance = glance_of(at, viewed);
             if recorded {
                 view_record(alloc, &glance, reader, out)
             } else {

@@ -1,13 +1,13 @@
 //! What the program does with a job.
 
-ghost use Rattle.std.specs.Prelude.{false, true};
+ghost use Rattle.std.specs.Prelude.{◌≡◌, false, true};
 ghost use Rattle.g1heap.specs.Runs.{EndsIn};
 ghost use Rattle.command_line.specs.Asked.{asked_by};
-ghost use Rattle.g1heap.specs.Jobs.{DoesCheck, DoesDraw, DoesJob, DoesView};
+ghost use Rattle.g1heap.specs.Jobs.{DoesCheck, DoesDraw, DoesJob, DoesView, glance_of};
 
 use crate::actors::{simulate_script, thread_script};
 use crate::explained::do_explained;
-use command_line::{Job, Order, Task};
+use command_line::{Job, Order, Task, Viewed};
 use heap_life::{draw_record, draw_script};
 use heap_view::{Glance, view_record, view_script};
 use job_ends::{JobFault, conclude};
@@ -63,6 +63,26 @@ fn do_check<R: Read, W: Write, E: Write>(
         explain_and_conclude(alloc, name, reader, out, err)
     } else {
         judge_and_conclude(alloc, reader, out, err)
+    }
+}
+
+/// What of a heap a task views.
+pub(crate) fn glance_of(at: Option<u32>, viewed: Viewed) -> Glance
+    ensures { result ≡ glance_of at viewed }
+{
+    match viewed {
+        Viewed::Regions { region, summary } => Glance {
+            at,
+            viewed: heap_view::Viewed::Regions { region, summary },
+        },
+        Viewed::Object(name) => Glance {
+            at,
+            viewed: heap_view::Viewed::Object(name),
+        },
+        Viewed::Census => Glance {
+            at,
+            viewed: heap_view::Viewed::Census,
+        },
     }
 }
 
@@ -131,14 +151,9 @@ fn do_plain<H: Threads + Wait + Sync, R: Read, W: Write, E: Write>(
         Task::View {
             recorded,
             at,
-            region,
-            summary,
+            viewed,
         } => {
-            let glance = Glance {
-                at,
-                region,
-                summary,
-            };
+            let glance = glance_of(at, viewed);
             do_view(alloc, recorded, &glance, reader, out, err)
         }
         Task::Draw { every, recorded } => {

@@ -173,7 +173,7 @@ asks_from : (op : Op) (s : State) (c : CoreState) (answer : Answer) (after : Opt
     → (h : AnswersMake c op answer after) → Asked s op h.reply h.core
 asks_from op s c answer after st h =
     let before = h.makes.collects in
-    let first = collected_from (4 * c.config.regions + 12) s c h.makes.core st before in
+    let first = collected_from (5 * c.config.regions + 12) s c h.makes.core st before in
     record {
       before = before.events;
       collectors = before.collectors;

@@ -3,3 +3,5 @@ pub mod Runs
 pub mod Policies
 pub mod MadeFilled
 pub mod Noted
+pub mod Versions
+pub mod Memory

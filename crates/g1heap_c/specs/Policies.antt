@@ -9,7 +9,7 @@ use Rattle.heap_steps.specs.declared.step.Reply.TheVariants as replies
 use Rattle.heap_steps.specs.declared.step.Refusal.TheVariants as refusals
 use Rattle.graph_runs.specs.State.{State}
 use Rattle.step_core.specs.Stands.{CoreState, Stands}
-use Rattle.collection.specs.Space.{IsCollected, IsPacked, LieBelowFree}
+use Rattle.collection.specs.Space.{IsCollected, IsCompact, IsPacked}
 use Rattle.collection.specs.Steps.{CollectsWithin, CollectsSome, IsDue, LeavesTwo, Makes}
 use Rattle.collection.specs.Rooms.{IsFilled}
 use Rattle.heap_calls.specs.Numbers.{counts, no_heap, no_step, numbers, register, told}
@@ -43,7 +43,7 @@ pub record AnswersMake (c : CoreState) (op : Op) (answer : Answer) (after : Opti
   pub core : CoreState
   pub tells : answer ≡ numbers reply
   pub held : after ≡ Some core
-  pub makes : MakesIn (4 * c.config.regions + 12) op reply c core
+  pub makes : MakesIn (5 * c.config.regions + 12) op reply c core
   pub full : reply ≡ replies.Refused refusals.Full → (s : State) → Stands s c → IsFilled s.graph c op.action core
   pub two : LeavesTwo c.config op.action → 2 ≤ free_count c.table → 2 ≤ free_count core.table
 
@@ -86,16 +86,16 @@ abbrev pub CollectsAll : Option CoreState → Answer → Option CoreState → Ty
 CollectsAll None answer after = StaysSame None no_heap answer after
 CollectsAll (Some c) answer after = CollectsAllIn c answer after
 
--- The same, and more pauses and compactions after it: each ordinary region is below each free one then, if two were free. Memory goes back,
--- if what that asks for meanwhile is granted
+-- The same, and more pauses and compactions after it: no region in use is above a free one then, if two were free and the format has
+-- compactions. Memory goes back, if what that asks for meanwhile is granted
 pub record ShrinksIn (granted : Bool) (c : CoreState) (answer : Answer) (after : Option CoreState) : Type 0 where
   pub core : CoreState
   pub tells : answer ≡ given_back granted
   pub held : after ≡ Some core
-  pub collects : CollectsIn (13 + 3 * c.config.regions) c core
+  pub collects : CollectsIn (13 + 4 * c.config.regions) c core
   pub collected : (s : State) → Stands s c → IsCollected s.graph core
   pub packed : (s : State) → Stands s c → 2 ≤ free_count c.table → IsPacked s.graph core
-  pub below : IsThird c.config.format → 2 ≤ free_count c.table → (s : State) → Stands s c → LieBelowFree core.table
+  pub compact : IsThird c.config.format → 2 ≤ free_count c.table → (s : State) → Stands s c → IsCompact core.table
 
 abbrev pub Shrinks : Bool → Option CoreState → Answer → Option CoreState → Type 0
 Shrinks granted None answer after = StaysSame None no_heap answer after

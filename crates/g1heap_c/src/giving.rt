@@ -44,8 +44,7 @@ fn shrink_now<W: Watch>(
     shrink_in(core, policy, alloc, watch)
 }
 
-/// A whole collection, and compactions until one takes no ordinary region; then the memory above the highest region in use goes back to the
-/// system.
+/// A whole collection, and compactions until none moves anything; then the memory above the highest region in use goes back to the system.
 #[unsafe(no_mangle)]
 pub extern "C" fn g1_shrink(alloc: Global, heap: &mut Heap, policy: &mut Policy) -> Answer
     ensures { IsCall heap.old.handle.core (ShrinkCall true) result heap.new.handle.core

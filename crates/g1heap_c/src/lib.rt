@@ -18,11 +18,13 @@ pub mod laws;
 pub mod loads;
 pub mod made_filled;
 pub mod making;
+pub mod memory;
 pub mod mutator;
 mod noted;
 pub mod policy;
 pub mod readers;
 pub mod rows;
+pub mod version;
 pub mod walks;
 pub mod words;
 

@@ -263,17 +263,15 @@ pub extern "C" fn g1_get_weak(
     ensures { IsCall heap.old.handle.core
         (StepCall (by mutator (actions.GetWeak (spec.register to) (spec.register object) slot))) result heap.new.handle.core }
 {
-    take(
-        heap,
-        by(
-            mutator,
-            Action::GetWeak {
-                to: register(to),
-                object: register(object),
-                slot,
-            },
-        ),
-    )
+    let op = Op {
+        mutator,
+        action: Action::GetWeak {
+            to: register(to),
+            object: register(object),
+            slot,
+        },
+    };
+    take_up_to(heap, op, object.max(to), true)
 }
 
 /// A weak slot of the object that `object` names takes what `from` holds, or nil.

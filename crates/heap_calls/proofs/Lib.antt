@@ -1,4 +1,5 @@
 pub mod Handles
 pub mod Values
 pub mod Filling
+pub mod Loading
 pub mod FreeRuns

@@ -57,10 +57,6 @@ abbrev pub values_text : Spelling → List ℕ → List ℕ
 values_text spelling values = title_text spelling (length values) (codes ", data") (codes " ;")
     ++ flat_map spaced_number (first (shown spelling) values) ++ more_text spelling (length values)
 
--- an object's pointers, or what its weak slots show
-abbrev pub links_at : Bool → CoreState → ℕ → List (Option ℕ)
-links_at weak c a = if weak then weaks_shown c a else pointers_at c.table a
-
 -- the fields of an object: its pointers, its weak slots and its data
 abbrev pub fields_text : Spelling → CoreState → ℕ → List ℕ
 fields_text spelling c a = links_text spelling (codes ", pointers") [] c.table (pointers_at c.table a)

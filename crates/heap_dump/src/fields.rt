@@ -1,11 +1,13 @@
 //! The fields of an object, spelled for a terminal or for a page: of each kind the first ones, and how many more there are.
 
-ghost use Rattle.std.specs.Prelude.{◌≡◌, ◌<◌, IsSome, Some, length, slice_get};
+ghost use Rattle.std.specs.Prelude.{◌≡◌, IsSome};
 ghost use Rattle.regions.specs.Table.{object_at, values_at};
 ghost use Rattle.script_text.specs.Texts.{Adds};
-ghost use Rattle.heap_dump.specs.Fields.{fields_text, links_at, links_text, more_text, named_text, pointer_text, shown, spaced_pointer};
+ghost use Rattle.heap_walk.specs.Holders.{links_at};
+ghost use Rattle.heap_dump.specs.Fields.{fields_text, links_text, more_text, named_text, pointer_text, shown, spaced_pointer};
 ghost use Rattle.heap_dump.specs.Fields.{title_text, values_text};
 
+use heap_walk::{link_at, links};
 use heap_words::addr::{Addr, Ptr};
 use regions::RegionTable;
 use script_text::Text;
@@ -108,30 +110,6 @@ fn put_title(text: &mut Text, count: u32, line: &str, page: &str, spelling: Spel
     }
 }
 
-/// How many pointers, or weak slots, an object has.
-fn link_count(core: &Core, object: Addr, weak: bool) -> u32
-    requires { IsSome (object_at core.now.table object) }
-    ensures { result ≡ length (links_at weak core.now object) }
-{
-    if weak {
-        core.table().weak_count(object)
-    } else {
-        core.table().pointer_count(object)
-    }
-}
-
-/// A pointer of an object, or what a weak slot shows.
-fn link_at(core: &Core, object: Addr, weak: bool, index: u32) -> Ptr
-    requires { index < length (links_at weak core.now object) }
-    ensures { slice_get (links_at weak core.now object) index ≡ Some result }
-{
-    if weak {
-        core.weak_shown(object, index)
-    } else {
-        core.table().get_ptr(object, index)
-    }
-}
-
 /// Puts an object's pointers, or its weak slots, after their title.
 fn put_links(
     core: &Core,
@@ -145,7 +123,7 @@ fn put_links(
     requires { IsSome (object_at core.now.table object) }
     ensures { Adds text.old (links_text spelling line.now page.now core.now.table (links_at weak core.now object)) text.new }
 {
-    let count = link_count(core, object, weak);
+    let count = links(core, object, weak);
     put_title(text, count, line, page, spelling);
     for index in 0..count.min(shown(spelling)) {
         put_spaced_pointer(

@@ -13,6 +13,7 @@ use heap_words::config::{Config, Format};
 use page_parts::{
     BEFORE, BEHIND, BETWEEN, END, SCRIPT_CURVES, SCRIPT_FIND, SCRIPT_FOLD, SCRIPT_LANES,
     SCRIPT_LIFE, SCRIPT_OBJECTS, SCRIPT_OVER, SCRIPT_PAGE, SCRIPT_PANELS, SCRIPT_REACH,
+    SCRIPT_RUNS,
 };
 use script_text::{Text, WatchedWriter, write_record};
 use std::alloc::{AllocError, Global};
@@ -122,10 +123,11 @@ fn text_between(alloc: Global, name: &str, names: &[u8], life: &Life) -> Result<
     text.into_bytes()
 }
 
-/// Adds what folds free regions, which pages of the third format alone have.
-fn put_fold(text: &mut Text, format: Format) {
+/// Adds what pages of the third format alone have: what folds free regions, and what shows runs that moved.
+fn put_third(text: &mut Text, format: Format) {
     if is_third(format) {
         text.put(SCRIPT_FOLD);
+        text.put(SCRIPT_RUNS);
     }
 }
 
@@ -141,7 +143,7 @@ fn text_behind(alloc: Global, format: Format) -> Result<Vec<u8>, AllocError> {
     text.put(SCRIPT_PANELS);
     text.put(SCRIPT_OBJECTS);
     text.put(SCRIPT_FIND);
-    put_fold(&mut text, format);
+    put_third(&mut text, format);
     text.put(SCRIPT_PAGE);
     text.put(END);
     text.into_bytes()

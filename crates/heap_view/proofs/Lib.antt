@@ -1,4 +1,9 @@
+pub mod Columns
+pub mod Counting
 pub mod FreeRegions
 pub mod Fronts
+pub mod KeptClasses
 pub mod Rows
+pub mod Holding
+pub mod Nexts
 pub mod Titles

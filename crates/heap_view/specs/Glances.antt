@@ -1,5 +1,5 @@
 -- The text of a view, by what of the heap is viewed.
-use Rattle.std.specs.Prelude.{ℕ, ◌*◌, nat_lt, ◌&&◌, Bool, true, false, List, ◌++◌, Option, Some, None, length, codes, if◌then◌else◌}
+use Rattle.std.specs.Prelude.{◌≡◌, ℕ, ◌*◌, nat_lt, ◌&&◌, Bool, true, false, List, ◌++◌, Option, Some, None, length, codes, if◌then◌else◌}
 use Rattle.std.specs.Fmt.{decimal}
 use Rattle.heap_steps.specs.Actors.{is_third}
 use Rattle.script_text.specs.Spelling.{heap_words, line}
@@ -7,6 +7,10 @@ use Rattle.regions.specs.Table.{free_count}
 use Rattle.step_core.specs.Stands.{CoreState}
 use Rattle.step_core.specs.Measures.{used_words, live_words}
 use Rattle.heap_view.specs.declared.glance.Glance.{Glance}
+use Rattle.heap_view.specs.declared.glance.Viewed.{Viewed}
+use Rattle.heap_view.specs.declared.glance.Viewed.TheVariants.{Census, Object, Regions}
+use Rattle.heap_view.specs.Objects.{AreObjectLines}
+use Rattle.heap_view.specs.Census.{AreCensusLines}
 use Rattle.heap_dump.specs.Lists.{text_below}
 use Rattle.heap_view.specs.Areas.{region_line, region_lines}
 use Rattle.heap_view.specs.Folds.{folded_line}
@@ -59,6 +63,14 @@ viewed_regions (Some k) summary c = numbered_region summary c k
 viewed_regions None summary c =
     text_below (listed_region summary c) (length c.table.regions) ++ below_regions summary c
 
--- the text of a view: the sizes as the script's first line has them, the state, and what of the regions is viewed
-unfoldable pub view_text : Glance → CoreState → List ℕ
-view_text glance c = line (heap_words c.config) ++ state_lines c ++ viewed_regions glance.region glance.summary c
+-- these lines are what is viewed
+abbrev pub AreViewed : Viewed → CoreState → List ℕ → Type 0
+AreViewed (Regions region summary) c lines = lines ≡ viewed_regions region summary c
+AreViewed (Object name) c lines = AreObjectLines c name lines
+AreViewed Census c lines = AreCensusLines c lines
+
+-- the text of a view: the sizes as the script's first line has them, the state, and what is viewed
+pub record IsViewText (glance : Glance) (c : CoreState) (text : List ℕ) : Type 0 where
+  pub lines : List ℕ
+  pub viewed : AreViewed glance.viewed c lines
+  pub is : text ≡ line (heap_words c.config) ++ state_lines c ++ lines

@@ -2,6 +2,9 @@ pub mod Lists
 pub mod Tiles
 pub mod Areas
 pub mod Folds
+pub mod Nexts
+pub mod Objects
+pub mod Census
 pub mod Actors
 pub mod Glances
 pub mod Views

@@ -13,7 +13,7 @@ use Rattle.job_ends.specs.declared.faults.JobFault.{JobFault}
 use Rattle.job_ends.specs.declared.faults.JobFault.TheVariants as faults
 use Rattle.jobs.specs.Replays.{reply_in, DiffersAt}
 use Rattle.heap_view.specs.declared.glance.Glance.{Glance}
-use Rattle.heap_view.specs.Glances.{view_text}
+use Rattle.heap_view.specs.Glances.{IsViewText}
 use Rattle.heap_view.specs.Views.{front}
 
 -- a new heap does the steps of these events, gives each their replies, and then is this core
@@ -31,7 +31,7 @@ beginning_of at history = record history { events = front at history.events }
 pub record IsReviewOf (glance : Glance) (history : EventList) (text : List ℕ) : Type 0 where
   pub core : CoreState
   pub goes : GoesTo (beginning_of glance.at history) core
-  pub is : text ≡ view_text glance core
+  pub is : IsViewText glance core text
 
 -- the input is a record, and the text is the view of it
 pub record IsReviewOfRecord (glance : Glance) (input text : List ℕ) : Type 0 where

@@ -9,7 +9,7 @@ use Rattle.job_ends.specs.Answers.{AnswersScript}
 use Rattle.job_ends.specs.Runs.{TellsEnd}
 use Rattle.job_ends.specs.declared.faults.JobFault.{JobFault}
 use Rattle.heap_view.specs.declared.glance.Glance.{Glance}
-use Rattle.heap_view.specs.Glances.{view_text}
+use Rattle.heap_view.specs.Glances.{IsViewText}
 
 -- the first so many of a list, or all of it where no number is given
 abbrev pub front : {A : Type 0} → Option ℕ → List A → List A
@@ -26,7 +26,7 @@ pub record IsViewOf (glance : Glance) (plan : StepList) (text : List ℕ) : Type
   pub runs : IsRunInOrder (front_of glance.at plan) events
   pub core : CoreState
   pub ends : RunsTo plan.config events.events core
-  pub is : text ≡ view_text glance core
+  pub is : IsViewText glance core text
 
 -- the input is a script, and the text is the view of it
 pub record IsViewOfScript (glance : Glance) (input text : List ℕ) : Type 0 where

@@ -1,14 +1,16 @@
 //! What of a heap is viewed, and the text of that.
 
-ghost use Rattle.std.specs.Prelude.{◌≡◌, ◌<◌, ◌&&◌, length, IfOk};
+ghost use Rattle.std.specs.Prelude.{◌≡◌, ◌<◌, ◌&&◌, ℕ, List, length, IfOk, OnOk};
 ghost use Rattle.script_text.specs.Texts.{Adds};
 ghost use Rattle.heap_dump.specs.Lists.{text_below};
 ghost use Rattle.heap_view.specs.Glances.{one_region, numbered_region, is_folded, listed_region};
-ghost use Rattle.heap_view.specs.Glances.{total_words, total_regions, below_regions, viewed_regions, view_text};
+ghost use Rattle.heap_view.specs.Glances.{AreViewed, IsViewText, total_words, total_regions, below_regions, viewed_regions};
 
 use crate::card_lines::put_queue;
+use crate::census_lines::put_census;
 use crate::folds::put_folded;
 use crate::heads::{put_sizes, put_state};
+use crate::object_lines::put_object;
 use crate::region_lines::{put_region, put_region_line};
 use crate::root_lines::put_actors;
 use heap_steps::is_third;
@@ -17,16 +19,29 @@ use script_text::Text;
 use std::alloc::{AllocError, Global};
 use step_core::Core;
 
+/// What of a heap is viewed.
+#[derive(Clone, Copy, Debug, PartialEq, Eq)]
+pub enum Viewed {
+    /// Its regions.
+    Regions {
+        /// This region alone. `None`: each region, and what is beside them.
+        region: Option<u32>,
+        /// A line a region, and what they add up to, in place of tiles, sets and roots. Of the third format free regions side by side are
+        /// one line.
+        summary: bool,
+    },
+    /// The kept object of a name: all its fields, and who names it.
+    Object(u64),
+    /// How many kept objects there are of each class, and how many words they have.
+    Census,
+}
+
 /// What of a heap is viewed, and when.
 #[derive(Clone, Copy, Debug, PartialEq, Eq)]
 pub struct Glance {
     /// After so many steps, or where there are fewer after the last one. `None`: after the last one.
     pub at: Option<u32>,
-    /// This region alone. `None`: each region, and what is beside them.
-    pub region: Option<u32>,
-    /// A line a region, and what they add up to, in place of tiles, sets and roots. Of the third format free regions side by side are one
-    /// line.
-    pub summary: bool,
+    pub viewed: Viewed,
 }
 
 /// Puts a region's lines, or its one line.
@@ -123,7 +138,7 @@ fn put_below(core: &Core, text: &mut Text, summary: bool)
 }
 
 /// Puts the region that is asked for, or each and what is below them.
-fn put_viewed(core: &Core, text: &mut Text, region: Option<u32>, summary: bool)
+fn put_regions(core: &Core, text: &mut Text, region: Option<u32>, summary: bool)
     ensures { Adds text.old (viewed_regions region summary core.now) text.new }
 {
     match region {
@@ -135,13 +150,30 @@ fn put_viewed(core: &Core, text: &mut Text, region: Option<u32>, summary: bool)
     }
 }
 
+/// Puts what of a heap is viewed. The error is want of memory.
+fn put_viewed(alloc: Global, core: &Core, text: &mut Text, viewed: Viewed) -> Result<(), AllocError>
+    ensures { OnOk result ((lines : List ℕ) × AreViewed viewed core.now lines × Adds text.old lines text.new) }
+{
+    match viewed {
+        Viewed::Regions { region, summary } => {
+            put_regions(core, text, region, summary);
+            Ok(())
+        }
+        Viewed::Object(name) => {
+            put_object(core, text, name);
+            Ok(())
+        }
+        Viewed::Census => put_census(alloc, core, text),
+    }
+}
+
 /// The text of what of a heap is viewed. The error is want of memory.
 pub fn view_text(alloc: Global, core: &Core, glance: &Glance) -> Result<Vec<u8>, AllocError>
-    ensures { IfOk result (λ text. text.items ≡ view_text glance.now core.now) }
+    ensures { IfOk result (λ text. IsViewText glance.now core.now text.items) }
 {
     let mut text = Text::new(alloc);
     put_sizes(core, &mut text);
     put_state(core, &mut text);
-    put_viewed(core, &mut text, glance.region, glance.summary);
+    put_viewed(alloc, core, &mut text, glance.viewed)?;
     text.into_bytes()
 }

@@ -27,7 +27,7 @@ fn progress_text(progress: Progress) -> &'static str
 }
 
 /// Puts what the marking knows of an object, while it runs.
-fn put_progress(core: &Core, text: &mut Text, object: Addr)
+pub(crate) fn put_progress(core: &Core, text: &mut Text, object: Addr)
     requires { IsSome (object_at core.now.table object) }
     ensures { Adds text.old (marking_text core.now object) text.new }
 {

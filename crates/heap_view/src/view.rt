@@ -4,7 +4,7 @@
 
 ghost use Rattle.std.specs.Prelude.{◌≡◌, IfOk, IfErr};
 ghost use Rattle.heap_steps.specs.Faults.{IsRunFault};
-ghost use Rattle.heap_view.specs.Glances.{view_text};
+ghost use Rattle.heap_view.specs.Glances.{IsViewText};
 ghost use Rattle.heap_view.specs.Views.{front, IsViewOf, Views};
 
 use crate::glance::{Glance, view_text};
@@ -17,7 +17,7 @@ use step_core::{Core, run_to_core};
 
 /// The text of a view, whose only fault is want of memory.
 pub(crate) fn text_of(alloc: Global, core: &Core, glance: &Glance) -> Result<Vec<u8>, RunFault>
-    ensures text { IfOk result (λ text. text.items ≡ view_text glance.now core.now) }
+    ensures text { IfOk result (λ text. IsViewText glance.now core.now text.items) }
     ensures memory { IfErr result (λ fault. fault ≡ RunFault.NoMemory) }
 {
     match view_text(alloc, core, glance) {

@@ -5,3 +5,4 @@ pub mod Entries
 pub mod Showing
 pub mod Linking
 pub mod Placing
+pub mod ObjectNames

@@ -31,7 +31,7 @@ object_place c n a =
     back : (length c.roots + a) - length c.roots ≡ a
     back = omega arith
 
-nothing_if : (c : CoreState) (n a : ℕ) → (IsSome (kept_of c a) → ⊥) → holder_if c n a (kept_of c a) ≡ []
+pub nothing_if : (c : CoreState) (n a : ℕ) → (IsSome (kept_of c a) → ⊥) → holder_if c n a (kept_of c a) ≡ []
 nothing_if c n a none = go (kept_of c a) refl
   where
     go : (o : Option Stored) → kept_of c a ≡ o → holder_if c n a (kept_of c a) ≡ []
@@ -44,11 +44,11 @@ none_held : (c : CoreState) (n p q : ℕ) → ((x : ℕ) → p ≤ x → x < q �
 none_held c n p q none = λ x low high.
     at_object c n x (omega arith) ∙ nothing_if c n (x - length c.roots) (none (x - length c.roots) (omega arith) (omega arith))
 
-until : (c : CoreState) (p at : ℕ) (o : Option ℕ) → o ≡ Some at → IsKeptFrom c p o → (x : ℕ) → p ≤ x → x < at → IsSome (kept_of c x) → ⊥
+pub until : (c : CoreState) (p at : ℕ) (o : Option ℕ) → o ≡ Some at → IsKeptFrom c p o → (x : ℕ) → p ≤ x → x < at → IsSome (kept_of c x) → ⊥
 until c p at None e k = cc
 until c p at (Some b) e k = λ x low high some. k.between x low (let same : b ≡ at = cc in omega arith) some
 
-onward : (c : CoreState) (from : ℕ) (o : Option ℕ) → IsTileFrom c.table from o → (x : ℕ) → from ≤ x → x < place_of c.table o
+pub onward : (c : CoreState) (from : ℕ) (o : Option ℕ) → IsTileFrom c.table from o → (x : ℕ) → from ≤ x → x < place_of c.table o
     → IsSome (kept_of c x) → ⊥
 onward c from None t = λ x low high some. t x low (kept_tile c x some)
 onward c from (Some b) t = λ x low high some. t.between x low high (kept_tile c x some)

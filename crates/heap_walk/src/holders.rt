@@ -26,7 +26,12 @@ pub struct Holder {
 }
 
 /// How many pointers, or weak slots, an object has.
-fn links(core: &Core, object: Addr, weak: bool) -> u32
+///
+/// ```rust
+/// core.step(new);
+/// assert_eq!(rt; links(&core, Addr::new(0), false), 1);
+/// ```
+pub fn links(core: &Core, object: Addr, weak: bool) -> u32
     requires { IsSome (object_at core.now.table object) }
     ensures { result ≡ length (links_at weak core.now object) }
 {
@@ -38,7 +43,12 @@ fn links(core: &Core, object: Addr, weak: bool) -> u32
 }
 
 /// A pointer of an object, or what a weak slot shows.
-fn link_at(core: &Core, object: Addr, weak: bool, index: u32) -> Ptr
+///
+/// ```rust
+/// core.step(new);
+/// assert_eq!(rt; link_at(&core, Addr::new(0), false, 0), None);
+/// ```
+pub fn link_at(core: &Core, object: Addr, weak: bool, index: u32) -> Ptr
     requires { index < length (links_at weak core.now object) }
     ensures { slice_get (links_at weak core.now object) index ≡ Some result }
 {

@@ -3,7 +3,6 @@ use Rattle.std.proofs.Common.{◌≡◌, ◌+◌, ◌-◌, ◌<◌, ◌≤◌, �
 use Rattle.std.proofs.Common.{ap, ap₂, arith, add-zero, zero-add, replicate, drop-cons}
 use Rattle.std.proofs.lemmas.List.{length-append, length-take, length-drop, append_assoc, set_at, replicate_more, take-append-drop}
 use Rattle.std.proofs.lemmas.List.{drop-drop, length-replicate, take_at, drop_at, take-append-le, drop-append-le}
-use lib.Seq.{paste}
 use Rattle.heap_words.specs.Contents.{put}
 use Rattle.heap_words.specs.Memory.{Memory, memory}
 

@@ -11,6 +11,11 @@ object_again : (p w d : ℕ) → p < 2 ^ 24 → w < 2 ^ 8 → d < 2 ^ 24
 unfolding header_of
 object_again p w d h k g = grind (arith, common_steps, nat_tests)
 
+pairs_again : (p n d : ℕ) → p < 2 ^ 8 → n < 2 ^ 23 → d < 2 ^ 24
+    → header_of (n * 2 ^ 9 + d * 2 ^ 32 + p * 2 ^ 56 + 131) ≡ Some (headers.Pairs p n d)
+unfolding header_of
+pairs_again p n d h k g = grind (arith, common_steps, nat_tests)
+
 filler_again : (n : ℕ) → 0 < n → n < 2 ^ 24 → header_of (n * 2 ^ 8 + 1) ≡ Some (headers.Filler n)
 unfolding header_of
 filler_again n h g = grind (arith, common_steps, nat_tests)
@@ -21,5 +26,6 @@ forwarded_again n h = grind (arith, common_steps, nat_tests)
 
 pub header_of-word : (h : Header) → IsHeader h → header_of (header_word h) ≡ Some h
 header_of-word (headers.Object p w d) h = object_again p w d h.0 h.1 h.2
+header_of-word (headers.Pairs p n d) h = pairs_again p n d h.0 h.1 h.2
 header_of-word (headers.Filler n) h = filler_again n h.0 h.1
 header_of-word (headers.Forwarded n) h = forwarded_again n h

@@ -32,7 +32,7 @@ impl Addr {
         self.0
     }
 
-    /// The number of the word that holds a field of the object at this address. Fields count from 0: pointers, then weak slots.
+    /// The number of the word that holds a field of the object at this address. Fields count from 0: pointers, weak slots, held slots.
     #[inline(always)]
     pub fn field(self, field: u32) -> usize
         ensures { result ≡ field_word self field }

@@ -1,10 +1,14 @@
 //! The words of a heap, read and written as objects.
 //!
-//! An object is its header, its name, its pointers, its weak slots and its data, one word each:
+//! An object is its header, its name, its pointers, its weak slots and its data, one word each. One of n pairs has its n keys as its weak
+//! slots, and what each holds after them; no other crate makes one yet:
 //!
 //! ```text
 //!   object              + 1    + 2          + 2 + p        + 2 + p + w    + 2 + p + w + d
 //!   | header: p, w, d   | name | p pointers | w weak slots | d data words |
+//!
+//!   object of pairs     + 1    + 2          + 2 + p        + 2 + p + n    + 2 + p + 2 n  + 2 + p + 2 n + d
+//!   | header: p, n, d   | name | p pointers | n keys       | n held slots | d data words |
 //! ```
 //!
 //! A heap begins with no word written, and its words are written from the first one on as they are used for the first time:
@@ -17,18 +21,19 @@
 //! `reach` writes 0 up to an address, and each other access is to a word that is written. So a large heap costs at first what is used
 //! of it.
 
-ghost use Rattle.std.specs.Prelude.{◌≡◌, ◌+◌, ◌^◌, ◌<◌, ◌≤◌, ◌⊎◌, ◌∷◌, [], max};
+ghost use Rattle.std.specs.Prelude.{◌≡◌, ◌+◌, ◌/◌, ◌%◌, ◌^◌, ◌<◌, ◌≤◌, ◌⊎◌, ◌∷◌, [], max};
 ghost use Rattle.std.specs.Prelude.{true, length, replicate, slice_index, slice_set, take, drop, IfOk, IsSome, Some};
 ghost use Rattle.heap_words.specs.Sizes.{field_word, size_of};
 ghost use Rattle.heap_words.specs.Headers.{header_of, header_word, pointer_of, pointer_word};
 ghost use Rattle.heap_words.specs.Contents.{put, header_at, counts_of, pointer_count, pointer_count_at, field_count, field_count_at};
+ghost use Rattle.heap_words.specs.Contents.{weak_count, value_count, object_size, IsPlainHeader};
 ghost use Rattle.heap_words.specs.Memory.{cut_at, memory};
 ghost use Rattle.heap_words.specs.declared.header.Header.TheVariants as headers;
 
 use crate::addr::{Addr, Ptr};
 use crate::header::{
-    Count, FillerSize, Header, HeaderCounts, decode_header, decode_pointer, encode_header,
-    encode_pointer,
+    Count, FillerSize, Header, HeaderCounts, ObjectCounts, PairCounts, decode_header,
+    decode_pointer, encode_header, encode_pointer,
 };
 use crate::room::give_back;
 use std::alloc::{AllocError, Global};
@@ -114,7 +119,7 @@ fn copy_to(words: &mut [u64], at: usize, block: &[u64])
 }
 
 /// The counts of an object's header, none of another one's.
-fn counts_in(word: u64) -> Option<HeaderCounts>
+fn counts_in(word: u64) -> Option<ObjectCounts>
     ensures { result ≡ counts_of (header_of word) }
 {
     match decode_header(word) {
@@ -123,9 +128,20 @@ fn counts_in(word: u64) -> Option<HeaderCounts>
                 pointers,
                 weaks,
                 data,
-            } => Some(HeaderCounts {
+            } => Some(ObjectCounts {
                 pointers,
-                weaks,
+                weaks: Count::new(u32::from(weaks)),
+                held: Count::new(0),
+                values: data,
+            }),
+            Header::Pairs {
+                pointers,
+                pairs,
+                data,
+            } => Some(ObjectCounts {
+                pointers: Count::new(u32::from(pointers)),
+                weaks: pairs.words(),
+                held: pairs.words(),
                 values: data,
             }),
             Header::Filler { .. } | Header::Forwarded { .. } => None,
@@ -134,35 +150,66 @@ fn counts_in(word: u64) -> Option<HeaderCounts>
     }
 }
 
+/// The count in bits 8 to 31 of a header.
+fn low_count(word: u64) -> u32
+    ensures { result ≡ word / 2 ^ 8 % 2 ^ 24 }
+{
+    ((word >> 8) & 0xff_ffff) as u32
+}
+
+/// How many pointers the header of an object without pairs counts.
+#[tactic(auto, unfolding(crate::specs::Headers::header_of))]
+fn plain_pointers_in(word: u64) -> u32
+    requires { IsPlainHeader (header_of word) }
+    ensures { result ≡ pointer_count (header_of word) }
+{
+    low_count(word)
+}
+
 /// How many pointers an object's header counts.
 #[tactic(auto, unfolding(crate::specs::Headers::header_of))]
 fn pointers_in(word: u64) -> u32
     requires { IsSome (counts_of (header_of word)) }
     ensures { result ≡ pointer_count (header_of word) }
 {
-    ((word >> 8) & 0xff_ffff) as u32
-}
-
-/// The counts of a header that is an object's: by shifts, and no test.
-#[tactic(auto, unfolding(crate::specs::Headers::header_of))]
-fn object_counts(word: u64) -> HeaderCounts
-    requires { IsSome (counts_of (header_of word)) }
-    ensures { counts_of (header_of word) ≡ Some result }
-{
-    HeaderCounts {
-        pointers: Count::new(pointers_in(word)),
-        weaks: (word >> 56) as u8,
-        values: Count::new((word >> 32 & 0xff_ffff) as u32),
+    if word & 0xff == 0 {
+        low_count(word)
+    } else {
+        (word >> 56) as u32
     }
 }
 
-/// How many pointers and weak slots a header that is an object's counts together.
+/// How many weak slots an object's header counts.
+#[tactic(auto, unfolding(crate::specs::Headers::header_of))]
+fn weaks_in(word: u64) -> u32
+    requires { IsSome (counts_of (header_of word)) }
+    ensures { result ≡ weak_count (header_of word) }
+{
+    if word & 0xff == 0 {
+        (word >> 56) as u32
+    } else {
+        low_count(word) >> 1
+    }
+}
+
+/// How many fields an object's header counts: of both kinds of objects by the same bits.
 #[tactic(auto, unfolding(crate::specs::Headers::header_of))]
 fn fields_in(word: u64) -> u32
     requires { IsSome (counts_of (header_of word)) }
-    ensures { result ≡ field_count (header_of word) }
+    ensures value { result ≡ field_count (header_of word) }
+    ensures small { result < 2 ^ 25 }
 {
-    pointers_in(word) + (word >> 56) as u32
+    low_count(word) + (word >> 56) as u32
+}
+
+/// How many data words an object's header counts.
+#[tactic(auto, unfolding(crate::specs::Headers::header_of))]
+fn values_in(word: u64) -> u32
+    requires { IsSome (counts_of (header_of word)) }
+    ensures value { result ≡ value_count (header_of word) }
+    ensures small { result < 2 ^ 24 }
+{
+    (word >> 32 & 0xff_ffff) as u32
 }
 
 impl Words {
@@ -212,15 +259,24 @@ impl Words {
         decode_header(self.items[at.word() as usize])
     }
 
-    /// How many pointers, weak slots and data words the object at an address has, None if no object's header is there.
-    pub fn object_at(&self, at: Addr) -> Option<HeaderCounts>
+    /// How many pointers, weak slots, held slots and data words the object at an address has, None if no object's header is there.
+    pub fn object_at(&self, at: Addr) -> Option<ObjectCounts>
         requires { at < self.now.written }
         ensures { result ≡ counts_of (header_at self.now.all at) }
     {
         counts_in(self.items[at.word() as usize])
     }
 
-    /// How many pointers the object at an address has. One is there, so its header isn't looked at for that.
+    /// How many pointers the object at an address has. One without pairs is there, so its header isn't looked at for that.
+    pub fn plain_pointer_count(&self, object: Addr) -> u32
+        requires within { object < self.now.written }
+        requires object { IsPlainHeader (header_at self.now.all object) }
+        ensures { result ≡ pointer_count_at self.now.all object }
+    {
+        plain_pointers_in(self.items[object.word() as usize])
+    }
+
+    /// How many pointers the object at an address has. One is there, so its header isn't looked at for that, here and in what follows.
     pub fn pointer_count(&self, object: Addr) -> u32
         requires within { object < self.now.written }
         requires object { IsSome (counts_of (header_at self.now.all object)) }
@@ -229,13 +285,41 @@ impl Words {
         pointers_in(self.items[object.word() as usize])
     }
 
-    /// How many pointers, weak slots and data words the object at an address has. One is there, so its header isn't looked at for that.
-    pub fn counts(&self, object: Addr) -> HeaderCounts
+    /// How many weak slots the object at an address has.
+    pub fn weak_count(&self, object: Addr) -> u32
         requires within { object < self.now.written }
         requires object { IsSome (counts_of (header_at self.now.all object)) }
-        ensures { counts_of (header_at self.now.all object) ≡ Some result }
+        ensures { result ≡ weak_count (header_at self.now.all object) }
     {
-        object_counts(self.items[object.word() as usize])
+        weaks_in(self.items[object.word() as usize])
+    }
+
+    /// How many fields the object at an address has: pointers, weak slots after them, and held slots last.
+    pub fn field_count(&self, object: Addr) -> u32
+        requires within { object < self.now.written }
+        requires object { IsSome (counts_of (header_at self.now.all object)) }
+        ensures { result ≡ field_count_at self.now.all object }
+    {
+        fields_in(self.items[object.word() as usize])
+    }
+
+    /// How many data words the object at an address has.
+    pub fn value_count(&self, object: Addr) -> u32
+        requires within { object < self.now.written }
+        requires object { IsSome (counts_of (header_at self.now.all object)) }
+        ensures { result ≡ value_count (header_at self.now.all object) }
+    {
+        values_in(self.items[object.word() as usize])
+    }
+
+    /// How many words the object at an address has.
+    pub fn object_size(&self, object: Addr) -> u32
+        requires within { object < self.now.written }
+        requires object { IsSome (counts_of (header_at self.now.all object)) }
+        ensures { result ≡ object_size (header_at self.now.all object) }
+    {
+        let word = self.items[object.word() as usize];
+        2 + fields_in(word) + values_in(word)
     }
 
     /// The name of the object at an address, which is after its header.
@@ -246,7 +330,7 @@ impl Words {
         self.items[object.word() as usize + 1]
     }
 
-    /// A field of the object at an address, counted from 0: its pointers, then its weak slots.
+    /// A field of the object at an address, counted from 0: its pointers, then its weak slots, then its held slots.
     pub fn get_field(&self, object: Addr, field: u32) -> Ptr
         requires { field_word object field < self.now.written }
         ensures { result ≡ pointer_of (slice_index self.now.all (field_word object field)) }
@@ -349,6 +433,29 @@ impl Words {
         let header = encode_header(Header::Object {
             pointers,
             weaks,
+            data: values,
+        });
+        write_fresh(&mut self.items, at.word() as usize, header, name, fields);
+    }
+
+    /// Writes an object of pairs, whose pointers are nil, whose keys are nil and hold nothing, and whose data words are 0.
+    pub fn write_pairs(&mut self, at: Addr, name: u64, counts: PairCounts)
+        requires { at + size_of counts.pointers (counts.pairs + counts.pairs) counts.values ≤ self.old.written }
+        ensures all { self.new.all ≡ put self.old.all at
+            (header_word (headers.Pairs counts.pointers counts.pairs counts.values) ∷ name
+            ∷ replicate (counts.pointers + (counts.pairs + counts.pairs) + counts.values) 0) }
+        ensures written { self.new.written ≡ self.old.written }
+    {
+        let PairCounts {
+            pointers,
+            pairs,
+            values,
+        } = counts;
+        let slots = pairs.get() as usize + pairs.get() as usize;
+        let fields = usize::from(pointers) + slots + values.get() as usize;
+        let header = encode_header(Header::Pairs {
+            pointers,
+            pairs,
             data: values,
         });
         write_fresh(&mut self.items, at.word() as usize, header, name, fields);

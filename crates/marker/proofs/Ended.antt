@@ -18,6 +18,7 @@ use Rattle.heap_model.proofs.Names.{bool_cases}
 use Rattle.heap_model.proofs.Waiting.{will_same, cleared_target}
 use Rattle.regions.specs.Table.{Table, object_at, object_pointers, pointers_at, stored_size, object_words}
 use Rattle.regions.specs.Shaped.{IsShaped}
+use Rattle.regions.proofs.Words.Fields.{held_by_long}
 use Rattle.mark_bitmap.specs.Marks.{is_marked, marked_count, HasNone}
 use Rattle.mark_bitmap.specs.Tops.{Tops, exchanged, is_below, below_next, below_previous, AreNewer}
 use Rattle.mark_bitmap.specs.Grey.{Scans, is_grey}
@@ -149,9 +150,14 @@ module _ (t t' : Table) (k : Marking) (d : ℕ → Type 0) (c : ClearsSome k t t
   unfolding object_words
   cleared_words a x at = elim (c.each a) [ inl same ↦ ap stored_size same | inr y ↦ ap stored_size y.1 ∙ size ]
     where
+      long : stored_size (Some (cleared k x)) ≡ stored_size (Some x)
+      long =
+          let weaks = length-map x.weaks (cleared_word k) in
+          let held = held_by_long (map (cleared_word k) x.weaks) x.held in
+          omega (arith, weaks, held)
+
       size : stored_size (cleared_object k (object_at t a)) ≡ stored_size (object_at t a)
-      size = ap (λ (o : Option Stored). stored_size (cleared_object k o)) at
-          ∙ ap (λ (n : ℕ). 2 + length x.pointers + n + length x.values) (length-map x.weaks (cleared_word k)) ∙ sym (ap stored_size at)
+      size = ap (λ (o : Option Stored). stored_size (cleared_object k o)) at ∙ long ∙ sym (ap stored_size at)
 
   -- and as many pointers
   cleared_pointers : (a : ℕ) (x : Stored) → object_at t a ≡ Some x → length (pointers_at t' a) ≡ length (pointers_at t a)

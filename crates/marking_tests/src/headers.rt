@@ -4,7 +4,8 @@ ghost use Rattle.std.specs.Prelude.{◌<◌, ◌^◌};
 
 use heap_words::addr::{Addr, Ptr};
 use heap_words::header::{
-    Count, FillerSize, Header, decode_header, decode_pointer, encode_header, encode_pointer,
+    Count, FillerSize, Header, PairCount, decode_header, decode_pointer, encode_header,
+    encode_pointer,
 };
 
 fn object(pointers: u32, weaks: u8, values: u32) -> Header
@@ -14,6 +15,17 @@ fn object(pointers: u32, weaks: u8, values: u32) -> Header
     Header::Object {
         pointers: Count::new(pointers),
         weaks,
+        data: Count::new(values),
+    }
+}
+
+fn of_pairs(pointers: u8, pairs: u32, values: u32) -> Header
+    requires pairs { pairs < 2 ^ 23 }
+    requires values { values < 2 ^ 24 }
+{
+    Header::Pairs {
+        pointers,
+        pairs: PairCount::new(pairs),
         data: Count::new(values),
     }
 }
@@ -50,9 +62,11 @@ fn writes_and_reads_headers(rt: HostRuntime) {
     assert!(rt; is_word_of(object(0, 0, 0), 0));
     assert!(rt; is_word_of(object(1, 0, 1), 4_294_967_552));
     assert!(rt; is_word_of(object(1, 1, 1), 72_057_598_332_895_488));
+    assert!(rt; is_word_of(of_pairs(0, 0, 0), 131));
+    assert!(rt; is_word_of(of_pairs(1, 1, 1), 72_057_598_332_895_875));
     assert!(rt; is_word_of(filler(5), 1281));
     assert!(rt; is_word_of(forwarded(16), 4098));
-    for word in [1, 3, 4, 1 << 32 | 1, 1 << 40 | 2, 1 << 56 | 3] {
+    for word in [1, 3, 4, 128, 387, 1 << 32 | 1, 1 << 40 | 2, 1 << 56 | 3] {
         assert!(rt; is_none(word));
     }
 }

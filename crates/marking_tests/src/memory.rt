@@ -4,7 +4,9 @@ ghost use Rattle.std.specs.Prelude.{◌≡◌, ◌<◌, IfOk};
 ghost use Rattle.heap_words.specs.Contents.{field_count_at};
 
 use heap_words::addr::{Addr, Ptr};
-use heap_words::header::{Count, FillerSize, Header, HeaderCounts};
+use heap_words::header::{
+    Count, FillerSize, Header, HeaderCounts, ObjectCounts, PairCount, PairCounts,
+};
 use heap_words::words::Words;
 use std::alloc::{AllocError, Global};
 use std::test::Fail;
@@ -14,13 +16,13 @@ fn fields_of(words: &Words, object: Addr) -> u32
     ensures { result ≡ field_count_at words.now.all object }
 {
     match words.object_at(object) {
-        Some(counts) => u32::from(counts.weaks) + counts.pointers.get(),
+        Some(counts) => counts.pointers.get() + (counts.weaks.get() + counts.held.get()),
         None => 0,
     }
 }
 
 /// Whether an object with these counts and this name is there.
-fn is_there(words: &Words, object: Addr, counts: HeaderCounts, name: u64) -> bool {
+fn is_there(words: &Words, object: Addr, counts: ObjectCounts, name: u64) -> bool {
     let written = words.written();
     if written < 2 || written - 2 < object.word() as usize {
         return false;
@@ -108,7 +110,7 @@ fn holds_objects(rt: HostRuntime) -> Result<(), Fail> {
     store(&mut words, object, 1, 9);
     let size = FillerSize::new(2);
     assert!(rt;
-        is_there(&words, object, small(), 7) && leads(&words, object, 0, Some(Addr::new(8)))
+        is_there(&words, object, small().counts(), 7) && leads(&words, object, 0, Some(Addr::new(8)))
     );
     assert!(rt; has_value(&words, object, 0, 0) && has_value(&words, object, 1, 9));
     assert!(rt; has_header(&words, Addr::new(6), Header::Filler { size }));
@@ -126,10 +128,10 @@ fn copies_an_object(rt: HostRuntime) -> Result<(), Fail> {
     store(&mut words, object, 1, 9);
     words.copy_apart(object, copy, 5);
     words.write_forwarded(object, copy);
-    assert!(rt; is_there(&words, copy, small(), 7) && leads(&words, copy, 0, Some(copy)));
+    assert!(rt; is_there(&words, copy, small().counts(), 7) && leads(&words, copy, 0, Some(copy)));
     assert!(rt; has_value(&words, copy, 0, 0) && has_value(&words, copy, 1, 9));
     assert!(rt; has_header(&words, object, Header::Forwarded { to: copy }));
-    assert!(rt; !is_there(&words, object, small(), 7));
+    assert!(rt; !is_there(&words, object, small().counts(), 7));
     Ok(())
 }
 
@@ -154,10 +156,39 @@ fn holds_weak_slots(rt: HostRuntime) -> Result<(), Fail> {
     words.set_field(object, 1, Some(Addr::new(9)));
     words.set_field(object, 2, Some(object));
     store(&mut words, object, 0, 5);
-    assert!(rt; is_there(&words, object, slotted(), 7) && leads(&words, object, 0, None));
+    assert!(rt; is_there(&words, object, slotted().counts(), 7) && leads(&words, object, 0, None));
     assert!(rt;
         leads(&words, object, 1, Some(Addr::new(9))) && leads(&words, object, 2, Some(object))
     );
+    assert!(rt; has_value(&words, object, 0, 5));
+    Ok(())
+}
+
+fn paired() -> PairCounts
+    ensures pointers { result.pointers ≡ 1 }
+    ensures pairs { result.pairs ≡ 2 }
+    ensures values { result.values ≡ 1 }
+{
+    PairCounts {
+        pointers: 1,
+        pairs: PairCount::new(2),
+        values: Count::new(1),
+    }
+}
+
+/// An object of one pointer, two pairs and one data word: the first key holds what is at 9.
+#[test]
+fn holds_pairs(rt: HostRuntime) -> Result<(), Fail> {
+    let mut words = sixteen_words(rt.alloc())?;
+    let object = Addr::new(4);
+    let held = Addr::new(9);
+    words.write_pairs(object, 7, paired());
+    words.set_field(object, 1, Some(object));
+    words.set_field(object, 3, Some(held));
+    store(&mut words, object, 0, 5);
+    assert!(rt; is_there(&words, object, paired().counts(), 7) && leads(&words, object, 0, None));
+    assert!(rt; leads(&words, object, 1, Some(object)) && leads(&words, object, 2, None));
+    assert!(rt; leads(&words, object, 3, Some(held)) && leads(&words, object, 4, None));
     assert!(rt; has_value(&words, object, 0, 5));
     Ok(())
 }

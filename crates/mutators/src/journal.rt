@@ -81,22 +81,27 @@ fn place_of(config: &Config, step: Step) -> usize
     }
 }
 
-/// How many lines each script is to have, for its room alone.
+/// How many lines each script is to have.
 fn rooms_of(alloc: Global, config: &Config, steps: &[Step]) -> Result<Vec<usize>, AllocError>
     requires { AreSteps config.now steps.now }
-    ensures { IfOk result (λ v. length v.items ≡ config.now.mutators + 1) }
+    ensures len { IfOk result (λ v. length v.items ≡ config.now.mutators + 1) }
+    ensures each { IfOk result (λ v. (k : ℕ) → k ≤ config.now.mutators
+        → slice_index v.items k ≡ length (lines_of (scripted config.now.mutators k) steps.now)) }
 {
+    // No room is larger than this, so no count wraps.
+    let _most = steps.len();
     let mut rooms = first_places(alloc, config.mutators as usize + 1)?;
     for step in steps {
         let place = place_of(config, *step);
-        rooms[place] = rooms[place].wrapping_add(1);
+        rooms[place] = rooms[place] + 1;
     }
     Ok(rooms)
 }
 
 /// Scripts of no lines, each with its room.
 fn no_lines(alloc: Global, rooms: &[usize]) -> Result<Vec<Vec<Step>>, AllocError>
-    ensures { IfOk result (λ v. map (λ s. s.items) v.items ≡ replicate (length rooms.now) []) }
+    ensures none { IfOk result (λ v. map (λ s. s.items) v.items ≡ replicate (length rooms.now) []) }
+    ensures rooms { IfOk result (λ v. map (λ s. vec_capacity s) v.items ≡ rooms.now) }
 {
     let mut scripts = Vec::new(alloc);
     for room in rooms {
@@ -105,15 +110,18 @@ fn no_lines(alloc: Global, rooms: &[usize]) -> Result<Vec<Vec<Step>>, AllocError
     Ok(scripts)
 }
 
-/// Adds a line to the script at a place.
-fn add_line(scripts: &mut Vec<Vec<Step>>, place: usize, step: Step) -> Result<(), AllocError>
-    requires { place < length scripts.old.items }
-    ensures { OnOk result (map (λ s. s.items) scripts.new.items
+/// Adds a line to the script at a place, which has room for it.
+#[inline(always)]
+fn add_line(scripts: &mut Vec<Vec<Step>>, place: usize, step: Step)
+    requires place { place < length scripts.old.items }
+    requires room { length (slice_index_or (map (λ s. s.items) scripts.old.items) place [])
+        < slice_index (map (λ s. vec_capacity s) scripts.old.items) place }
+    ensures lines { map (λ s. s.items) scripts.new.items
         ≡ slice_set (map (λ s. s.items) scripts.old.items) place
-        (slice_index_or (map (λ s. s.items) scripts.old.items) place [] ++ step ∷ [])) }
+        (slice_index_or (map (λ s. s.items) scripts.old.items) place [] ++ step ∷ []) }
+    ensures rooms { map (λ s. vec_capacity s) scripts.new.items ≡ map (λ s. vec_capacity s) scripts.old.items }
 {
-    scripts[place].push(step)?;
-    Ok(())
+    scripts[place].push_reserved(step);
 }
 
 /// The script of each mutator, and then the collector's.
@@ -127,7 +135,7 @@ fn scripts_of(alloc: Global, config: &Config, steps: &[Step]) -> Result<Vec<Vec<
     let rooms = rooms_of(alloc, config, steps)?;
     let mut scripts = no_lines(alloc, &rooms)?;
     for step in steps {
-        add_line(&mut scripts, place_of(config, *step), *step)?;
+        add_line(&mut scripts, place_of(config, *step), *step);
     }
     Ok(scripts)
 }
@@ -270,6 +278,16 @@ impl Journal {
         self.core.config()
     }
 
+    /// How many mutators there are.
+    #[inline(always)]
+    pub(crate) fn mutators(&self) -> usize
+        ensures value { result ≡ mutators_of self.now }
+        ensures few { result ≤ 64 }
+        ensures keeps { Keeps self.now }
+    {
+        self.places.len() - 1
+    }
+
     /// How many events there are.
     ///
     /// ```rust
@@ -300,10 +318,7 @@ impl Journal {
     {
         match actor {
             Actor::Mutator(i) => self.scripted_turn(actor, i as usize),
-            Actor::Collector => {
-                let mutators = self.core.config().mutators;
-                self.scripted_turn(actor, mutators as usize)
-            }
+            Actor::Collector => self.scripted_turn(actor, self.mutators()),
             Actor::Marker(_) => {
                 if !self.core.marking() {
                     return Ok(Turn::Idle);

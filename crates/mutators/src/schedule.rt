@@ -63,7 +63,7 @@ fn scripted_at(mutators: usize, place: usize) -> Actor
 fn open_places(alloc: Global, journal: &Journal) -> Result<Vec<usize>, AllocError>
     ensures { IfOk result (λ v. v.items ≡ open_places (lefts_of journal.now)) }
 {
-    let mutators = journal.config().mutators as usize;
+    let mutators = journal.mutators();
     let mut unfinished = Vec::new(alloc);
     for k in 0..mutators + 1 {
         if journal.is_left(k) {
@@ -99,7 +99,7 @@ fn scripted_round(
     ensures asked { (markers refiners : ℕ)
         → OnOk result (AreAsked markers refiners journal.old.events → AreAsked markers refiners journal.new.events) }
 {
-    let mutators = journal.config().mutators as usize;
+    let mutators = journal.mutators();
     let n = (word % unfinished.len() as u32) as usize;
     let place = unfinished[n];
     journal.turn_at(scripted_at(mutators, place), place)?;

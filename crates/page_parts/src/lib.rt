@@ -17,6 +17,7 @@ mod script_over;
 mod script_page;
 mod script_panels;
 mod script_reach;
+mod script_runs;
 
 pub use before::BEFORE;
 pub use behind::BEHIND;
@@ -32,3 +33,4 @@ pub use script_over::SCRIPT_OVER;
 pub use script_page::SCRIPT_PAGE;
 pub use script_panels::SCRIPT_PANELS;
 pub use script_reach::SCRIPT_REACH;
+pub use script_runs::SCRIPT_RUNS;

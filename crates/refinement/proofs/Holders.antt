@@ -2,7 +2,6 @@
 use Rattle.std.proofs.Common.{◌≡◌, ◌+◌, ◌*◌, ◌/◌, ◌<◌, ◌≤◌, ◌++◌, ◌∙◌, ℕ, Bool, true, false, Option, Some, None, List, length, refl, sym}
 use Rattle.std.proofs.Common.{ap}
 use Rattle.std.proofs.Common.{arith, slice_get, IfSome, IsSome, IsTrue, if◌then◌else◌}
-use Rattle.std.proofs.lemmas.List.{length-append}
 use Rattle.std.proofs.lemmas.Option.{slice_get_within}
 use Rattle.heap_model.specs.Heap.{Stored, IsClosed, fields}
 use Rattle.regions.specs.Tiles.{Tile, Object, Filler, Forwarded, tile_size}
@@ -13,6 +12,7 @@ use Rattle.regions.specs.Shaped.{IsShaped}
 use Rattle.regions.specs.declared.row.Shape.{Shape}
 use Rattle.regions.specs.declared.row.Shape.TheVariants as shapes
 use Rattle.regions.proofs.Tiles.Laws.{object_tile}
+use Rattle.regions.proofs.Words.FieldAccess.{count_fields}
 use Rattle.regions.proofs.Walks.WalkFrom.{tile_listed}
 use Rattle.mark_bitmap.specs.Tops.{Tops, below_previous}
 use Rattle.mark_bitmap.specs.Marks.{is_marked}
@@ -25,13 +25,6 @@ use Rattle.refinement.specs.Refining.{FieldsInside}
 abbrev pub Stands : Table → (ℕ → Option Stored) → Type 0
 Stands t kept = (a : ℕ) (s : Stored) → kept a ≡ Some s → object_at t a ≡ Some s
 
--- an object has its pointers and weak slots as fields, and no others
-pub fields_are : (t : Table) (a : ℕ) (x : Stored) → IsShaped t → object_at t a ≡ Some x
-    → length (fields x) ≡ length x.pointers + length x.weaks
-fields_are t a x shape at =
-    let none = ap (λ (hs : List (Option ℕ)). length hs) (shape.bare a x at) in
-    omega (arith, length-append x.pointers (x.weaks ++ x.held), length-append x.weaks x.held, none)
-
 -- a field's word belongs to its object's tile
 pub word_holder : (t : Table) (a i : ℕ) (x : Stored) → IsShaped t → object_at t a ≡ Some x → i < length (fields x)
     → IsHolder t a (field_word a i)
@@ -40,7 +33,7 @@ word_holder t a i x shape at inside = record {
   tile = Object x;
   tile_is = object_tile (tile_in t a) x at;
   low = omega arith;
-  high = omega (arith, inside, fields_are t a x shape at);
+  high = omega (arith, inside, count_fields x);
 }
 
 pub field_holder : (t : Table) (kept : ℕ → Option Stored) (a i v : ℕ) → IsShaped t → Stands t kept
@@ -133,7 +126,7 @@ pub field_inside : (t : Table) (a i : ℕ) → IsShaped t → i < length (fields
 field_inside t a i g h =
     let f = field_at t a i h in
     let w = object_within t a f.object g f.is in
-    omega (arith, w, f.within, fields_are t a f.object g f.is)
+    omega (arith, w, f.within, count_fields f.object)
 
 pub object_small : (t : Table) (a : ℕ) → IsShaped t → IsSome (object_at t a) → a + 2 ≤ length t.regions * t.words_per_region
 object_small t a g h = go (object_at t a) refl h

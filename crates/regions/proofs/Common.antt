@@ -24,7 +24,7 @@ pub use lib.Seq.{paste}
 pub use Rattle.bit_sets.specs.Bits.{is_between, has, HasNoneBelow, HasNone, IsLowest}
 pub use Rattle.heap_model.specs.Heap.{Stored, fields, with_field}
 pub use Rattle.heap_words.specs.Configs.{max_words}
-pub use Rattle.heap_words.specs.Contents.{put, counts_of, field_count, pointer_count}
+pub use Rattle.heap_words.specs.Contents.{put, counts_of, field_count, pointer_count, object_size}
 unfoldable pub use Rattle.heap_words.specs.Headers.{header_of}
 pub use Rattle.heap_words.specs.Headers.{header_word, pointer_of, pointer_word}
 pub use Rattle.heap_words.specs.Memory.{Memory}
@@ -32,7 +32,7 @@ pub use Rattle.heap_words.specs.declared.addr.Addr.{Addr}
 pub use Rattle.heap_words.specs.declared.header.Header.{Header}
 pub use Rattle.regions.specs.FirstTiles.{Entries, AreEntries, AreEntriesPut, HasCard, LeadsTo, IsCutOff, IsOwn, IsPut}
 pub use Rattle.regions.specs.Rows.{table_of, IsTable, IsRegionTable, sizes_in, AreTilesWritten, AreUsedBelow, free_row_count, left_by}
-pub use Rattle.regions.specs.Rows.{region_by, regions_of, IsRow, IsRestRow, AreRows, free_row, table_by, object_size, first_stored}
+pub use Rattle.regions.specs.Rows.{region_by, regions_of, IsRow, IsRestRow, AreRows, free_row, table_by, first_stored}
 pub use Rattle.regions.specs.Rows.{IsObjectHeader, kind_is_free, run_row, run_rows, region_of, stored_by, IsTableBy, put_remainder}
 pub use Rattle.regions.specs.Rows.{header_target}
 pub use Rattle.regions.specs.Shaped.{IsShaped, IsLater}

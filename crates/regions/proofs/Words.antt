@@ -1,3 +1,4 @@
+pub mod Counts
 pub mod Parse
 pub mod Places
 pub mod Fields

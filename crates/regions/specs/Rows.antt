@@ -1,7 +1,7 @@
 -- How the words of the heap are read as regions.
 use Rattle.std.specs.Prelude.{◌≡◌, ◌+◌, ◌-◌, ◌*◌, ◌^◌, ◌<◌, ◌≤◌, ◌∷◌, ℕ, zero, suc, min, Bool, true, false, Option, Some, None, List, []}
 use Rattle.std.specs.Prelude.{length, take, drop, slice_index, slice_set, slice_index_or, count_by}
-use Rattle.heap_words.specs.Sizes.{size_of}
+use Rattle.heap_words.specs.Contents.{object_size}
 use Rattle.heap_words.specs.Configs.{max_words, max_region_words}
 use Rattle.heap_words.specs.declared.header.Header.{Header}
 use Rattle.heap_words.specs.declared.header.Header.TheVariants as headers
@@ -16,11 +16,6 @@ use Rattle.regions.specs.declared.row.Row.{Row}
 use Rattle.regions.specs.declared.row.Kind.{Kind}
 use Rattle.regions.specs.declared.row.Kind.TheVariants as kinds
 
--- how many words the object of a header has, 1 where it is no object's
-abbrev pub object_size : Option Header → ℕ
-object_size (Some (headers.Object p weak d)) = size_of p weak d
-object_size _ = 1
-
 -- the size of the object at an address
 abbrev pub sizes_in : List ℕ → ℕ → ℕ
 sizes_in words a = object_size (header_of (slice_index words a))
@@ -29,17 +24,19 @@ sizes_in words a = object_size (header_of (slice_index words a))
 abbrev pub header_target : Option Header → Option ℕ
 header_target None = None
 header_target (Some (headers.Object p weak d)) = None
+header_target (Some (headers.Pairs p n d)) = None
 header_target (Some (headers.Filler n)) = None
 header_target (Some (headers.Forwarded to)) = Some to
 
 -- the object of a header
 abbrev pub stored_by : List ℕ → Option Header → Stored
-stored_by ws (Some (headers.Object p weak d)) = stored_of p weak d ws
-stored_by ws _ = stored_of 0 0 0 ws
+stored_by ws (Some (headers.Object p weak d)) = stored_of p weak 0 d ws
+stored_by ws (Some (headers.Pairs p n d)) = stored_of p n n d ws
+stored_by ws _ = stored_of 0 0 0 0 ws
 
 -- the object that words begin with
 abbrev pub first_stored : List ℕ → Stored
-first_stored [] = stored_of 0 0 0 []
+first_stored [] = stored_of 0 0 0 0 []
 first_stored (w ∷ ws) = stored_by ws (header_of w)
 
 -- the region whose words begin ws
@@ -58,7 +55,7 @@ abbrev pub regions_of : (ℕ → ℕ) → ℕ → List ℕ → List Row → List
 regions_of sizes size ws [] = []
 regions_of sizes size ws (row ∷ rows) = region_of sizes ws row ∷ regions_of sizes size (drop size ws) rows
 
--- the header is an object's
+-- the header is an object's. None has pairs yet
 abbrev pub IsObjectHeader : Option Header → Type 0
 IsObjectHeader (Some (headers.Object p weak d)) = Unit {0}
 IsObjectHeader _ = ⊥
@@ -178,16 +175,6 @@ kind_is_rest _ = false
 abbrev pub put_remainder : List ℕ → ℕ → ℕ → List ℕ
 put_remainder words n zero = words
 put_remainder words n (suc m) = slice_set words n (header_word (headers.Filler (suc m)))
-
--- how many weak slots a header's object has
-abbrev pub weak_count : Option Header → ℕ
-weak_count (Some (headers.Object p weak d)) = weak
-weak_count _ = 0
-
--- how many data words a header's object has
-abbrev pub value_count : Option Header → ℕ
-value_count (Some (headers.Object p weak d)) = d
-value_count _ = 0
 
 -- the address, if there is one, is below the limit
 abbrev pub IsBelow : Option ℕ → ℕ → Type 0

@@ -1,6 +1,6 @@
 -- Tiles: what the words of a region say, from its bottom to its top.
 use Rattle.std.specs.Prelude.{◌≡◌, ◌+◌, ◌-◌, ◌<◌, ◌∷◌, ◌++◌, if◌then◌else◌}
-use Rattle.std.specs.Prelude.{ℕ, zero, suc, Option, Some, None, List, [], length, take, drop, map, slice_index, nat_le, IsSome}
+use Rattle.std.specs.Prelude.{ℕ, zero, suc, Option, Some, None, List, [], length, take, drop, map, slice_index, nat_le}
 use Rattle.heap_words.specs.Sizes.{size_of}
 use Rattle.heap_model.specs.Heap.{Stored}
 use Rattle.heap_words.specs.declared.header.Header.{Header}
@@ -15,7 +15,7 @@ pub data Tile : Type 0 where
 
 -- the words of a tile
 abbrev pub tile_size : Tile → ℕ
-tile_size (Object s) = size_of (length s.pointers) (length s.weaks) (length s.values)
+tile_size (Object s) = size_of (length s.pointers) (length s.weaks + length s.held) (length s.values)
 tile_size (Filler n) = n
 tile_size (Forwarded to n) = n
 
@@ -36,27 +36,29 @@ replace o new [] = []
 replace zero new (t ∷ ts) = new ++ ts
 replace (suc o) new (t ∷ ts) = t ∷ replace (suc o - tile_size t) new ts
 
--- the object of a header with p pointers, so many weak slots, no held slots and d data words, the rest of its words first in ws
-abbrev pub stored_of : ℕ → ℕ → ℕ → List ℕ → Stored
-stored_of p weak d ws = record {
+-- the object of a header with p pointers, so many weak slots and held slots, and d data words, the rest of its words first in ws
+abbrev pub stored_of : ℕ → ℕ → ℕ → ℕ → List ℕ → Stored
+stored_of p weak held d ws = record {
   name = slice_index ws 0;
   pointers = map pointer_of (take p (drop 1 ws));
   weaks = map pointer_of (take weak (drop (suc p) ws));
-  held = [];
-  values = take d (drop (suc (p + weak)) ws);
+  held = map pointer_of (take held (drop (suc (p + weak)) ws));
+  values = take d (drop (suc (p + (weak + held))) ws);
 }
 
 -- the tile of a header, the rest of whose words are first in ws; sizes tells the size of the object at an address, for one that moved there
 abbrev pub tile_by : (ℕ → ℕ) → List ℕ → Option Header → Tile
 tile_by sizes ws None = Filler 1
-tile_by sizes ws (Some (headers.Object p weak d)) = Object (stored_of p weak d ws)
+tile_by sizes ws (Some (headers.Object p weak d)) = Object (stored_of p weak 0 d ws)
+tile_by sizes ws (Some (headers.Pairs p n d)) = Object (stored_of p n n d ws)
 tile_by sizes ws (Some (headers.Filler n)) = Filler n
 tile_by sizes ws (Some (headers.Forwarded to)) = Forwarded to (sizes to)
 
 -- how many words the tile of a header has
 abbrev pub size_by : (ℕ → ℕ) → Option Header → ℕ
 size_by sizes None = 1
-size_by sizes (Some (headers.Object p weak d)) = size_of p weak d
+size_by sizes (Some (headers.Object p weak d)) = size_of p (weak + 0) d
+size_by sizes (Some (headers.Pairs p n d)) = size_of p (n + n) d
 size_by sizes (Some (headers.Filler n)) = n
 size_by sizes (Some (headers.Forwarded to)) = sizes to
 
@@ -66,8 +68,17 @@ tiles sizes k [] = []
 tiles sizes zero (w ∷ ws) = tile_by sizes ws (header_of w) ∷ tiles sizes (size_by sizes (header_of w) - 1) ws
 tiles sizes (suc k) (w ∷ ws) = tiles sizes k ws
 
+-- the header of a tile. None has pairs yet: marking doesn't follow what a key holds
+abbrev pub IsTileHeader : Option Header → Type 0
+IsTileHeader None = ⊥
+IsTileHeader (Some (headers.Object p weak d)) = Unit {0}
+IsTileHeader (Some (headers.Pairs p n d)) = ⊥
+IsTileHeader (Some (headers.Filler n)) = Unit {0}
+IsTileHeader (Some (headers.Forwarded to)) = Unit {0}
+
 -- tiles follow one another exactly to the end
 abbrev pub IsTiled : (ℕ → ℕ) → ℕ → List ℕ → Type 0
 IsTiled sizes k [] = k ≡ 0
-IsTiled sizes zero (w ∷ ws) = IsSome (header_of w) × (0 < size_by sizes (header_of w)) × IsTiled sizes (size_by sizes (header_of w) - 1) ws
+IsTiled sizes zero (w ∷ ws) =
+    IsTileHeader (header_of w) × (0 < size_by sizes (header_of w)) × IsTiled sizes (size_by sizes (header_of w) - 1) ws
 IsTiled sizes (suc k) (w ∷ ws) = IsTiled sizes k ws

@@ -3,7 +3,7 @@ use Rattle.std.specs.Prelude.{◌≡◌, ℕ, zero, suc, ◌+◌, ◌-◌, ◌*�
 use Rattle.regions.specs.declared.row.Shape.{Shape}
 use Rattle.regions.specs.Shapes.{tile_shape}
 use Rattle.regions.specs.Tiles.{Tile, Object, tile_size, total_size, tile_at}
-use Rattle.regions.specs.Table.{Region, Ordinary, First, Rest, Table, nth_region, kind_of, tile_in}
+use Rattle.regions.specs.Table.{Region, Ordinary, First, Table, nth_region, kind_of, tile_in}
 use Rattle.regions.specs.declared.row.Kind.TheVariants as kinds
 use Rattle.heap_words.specs.declared.addr.Addr.{Addr}
 

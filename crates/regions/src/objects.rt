@@ -1,22 +1,22 @@
 //! Reads and writes of objects: each is one access to a word or two, and no walk.
 ghost use Rattle.std.specs.Prelude.{◌≡◌, ◌<◌, ◌≤◌, ◌+◌, length, take, drop, slice_get, Some, IsSome, IfSome};
-ghost use Rattle.heap_words.specs.Contents.{header_at, counts_of, pointer_count_at, field_count_at};
+ghost use Rattle.heap_words.specs.Contents.{header_at, counts_of, pointer_count_at, field_count_at, weak_count, value_count, IsPlainHeader};
 ghost use Rattle.regions.specs.Table.{object_at, object_words, pointers_at, weaks_at, fields_at, values_at, set_pointer};
 ghost use Rattle.regions.specs.Table.{set_weak, set_field, set_value, set_values, tile_in, moved_to};
-ghost use Rattle.regions.specs.Rows.{header_target, sizes_in, weak_count, value_count};
+ghost use Rattle.regions.specs.Rows.{header_target, sizes_in};
 
 use crate::table::RegionTable;
 use heap_words::addr::{Addr, Ptr};
 use heap_words::header::Header;
 use heap_words::words::Words;
 
-/// How many pointers the object at an address has.
+/// How many pointers the object at an address has. No object of the table has pairs yet.
 fn pointers_in(words: &Words, at: Addr) -> u32
     requires within { at < words.now.written }
-    requires object { IsSome (counts_of (header_at words.now.all at)) }
+    requires object { IsPlainHeader (header_at words.now.all at) }
     ensures { result ≡ pointer_count_at words.now.all at }
 {
-    words.pointer_count(at)
+    words.plain_pointer_count(at)
 }
 
 /// How many fields the object at an address has.
@@ -25,8 +25,7 @@ fn fields_in(words: &Words, at: Addr) -> u32
     requires object { IsSome (counts_of (header_at words.now.all at)) }
     ensures { result ≡ field_count_at words.now.all at }
 {
-    let counts = words.counts(at);
-    counts.pointers.get() + u32::from(counts.weaks)
+    words.field_count(at)
 }
 
 /// How many weak slots the object at an address has.
@@ -35,7 +34,7 @@ fn weaks_in(words: &Words, at: Addr) -> u32
     requires object { IsSome (counts_of (header_at words.now.all at)) }
     ensures { result ≡ weak_count (header_at words.now.all at) }
 {
-    u32::from(words.counts(at).weaks)
+    words.weak_count(at)
 }
 
 /// How many data words the object at an address has.
@@ -44,7 +43,7 @@ fn values_in(words: &Words, at: Addr) -> u32
     requires object { IsSome (counts_of (header_at words.now.all at)) }
     ensures { result ≡ value_count (header_at words.now.all at) }
 {
-    words.counts(at).values.get()
+    words.value_count(at)
 }
 
 /// How many words the object at an address has.
@@ -53,7 +52,7 @@ fn size_in(words: &Words, at: Addr) -> u32
     requires object { IsSome (counts_of (header_at words.now.all at)) }
     ensures { result ≡ sizes_in words.now.all at }
 {
-    words.counts(at).size()
+    words.object_size(at)
 }
 
 /// Where the object at an address went, if it is forwarded.
@@ -64,7 +63,7 @@ fn target_in(words: &Words, at: Addr) -> Option<Addr>
     match words.header(at) {
         Some(header) => match header {
             Header::Forwarded { to } => Some(to),
-            Header::Object { .. } | Header::Filler { .. } => None,
+            Header::Object { .. } | Header::Pairs { .. } | Header::Filler { .. } => None,
         },
         None => None,
     }

@@ -4,7 +4,7 @@ ghost use Rattle.regions.specs.Rows.{kind_is_free, kind_is_rest, free_row};
 ghost use Rattle.regions.specs.Shapes.{size_of_shape};
 
 use heap_words::addr::Addr;
-use heap_words::header::{Count, object_size};
+use heap_words::header::Count;
 use std::alloc::{AllocError, Global};
 
 /// What a region is.
@@ -30,10 +30,10 @@ pub(crate) struct Row {
 /// What a tile is. Sizes are in words.
 #[derive(Clone, Copy, Debug, PartialEq, Eq)]
 pub enum Shape {
-    /// An object, by its counts of pointers, weak slots and data words.
+    /// An object, by its counts of pointers, of weak slots and held slots together, and of data words.
     Object {
         pointers: Count,
-        weaks: u8,
+        slots: Count,
         values: Count,
     },
     /// Words that hold nothing.
@@ -55,9 +55,9 @@ impl Shape {
         match *self {
             Shape::Object {
                 pointers,
-                weaks,
+                slots,
                 values,
-            } => object_size(pointers.get(), weaks, values.get()) as u32,
+            } => 2 + pointers.get() + slots.get() + values.get(),
             Shape::Filler { size } => size,
             Shape::Forwarded { size, .. } => size,
         }

@@ -13,7 +13,7 @@ use crate::row::{Kind, Row, Shape, free_rows};
 use crate::weak_starts::WeakStarts;
 use heap_words::addr::{Addr, RegionNo};
 use heap_words::config::{Config, NewFault};
-use heap_words::header::Header;
+use heap_words::header::{Count, Header};
 use heap_words::words::Words;
 use std::alloc::Global;
 use std::marker::Model;
@@ -89,7 +89,16 @@ pub(crate) fn shape_at(words: &Words, at: Addr) -> Shape
                 data,
             } => Shape::Object {
                 pointers,
-                weaks,
+                slots: Count::new(u32::from(weaks)),
+                values: data,
+            },
+            Header::Pairs {
+                pointers,
+                pairs,
+                data,
+            } => Shape::Object {
+                pointers: Count::new(u32::from(pointers)),
+                slots: Count::new(2 * pairs.get()),
                 values: data,
             },
             Header::Filler { size } => Shape::Filler { size: size.get() },

@@ -17,3 +17,4 @@ pub mod Beginning
 pub mod Words
 pub mod Filling
 pub mod Rows
+pub mod Loads

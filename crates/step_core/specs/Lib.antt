@@ -19,3 +19,4 @@ pub mod Passages
 pub mod Words
 pub mod Near
 pub mod Rows
+pub mod Loads

@@ -5,9 +5,11 @@ use Rattle.heap_model.specs.Heap.{IsRoot, IsShown}
 use Rattle.heap_model.specs.Weak.{touched, KeepsUnreached}
 use Rattle.regions.specs.Table.{pointers_at, weaks_at, values_at}
 use Rattle.marker.specs.Steps.{Overwrites}
-use Rattle.graph_runs.specs.State.{register_place, root_at, with_root}
+use Rattle.graph_runs.specs.Run.{snapshot_after}
+use Rattle.graph_runs.specs.State.{ForSnapshot, register_place, root_at, with_root}
 use Rattle.graph_runs.specs.Machine.{stored}
 use Rattle.step_core.specs.Steps.{Action, Register, Reply, Step}
+use Rattle.heap_steps.specs.declared.step.Action.TheVariants as actions
 use Rattle.heap_steps.specs.declared.step.Reply.TheVariants as replies
 use Rattle.step_core.specs.Stands.{CoreState, IsRootWord, IsWordOf, KeepsFrom, Leads, ShowsGraph, heap_of, root_counts_of}
 use Rattle.step_core.specs.Answers.{Acts}
@@ -58,6 +60,15 @@ pub record Touches (m : ℕ) (to : Register) (w : Option ℕ) (c c' : CoreState)
       → KeepsFrom (touched s v) c'
   pub core : c' ≡ record (with_root_word c (register_place (root_counts_of c.config) m to.number) w) { marker = c'.marker }
   pub marker : Overwrites c.marker.running c.table m w c.marker c'.marker
+  pub leaves : LeavesRegions c c'
+
+-- a register takes what a weak slot shows, or that is refused: the reply is the graph's, a snapshot is kept with the replied name touched,
+-- and the core is what the step makes of it
+pub record GetsWeak (m : ℕ) (to object : Register) (slot : ℕ) (reply : Reply) (c c' : CoreState) : Type 0 where
+  pub acts : (g : Graph) → ShowsGraph g c → Acts g m (actions.GetWeak to object slot) reply c'
+  pub keeps : (s g : Graph) → ShowsGraph g c → KeepsUnreached s g → KeepsFrom s c
+      → ForSnapshot (snapshot_after (Some s) (actions.GetWeak to object slot) reply) (λ t. KeepsFrom t c')
+  pub after : ActsOn m (actions.GetWeak to object slot) reply c c'
   pub leaves : LeavesRegions c c'
 
 -- an action is done, or refused: the reply is the graph's, a snapshot is kept, and the core is what the action makes of it

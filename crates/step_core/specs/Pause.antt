@@ -171,7 +171,7 @@ pub record IsCopied (set : ℕ → Bool) (h : Heap) (n : ℕ) : Type 0 where
 -- the words of an object of the graph, and of the objects of these names
 abbrev pub named_words : Option Object → ℕ
 named_words None = 0
-named_words (Some o) = size_of (length o.pointers) (length o.weaks) (length o.values)
+named_words (Some o) = size_of (length o.pointers) (length o.weaks + length o.held) (length o.values)
 
 abbrev pub words_of : Graph → List ℕ → ℕ
 words_of g [] = 0

@@ -168,8 +168,9 @@ impl Core {
         requires word { IsWordOf (heap_of self.old) value.now }
         ensures { Touches mutator to value.now self.old self.new }
     {
+        let running = self.marker.running;
         self.roots.set_register(mutator, to.number, *value);
-        if !self.marker.running {
+        if !running {
             return;
         }
         let full = self.marker.save(&self.table, mutator, *value);

@@ -25,9 +25,10 @@
 //! `mutator` has the mutator's steps, `barrier` what a store and a weak read do beside, `cycle` the steps of marking, `cleanup` the
 //! reclaiming, `refine` refinement, `candidates` the choice of what a pause evacuates, `highest` of what a compaction does, `youngest` of
 //! what a young pause does, `pause` all three, `step` any step, `runs` a list of them, `words` several data words at once, `filling` fields
-//! of an object whose address is known, `near` its pointers one after another, `rows` several fields of any object, `readers` what is
-//! read of a core from outside, `names` which object starts at an address and what weak slots show, `measures` what a policy of collection
-//! asks of it, `layers` the parts that a new core is made of, `laws` that what a core came to is a run of the graph.
+//! of an object whose address is known, `near` its pointers one after another, `rows` several fields of any object, `loads` a pointer with
+//! a data word of the object that it leads to, `readers` what is read of a core from outside, `names` which object starts at an address and
+//! what weak slots show, `measures` what a policy of collection asks of it, `layers` the parts that a new core is made of, `laws` that what
+//! a core came to is a run of the graph.
 //!
 //! A field is read or written in constant time: no step tests or walks its region to see that an address is an object.
 //!
@@ -57,6 +58,7 @@ mod heap;
 mod highest;
 mod laws;
 mod layers;
+mod loads;
 mod measures;
 mod mutator;
 mod names;

@@ -1,24 +1,21 @@
 //! The mutator's steps.
 
-ghost use Rattle.std.specs.Prelude.{◌≡◌, ◌<◌, ◌≤◌, ◌*◌, ◌↔◌, Some, None, IfSome, IfNone, IfOk, IsErr, OnErr, length, true, false};
+ghost use Rattle.std.specs.Prelude.{◌≡◌, ◌<◌, ◌≤◌, ◌*◌, ◌↔◌, Some, None, IfSome, IfNone, IfOk, IsErr, IsSome, OnErr, length, true, false};
 ghost use Rattle.heap_words.specs.Configs.{max_object_words, object_limit};
 ghost use Rattle.heap_words.specs.Sizes.{size_of};
-ghost use Rattle.heap_model.specs.Graph.{Graph};
 ghost use Rattle.heap_model.specs.Heap.{IsRoot};
-ghost use Rattle.heap_model.specs.Weak.{KeepsUnreached};
-ghost use Rattle.graph_runs.specs.State.{State, ForSnapshot, root_counts_of};
+ghost use Rattle.graph_runs.specs.State.{root_counts_of};
 ghost use Rattle.heap_steps.specs.Roots.{IsRegister, IsGlobal, IsValue, IsOpAt};
-ghost use Rattle.graph_runs.specs.Run.{snapshot_after};
 ghost use Rattle.heap_steps.specs.declared.step.Reply.TheVariants as replies;
 ghost use Rattle.heap_steps.specs.declared.step.Refusal.TheVariants as refusals;
-ghost use Rattle.regions.specs.Table.{new_object, fields_at, pointers_at, weaks_at, values_at, set_pointer, set_value};
+ghost use Rattle.regions.specs.Table.{new_object, object_at, fields_at, pointers_at, weaks_at, values_at, set_pointer, set_value};
 ghost use Rattle.alloc_buffers.specs.Placement.{address_of, allocation_of, CanHold, IsMadeAt, Placement, made_at};
-ghost use Rattle.step_core.specs.Stands.{ShowsGraph, KeepsFrom, heap_of};
-ghost use Rattle.step_core.specs.Answers.{Acts, IsWithin, new_reply};
+ghost use Rattle.step_core.specs.Stands.{IsWordOf, heap_of, name_in};
+ghost use Rattle.step_core.specs.Answers.{IsWithin, new_reply};
 ghost use Rattle.step_core.specs.Making.{CanMake, HasMade, MakesNew, MakesObject};
-ghost use Rattle.step_core.specs.Mutators.{ActsOn, value_of, weak_of, weaks_made, with_current};
+ghost use Rattle.step_core.specs.Mutators.{value_of, weak_of, weaks_made, with_current};
 ghost use Rattle.step_core.specs.Cycle.{LeavesRegions};
-ghost use Rattle.step_core.specs.Parts.{DoesAction, HoldsValue, NamesAt};
+ghost use Rattle.step_core.specs.Parts.{DoesAction, GetsWeak, HoldsValue, NamesAt, Touches};
 ghost use Rattle.step_core.specs.Words.{Takes};
 
 use crate::heap::Core;
@@ -454,27 +451,119 @@ impl Core {
         self.marker.lasting(&self.table, word)
     }
 
+    /// How many weak slots an object has: its fields but its pointers, so that its header isn't asked which kind it is.
+    #[inline(always)]
+    fn slot_count(&self, object: Addr) -> u32
+        requires { IsSome (object_at self.now.table object) }
+        ensures { result ≡ length (weaks_at self.now.table object) }
+    {
+        self.law_shaped();
+        self.table.field_count(object) - self.table.pointer_count(object)
+    }
+
+    /// A register takes what was read from a weak slot, and its name is answered. What follows a test of the value is in both arms, so that
+    /// each knows it.
+    #[inline(always)]
+    fn touch_named(&mut self, mutator: u32, to: Register, value: Ptr) -> Option<u64>
+        requires known { mutator < self.old.config.mutators }
+        requires to { IsRegister (root_counts_of self.old.config) to }
+        requires word { IsWordOf (heap_of self.old) value }
+        ensures name { result ≡ name_in self.old.table value }
+        ensures touches { Touches mutator to value self.old self.new }
+    {
+        match value {
+            None => {
+                self.touch(mutator, to, &value);
+                None
+            }
+            Some(_) => {
+                let name = self.name_of(&value);
+                self.touch(mutator, to, &value);
+                name
+            }
+        }
+    }
+
+    /// `to` takes what a weak slot shows that the object at an address has, which the register holds.
+    #[inline(always)]
+    fn get_weak_at(
+        &mut self,
+        mutator: u32,
+        to: Register,
+        object: Register,
+        at: Addr,
+        slot: u32,
+    ) -> Reply
+        requires mutator { mutator < self.old.config.mutators }
+        requires to { IsRegister (root_counts_of self.old.config) to }
+        requires names { NamesAt self.old mutator object at }
+        requires slot { slot < length (weaks_at self.old.table at) }
+        ensures { GetsWeak mutator to object slot result self.old self.new }
+    {
+        self.law_remembers();
+        let value = self.weak_word(at, slot);
+        let name = self.touch_named(mutator, to, value);
+        Reply::Named(name)
+    }
+
+    /// The same by a call, which writes its answer into memory. That memory is cleared here, so that who neither marks nor clears doesn't
+    /// clear any.
+    #[inline(always)]
+    fn get_weak_apart(
+        &mut self,
+        mutator: u32,
+        to: Register,
+        object: Register,
+        at: Addr,
+        slot: u32,
+    ) -> Reply
+        requires mutator { mutator < self.old.config.mutators }
+        requires to { IsRegister (root_counts_of self.old.config) to }
+        requires names { NamesAt self.old mutator object at }
+        requires slot { slot < length (weaks_at self.old.table at) }
+        ensures { GetsWeak mutator to object slot result self.old self.new }
+    {
+        self.get_weak_called(mutator, to, object, at, slot)
+    }
+
+    /// The same as a call.
+    #[cold]
+    #[inline(never)]
+    fn get_weak_called(
+        &mut self,
+        mutator: u32,
+        to: Register,
+        object: Register,
+        at: Addr,
+        slot: u32,
+    ) -> Reply
+        requires mutator { mutator < self.old.config.mutators }
+        requires to { IsRegister (root_counts_of self.old.config) to }
+        requires names { NamesAt self.old mutator object at }
+        requires slot { slot < length (weaks_at self.old.table at) }
+        ensures { GetsWeak mutator to object slot result self.old self.new }
+    {
+        self.get_weak_at(mutator, to, object, at, slot)
+    }
+
+    // A function that is inlined always has to be small: whoever does any step has this one, and would no longer be inlined itself.
+    #[inline]
     fn get_weak(&mut self, mutator: u32, to: Register, object: Register, slot: u32) -> Reply
         requires mutator { mutator < self.old.config.mutators }
         requires to { IsRegister (root_counts_of self.old.config) to }
         requires object { IsRegister (root_counts_of self.old.config) object }
-        ensures acts { (g : Graph) → ShowsGraph g self.old → Acts g mutator (actions.GetWeak to object slot) result self.new }
-        // What was replied is touched.
-        ensures keeps { (s g : Graph) → ShowsGraph g self.old → KeepsUnreached s g → KeepsFrom s self.old
-            → ForSnapshot (snapshot_after (Some s) (actions.GetWeak to object slot) result) (λ t. KeepsFrom t self.new) }
-        ensures after { ActsOn mutator (actions.GetWeak to object slot) result self.old self.new }
-        ensures leaves { LeavesRegions self.old self.new }
+        ensures { GetsWeak mutator to object slot result self.old self.new }
     {
         let Some(at) = self.register(mutator, object) else {
             return Reply::Refused(Refusal::Nil);
         };
-        if slot >= self.table.weak_count(at) {
+        if slot >= self.slot_count(at) {
             return Reply::Refused(Refusal::NoField);
         }
-        let value = self.weak_word(at, slot);
-        let name = self.name_of(&value);
-        self.touch(mutator, to, &value);
-        Reply::Named(name)
+        if self.marker.running || self.clearing.is_some() {
+            return self.get_weak_apart(mutator, to, object, at, slot);
+        }
+        self.get_weak_at(mutator, to, object, at, slot)
     }
 
     fn put_weak(

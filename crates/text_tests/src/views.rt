@@ -1,6 +1,6 @@
 //! Views of small heaps, written by hand, and a writer that fails.
 
-use heap_view::{Glance, view_script, view_text};
+use heap_view::{Glance, Viewed, view_script, view_text};
 use script_text::{WatchedReader, WatchedWriter, parse};
 use std::alloc::Global;
 use std::io;
@@ -24,8 +24,10 @@ fn heap_after(alloc: Global, script: &str) -> Result<Core, Fail> {
 /// All of a heap, as it is after the last step.
 const WHOLE: Glance = Glance {
     at: None,
-    region: None,
-    summary: false,
+    viewed: Viewed::Regions {
+        region: None,
+        summary: false,
+    },
 };
 
 /// The heap after a script has this view.
@@ -111,6 +113,70 @@ mutator 1: r0 #3 at 24, r7 #0 at 0
   card log: 3
 ";
     assert_view(&rt, rt.alloc(), script, view)
+}
+
+/// What of a heap is viewed, as it is after the last step.
+fn glance_at(viewed: Viewed) -> Glance {
+    Glance { at: None, viewed }
+}
+
+/// An object that two roots and three objects name, one of them by two fields, and one by a weak slot alone; and one that nothing names.
+#[test]
+fn an_object_and_who_names_it(rt: HostRuntime) -> Result<(), Fail> {
+    let script = "\
+heap3 2 64 8 2 7 8 4 3
+0 newweak r0 1 1 2
+0 new r1 2 0
+0 newweak r2 0 2 0
+0 write r0 1 18446744073709551615
+0 put r0 0 r1
+0 put r1 0 r0
+0 put r1 1 r0
+0 putweak r2 1 r0
+0 save g3 r0
+1 load r2 g3
+gc begin
+";
+    let head = "heap3 2 64 8 2 7 8 4 3\nnext name 10\nmarking runs, objects scanned: 0\n";
+    let named = "\
+object #7 at 0: pointers 1, weak slots 1, data words 2, unmarked
+  pointer 0: #8
+  weak slot 0: nil
+  data word 0: 0
+  data word 1: 18446744073709551615
+named by
+  global g3
+  register r0 of mutator 0
+  register r2 of mutator 1
+  #8, pointer 0 and 1 more
+  #9, weak slot 1
+";
+    let view = format!(in rt.alloc(); "{head}{named}")?;
+    assert_glance(
+        &rt,
+        rt.alloc(),
+        script,
+        &glance_at(Viewed::Object(7)),
+        view.as_str(),
+    )?;
+    let view = format!(in rt.alloc(); "{head}object #10: none is kept\n")?;
+    assert_glance(
+        &rt,
+        rt.alloc(),
+        script,
+        &glance_at(Viewed::Object(10)),
+        view.as_str(),
+    )?;
+    let script = "heap 2 16 8 1 0\n0 new r0 0 1\n0 drop r0\n";
+    let view = "\
+heap 2 16 8 1 0
+next name 1
+marking doesn't run
+object #0 at 0: pointers 0, weak slots 0, data words 1
+  data word 0: 0
+named by nothing
+";
+    assert_glance(&rt, rt.alloc(), script, &glance_at(Viewed::Object(0)), view)
 }
 
 /// A run of three regions, and after a pause two copies in region 4. One of the cards that the pause made dirty is refined.
@@ -391,8 +457,10 @@ in all: 24 of 64 words handed out, 16 live, 2 of 4 regions free, 0 cards queued
 ";
     let glance = Glance {
         at: None,
-        region: None,
-        summary: true,
+        viewed: Viewed::Regions {
+            region: None,
+            summary: true,
+        },
     };
     assert_glance(&rt, rt.alloc(), script, &glance, view)
 }
@@ -414,8 +482,10 @@ region 0: ordinary, current, 8 of 16 words handed out
     for (region, summary, end) in [(0, false, lines), (0, true, line), (2, false, none)] {
         let glance = Glance {
             at: None,
-            region: Some(region),
-            summary,
+            viewed: Viewed::Regions {
+                region: Some(region),
+                summary,
+            },
         };
         let view = format!(in alloc; "{head}{end}")?;
         assert_glance(&rt, alloc, script, &glance, view.as_str())?;

@@ -52,6 +52,10 @@ pub enum Op {
     /// The last class takes the methods of the one below it.
     Inherit,
     Method(u32),
+    /// What is thrown from here on is caught there, up to the end of this.
+    Try(u32),
+    EndTry,
+    Throw,
 }
 
 #[derive(Debug, Default)]
@@ -83,6 +87,14 @@ pub struct Call {
     pub function: usize,
     pub pc: usize,
     pub base: usize,
+}
+
+/// Where what is thrown is caught: in which of the open calls, at which of its steps, and how many values are left then.
+#[derive(Clone, Copy, Debug)]
+pub struct Handler {
+    pub calls: usize,
+    pub pc: usize,
+    pub len: usize,
 }
 
 impl Program {
@@ -121,6 +133,8 @@ struct Scope<'s> {
     is_init: bool,
     locals: Vec<Local<'s>>,
     depth: u32,
+    /// How many blocks are open whose throws are caught.
+    tries: u32,
 }
 impl Scope<'_> {
     fn find(&self, name: &str) -> Option<u32> {
@@ -174,7 +188,7 @@ impl<'s> Compiler<'s> {
         let code = &mut self.scope().function.code;
         let end = code.len() as u32;
         match &mut code[jump] {
-            Op::Jump(to) | Op::JumpFalse(to) => *to = end,
+            Op::Jump(to) | Op::JumpFalse(to) | Op::Try(to) => *to = end,
             other => unreachable!("{:?} is no jump", other),
         }
     }
@@ -212,7 +226,7 @@ impl<'s> Compiler<'s> {
     fn begin_function(&mut self, name: &str, receiver: &'s str, is_init: bool) {
         let locals = vec![Local { name: receiver, depth: 0, is_captured: false }];
         let function = Function { name: name.into(), ..Function::default() };
-        self.scopes.push(Scope { function, is_init, locals, depth: 0 });
+        self.scopes.push(Scope { function, is_init, locals, ..Scope::default() });
     }
     /// Answers the number of the function.
     fn end_function(&mut self) -> u32 {
@@ -400,10 +414,19 @@ impl<'s> Compiler<'s> {
         if self.take("return") {
             return self.return_value();
         }
-        let prints = self.take("print");
+        if self.take("try") {
+            return self.try_catch();
+        }
+        let op = if self.take("print") {
+            Op::Print
+        } else if self.take("throw") {
+            Op::Throw
+        } else {
+            Op::Pop
+        };
         self.expression()?;
         self.expect(";")?;
-        self.emit(if prints { Op::Print } else { Op::Pop });
+        self.emit(op);
         Ok(())
     }
     fn condition(&mut self) -> Answer<usize> {
@@ -475,11 +498,42 @@ impl<'s> Compiler<'s> {
         self.end_block();
         Ok(())
     }
+    fn try_catch(&mut self) -> Answer {
+        let start = self.emit(Op::Try(0));
+        self.scope().tries += 1;
+        self.expect("{")?;
+        self.begin_block();
+        self.block()?;
+        self.end_block();
+        self.scope().tries -= 1;
+        self.emit(Op::EndTry);
+        let end = self.emit(Op::Jump(0));
+        self.land(start);
+        // What was thrown is a value on the stack, which this names.
+        self.expect("catch")?;
+        self.expect("(")?;
+        let name = self.name()?;
+        self.begin_block();
+        self.add_local(name)?;
+        self.expect(")")?;
+        self.expect("{")?;
+        self.block()?;
+        self.end_block();
+        self.land(end);
+        Ok(())
+    }
+    /// A return leaves the blocks whose throws are caught.
+    fn end_tries(&mut self) {
+        for _ in 0..self.scope().tries {
+            self.emit(Op::EndTry);
+        }
+    }
     fn return_value(&mut self) -> Answer {
         if self.scopes.len() == 1 {
             return self.wrong("Can't return from top-level code.");
         }
         if self.take(";") {
+            self.end_tries();
             self.emit_return();
             return Ok(());
         }
@@ -488,6 +542,7 @@ impl<'s> Compiler<'s> {
         }
         self.expression()?;
         self.expect(";")?;
+        self.end_tries();
         self.emit(Op::Return);
         Ok(())
     }

@@ -8,13 +8,10 @@ impl<'h> Vm<'_, '_, 'h> {
         if let Some(native) = self.words[place].native() {
             return self.native(stack, native, args);
         }
-        let function = stack.scope(|g, s| as_a::<Closure>(g, s.at(place), Tag::Closure).map(|it| g.read(it, Closure::function)));
-        if let Some(function) = function {
-            return self.enter(function, args);
-        }
-        let tag = stack.scope(|g, s| s.at(place).map(|it| g.read(it.assume(), Tagged::tag)));
-        match tag {
-            Some(Tag::Bound) => {
+        let head = stack.scope(|g, s| headed(g, s.at(place)).map(|it| it.1));
+        match head {
+            Some(Head(Tag::Closure, function)) => self.enter(function, args),
+            Some(Head(Tag::Bound, function)) => {
                 self.put(stack, place + 1, |_, g, s| {
                     let bound = s.at(place).expect("a bound method").assume::<Bound>();
                     Ok((OBJECT, g.get(bound, Bound::receiver)?))
@@ -23,13 +20,14 @@ impl<'h> Vm<'_, '_, 'h> {
                     let bound = s.at(place).expect("a bound method").assume::<Bound>();
                     Ok(object(g.field(bound, Bound::method)?))
                 })?;
-                self.call(stack, args)
+                self.enter(function, args)
             }
-            Some(Tag::Class) => self.instance(stack, place, args),
+            Some(Head(Tag::Class, number)) => self.instance(stack, place, number, args),
             _ => wrong("Can only call functions and classes."),
         }
     }
-    fn enter(&mut self, function: usize, args: u32) -> Answer {
+    fn enter(&mut self, function: u32, args: u32) -> Answer {
+        let function = function as usize;
         let arity = self.program.functions[function].arity;
         if args != arity {
             return wrong(format!("Expected {arity} arguments but got {args}."));
@@ -40,22 +38,14 @@ impl<'h> Vm<'_, '_, 'h> {
         self.calls.push(Call { function, pc: 0, base: self.words.len() - args as usize - 1 });
         Ok(())
     }
-    fn instance(&mut self, stack: &mut Stack<'_, 'h>, place: usize, args: u32) -> Answer {
+    fn instance(&mut self, stack: &mut Stack<'_, 'h>, place: usize, number: u32, args: u32) -> Answer {
         self.put(stack, place + 1, |vm, g, s| {
-            let class = s.at(place).expect("a class").assume::<Class>();
-            let number = g.read(class, Class::number);
-            let count = vm.fields[number].len() as u32;
-            let fields = g.alloc_any(count, 0, count)?;
-            Ok(object(g.new::<Instance>(|p| {
-                p.put(Instance::class, class);
-                p.put(Instance::fields, fields);
-                p.write(Instance::tag, Tag::Instance);
-                p.write(Instance::number, number);
-            })?))
+            let class = s.at(place).expect("a class").assume();
+            Ok(object(Instance::alloc(g, class, number, vm.fields[number as usize].len() as u32)?))
         })?;
         if let Some(init) = self.init {
-            if self.put_method(stack, place, init)? {
-                return self.call(stack, args);
+            if let Some(function) = self.put_method(stack, place, init)? {
+                return self.enter(function, args);
             }
         }
         if args > 0 {
@@ -64,50 +54,69 @@ impl<'h> Vm<'_, '_, 'h> {
         self.store(stack, place);
         Ok(())
     }
-    /// Puts a method of the class of the instance above into a place, if there is one.
-    fn put_method(&mut self, stack: &mut Stack<'_, 'h>, place: usize, name: u32) -> Answer<bool> {
-        let mut found = false;
-        self.make(stack, 0, |_, g, s| {
-            let instance = s.at(place + 1).expect("an instance").assume::<Instance>();
-            let method = method(g, g.field(instance, Instance::class)?, name)?;
-            found = method.is_some();
-            Ok((OBJECT, method.map(Local::any)))
-        })?;
-        if found {
-            self.store(stack, place);
-        } else {
-            self.truncate(stack, self.words.len() - 1);
+    /// A method of a class, and its function.
+    fn method<'g>(
+        &self,
+        g: &Frame<'g, 'h>,
+        class: Local<'_, 'h, Class>,
+        names: usize,
+        name: u32,
+    ) -> Result<Option<(Local<'g, 'h, Closure>, u32)>, Error> {
+        match self.names.place(names, name) {
+            Some((at, function)) => {
+                let method = g.item(g.field(class, Class::methods)?, at)?.expect("a method");
+                Ok(Some((method, function)))
+            }
+            None => Ok(None),
         }
-        Ok(found)
+    }
+    fn method_of<'g>(
+        &self,
+        g: &Frame<'g, 'h>,
+        instance: Local<'_, 'h, Instance>,
+        name: u32,
+    ) -> Result<Option<(Local<'g, 'h, Closure>, u32)>, Error> {
+        let (class, names) = g.get_word(instance, Instance::class, Class::names)?.expect("a class");
+        self.method(g, class, names, name)
+    }
+    /// Puts a method of the instance above into a place, if there is one, and answers its function.
+    fn put_method(&mut self, stack: &mut Stack<'_, 'h>, place: usize, name: u32) -> Answer<Option<u32>> {
+        let mut function = None;
+        self.put(stack, place, |vm, g, s| {
+            let instance = s.at(place + 1).expect("an instance").assume();
+            match vm.method_of(g, instance, name)? {
+                Some((method, number)) => {
+                    function = Some(number);
+                    Ok(object(method))
+                }
+                None => vm.at(g, s, place),
+            }
+        })?;
+        Ok(function)
     }
 
-    /// What a field holds.
-    fn field<'g>(&self, g: &mut Frame<'g, 'h>, instance: Local<'_, 'h, Instance>, name: u32) -> Answer<Option<Slot<'g, 'h>>> {
-        let at = match self.fields[g.read(instance, Instance::number)].iter().position(|it| *it == name) {
-            Some(at) => at as u32,
-            None => return Ok(None),
-        };
-        let mut scalar = UNDEFINED;
-        let found = g.lift_option(|g| match load(g, g.field(instance, Instance::fields)?, at) {
-            Ok((found, object)) => {
-                scalar = found;
-                Ok(object)
-            }
-            Err(Error::NoField) => Ok(None), // it was made before the class had this one
-            Err(error) => Err(error),
-        })?;
-        Ok(Some((scalar, found)).filter(|it| it.0 != UNDEFINED))
+    /// What a field of an instance holds, whose class has this number.
+    fn field<'g>(
+        &self,
+        g: &Frame<'g, 'h>,
+        (instance, number): (Local<'_, 'h, Instance>, u32),
+        name: u32,
+    ) -> Result<Option<Slot<'g, 'h>>, Error> {
+        match self.fields[number as usize].iter().position(|it| *it == name) {
+            Some(at) => Ok(Some(Instance::load(g, instance, at as u32)?).filter(|it| it.0 != UNDEFINED)),
+            None => Ok(None),
+        }
     }
     pub fn get_field(&mut self, stack: &mut Stack<'_, 'h>, name: u32) -> Answer {
         self.make(stack, 1, |vm, g, s| {
-            let instance = match as_a::<Instance>(g, s.top(0), Tag::Instance) {
-                Some(instance) => instance,
+            let (instance, number) = match as_a::<Instance>(g, s.top(0), Tag::Instance) {
+                Some(found) => found,
                 None => return wrong("Only instances have properties."),
             };
-            if let Some(found) = vm.field(g, instance, name)? {
+            if let Some(found) = vm.field(g, (instance, number), name)? {
                 return Ok(found);
             }
-            match method(g, g.field(instance, Instance::class)?, name)? {
+            match vm.method_of(g, instance, name)? {
                 Some(method) => bound(g, instance, method),
                 None => wrong(format!("Undefined property '{}'.", vm.name(name))),
             }
@@ -115,24 +124,24 @@ impl<'h> Vm<'_, '_, 'h> {
     }
     pub fn set_field(&mut self, stack: &mut Stack<'_, 'h>, name: u32) -> Answer {
         stack.scope(|g, s| {
-            let instance = match as_a::<Instance>(g, s.top(1), Tag::Instance) {
-                Some(instance) => instance,
+            let (instance, number) = match as_a::<Instance>(g, s.top(1), Tag::Instance) {
+                Some(found) => found,
                 None => return wrong("Only instances have fields."),
             };
-            let fields = &mut self.fields[g.read(instance, Instance::number)];
+            let fields = &mut self.fields[number as usize];
             let at = fields.iter().position(|it| *it == name).unwrap_or_else(|| {
                 fields.push(name);
                 fields.len() - 1
             });
-            Ok(store_in(g, instance, Instance::fields, at as u32, (self.top(0), s.top(0)))?)
+            Ok(Instance::store(g, instance, at as u32, (self.top(0), s.top(0)))?)
         })?;
         self.store(stack, self.words.len() - 2);
         Ok(())
     }
     pub fn get_super(&mut self, stack: &mut Stack<'_, 'h>, name: u32) -> Answer {
         self.make(stack, 2, |vm, g, s| {
-            let instance = s.top(1).expect("an instance").assume::<Instance>();
-            match method(g, s.top(0).expect("a class").assume(), name)? {
+            let (instance, class) = (s.top(1).expect("an instance").assume(), s.top(0).expect("a class").assume());
+            match vm.method(g, class, g.read(class, Class::names), name)? {
                 Some(method) => bound(g, instance, method),
                 None => wrong(format!("Undefined property '{}'.", vm.name(name))),
             }
@@ -140,44 +149,51 @@ impl<'h> Vm<'_, '_, 'h> {
     }
     pub fn invoke(&mut self, stack: &mut Stack<'_, 'h>, name: u32, args: u32) -> Answer {
         let place = self.words.len() - args as usize - 2;
-        if !stack.scope(|g, s| as_a::<Instance>(g, s.at(place), Tag::Instance).is_some()) {
-            return wrong("Only instances have methods.");
-        }
-        let mut is_field = false;
-        self.make(stack, 0, |vm, g, s| {
-            let found = vm.field(g, s.at(place).expect("an instance").assume(), name)?;
-            is_field = found.is_some();
-            Ok(found.unwrap_or((NIL, None)))
-        })?;
-        if is_field {
-            self.store(stack, place);
-        } else {
-            self.truncate(stack, self.words.len() - 1);
-            if !self.put_method(stack, place, name)? {
-                return wrong(format!("Undefined property '{}'.", self.name(name)));
+        let number = match stack.scope(|g, s| as_a::<Instance>(g, s.at(place), Tag::Instance).map(|it| it.1)) {
+            Some(number) => number,
+            None => return wrong("Only instances have methods."),
+        };
+        if self.fields[number as usize].contains(&name) {
+            let mut is_field = false;
+            self.put(stack, place, |vm, g, s| {
+                let instance = s.at(place).expect("an instance").assume();
+                let found = vm.field(g, (instance, number), name)?;
+                is_field = found.is_some();
+                found.map_or_else(|| vm.at(g, s, place), Ok)
+            })?;
+            if is_field {
+                return self.call(stack, args);
             }
         }
-        self.call(stack, args)
+        match self.put_method(stack, place, name)? {
+            Some(function) => self.enter(function, args),
+            None => wrong(format!("Undefined property '{}'.", self.name(name))),
+        }
     }
-    pub fn class(&mut self, stack: &mut Stack<'_, 'h>, name: u32, number: usize) -> Answer {
+    pub fn class(&mut self, stack: &mut Stack<'_, 'h>, name: u32, number: u32) -> Answer {
         self.make(stack, 0, |vm, g, _| {
-            let (name, methods) = (g.item(vm.texts, name)?, g.alloc_any(4, 0, 4)?);
+            let (name, methods) = (g.item(vm.texts, name)?, g.alloc_array(4)?);
             Ok(object(g.new::<Class>(|p| {
                 p.put(Class::name, name);
                 p.put(Class::methods, methods);
-                p.write(Class::tag, Tag::Class);
-                p.write(Class::number, number);
+                p.write(Class::head, Head(Tag::Class, number));
             })?))
         })
     }
     /// The class below takes a method, and this is popped.
     pub fn add_method(&mut self, stack: &mut Stack<'_, 'h>, name: u32) -> Answer {
         stack.scope(|g, s| {
-            let class = s.top(1).expect("a class").assume::<Class>();
-            let count = g.read(class, Class::count);
-            let at = method_place(g, class, name)?.unwrap_or(count);
-            g.write(class, Class::count, count.max(at + 1));
-            store_in(g, class, Class::methods, at, (Scalar(name.into()), s.top(0)))
+            let (class, method) = (s.top(1).expect("a class").assume(), s.top(0).expect("a closure").assume());
+            let (names, methods) = (g.read(class, Class::names), g.field(class, Class::methods)?);
+            let (names, at) = self.names.with(names, name, g.read(method, Closure::head).1);
+            g.write(class, Class::names, names);
+            if at < g.array_len(methods) {
+                return g.set_item(methods, at, method);
+            }
+            let more = g.alloc_array(2 * at)?;
+            g.copy_items(methods, 0..at, more, 0)?;
+            g.put(class, Class::methods, more);
+            g.set_item(more, at, method)
         })?;
         self.truncate(stack, self.words.len() - 1);
         Ok(())
@@ -185,65 +201,65 @@ impl<'h> Vm<'_, '_, 'h> {
     /// A class takes the methods of the one below it.
     pub fn inherit(&mut self, stack: &mut Stack<'_, 'h>) -> Answer {
         stack.scope(|g, s| {
-            let other = match as_a::<Class>(g, s.top(1), Tag::Class) {
-                Some(other) => other,
+            let (other, _) = match as_a::<Class>(g, s.top(1), Tag::Class) {
+                Some(found) => found,
                 None => return wrong("Superclass must be a class."),
             };
             let class = s.top(0).expect("a class").assume::<Class>();
-            let (methods, count) = (g.field(other, Class::methods)?, g.read(other, Class::count));
-            let room = g.shape(methods).0;
-            let methods = grown(g, methods, room)?;
-            g.put(class, Class::methods, methods);
-            g.write(class, Class::count, count);
+            let (names, methods) = (g.read(other, Class::names), g.field(other, Class::methods)?);
+            let own = g.alloc_array(g.array_len(methods))?;
+            g.copy_items(methods, 0..self.names.count(names), own, 0)?;
+            g.put(class, Class::methods, own);
+            g.write(class, Class::names, names);
             Ok(())
         })
     }
 
     pub fn list(&mut self, stack: &mut Stack<'_, 'h>, count: u32) -> Answer {
         self.make(stack, count as usize, |vm, g, s| {
-            let items = g.alloc_any(count, 0, count)?;
+            let items = Slots::alloc(g, count)?;
             let first = vm.words.len() - count as usize;
             for at in 0..count {
                 let place = first + at as usize;
-                store(g, items, at, (vm.words[place], s.at(place)))?;
+                Slots::fill(g, items, at, (vm.words[place], s.at(place)))?;
             }
             Ok(object(g.new::<List>(|p| {
                 p.put(List::items, items);
-                p.write(List::tag, Tag::List);
-                p.write(List::count, count);
+                p.write(List::head, Head(Tag::List, count));
             })?))
         })
     }
     pub fn index(&mut self, stack: &mut Stack<'_, 'h>) -> Answer {
         self.make(stack, 2, |vm, g, s| {
-            let (it, key) = (s.top(1), vm.top(0).number());
-            if let Some(list) = as_a::<List>(g, it, Tag::List) {
-                let at = place_in(key, g.read(list, List::count) as usize)?;
-                return Ok(load(g, g.field(list, List::items)?, at as u32)?);
+            let key = vm.top(0).number();
+            match headed(g, s.top(1)) {
+                Some((it, Head(Tag::List, count))) => {
+                    let at = place_in(key, count as usize)?;
+                    Ok(Slots::load(g, g.field(it.assume(), List::items)?, at as u32)?)
+                }
+                Some((it, Head(Tag::Map, _))) => {
+                    let (found, object) = Map::get(g, it.assume(), key_of(g, s.top(0))?)?;
+                    Ok((if found == UNDEFINED { NIL } else { found }, object))
+                }
+                Some((it, Head(Tag::Text, _))) => {
+                    let at = place_in(key, g.text_len(it.assume()))?;
+                    let letter = g.text(it.assume()).get(at..at + 1).unwrap_or("?").to_string();
+                    Ok((OBJECT, Some(vm.interned.text(g, &letter)?.any())))
+                }
+                _ => wrong("Only lists, maps and strings have items."),
             }
-            if let Some(map) = as_a::<Map>(g, it, Tag::Map) {
-                let key = key_of(g, s.top(0))?;
-                let (found, object) = Map::get(g, map, key)?;
-                return Ok((if found == UNDEFINED { NIL } else { found }, object));
-            }
-            if let Some(text) = as_a::<Text>(g, it, Tag::Text) {
-                let at = place_in(key, g.text_len(text))?;
-                let letter = g.text(text).get(at..at + 1).unwrap_or("?").to_string();
-                return Ok((OBJECT, Some(vm.interned.text(g, &letter)?.any())));
-            }
-            wrong("Only lists, maps and strings have items.")
         })
     }
     pub fn set_index(&mut self, stack: &mut Stack<'_, 'h>) -> Answer {
         stack.scope(|g, s| {
             let value = (self.top(0), s.top(0));
-            if let Some(list) = as_a::<List>(g, s.top(2), Tag::List) {
-                let at = place_in(self.top(1).number(), g.read(list, List::count) as usize)?;
-                return Ok(store(g, g.field(list, List::items)?, at as u32, value)?);
-            }
-            match as_a::<Map>(g, s.top(2), Tag::Map) {
-                Some(map) => Ok(Map::set(g, map, key_of(g, s.top(1))?, value)?),
-                None => wrong("Only lists and maps take items."),
+            match headed(g, s.top(2)) {
+                Some((it, Head(Tag::List, count))) => {
+                    let at = place_in(self.top(1).number(), count as usize)?;
+                    Ok(Slots::store(g, g.field(it.assume(), List::items)?, at as u32, value)?)
+                }
+                Some((it, Head(Tag::Map, count))) => Ok(Map::set(g, (it.assume(), count), key_of(g, s.top(1))?, value)?),
+                _ => wrong("Only lists and maps take items."),
             }
         })?;
         self.store(stack, self.words.len() - 3);
@@ -258,26 +274,21 @@ impl<'h> Vm<'_, '_, 'h> {
         }
         self.make(stack, args as usize + 2, |vm, g, s| match name {
             "map" => Ok(object(Map::alloc(g)?)),
-            "len" => {
-                let it = s.top(0);
-                let len = as_a::<List>(g, it, Tag::List).map(|it| g.read(it, List::count) as usize);
-                let len = len.or_else(|| as_a::<Map>(g, it, Tag::Map).map(|it| g.read(it, Map::count) as usize));
-                match len.or_else(|| as_a::<Text>(g, it, Tag::Text).map(|it| g.text_len(it))) {
-                    Some(len) => Ok((Scalar::of(len as f64), None)),
-                    None => wrong("Only lists, maps and strings have a length."),
-                }
-            }
+            "len" => match headed(g, s.top(0)) {
+                Some((_, Head(Tag::List | Tag::Map, count))) => Ok((Scalar::of(count.into()), None)),
+                Some((it, Head(Tag::Text, _))) => Ok((Scalar::of(g.text_len(it.assume()) as f64), None)),
+                _ => wrong("Only lists, maps and strings have a length."),
+            },
             "push" => match as_a::<List>(g, s.top(1), Tag::List) {
-                Some(list) => {
-                    let count = g.read(list, List::count);
-                    store_in(g, list, List::items, count, (vm.top(0), s.top(0)))?;
-                    g.write(list, List::count, count + 1);
+                Some((list, count)) => {
+                    Slots::store_in(g, list, List::items, count, (vm.top(0), s.top(0)))?;
+                    g.write(list, List::head, Head(Tag::List, count + 1));
                     vm.at(g, s, vm.words.len() - 1)
                 }
                 None => wrong("Only lists can be pushed to."),
             },
             "has" => match as_a::<Map>(g, s.top(1), Tag::Map) {
-                Some(map) => {
+                Some((map, _)) => {
                     let key = key_of(g, s.top(0))?;
                     Ok((Scalar::truth(Map::get(g, map, key)?.0 != UNDEFINED), None))
                 }
@@ -295,24 +306,21 @@ impl<'h> Vm<'_, '_, 'h> {
             Some(it) => it,
             None => return Ok(plain(word)),
         };
-        g.scope(|g| match g.read(it.assume(), Tagged::tag) {
+        let Head(tag, number) = g.read(it.assume(), Tagged::head);
+        g.scope(|g| match tag {
             Tag::Text => Ok(g.text(it.assume())),
-            Tag::Closure => Ok(self.function(g.read(it.assume(), Closure::function))),
-            Tag::Bound => {
-                let method = g.field(it.assume(), Bound::method)?;
-                Ok(self.function(g.read(method, Closure::function)))
-            }
+            Tag::Closure | Tag::Bound => Ok(format!("<fn {}>", self.program.functions[number as usize].name)),
             Tag::Class => Ok(g.text(g.field(it.assume(), Class::name)?)),
             Tag::Instance => {
                 let class = g.field(it.assume(), Instance::class)?;
                 Ok(g.text(g.field(class, Class::name)?) + " instance")
             }
-            Tag::Map => Ok(format!("<map of {}>", g.read(it.assume(), Map::count))),
+            Tag::Map => Ok(format!("<map of {number}>")),
             Tag::List => {
                 let (items, mut all) = (g.field(it.assume(), List::items)?, Vec::new());
-                for at in 0..g.read(it.assume(), List::count) {
+                for at in 0..number {
                     all.push(g.scope(|g| {
-                        let (word, item) = load(g, items, at)?;
+                        let (word, item) = Slots::load(g, items, at)?;
                         self.shown(g, word, item)
                     })?);
                 }
@@ -320,39 +328,21 @@ impl<'h> Vm<'_, '_, 'h> {
             }
         })
     }
-    fn function(&self, function: usize) -> String {
-        format!("<fn {}>", self.program.functions[function].name)
-    }
 }
 
-/// The place of a method among those of a class.
-fn method_place<'h>(g: &Frame<'_, 'h>, class: Local<'_, 'h, Class>, name: u32) -> Result<Option<u32>, Error> {
-    let (methods, count) = (g.field(class, Class::methods)?, g.read(class, Class::count));
-    let mut names = [0; 16];
-    for from in (0..count).step_by(16) {
-        let run = &mut names[..(count - from).min(16) as usize];
-        g.read_words(methods, from, run)?;
-        if let Some(found) = run.iter().position(|it| *it == name.into()) {
-            return Ok(Some(from + found as u32));
-        }
-    }
-    Ok(None)
-}
-fn method<'f, 'h>(g: &mut Frame<'f, 'h>, class: Local<'_, 'h, Class>, name: u32) -> Result<Option<Local<'f, 'h, Closure>>, Error> {
-    g.lift_option(|g| match method_place(g, class, name)? {
-        Some(at) => Ok(g.get_at(g.field(class, Class::methods)?, at)?.map(Local::assume)),
-        None => Ok(None),
-    })
-}
-fn bound<'f, 'h>(g: &Frame<'f, 'h>, receiver: Local<'_, 'h, Instance>, method: Local<'_, 'h, Closure>) -> Answer<Slot<'f, 'h>> {
+fn bound<'f, 'h>(
+    g: &Frame<'f, 'h>,
+    receiver: Local<'_, 'h, Instance>,
+    (method, function): (Local<'_, 'h, Closure>, u32),
+) -> Answer<Slot<'f, 'h>> {
     Ok(object(g.new::<Bound>(|p| {
         p.put(Bound::receiver, receiver);
         p.put(Bound::method, method);
-        p.write(Bound::tag, Tag::Bound);
+        p.write(Bound::head, Head(Tag::Bound, function));
     })?))
 }
 fn key_of<'f, 'h>(g: &Frame<'_, 'h>, key: Option<Local<'f, 'h>>) -> Answer<Local<'f, 'h>> {
-    as_a::<Text>(g, key, Tag::Text).map_or_else(|| wrong("Only strings are keys."), |it| Ok(it.any()))
+    as_a::<Text>(g, key, Tag::Text).map_or_else(|| wrong("Only strings are keys."), |(it, _)| Ok(it.any()))
 }
 fn place_in(at: Option<f64>, len: usize) -> Answer<usize> {
     let place = at.filter(|it| *it >= 0.0 && *it < len as f64 && it.fract() == 0.0);

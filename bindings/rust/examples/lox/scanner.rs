@@ -18,8 +18,10 @@ pub struct Token<'s> {
     pub line: u32,
 }
 
-const WORDS: [&str; 16] =
-    ["and", "class", "else", "false", "for", "fun", "if", "nil", "or", "print", "return", "super", "this", "true", "var", "while"];
+const WORDS: [&str; 19] = [
+    "and", "catch", "class", "else", "false", "for", "fun", "if", "nil", "or", "print", "return", "super", "this", "throw", "true", "try",
+    "var", "while",
+];
 const SIGNS: [&str; 4] = ["==", "!=", "<=", ">="];
 
 /// The length of what is at the beginning of the text and is of this sort.

@@ -146,7 +146,9 @@ pub const G1_POINTER: u32 = 2;
 pub const G1_WEAK_SLOT: u32 = 3;
 
 extern "C" {
+    pub fn g1_version() -> u32;
     pub fn g1_new(heap: *mut g1_heap, sizes: *const g1_sizes) -> u32;
+    pub fn g1_sizes_bytes(sizes: *const g1_sizes) -> u64;
     pub fn g1_free(heap: *mut g1_heap);
     pub fn g1_new_object(heap: *mut g1_heap, mutator: u32, to: u32, pointers: u32, values: u32) -> g1_answer;
     pub fn g1_new_weak(heap: *mut g1_heap, mutator: u32, to: u32, pointers: u32, weaks: u32, values: u32) -> g1_answer;

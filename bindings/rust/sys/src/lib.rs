@@ -23,8 +23,12 @@ const _: () = assert!(is_version(env!("CARGO_PKG_VERSION")), "the declarations w
 ///
 /// # Panics
 ///
-/// Where the archive writes more words than a [`g1_policy`] has, or fewer: it is of another version then.
+/// Where the archive is of another version ([`g1_version`]), or writes more words than a [`g1_policy`] has, or fewer.
 pub fn started_policy(sizes: &g1_sizes) -> g1_policy {
+    const VERSION: u32 = G1_VERSION_MAJOR * 65536 + G1_VERSION_MINOR * 256 + G1_VERSION_PATCH;
+    // SAFETY: it takes nothing and changes nothing.
+    let linked = unsafe { g1_version() };
+    assert!(linked == VERSION, "the archive is of another version than the crate: {}, and here {}", linked, VERSION);
     const WORDS: usize = std::mem::size_of::<g1_policy>() / 8;
     let started = |fill: u64| {
         let mut words = [fill; WORDS + 64];

@@ -2,7 +2,7 @@ use Rattle.std.proofs.Common.{codes}
 use Rattle.clap.specs.Words.{with_rule}
 use Rattle.command_line.proofs.Shapes.{adds}
 use Rattle.command_line.proofs.view_command.Goals as goal
-use Rattle.command_line.specs.Program.{count, flag, plain}
+use Rattle.command_line.specs.Program.{count, flag, large, plain}
 
 pub returns : goal.returns
 returns c =
@@ -10,11 +10,17 @@ returns c =
     let recorded = with_rule bare (flag (codes "record")) in
     let at = with_rule recorded (count (codes "at")) in
     let region = with_rule at (count (codes "region")) in
-    adds _ c.with_arg-command-3.result c.with_arg.result c.flag.result (flag (codes "summary")) region c.with_arg.ensures
-    c.flag.ensures.rule
+    let summary = with_rule region (flag (codes "summary")) in
+    let object = with_rule summary (large (codes "object")) in
+    adds _ c.with_arg-command-5.result c.with_arg.result c.flag-2.result (flag (codes "census")) object c.with_arg.ensures
+    c.flag-2.ensures.rule
+    (adds _ c.with_arg-command-4.result c.with_arg-command-5.result c.large.result (large (codes "object")) summary
+    c.with_arg-command-5.ensures c.large.ensures.rule
+    (adds _ c.with_arg-command-3.result c.with_arg-command-4.result c.flag.result (flag (codes "summary")) region
+    c.with_arg-command-4.ensures c.flag.ensures.rule
     (adds _ c.with_arg-command-2.result c.with_arg-command-3.result c.count-2.result (count (codes "region")) at
     c.with_arg-command-3.ensures c.count-2.ensures.rule
     (adds _ c.with_arg-command.result c.with_arg-command-2.result c.count.result (count (codes "at")) recorded
     c.with_arg-command-2.ensures c.count.ensures.rule
     (adds _ c.plain-command.result c.with_arg-command.result c.recorded.result (flag (codes "record")) bare c.with_arg-command.ensures
-    c.recorded.ensures.rule c.plain-command.ensures)))
+    c.recorded.ensures.rule c.plain-command.ensures)))))

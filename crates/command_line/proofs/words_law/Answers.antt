@@ -1,5 +1,5 @@
 use Rattle.command_line.proofs.Explained.{check_explained, draw_explained, run_explained, view_explained}
-use Rattle.command_line.proofs.Options.{at, every, names, no_names, redraw}
+use Rattle.command_line.proofs.Options.{at, census, every, names, no_names, object, redraw}
 use Rattle.command_line.proofs.Paths.{check, draw, follow, run, sim, threads, view}
 use Rattle.command_line.proofs.words_law.Goals as goal
 
@@ -17,6 +17,8 @@ returns c = record {
   names = names;
   no_names = no_names;
   at = at;
+  object = object;
+  census = census;
   run_explained = run_explained;
   check_explained = check_explained;
   view_explained = view_explained;

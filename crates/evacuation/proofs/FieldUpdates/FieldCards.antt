@@ -5,10 +5,11 @@ use Rattle.std.proofs.Common.{sym, ap, subst, inl, inr, arith, slice_get}
 use Rattle.std.proofs.lemmas.Bool.{cases_lt}
 use Rattle.std.proofs.lemmas.Nat.{mul-le}
 use Rattle.heap_model.specs.Heap.{Stored, fields}
+use Rattle.regions.proofs.Words.FieldAccess.{count_fields}
 use Rattle.regions.specs.Table.{Table, fields_at}
 use Rattle.regions.specs.Shaped.{IsShaped}
 use Rattle.regions.proofs.Words.Divides.{div_low, card_has_words}
-use Rattle.refinement.proofs.Holders.{fields_are, fields_of, object_within}
+use Rattle.refinement.proofs.Holders.{fields_of, object_within}
 use Rattle.std.proofs.lemmas.Bool.{cases_Bool}
 use Rattle.heap_model.specs.Relocation.{IsMoved}
 use Rattle.heap_model.specs.Evacuation.{IsWord, place_after}
@@ -51,7 +52,7 @@ word_within p t at i shaped s f =
     let a = object_within t at f.object shaped is in
     let b : length t.regions * t.words_per_region ≡ length p.start.regions * p.start.words_per_region = rw (s.count, s.size) refl in
     let w = f.within in
-    omega (arith, fields_are t at f.object shaped is)
+    omega (arith, count_fields f.object)
 
 pub all_small : (p : Pause) → IsPause p → length p.start.regions * p.start.words_per_region ≤ max_words
 all_small p q = q.shaped.in_all

@@ -10,6 +10,7 @@ use Rattle.regions.specs.Table.{Table, kind_of, moved_to, object_at, set_field, 
 use Rattle.regions.specs.Rows.{kind_is_free}
 use Rattle.regions.specs.declared.row.Kind.TheVariants as kinds
 use Rattle.regions.proofs.Words.FieldAccess.{set_field-is}
+use Rattle.regions.proofs.Words.Fields.{field_held}
 use Rattle.regions.proofs.Tiles.Changes.{WritesObject, field_put, field_size, field_weaks, object_same}
 use Rattle.regions.proofs.Tiles.Kept.{put_object-moved}
 use Rattle.object_copy.specs.Copies.{Destinations}
@@ -20,23 +21,6 @@ use Rattle.evacuation.specs.Space.{WritesField, IsDestination}
 use Rattle.evacuation.specs.Turns.{Pause, IsPause, IsTurn, TableStays, all_words, in_set, kept_now, space}
 use Rattle.evacuation.proofs.Copies.LeftWords.{left_same}
 use Rattle.evacuation.proofs.Turns.KeptObjects.{kept_as, kept_object, kept_some}
-
--- as many held slots
-pub field_held : (s : Stored) (i : ℕ) (v : Option ℕ) → length (with_field s i v).held ≡ length s.held
-field_held s i v =
-    let f = field_set s i v in
-    let y : Stored = with_field s i v in
-    let all = ap (λ (l : List (Option ℕ)). length l) f.fields_are ∙ length-set (fields s) i v in
-    omega (
-      arith,
-      all,
-      f.shape,
-      f.slots,
-      length-append s.pointers (s.weaks ++ s.held),
-      length-append s.weaks s.held,
-      length-append y.pointers (y.weaks ++ y.held),
-      length-append y.weaks y.held,
-    )
 
 module _ (p : Pause) (q : IsPause p) (t t' : Table) (d : Destinations) (turn : IsTurn p t d)
     (positive : 0 < t.words_per_region) (at i : ℕ) (v : Option ℕ) (y : Stored)

@@ -4,13 +4,14 @@ use Rattle.std.proofs.Common.{inl, inr}
 use Rattle.std.proofs.Common.{arith, slice_get, ◌*◌, IsSome}
 use Rattle.std.proofs.lemmas.Bool.{cases_eq}
 use Rattle.heap_model.specs.Heap.{Stored, fields}
+use Rattle.regions.proofs.Words.FieldAccess.{count_fields}
 use Rattle.regions.specs.Table.{Table, fields_at, set_field, tile_in}
 use Rattle.refinement.specs.Remembering.{field_card, field_word}
 use Rattle.evacuation.specs.Space.{flag}
 use Rattle.evacuation.specs.Sliding.{Slide, SlideStands, RedirectsSome, Names, LeadsOut, NotesCard, OwnGoesOn, kept_at}
 use Rattle.evacuation.proofs.Slides.KeptObjects.{kept_object, some_kept}
 use Rattle.regions.specs.Shaped.{IsShaped}
-use Rattle.refinement.proofs.Holders.{fields_are, fields_of, object_within}
+use Rattle.refinement.proofs.Holders.{fields_of, object_within}
 use Rattle.evacuation.proofs.Slides.Redirecting.{none_redirected, redirected_then, names_on}
 use Rattle.evacuation.proofs.Slides.Written.{names_by, names_nil, names_other_than, write_redirects, write_others, names_now, names_same}
 use Rattle.evacuation.proofs.Slides.Written.{written_unnamed}
@@ -196,7 +197,7 @@ room_below s t noted stands g object below i less =
     let count = ap (λ (l : List (Option ℕ)). length l) (fields_of t s.from y is) in
     let all : length t.regions * t.words_per_region ≡ s.regions * s.words =
     ap (λ (n : ℕ). n * t.words_per_region) stands.count ∙ ap (λ (n : ℕ). s.regions * n) stands.size in
-    omega (arith, within, count, less, all, below, fields_are t s.from y g is)
+    omega (arith, within, count, less, all, below, count_fields y)
 
 pub settled_all : (s : Slide) (n m : ℕ) (t t' : Table) (noted noted' : List Bool) → n ≡ m → OwnGoesOn s n t t' noted noted'
     → OwnGoesOn s m t t' noted noted'

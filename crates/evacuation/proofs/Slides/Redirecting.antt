@@ -47,8 +47,9 @@ pub as_large : (x y : Stored) → IsSameBut x y → tile_size (Object y) ≡ til
 as_large x y s =
     let p = s.pointers in
     let w = s.weaks in
+    let h = s.held in
     let v = ap (λ (vs : List ℕ). length vs) s.values in
-    omega (arith, p, w, v)
+    omega (arith, p, w, h, v)
 
 pub none_redirected : (s : Slide) (t : Table) → RedirectsSome s t t
 none_redirected s t = record {

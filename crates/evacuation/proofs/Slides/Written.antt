@@ -15,7 +15,7 @@ use Rattle.evacuation.specs.Sliding.{Slide, SlideStands, SlideGoesOn, RedirectsS
 use Rattle.evacuation.proofs.Lists.{get_below}
 use Rattle.evacuation.proofs.Notes.{flag_only}
 use Rattle.evacuation.proofs.Slides.Noted.{flag_set}
-use Rattle.evacuation.proofs.FieldUpdates.Written.{field_held}
+use Rattle.regions.proofs.Words.Fields.{field_held}
 use Rattle.evacuation.proofs.Slides.KeptObjects.{kept_as, kept_some, kept_object}
 
 get_set : (xs : List (Option ℕ)) (i : ℕ) (v : Option ℕ) → i < length xs → slice_get (slice_set xs i v) i ≡ Some v

@@ -9,8 +9,9 @@ use Rattle.heap_model.specs.Evacuation.{IsReached, ByRootWord, ByOutside, ByInsi
 use Rattle.heap_model.specs.Evacuation.{IsWord, IsEvacuating, IsEvacuated, IsClean, released}
 use Rattle.heap_model.proofs.Lists.{AllZip-get_right}
 use Rattle.heap_model.proofs.Evacuated.{evacuated_relocates, word_was, reached_exactly}
+use Rattle.regions.proofs.Words.FieldAccess.{count_fields}
 use Rattle.regions.specs.Table.{Table}
-use Rattle.refinement.proofs.Holders.{fields_are, object_within}
+use Rattle.refinement.proofs.Holders.{object_within}
 use Rattle.evacuation.specs.Evacuates.{AreReachedWords}
 use Rattle.refinement.specs.Remembering.{field_word}
 use Rattle.evacuation.specs.Space.{AreClean, IsRegionSettled, IsDestination, seen_as}
@@ -93,7 +94,7 @@ module _ (p : Pause) (visited : List Bool) (t t' : Table) (c c' : Context) (root
         let first = kept_object p p.start b x (start_kept p b ∙ here) in
         let big = object_within p.start b x q.shaped first in
         let card =
-        card_within p visited (field_word b i) p.card_words q refl are.each_card (omega (arith, fields_are p.start b x q.shaped first)) in
+        card_within p visited (field_word b i) p.card_words q refl are.each_card (omega (arith, count_fields x)) in
         outside b i (record { object = x; at = here; outside = out; within = within; card = are.all b i a x here out named inside }) card
         y (Some a) at e
     | inr k ↦ k

@@ -138,7 +138,7 @@ module _ (size shift lowest free : ℕ) (entries : Entries) (starts : Starts) (m
       let p = has_pointer t x i h in
       let o = p.object in
       written_sound memory' (set_pointer t x i v) x o _ (pointer_put t x i v o shaped.positive p.object_is)
-      (ap (λ n. 2 + n + length o.weaks + length o.values) (length-set o.pointers i v)) refl more w
+      (ap (λ n. 2 + n + (length o.weaks + length o.held) + length o.values) (length-set o.pointers i v)) refl more w
 
   pub weak_sound : (memory' : Memory) (x i : ℕ) (v : Option ℕ) → i < length (weaks_at t x)
       → memory.written ≤ memory'.written → IsWrittenTable size memory'.all rows (set_weak t x i v)
@@ -147,7 +147,7 @@ module _ (size shift lowest free : ℕ) (entries : Entries) (starts : Starts) (m
       let p = has_weak t x i h in
       let o = p.object in
       written_sound memory' (set_weak t x i v) x o _ (weak_put t x i v o shaped.positive p.object_is)
-      (ap (λ n. 2 + length o.pointers + n + length o.values) (length-set o.weaks i v)) (length-set o.weaks i v) more w
+      (ap (λ n. 2 + length o.pointers + (n + length o.held) + length o.values) (length-set o.weaks i v)) (length-set o.weaks i v) more w
 
   pub field_sound : (memory' : Memory) (x i : ℕ) (v : Option ℕ) → i < length (fields_at t x)
       → memory.written ≤ memory'.written → IsWrittenTable size memory'.all rows (set_field t x i v)
@@ -165,7 +165,7 @@ module _ (size shift lowest free : ℕ) (entries : Entries) (starts : Starts) (m
       let p = has_value t x i h in
       let o = p.object in
       written_sound memory' (set_value t x i v) x o _ (value_put t x i v o shaped.positive p.object_is)
-      (ap (λ n. 2 + length o.pointers + length o.weaks + n) (length-set o.values i v)) refl more w
+      (ap (λ n. 2 + length o.pointers + (length o.weaks + length o.held) + n) (length-set o.values i v)) refl more w
 
   pub forward_sound : (starts' : Starts) (memory' : Memory) (t' : Table) (a to n : ℕ) (x : Stored)
       → Forwards t t' a to n → tile_in t a ≡ Some (Object x) → tile_size (Object x) ≡ n

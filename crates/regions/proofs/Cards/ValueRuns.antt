@@ -1,6 +1,7 @@
 -- Reads and writes of several data words of an object, one after another.
 use Rattle.regions.proofs.Common.{◌≡◌, ◌+◌, ◌-◌, ◌<◌, ◌≤◌, ◌∷◌, ◌∙◌, ℕ, zero, suc, Some, List, [], length, take, drop, get_or, set, refl}
 use Rattle.regions.proofs.Common.{sym, ap, subst, arith, length-set, get_or-set_other, drop-drop, drop-take, take-take, IsSome, header_of}
+use Rattle.heap_words.specs.Contents.{fields_of}
 use Rattle.regions.proofs.Common.{put, counts_of, field_count, Memory, Stored, Table, object_at, object_values, values_at, set_value}
 use Rattle.regions.proofs.Common.{table_of, IsRegionTable, IsTable, AreTilesWritten, Entries, Starts, Row}
 use Rattle.std.proofs.Common.{ap₂}
@@ -40,9 +41,10 @@ values_read size words rows t written x from n g e all some h =
     let is = o.1.is_in in
     let here = values_here t x s o.1.is in
     let few : from + n ≤ length s.values = omega (arith, h, ap (λ (vs : List ℕ). length vs) here) in
-    let count : field_count (header_of (get_or words x 0)) ≡ length s.pointers + length s.weaks = ap field_count is.header_is in
+    let count : field_count (header_of (get_or words x 0)) ≡ length s.pointers + (length s.weaks + length s.held) =
+    ap fields_of is.header_is in
     let inside = object_within (table_of size words rows) t written x s all e o.1.is in
-    let p : ℕ = suc (length s.pointers + length s.weaks) in
+    let p : ℕ = suc (length s.pointers + (length s.weaks + length s.held)) in
     let rest : List ℕ = drop p (drop (x + 1) words) in
     let are : values_at t x ≡ take (length s.values) rest = here ∙ ap (λ (r : Stored). r.values) is.stored_is in
     let place : x + 1 + p + from ≡ x + 2 + field_count (header_of (get_or words x 0)) + from = omega (arith, count) in
@@ -104,8 +106,9 @@ values_set size shift lowest free entries starts memory memory' rows t x from (v
     let header : get_or (set memory.all place v) x 0 ≡ get_or memory.all x 0 =
     get_or-set_other memory.all place x v 0 (λ (z : x ≡ place). omega arith) in
     let o = there size memory.all rows t x p.object s.table e p.object_is in
-    let count : field_count (header_of (get_or memory.all x 0)) ≡ length p.object.pointers + length p.object.weaks =
-    ap field_count o.is_in.header_is in
+    let count : field_count (header_of (get_or memory.all x 0))
+    ≡ length p.object.pointers + (length p.object.weaks + length p.object.held) =
+    ap fields_of o.is_in.header_is in
     let inside : place < length memory.all = omega (arith, o.fits, o.words_are, count, p.within) in
     let next : x + 2 + field_count (header_of (get_or (set memory.all place v) x 0)) + suc from ≡ suc place = rw header (omega arith) in
     values_set size shift lowest free entries starts one memory' rows (set_value t x from v) x (suc from) vs sound w.table_is

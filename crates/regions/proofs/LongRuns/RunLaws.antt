@@ -2,7 +2,7 @@
 use Rattle.regions.proofs.Common.{◌≡◌, ◌≢◌, ◌+◌, ◌-◌, ◌*◌, ◌/◌, ◌%◌, ◌<◌, ◌≤◌, ◌∷◌, ◌++◌, ◌∙◌, ℕ, zero, suc, Some, None, List, []}
 use Rattle.regions.proofs.Common.{length, take, drop, get_or, refl, sym, ap, subst, arith, inl, inr, replicate, length-append, length-take}
 use Rattle.regions.proofs.Common.{length-drop, length-replicate, get_or-drop, cases_lt, cases_eq, Stored, Tile, Object, tile_size, Table}
-use Rattle.regions.proofs.Common.{Region, Free, Ordinary, First, Rest, region_tile, region_at, nth_region, region_kind, kind_of, tile_in}
+use Rattle.regions.proofs.Common.{Region, Free, Ordinary, First, region_tile, region_at, nth_region, region_kind, kind_of, tile_in}
 use Rattle.regions.proofs.Common.{HasNoForwarded, EachForwardedIn, with_region, with_regions, run_regions, rests, first_run, is_free}
 use Rattle.regions.proofs.Common.{is_rest, run_length, released, without_run}
 use Rattle.regions.specs.declared.row.Kind.TheVariants as kinds

@@ -239,17 +239,18 @@ run_taken size words rows t k m name p weak d n long number new rows' g e h y co
     let start = first_put words (k * size) w name p weak d fits in
     let head : header_of (get_or (drop (k * size) words') 0 0) ≡ Some (headers.Object p weak d) =
     ap (λ (ws : List ℕ). header_of (get_or ws 0 0)) start ∙ is in
-    let body : stored_of p weak d ((name ∷ replicate (p + weak + d) 0) ++ drop (k * size + (2 + p + weak + d)) words)
+    let body : stored_of p weak 0 d ((name ∷ replicate (p + weak + d) 0) ++ drop (k * size + (2 + p + weak + d)) words)
     ≡ new_object name p weak d =
-    stored_of-append p weak d (name ∷ replicate (p + weak + d) 0) (drop (k * size + (2 + p + weak + d)) words)
+    stored_of-append p weak 0 d (name ∷ replicate (p + weak + d) 0) (drop (k * size + (2 + p + weak + d)) words)
     (omega (arith, length-replicate {A = ℕ} (p + weak + d) 0)) ∙ stored_of-new name p weak d in
     let stored : first_stored (drop (k * size) words') ≡ new_object name p weak d = ap first_stored start ∙ rw is body in
     let after : drop (k * size + m * size) words' ≡ drop (k * size + m * size) words =
     drop_more_same (k * size + length block) (k * size + m * size) words' words (omega (arith, blen)) x.after in
     let ts : tile_size (Object (new_object name p weak d)) ≡ 2 + p + weak + d =
     omega (arith, length-replicate {A = Option ℕ} p None, length-replicate {A = Option ℕ} weak None, length-replicate {A = ℕ} d 0) in
+    let none : 2 + p + (weak + 0) + d ≡ 2 + p + weak + d = omega arith in
     let done = run_made size words words' rows t k m (2 + p + weak + d) (new_object name p weak d) g e found.free found.in_rows y covers'
-    tight' x.length_is x.before after (rw head tt) (ap object_size head) stored ts in
+    tight' x.length_is x.before after (rw head tt) (ap object_size head ∙ none) stored ts in
     let run : List Row = run_rows size (2 + p + weak + d) 0 m in
     let rows_are : rows' ≡ paste rows k run m = rows_is ∙ ap (λ (j : ℕ). paste rows k (run_rows size j 0 m) m) long_is in
     let same : paste rows k run m ≡ take k rows ++ (run ++ drop (k + m) rows) =

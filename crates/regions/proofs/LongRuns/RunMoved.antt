@@ -2,20 +2,19 @@
 use Rattle.std.proofs.Common.{◌≡◌, ◌≢◌, ◌⊎◌, ◌+◌, ◌-◌, ◌*◌, ◌/◌, ◌%◌, ◌<◌, ◌≤◌, ◌∷◌, ◌++◌, ◌∙◌}
 use Rattle.std.proofs.Common.{ℕ, zero, suc, true, Some, None, List, length, take, drop, get_or, refl, sym, ap, subst, arith, inl, inr}
 use Rattle.std.proofs.Common.{replicate, drop-cons}
-use Rattle.std.specs.Prelude.{if◌then◌else◌}
 use Rattle.std.proofs.lemmas.Bool.{cases_lt, cases_eq}
 use Rattle.std.proofs.lemmas.Nat.{div-mul-add}
 use Rattle.std.proofs.lemmas.List.{length-append, length-take, length-drop, length-replicate, take_all, append_assoc, drop-drop}
 use Rattle.std.proofs.lemmas.List.{take-append-drop}
 use lib.Seq.{paste}
-use Rattle.bit_sets.specs.Bits.{is_between}
 use Rattle.heap_model.specs.Heap.{Stored}
 use Rattle.heap_words.specs.Contents.{put}
 use Rattle.heap_words.specs.Headers.{header_of}
-use Rattle.heap_words.specs.declared.header.Header.TheVariants as headers
 use Rattle.heap_words.specs.Memory.{Memory}
 use Rattle.regions.specs.FirstTiles.{Entries, AreEntriesPut, IsPut}
-use Rattle.regions.specs.Rows.{table_of, IsTable, IsRegionTable, AreUsedBelow, IsObjectHeader, object_size, first_stored, free_row}
+use Rattle.heap_words.specs.Contents.{object_size, counted_size}
+use Rattle.regions.proofs.Words.Counts.{counts_in, counted_stored, plain_object}
+use Rattle.regions.specs.Rows.{table_of, IsTable, IsRegionTable, AreUsedBelow, IsObjectHeader, first_stored, free_row}
 use Rattle.regions.specs.Rows.{free_row_count}
 use Rattle.regions.specs.Rows.{kind_is_free, run_rows, sizes_in}
 use Rattle.regions.specs.Shaped.{IsShaped}
@@ -97,9 +96,10 @@ first_moved words t x n s stands fits =
     let i = stands.is_in in
     let p : ℕ = length s.pointers in
     let weak : ℕ = length s.weaks in
+    let held : ℕ = length s.held in
     let d : ℕ = length s.values in
     let body : List ℕ = drop (x + 1) words in
-    let m : ℕ = 1 + p + weak + d in
+    let m : ℕ = 1 + p + (weak + held) + d in
     let w : ℕ = get_or words x 0 in
     let at : x + 1 ≡ suc x = omega arith in
     let whole : drop x words ≡ w ∷ body = rw at (drop-cons words x 0 (omega (arith, i.fits))) in
@@ -115,16 +115,16 @@ first_moved words t x n s stands fits =
     let rest : List ℕ = drop (tile_size (Object s)) (drop n now) in
     let there_now : drop n now ≡ w ∷ (take m body ++ rest) =
     sym (take-append-drop (tile_size (Object s)) (drop n now)) ∙ ap (λ (xs : List ℕ). xs ++ rest) (a ∙ block_is) in
-    let head : header_of (get_or (drop n now) 0 0) ≡ Some (headers.Object p weak d) =
-    ap (λ (xs : List ℕ). header_of (get_or xs 0 0)) there_now ∙ i.header_is in
+    let head : header_of (get_or (drop n now) 0 0) ≡ header_of w = ap (λ (xs : List ℕ). header_of (get_or xs 0 0)) there_now in
     let joined : take m body ++ drop m body ≡ body = take-append-drop m body in
-    let stored : stored_of p weak d (take m body ++ rest) ≡ s =
-    stored_of-append p weak d (take m body) rest (omega arith)
-    ∙ sym (stored_of-append p weak d (take m body) (drop m body) (omega arith)) ∙ ap (stored_of p weak d) joined ∙ sym i.stored_is in
+    let stored : stored_of p weak held d (take m body ++ rest) ≡ s =
+    stored_of-append p weak held d (take m body) rest (omega arith)
+    ∙ sym (stored_of-append p weak held d (take m body) (drop m body) (omega arith))
+    ∙ ap (stored_of p weak held d) joined ∙ sym i.stored_is in
     record {
-      is_object = rw head tt;
-      long = ap object_size head;
-      stored = ap first_stored there_now ∙ rw i.header_is stored;
+      is_object = rw head (plain_object (header_of w) i.plain);
+      long = ap object_size head ∙ ap counted_size i.header_is;
+      stored = ap first_stored there_now ∙ counted_stored (header_of w) (take m body ++ rest) (counts_in s) i.header_is ∙ stored;
     }
 
 drop_later : (a b : ℕ) (xs ys : List ℕ) → a ≤ b → drop a xs ≡ drop a ys → drop b xs ≡ drop b ys

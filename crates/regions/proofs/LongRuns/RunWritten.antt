@@ -4,7 +4,8 @@ use Rattle.regions.proofs.Common.{sizes_in, first_stored, regions_of, table_of, 
 use Rattle.regions.proofs.Common.{◌≡◌, ◌+◌, ◌*◌, ◌/◌, ◌%◌, ◌<◌, ◌≤◌, ◌∷◌, ◌∙◌, ℕ, suc, Some, List, [], length, take, drop, get_or, set}
 use Rattle.regions.proofs.Common.{refl, sym, ap, arith, length-drop, length-set, drop-drop, drop-set-add, drop-set-lt, take-set-le}
 use Rattle.regions.proofs.Common.{get_or-drop, get_or-set_other, row_fits}
-use Rattle.heap_words.specs.declared.header.Header.TheVariants as headers
+use Rattle.heap_words.specs.Contents.{counts_of, counted_size}
+use Rattle.regions.proofs.Words.Counts.{counts_in, counted_stored}
 use Rattle.regions.proofs.Words.Fields.{Turns}
 use Rattle.regions.proofs.Words.Places.{table_right, InFirst, in_first}
 use Rattle.regions.proofs.Rows.RowLemmas.{regions-at}
@@ -13,14 +14,16 @@ use Rattle.regions.proofs.Tiles.Kept.{IsKept}
 use Rattle.regions.proofs.LongRuns.RunWrites.{run_written}
 
 run_stored : (ws : List ℕ) (j v : ℕ) (s s' : Stored)
-    → header_of (get_or ws 0 0) ≡ Some (headers.Object (length s.pointers) (length s.weaks) (length s.values))
-    → s ≡ stored_of (length s.pointers) (length s.weaks) (length s.values) (drop 1 ws)
-    → 2 + length s.pointers + length s.weaks + length s.values ≤ length ws → Turns s j v s' → first_stored (set ws (suc j) v) ≡ s'
+    → counts_of (header_of (get_or ws 0 0)) ≡ Some (counts_in s)
+    → s ≡ stored_of (length s.pointers) (length s.weaks) (length s.held) (length s.values) (drop 1 ws)
+    → 2 + length s.pointers + (length s.weaks + length s.held) + length s.values ≤ length ws → Turns s j v s'
+    → first_stored (set ws (suc j) v) ≡ s'
 run_stored [] j v s s' h e l t = absurd (omega arith)
-run_stored (w ∷ ws) j v s s' h e l t = rw h (t ws (omega arith) e)
+run_stored (w ∷ ws) j v s s' h e l t = counted_stored (header_of w) (set ws j v) (counts_in s) h ∙ t ws (omega arith) e
 
 pub write_first : (size : ℕ) (words : List ℕ) (rows : List Row) (x j v : ℕ) (s s' : Stored) → IsTable size words rows
-    → InFirst (sizes_in words) size words rows x (Object s) → j < 1 + length s.pointers + length s.weaks + length s.values → Turns s j v s'
+    → InFirst (sizes_in words) size words rows x (Object s) → j < 1 + length s.pointers + (length s.weaks + length s.held) + length s.values
+    → Turns s j v s'
     → EachForwardedIn (IsKept (table_of size words rows) (put_object (table_of size words rows) x s'))
     (put_object (table_of size words rows) x s').regions
     → IsWrittenTable size (set words (x + suc j) v) rows (put_object (table_of size words rows) x s')
@@ -40,17 +43,18 @@ write_first size words rows x j v s s' g q h turns agree =
     ap (λ (ws : List ℕ). get_or ws 0 0) d' ∙ get_or-set_other (drop n words) (suc j) 0 v 0 (λ e. omega arith) in
     let head : get_or (drop n words) 0 0 ≡ get_or words x 0 =
     get_or-drop n words 0 0 ∙ ap (λ a. get_or words a 0) (let z : n + 0 ≡ x = omega arith in z) in
-    let header : header_of (get_or (drop n words) 0 0) ≡ Some (headers.Object (length s.pointers) (length s.weaks) (length s.values)) =
-    ap header_of head ∙ i.header_is in
-    let osize : object_size (header_of (get_or (drop n words) 0 0)) ≡ 2 + length s.pointers + length s.weaks + length s.values =
-    ap object_size header in
+    let header : counts_of (header_of (get_or (drop n words) 0 0)) ≡ Some (counts_in s) =
+    ap (λ (a : ℕ). counts_of (header_of a)) head ∙ i.header_is in
+    let osize : object_size (header_of (get_or (drop n words) 0 0))
+    ≡ 2 + length s.pointers + (length s.weaks + length s.held) + length s.values =
+    ap counted_size header in
     let after : drop (object_size (header_of (get_or (drop n words) 0 0))) (drop n words')
     ≡ drop (object_size (header_of (get_or (drop n words) 0 0))) (drop n words) =
     ap (drop (object_size (header_of (get_or (drop n words) 0 0)))) d' ∙ drop-set-lt _ (drop n words) (suc j) v (omega arith) in
     let behind : drop 1 (drop n words) ≡ drop (x + 1) words =
     drop-drop 1 n words ∙ ap (λ a. drop a words) (let z : n + 1 ≡ x + 1 = omega arith in z) in
-    let stored : s ≡ stored_of (length s.pointers) (length s.weaks) (length s.values) (drop 1 (drop n words)) =
-    i.stored_is ∙ sym (ap (stored_of (length s.pointers) (length s.weaks) (length s.values)) behind) in
+    let stored : s ≡ stored_of (length s.pointers) (length s.weaks) (length s.held) (length s.values) (drop 1 (drop n words)) =
+    i.stored_is ∙ sym (ap (stored_of (length s.pointers) (length s.weaks) (length s.held) (length s.values)) behind) in
     let new : first_stored (drop n words') ≡ s' =
     ap first_stored d' ∙ run_stored (drop n words) j v s s' header stored (omega (arith, length-drop n words, i.fits)) turns in
     let w = run_written f size rows k n 0 words words' free_row refl q.known g.region_size.0 g.rows_right q.kind_is

@@ -28,9 +28,9 @@ plain_not_rest _ h e = cc
 stored_by-front : (o : Option Header) (ws : List ℕ) (m : ℕ) → IsObjectHeader o → object_size o ≤ suc m → m ≤ length ws
     → stored_by (take m ws) o ≡ stored_by ws o
 stored_by-front (Some (headers.Object p weak d)) ws m i h l =
-    let fits : 1 + p + weak + d ≤ length (take m ws) = simp length-take (omega arith) in
-    let e : stored_of p weak d (take m ws ++ drop m ws) ≡ stored_of p weak d (take m ws) =
-    stored_of-append p weak d (take m ws) (drop m ws) fits in
+    let fits : 1 + p + (weak + 0) + d ≤ length (take m ws) = simp length-take (omega arith) in
+    let e : stored_of p weak 0 d (take m ws ++ drop m ws) ≡ stored_of p weak 0 d (take m ws) =
+    stored_of-append p weak 0 d (take m ws) (drop m ws) fits in
     let whole : take m ws ++ drop m ws ≡ ws = take-append-drop m ws in
     cc
 stored_by-front _ ws m i h l = absurd i

@@ -1,11 +1,12 @@
 -- What a write to an object changes, with no word in it.
-use Rattle.regions.proofs.Common.{◌≡◌, ◌≢◌, ℕ, ◌+◌, ◌/◌, ◌%◌, ◌<◌, Option, Some, length, get_or, arith, refl, sym, ◌∙◌, ap, subst, inl, inr}
+use Rattle.regions.proofs.Common.{◌≡◌, ◌≢◌, ℕ, ◌+◌, ◌/◌, ◌%◌, ◌<◌, Option, Some, length, get_or, refl, sym, ◌∙◌, ap, subst, inl, inr}
 use Rattle.regions.proofs.Common.{get_or-set_same, get_or-set_other, length-set, cases_eq, Object, tile_size, Stored}
 use Rattle.regions.proofs.Common.{with_field, Region, Free, Ordinary, First, Rest, Table, region_at, nth_region, tile_in, tile_object}
 use Rattle.regions.proofs.Common.{object_at, with_object, put_object, set_pointer, set_weak, set_field, set_value, kind_of, region_kind}
 use Rattle.regions.proofs.Common.{used_of, HasNoForwarded}
 use Rattle.heap_model.proofs.Fields.{field_set}
 use Rattle.regions.proofs.Tiles.Laws.{object_tile, known_region, object_at-put_same, tile_in-put_other}
+pub use Rattle.regions.proofs.Words.Fields.{field_size}
 use Rattle.regions.proofs.Words.Fields.{with_pointer, with_weak}
 use Rattle.regions.proofs.Words.Values.{with_value, set_value-is}
 use Rattle.regions.proofs.Words.Access.{set_pointer-is, set_weak-is}
@@ -66,20 +67,19 @@ pub pointer_put : (t : Table) (x i : ℕ) (v : Option ℕ) (s : Stored) → 0 < 
     → WritesObject t (set_pointer t x i v) x s (with_pointer s i v)
 pointer_put t x i v s z h =
     subst (λ (u : Table). WritesObject t u x s (with_pointer s i v)) (sym (set_pointer-is t x i v s h))
-    (object_put t x s (with_pointer s i v) z h (ap (λ n. 2 + n + length s.weaks + length s.values) (length-set s.pointers i v)))
+    (object_put t x s (with_pointer s i v) z h
+    (ap (λ n. 2 + n + (length s.weaks + length s.held) + length s.values) (length-set s.pointers i v)))
 
 pub weak_put : (t : Table) (x i : ℕ) (v : Option ℕ) (s : Stored) → 0 < t.words_per_region → object_at t x ≡ Some s
     → WritesObject t (set_weak t x i v) x s (with_weak s i v)
 weak_put t x i v s z h =
     subst (λ (u : Table). WritesObject t u x s (with_weak s i v)) (sym (set_weak-is t x i v s h))
-    (object_put t x s (with_weak s i v) z h (ap (λ n. 2 + length s.pointers + n + length s.values) (length-set s.weaks i v)))
+    (object_put t x s (with_weak s i v) z h
+    (ap (λ n. 2 + length s.pointers + (n + length s.held) + length s.values) (length-set s.weaks i v)))
 
 -- a field that is set leaves as many weak slots
 pub field_weaks : (s : Stored) (i : ℕ) (v : Option ℕ) → length (with_field s i v).weaks ≡ length s.weaks
 field_weaks s i v = (field_set s i v).slots
-
-pub field_size : (s : Stored) (i : ℕ) (v : Option ℕ) → tile_size (Object (with_field s i v)) ≡ tile_size (Object s)
-field_size s i v = let f = field_set s i v in let w = field_weaks s i v in omega (arith, f.shape, ap length f.values, w)
 
 pub field_put : (t : Table) (x i : ℕ) (v : Option ℕ) (s : Stored) → 0 < t.words_per_region → object_at t x ≡ Some s
     → WritesObject t (set_field t x i v) x s (with_field s i v)
@@ -93,7 +93,8 @@ pub value_put : (t : Table) (x i v : ℕ) (s : Stored) → 0 < t.words_per_regio
     → WritesObject t (set_value t x i v) x s (with_value s i v)
 value_put t x i v s z h =
     subst (λ (u : Table). WritesObject t u x s (with_value s i v)) (sym (set_value-is t x i v s h))
-    (object_put t x s (with_value s i v) z h (ap (λ n. 2 + length s.pointers + length s.weaks + n) (length-set s.values i v)))
+    (object_put t x s (with_value s i v) z h
+    (ap (λ n. 2 + length s.pointers + (length s.weaks + length s.held) + n) (length-set s.values i v)))
 
 pub object_of_tile : (t : Table) (y : ℕ) → object_at t y ≡ tile_object (tile_in t y)
 unfolding object_at

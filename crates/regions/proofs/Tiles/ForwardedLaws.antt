@@ -48,6 +48,7 @@ targets_right size words rows t g e x to n h =
 target_shape : (f : ℕ → ℕ) (o : Option Header) (t : Tile) → shape_by f o ≡ tile_shape t → header_target o ≡ moved_to (Some t)
 target_shape f None (Forwarded to n) h = cc
 target_shape f (Some (headers.Object p weak d)) (Forwarded to n) h = cc
+target_shape f (Some (headers.Pairs p m d)) (Forwarded to n) h = cc
 target_shape f (Some (headers.Filler m)) (Forwarded to n) h = cc
 target_shape f (Some (headers.Forwarded at)) (Object s) h = cc
 target_shape f (Some (headers.Forwarded at)) (Filler n) h = cc

@@ -21,7 +21,7 @@ one_moved sizes w to m body e f z l =
     let n : length body ≡ sizes to - 1 = omega arith in
     record {
       tiles_are = rw (e, tiles_none sizes (sizes to - 1) body n, f) refl;
-      tiled = rw e (refl, omega arith, IsTiled_none sizes (sizes to - 1) body n);
+      tiled = rw e (tt, omega arith, IsTiled_none sizes (sizes to - 1) body n);
     }
 
 stored_some : (o : Option Stored) → 0 < stored_size o → (s : Stored) × (o ≡ Some s)

@@ -1,7 +1,7 @@
 -- Every word of an object lies in a region that isn't free.
 use Rattle.regions.proofs.Common.{◌≡◌, ◌+◌, ◌*◌, ◌/◌, ◌%◌, ◌<◌, ◌≤◌, ◌∙◌, ℕ, zero, Some, List, refl, ap, subst, arith}
 use Rattle.regions.proofs.Common.{false, get_or, inl, inr, div-mul-add, cases_lt, Stored, Tile, Object, tile_at}
-use Rattle.regions.proofs.Common.{tile_size, total_size, Table, Region, Free, Ordinary, First, Rest, region_tile, region_at, nth_region}
+use Rattle.regions.proofs.Common.{tile_size, total_size, Table, Region, Free, Ordinary, First, region_tile, region_at, nth_region}
 use Rattle.regions.proofs.Common.{region_kind, kind_of, tile_in, tile_object, object_at, is_free, tiles_of, region_tiles, IsShaped}
 use Rattle.regions.specs.Shaped.{AreInUse}
 use Rattle.regions.specs.declared.row.Kind.TheVariants as kinds

@@ -1,6 +1,6 @@
 -- Regions as a whole: made, taken, released, asked for.
 use Rattle.regions.proofs.Common.{max_words, ◌≡◌, ◌+◌, ◌-◌, ◌*◌, ◌<◌, ◌≤◌, ◌∷◌, ◌∙◌, ℕ, zero, suc, Some, None, List, [], length, take, drop}
-use Rattle.regions.proofs.Common.{get_or, set, refl, sym, ap, subst, arith, true, replicate, position, Region, Free, Ordinary, First, Rest}
+use Rattle.regions.proofs.Common.{get_or, set, refl, sym, ap, subst, arith, true, replicate, position, Region, Free, Ordinary}
 use Rattle.regions.proofs.Common.{Table, with_region, is_free, first_free, taken, region_used, nth_region, used_of, region_kind, kind_of}
 use Rattle.regions.proofs.Common.{free_table, HasNoForwarded, EachForwardedIn, HasTargets, length-take, length-drop, length-replicate}
 use Rattle.regions.proofs.Common.{header_of, total_size, size_by, tiles, IsTiled, sizes_in, region_by, region_of, regions_of, IsRow}

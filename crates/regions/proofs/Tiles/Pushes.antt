@@ -73,13 +73,14 @@ map_nil (suc n) = ap (λ ps. None ∷ ps) (map_nil n)
 abbrev pub zeros : ℕ → List ℕ
 zeros n = replicate n 0
 
-pub stored_of-new : (name p weak d : ℕ) → stored_of p weak d (name ∷ zeros (p + weak + d)) ≡ new_object name p weak d
+pub stored_of-new : (name p weak d : ℕ) → stored_of p weak 0 d (name ∷ zeros (p + weak + d)) ≡ new_object name p weak d
 stored_of-new name p weak d =
     let e : take p (zeros (p + weak + d)) ≡ zeros p = take-replicate p (p + weak + d) 0 (omega arith) in
     let le : p + weak + d - p ≡ weak + d = omega arith in
     let le' : p + weak + d - (p + weak) ≡ d = omega arith in
+    let none : p + (weak + 0) ≡ p + weak = omega arith in
     let f : take weak (drop p (zeros (p + weak + d))) ≡ zeros weak =
     ap (take weak) (drop-replicate p (p + weak + d) 0 ∙ ap (λ n. zeros n) le) ∙ take-replicate weak (weak + d) 0 (omega arith) in
     let k : drop (p + weak) (zeros (p + weak + d)) ≡ zeros d = drop-replicate (p + weak) (p + weak + d) 0 ∙ ap (λ n. zeros n) le' in
     let g : take d (zeros d) ≡ zeros d = take-replicate d d 0 (omega arith) in
-    rw (e, f, map_nil, map_nil, k, g) refl
+    rw (e, f, map_nil, map_nil, none, k, g) refl

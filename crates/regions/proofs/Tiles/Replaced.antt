@@ -8,6 +8,7 @@ use Rattle.regions.proofs.Common.{◌-◌, ◌*◌, ◌/◌, ◌%◌, ◌^◌, �
 use Rattle.regions.proofs.Common.{get_or, refl, sym, ap, subst, arith, inl, inr, replicate, length-append, length-take, length-drop}
 use Rattle.regions.proofs.Common.{append_assoc, length-replicate, set-get_or, row_fits, set}
 use Rattle.heap_words.specs.declared.header.Header.TheVariants as headers
+use Rattle.heap_words.specs.Contents.{counts_of}
 use Rattle.regions.proofs.Words.Fields.{IsOne, one_object, IsTiled_none, tiles_none}
 use Rattle.regions.proofs.Tiles.Making.{targets_of, tiles_total, plain_from}
 use Rattle.regions.proofs.Words.Parse.{tile_at-tiles, tiles-append, IsTiled-append, tiles-put, IsTiled-put}
@@ -100,7 +101,7 @@ one_filler sizes w n body e l =
     let m : length body ≡ suc n - 1 = omega arith in
     record {
       tiles_are = rw (e, tiles_none sizes (suc n - 1) body m) refl;
-      tiled = rw e (refl, omega arith, IsTiled_none sizes (suc n - 1) body m);
+      tiled = rw e (tt, omega arith, IsTiled_none sizes (suc n - 1) body m);
     }
 
 -- an object at the start of a filler, the rest of which is a filler again
@@ -150,7 +151,7 @@ pub filled : (sizes : ℕ → ℕ) (words : List ℕ) (x w name p weak d rest : 
 filled sizes words x w name p weak d rest e l small =
     let len : length (w ∷ name ∷ replicate (p + weak + d) 0) ≡ 2 + p + weak + d =
     omega (arith, length-replicate {A = ℕ} (p + weak + d) 0) in
-    let one = one_object sizes w p weak d (name ∷ replicate (p + weak + d) 0) e (omega arith) in
+    let one = one_object sizes w p weak 0 d (name ∷ replicate (p + weak + d) 0) (rw e tt) (ap counts_of e) (omega arith) in
     let are = one.tiles_are ∙ ap (λ s. Object s ∷ []) (stored_of-new name p weak d) in
     with_rest sizes words (put words x (w ∷ name ∷ replicate (p + weak + d) 0)) x (2 + p + weak + d) rest
     (Object (new_object name p weak d) ∷ []) (record {

@@ -12,6 +12,7 @@ use Rattle.regions.proofs.Rows.RowLemmas.{start_at, rest_is}
 use Rattle.regions.proofs.Words.Places.{table_right, place_of, InFirst, in_first}
 use Rattle.regions.proofs.Tiles.Making.{length-regions_of, known, kind_is, top_is}
 use Rattle.regions.proofs.Walks.WalkMade.{walk_ordinary}
+use Rattle.heap_words.specs.Contents.{counted_size}
 use Rattle.regions.proofs.Words.ObjectWords.{there, none_held}
 use Rattle.regions.proofs.Tiles.ForwardedLaws.{targets_right}
 
@@ -158,7 +159,7 @@ first_words size words rows t k s g e f =
     let size_is : size ≡ t.words_per_region = ap (λ (u : Table). u.words_per_region) e in
     let object : object_at t (k * size) ≡ Some s = rw size_is (first_object t k s (rw (← size_is) g.region_size.0) f) in
     let o = there size words rows t (k * size) s g e object in
-    (ap object_size o.is_in.header_is, omega (arith, o.fits, o.words_are))
+    (ap counted_size o.is_in.header_is, omega (arith, o.fits, o.words_are))
 
 run_rests : (size : ℕ) (words : List ℕ) (rows : List Row) (t : Table) (k j : ℕ) (s : Stored)
     → IsTable size words rows → table_of size words rows ≡ t → nth_region t k ≡ First s → 0 < j

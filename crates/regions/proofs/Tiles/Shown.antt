@@ -1,21 +1,32 @@
 -- What the tile at an address is.
-use Rattle.regions.proofs.Common.{length-append, first_stored, length-take, length-drop, length-map, tile_shape, header_of, tile_size, Tile}
-use Rattle.regions.proofs.Common.{stored_of, sizes_in, table_of, free_row, shape_by, IsTable, tile_in, tile_by, size_by, IsTiled, Header, ℕ}
+use Rattle.regions.proofs.Common.{length-append, first_stored, length-drop, tile_shape, header_of, tile_size, Tile}
+use Rattle.regions.proofs.Common.{sizes_in, table_of, free_row, shape_by, IsTable, tile_in, tile_by, size_by, IsTiled, Header, ℕ}
 use Rattle.regions.proofs.Common.{Object, Option, length, get_or, IsSome, IfSome, IsRow, Table, subst, arith, Kind, ◌++◌, Some, None, List}
 use Rattle.regions.proofs.Common.{take, drop, refl, Row, ◌≡◌, ◌+◌, ◌-◌, ◌*◌, ◌/◌, ◌%◌, ◌<◌, ◌≤◌, ◌∷◌, ◌∙◌, suc, sym, inl, inr, [], ap}
 use Rattle.regions.proofs.Words.Parse.{skip_le, first_tile, tile_at-tiles}
-use Rattle.regions.proofs.Words.Places.{table_right, InOrdinary, InFirst, place_of, split_at, front_word, in_first}
+use Rattle.heap_words.specs.declared.header.ObjectCounts.{ObjectCounts}
+use Rattle.heap_words.specs.Contents.{counts_of}
+use Rattle.regions.specs.declared.row.Shape.TheVariants as shapes
+use Rattle.regions.proofs.Words.Counts.{counted}
+use Rattle.regions.proofs.Words.Places.{counts_are, table_right, InOrdinary, InFirst, place_of, split_at, front_word, in_first}
 use Rattle.regions.proofs.Rows.RowLemmas.{start_at}
 use Rattle.heap_words.specs.declared.header.Header.TheVariants as headers
 use Rattle.regions.specs.declared.row.Kind.TheVariants as kinds
 
 shape_tile : (f : ℕ → ℕ) (o : Option Header) (ws : List ℕ) → size_by f o - 1 ≤ length ws → tile_shape (tile_by f ws o) ≡ shape_by f o
 shape_tile f (Some (headers.Object p weak d)) ws h =
-    let ep : length (stored_of p weak d ws).pointers ≡ p = simp (length-map, length-take, length-drop) (omega arith) in
-    let ew : length (stored_of p weak d ws).weaks ≡ weak = simp (length-map, length-take, length-drop) (omega arith) in
-    let ed : length (stored_of p weak d ws).values ≡ d = simp (length-take, length-drop) (omega arith) in
-    cc
+    ap (λ (c : ObjectCounts). shapes.Object c.pointers (c.weaks + c.held) c.values) (counts_are p weak 0 d ws (omega arith))
+shape_tile f (Some (headers.Pairs p n d)) ws h =
+    ap (λ (c : ObjectCounts). shapes.Object c.pointers (c.weaks + c.held) c.values) (counts_are p n n d ws (omega arith))
 shape_tile f _ ws h = refl
+
+counted_shape : (f : ℕ → ℕ) (o : Option Header) (c : ObjectCounts) → counts_of o ≡ Some c
+    → shape_by f o ≡ shapes.Object c.pointers (c.weaks + c.held) c.values
+counted_shape f (Some (headers.Object p weak d)) c e =
+    let same : counted p weak 0 d ≡ c = cc in ap (λ (k : ObjectCounts). shapes.Object k.pointers (k.weaks + k.held) k.values) same
+counted_shape f (Some (headers.Pairs p n d)) c e =
+    let same : counted p n n d ≡ c = cc in ap (λ (k : ObjectCounts). shapes.Object k.pointers (k.weaks + k.held) k.values) same
+counted_shape f _ c e = cc
 
 pub record IsShown (words : List ℕ) (x : ℕ) (tile : Tile) : Type 0 where
   pub in_words : x < length words
@@ -64,7 +75,7 @@ tile_shown size words rows t x tile g e h =
         → IsShown words x (Object (first_stored (drop (x / size * size) words)))
     first_shown size words rows x g q =
         let i = in_first (sizes_in words) size words rows x (first_stored (drop (x / size * size) words)) (table_right g) q in
-        record { in_words = omega (arith, i.fits); shape_is = ap (shape_by (sizes_in words)) i.header_is }
+        record { in_words = omega (arith, i.fits); shape_is = counted_shape (sizes_in words) (header_of (get_or words x 0)) _ i.header_is }
 
 pub some_tile : (o : Option Tile) → IsSome o → (tile : Tile) × (o ≡ Some tile)
 some_tile None h = cc

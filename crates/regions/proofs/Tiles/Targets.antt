@@ -1,7 +1,8 @@
 -- While each moved object's new place holds an object, a change that keeps the objects' places and sizes keeps the tiles.
 use Rattle.regions.proofs.Common.{◌≡◌, ℕ, List, length, sym, ◌∙◌, ap, subst, Region, Table, EachForwardedIn, HasObject, HasTargets}
-use Rattle.regions.proofs.Common.{object_size, sizes_in, table_of, table_by, IsTable, IsTableBy, AreRows, Row}
+use Rattle.regions.proofs.Common.{sizes_in, table_of, table_by, IsTable, IsTableBy, AreRows, Row}
 use Rattle.regions.proofs.Words.Places.{table_right, object_is_in}
+use Rattle.heap_words.specs.Contents.{counted_size}
 use Rattle.regions.proofs.Words.Sizes.{AgreeIn, EachForwardedIn-imp, regions-agree, AreRows-agree}
 use Rattle.regions.proofs.Tiles.Kept.{IsKept}
 
@@ -15,7 +16,7 @@ size_kept : (size : ℕ) (words words' : List ℕ) (rows rows' : List Row) (x : 
 size_kept size words words' rows rows' x g h k =
     let old = object_is_in (sizes_in words) size words rows x k.before (table_right g) k.before_is in
     let new = object_is_in (sizes_in words) size words' rows' x k.after h k.after_is in
-    ap object_size new.header_is ∙ k.size_is ∙ sym (ap object_size old.header_is)
+    ap counted_size new.header_is ∙ k.size_is ∙ sym (ap counted_size old.header_is)
 
 -- Words and rows that are right by the old sizes are right, if each moved tile's target is kept.
 pub written_table : (size : ℕ) (words words' : List ℕ) (rows rows' : List Row) (t t' : Table) → IsTable size words rows

@@ -2,10 +2,11 @@
 -- the object whose pointer is asked for
 use Rattle.regions.proofs.Common.{slice_get-get_or, object_pointers, pointer_count, object_weaks, first_stored, length-take, length-drop, ℕ}
 use Rattle.regions.proofs.Common.{get_or-drop, get_or-take, pointers_at, set_pointer, length-map, length-set, pointer_of, put_object, arith}
-use Rattle.regions.proofs.Common.{IsOrdinary, drop-drop, header_of, counts_of, tile_size, region_at, object_at, region_of, weaks_at, Option}
-use Rattle.regions.proofs.Common.{set_weak, sizes_in, table_of, free_row, IsTable, length, get_or, IsSome, Stored, Object, First, Table, ap}
+use Rattle.regions.proofs.Common.{IsOrdinary, drop-drop, header_of, tile_size, region_at, object_at, region_of, weaks_at, Option}
+use Rattle.regions.proofs.Common.{set_weak, sizes_in, table_of, free_row, IsTable, length, get_or, Stored, Object, First, Table, ap}
 use Rattle.regions.proofs.Common.{Some, None, List, take, drop, refl, Tile, ◌≡◌, ◌+◌, ◌*◌, ◌/◌, ◌<◌, ◌≤◌, ◌∙◌, suc, map, set, inl, inr, Row}
 use Rattle.std.proofs.lemmas.List.{get_or-map}
+use Rattle.heap_words.specs.Contents.{pointers_of, IsPlainHeader}
 use Rattle.regions.proofs.Rows.RowLemmas.{regions-at}
 use Rattle.regions.proofs.Words.Places.{table_right, IsInObject, InFirst, object_place, IsIn, object_is_in}
 use Rattle.std.specs.List.{slice_get}
@@ -46,7 +47,7 @@ part_at words x start k i ps are h fits =
     ∙ ap Some (get_or-map pointer_of (take k (drop (x + 1 + start) words)) i 0 None le
     ∙ ap pointer_of (get_or-take k (drop (x + 1 + start) words) i 0 h ∙ get_or-drop (x + 1 + start) words i 0))
 
-pointer_word_at : (words : List ℕ) (x i : ℕ) (s : Stored) → IsIn words x s → i < length s.pointers
+pub pointer_word_at : (words : List ℕ) (x i : ℕ) (s : Stored) → IsIn words x s → i < length s.pointers
     → slice_get s.pointers i ≡ Some (pointer_of (get_or words (x + 2 + i) 0))
 pointer_word_at words x i s g h =
     let place : x + 1 + 1 + i ≡ x + 2 + i = omega arith in
@@ -89,7 +90,8 @@ not_first size words rows x s q o =
 -- one word of an object is written
 pub part_written : (size : ℕ) (words : List ℕ) (rows : List Row) (t : Table) (x place j v : ℕ) (o o' : Stored) → IsTable size words rows
     → table_of size words rows ≡ t → object_at (table_of size words rows) x ≡ Some o → place ≡ x + suc j
-    → j < 1 + length o.pointers + length o.weaks + length o.values → Turns o j v o' → tile_size (Object o') ≡ tile_size (Object o)
+    → j < 1 + length o.pointers + (length o.weaks + length o.held) + length o.values → Turns o j v o'
+    → tile_size (Object o') ≡ tile_size (Object o)
     → IsWrittenTable size (set words place v) rows (put_object t x o')
 part_written size words rows t x place j v o o' g e at there bound turns same =
     let kept = put_kept (table_of size words rows) x o o' g.region_size.0 at same g.targets in
@@ -112,7 +114,7 @@ pub has_weak : (t : Table) (x i : ℕ) → i < length (weaks_at t x) → HasPart
 unfolding weaks_at
 has_weak t x i h = has_part t x i (λ s. length s.weaks) (λ o. length (object_weaks o)) (λ s. refl) refl h
 
-weak_word_at : (words : List ℕ) (x i : ℕ) (s : Stored) → IsIn words x s → i < length s.weaks
+pub weak_word_at : (words : List ℕ) (x i : ℕ) (s : Stored) → IsIn words x s → i < length s.weaks
     → slice_get s.weaks i ≡ Some (pointer_of (get_or words (x + 2 + (length s.pointers + i)) 0))
 weak_word_at words x i s g h =
     let p : ℕ = length s.pointers in
@@ -120,9 +122,17 @@ weak_word_at words x i s g h =
     part_at words x (suc p) (length s.weaks) i s.weaks (ap (λ (r : Stored). r.weaks) g.stored_is) h (omega (arith, g.fits))
     ∙ ap (λ (a : ℕ). Some (pointer_of (get_or words a 0))) place
 
+pub held_word_at : (words : List ℕ) (x i : ℕ) (s : Stored) → IsIn words x s → i < length s.held
+    → slice_get s.held i ≡ Some (pointer_of (get_or words (x + 2 + (length s.pointers + length s.weaks + i)) 0))
+held_word_at words x i s g h =
+    let q : ℕ = length s.pointers + length s.weaks in
+    let place : x + 1 + suc q + i ≡ x + 2 + (q + i) = omega arith in
+    part_at words x (suc q) (length s.held) i s.held (ap (λ (r : Stored). r.held) g.stored_is) h (omega (arith, g.fits))
+    ∙ ap (λ (a : ℕ). Some (pointer_of (get_or words a 0))) place
+
 pub record IsWeakRead (words : List ℕ) (t : Table) (x i : ℕ) : Type 0 where
   pub at : IsInObject t x x
-  pub object : IsSome (counts_of (header_of (get_or words x 0)))
+  pub object : IsPlainHeader (header_of (get_or words x 0))
   pub in_words : x + 2 + (pointer_count (header_of (get_or words x 0)) + i) < length words
   pub in_object : IsInObject t x (x + 2 + (pointer_count (header_of (get_or words x 0)) + i))
   pub value : slice_get (weaks_at t x) i ≡ Some (pointer_of (get_or words (x + 2 + (pointer_count (header_of (get_or words x 0)) + i)) 0))
@@ -134,10 +144,10 @@ weak_read size words rows t x i g e h =
     let p = has_weak t x i h in
     let is_in =
     object_is_in (sizes_in words) size words rows x p.object (table_right g) (ap (λ (u : Table). object_at u x) e ∙ p.object_is) in
-    let count : pointer_count (header_of (get_or words x 0)) ≡ length p.object.pointers = ap pointer_count is_in.header_is in
+    let count : pointer_count (header_of (get_or words x 0)) ≡ length p.object.pointers = ap pointers_of is_in.header_is in
     record {
       at = record { object = p.object; is = p.object_is; below = omega arith };
-      object = rw is_in.header_is refl;
+      object = is_in.plain;
       in_words = omega (arith, is_in.fits, p.within);
       in_object = record { object = p.object; is = p.object_is; below = omega (arith, p.within, count) };
       value = rw (p.object_is, count) (weak_word_at words x i p.object is_in p.within);
@@ -155,7 +165,7 @@ weak_written size words rows t x i v g e h =
     let p = has_weak t x i h in
     let at : object_at (table_of size words rows) x ≡ Some p.object = ap (λ (u : Table). object_at u x) e ∙ p.object_is in
     let is_in = object_is_in (sizes_in words) size words rows x p.object (table_right g) at in
-    let count : pointer_count (header_of (get_or words x 0)) ≡ length p.object.pointers = ap pointer_count is_in.header_is in
+    let count : pointer_count (header_of (get_or words x 0)) ≡ length p.object.pointers = ap pointers_of is_in.header_is in
     rw (set_weak-is t x i (pointer_of v) p.object p.object_is)
     (part_written size words rows t x (x + 2 + (pointer_count (header_of (get_or words x 0)) + i)) (suc (length p.object.pointers) + i) v
     p.object (with_weak p.object i (pointer_of v)) g e at (omega (arith, count)) (omega (arith, p.within))

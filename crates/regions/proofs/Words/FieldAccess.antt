@@ -1,16 +1,17 @@
--- Fields: pointers, and weak slots behind them.
-use Rattle.regions.proofs.Common.{◌≡◌, ◌+◌, ◌-◌, ◌<◌, ◌∷◌, ◌++◌, ◌∙◌, ℕ, zero, suc, Option, Some, List, [], length, get_or, set, refl, sym}
-use Rattle.regions.proofs.Common.{ap, arith, inl, inr, length-append, cases_lt, lt-ltb, header_of, pointer_of, pointer_count, field_count}
-use Rattle.regions.proofs.Common.{Stored, fields, with_field, Table, object_at, object_pointers, object_weaks, pointers_at, weaks_at}
-use Rattle.regions.proofs.Common.{fields_at, set_pointer, set_weak, set_field, put_object, table_of, IsTable, Row}
+-- Fields: pointers, weak slots after them, and held slots last.
+use Rattle.regions.proofs.Common.{◌≡◌, ◌+◌, ◌-◌, ◌<◌, ◌∷◌, ◌++◌, ◌∙◌, ℕ, zero, suc, Option, Some, List, [], length, get_or, set, refl}
+use Rattle.regions.proofs.Common.{sym, ap, subst, arith, inl, inr, length-append, cases_lt, lt-ltb, header_of, pointer_of, field_count}
+use Rattle.regions.proofs.Common.{Stored, fields, with_field, Table, object_at, weaks_at}
+use Rattle.regions.proofs.Common.{fields_at, set_field, put_object, table_of, IsTable, Row, object_weaks}
 use Rattle.std.specs.List.{slice_get}
+use Rattle.heap_words.specs.Contents.{fields_of}
 use Rattle.heap_model.proofs.Fields.{ltb_above}
-use Rattle.regions.specs.Table.{object_fields, set_field_of}
-use Rattle.regions.proofs.Words.Places.{IsInObject}
-use Rattle.regions.proofs.Words.ObjectWords.{there, IsThere, none_held}
+use Rattle.regions.specs.Table.{object_fields}
+use Rattle.regions.proofs.Words.Fields.{Turns, turns_pointer, turns_weak, turns_held, field_size}
+use Rattle.regions.proofs.Words.Places.{IsInObject, IsIn}
+use Rattle.regions.proofs.Words.ObjectWords.{there, IsThere}
 use Rattle.regions.proofs.Tiles.Targets.{IsWrittenTable}
-use Rattle.regions.proofs.Words.Access.{HasPart, has_part, pointer_read, weak_read, pointer_written, weak_written}
-use Rattle.regions.proofs.Words.Access.{set_pointer-is, set_weak-is}
+use Rattle.regions.proofs.Words.Access.{HasPart, has_part, part_written, pointer_word_at, weak_word_at, held_word_at}
 
 module _ {A : Type 0} where
   get-front : (xs ys : List A) (i : ℕ) → i < length xs → slice_get (xs ++ ys) i ≡ slice_get xs i
@@ -27,10 +28,6 @@ pub has_field : (t : Table) (x i : ℕ) → i < length (fields_at t x) → HasPa
 unfolding fields_at
 has_field t x i h = has_part t x i (λ s. length (fields s)) (λ o. length (object_fields o)) (λ s. refl) refl h
 
-pointers_are : (t : Table) (x : ℕ) (s : Stored) → object_at t x ≡ Some s → pointers_at t x ≡ s.pointers
-unfolding pointers_at
-pointers_are t x s e = ap object_pointers e
-
 pub weaks_are : (t : Table) (x : ℕ) (s : Stored) → object_at t x ≡ Some s → weaks_at t x ≡ s.weaks
 unfolding weaks_at
 weaks_are t x s e = ap object_weaks e
@@ -39,19 +36,65 @@ fields_are : (t : Table) (x : ℕ) (s : Stored) → object_at t x ≡ Some s →
 unfolding fields_at
 fields_are t x s e = ap object_fields e
 
-append_nil : (xs : List (Option ℕ)) → xs ++ [] ≡ xs
-append_nil [] = refl
-append_nil (x ∷ xs) = ap (λ l. x ∷ l) (append_nil xs)
-
-two_kinds : (s : Stored) → s.held ≡ [] → fields s ≡ s.pointers ++ s.weaks
-two_kinds s e = ap (λ hs. s.pointers ++ (s.weaks ++ hs)) e ∙ ap (λ ws. s.pointers ++ ws) (append_nil s.weaks)
+pub count_fields : (s : Stored) → length (fields s) ≡ length s.pointers + (length s.weaks + length s.held)
+count_fields s = omega (arith, length-append s.pointers (s.weaks ++ s.held), length-append s.weaks s.held)
 
 -- its header counts them
 pub header_fields : (words : List ℕ) (t : Table) (x : ℕ) (s : Stored) → IsThere words t x s
     → field_count (header_of (get_or words x 0)) ≡ length (fields_at t x)
 header_fields words t x s i =
-    ap field_count i.is_in.header_is
-    ∙ sym (ap (λ fs. length fs) (fields_are t x s i.is ∙ two_kinds s (none_held words t x s i)) ∙ length-append s.pointers s.weaks)
+    ap fields_of i.is_in.header_is ∙ sym (ap (λ fs. length fs) (fields_are t x s i.is) ∙ count_fields s)
+
+-- each is the word at its place
+field_word_at : (words : List ℕ) (x i : ℕ) (s : Stored) → IsIn words x s → i < length (fields s)
+    → slice_get (fields s) i ≡ Some (pointer_of (get_or words (x + 2 + i) 0))
+field_word_at words x i s g h =
+    let p : ℕ = length s.pointers in
+    let w : ℕ = length s.weaks in
+    let all = count_fields s in
+    let word : (a b : ℕ) → a ≡ b → Some (pointer_of (get_or words a 0)) ≡ Some (pointer_of (get_or words b 0)) =
+    λ a b e. ap (λ (n : ℕ). Some (pointer_of (get_or words n 0))) e in
+    elim (cases_lt i p) [
+      | inl k ↦ get-front s.pointers (s.weaks ++ s.held) i k ∙ pointer_word_at words x i s g k
+      | inr k ↦
+          let j : ℕ = i - p in
+          get-back s.pointers (s.weaks ++ s.held) i j (omega arith) ∙ elim (cases_lt j w) [
+            | inl l ↦ get-front s.weaks s.held j l ∙ weak_word_at words x j s g l ∙ word _ _ (omega arith)
+            | inr l ↦
+                let m : ℕ = j - w in
+                get-back s.weaks s.held j m (omega arith) ∙ held_word_at words x m s g (omega (arith, h, all)) ∙ word _ _ (omega arith)
+          ]
+    ]
+
+turns_field : (s : Stored) (i v : ℕ) → i < length (fields s) → Turns s (suc i) v (with_field s i (pointer_of v))
+turns_field s i v h =
+    let p : ℕ = length s.pointers in
+    let w : ℕ = length s.weaks in
+    let all = count_fields s in
+    elim (cases_lt i p) [
+      | inl k ↦ (let b = lt-ltb i p k in rw b (turns_pointer s i v k))
+      | inr k ↦ (
+          let b = ltb_above i p k in
+          let j : ℕ = i - p in
+          elim (cases_lt j w) [
+            | inl l ↦ (
+                let c = lt-ltb j w l in
+                let at : suc i ≡ suc p + j = omega arith in
+                rw (b, c) (subst (λ (n : ℕ). Turns s n v (record s { weaks = set s.weaks j (pointer_of v) })) (sym at)
+                (turns_weak s j v l)))
+            | inr l ↦ (
+                let c = ltb_above j w l in
+                let m : ℕ = j - w in
+                let at : suc i ≡ suc (p + w) + m = omega arith in
+                rw (b, c) (subst (λ (n : ℕ). Turns s n v (record s { held = set s.held m (pointer_of v) })) (sym at)
+                (turns_held s m v (omega (arith, h, all)))))
+          ])
+    ]
+
+pub set_field-is : (t : Table) (x i : ℕ) (v : Option ℕ) (s : Stored) → object_at t x ≡ Some s
+    → set_field t x i v ≡ put_object t x (with_field s i v)
+unfolding set_field
+set_field-is t x i v s e = rw e refl
 
 pub record IsFieldRead (words : List ℕ) (t : Table) (x i : ℕ) : Type 0 where
   pub in_object : IsInObject t x (x + 2 + i)
@@ -63,60 +106,17 @@ module _ (size : ℕ) (words : List ℕ) (rows : List Row) (t : Table) (x i : �
   field_read =
       let f = has_field t x i h in
       let s = f.object in
-      let p = length s.pointers in
       let o = there size words rows t x s g e f.object_is in
-      let two = two_kinds s (none_held words t x s o) in
-      let long = ap (λ fs. length fs) two ∙ length-append s.pointers s.weaks in
-      let here = fields_are t x s f.object_is ∙ two in
-      elim (cases_lt i (length s.pointers)) [
-        | inl k ↦
-            let r = pointer_read size words rows t x i g e (rw (pointers_are t x s f.object_is) k) in
-            record {
-              in_object = r.in_object;
-              value = ap (λ fs. slice_get fs i) here ∙ get-front s.pointers s.weaks i k
-                  ∙ ap (λ fs. slice_get fs i) (sym (pointers_are t x s f.object_is)) ∙ r.value;
-            }
-        | inr k ↦
-            let j : ℕ = i - length s.pointers in
-            let within : j < length s.weaks = omega (arith, f.within, long) in
-            let r = weak_read size words rows t x j g e (rw (weaks_are t x s f.object_is) within) in
-            let count : pointer_count (header_of (get_or words x 0)) ≡ length s.pointers = ap pointer_count o.is_in.header_is in
-            let place : x + 2 + (pointer_count (header_of (get_or words x 0)) + j) ≡ x + 2 + i = omega arith in
-            record {
-              in_object = rw place at r.in_object;
-              value = ap (λ fs. slice_get fs i) here ∙ get-back s.pointers s.weaks i j (omega arith)
-                  ∙ ap (λ fs. slice_get fs j) (sym (weaks_are t x s f.object_is)) ∙ r.value
-                  ∙ ap (λ a. Some (pointer_of (get_or words a 0))) place;
-            }
-      ]
+      record {
+        in_object = record { object = s; is = f.object_is; below = omega (arith, f.within, count_fields s) };
+        value = ap (λ fs. slice_get fs i) (fields_are t x s f.object_is) ∙ field_word_at words x i s o.is_in f.within;
+      }
 
   pub field_written : (v : ℕ) → IsWrittenTable size (set words (x + 2 + i) v) rows (set_field t x i (pointer_of v))
-  unfolding set_field
   field_written v =
       let f = has_field t x i h in
       let s = f.object in
-      let o = there size words rows t x s g e f.object_is in
-      let two = two_kinds s (none_held words t x s o) in
-      let long = ap (λ fs. length fs) two ∙ length-append s.pointers s.weaks in
-      elim (cases_lt i (length s.pointers)) [
-        | inl k ↦
-            let w = pointer_written size words rows t x i v g e (rw (pointers_are t x s f.object_is) k) in
-            let same : set_pointer t x i (pointer_of v) ≡ set_field_of t x i (pointer_of v) (object_at t x) =
-            set_pointer-is t x i (pointer_of v) s f.object_is ∙ (let b = lt-ltb i (length s.pointers) k in rw (f.object_is, b) refl) in
-            rw (← same) w
-        | inr k ↦
-            let j : ℕ = i - length s.pointers in
-            let within : j < length s.weaks = omega (arith, f.within, long) in
-            let w = weak_written size words rows t x j v g e (rw (weaks_are t x s f.object_is) within) in
-            let count : pointer_count (header_of (get_or words x 0)) ≡ length s.pointers = ap pointer_count o.is_in.header_is in
-            let place : x + 2 + i ≡ x + 2 + (pointer_count (header_of (get_or words x 0)) + j) = omega arith in
-            let same : set_weak t x j (pointer_of v) ≡ set_field_of t x i (pointer_of v) (object_at t x) =
-            set_weak-is t x j (pointer_of v) s f.object_is ∙ (let b = ltb_above i (length s.pointers) k in
-            let c = lt-ltb j (length s.weaks) within in rw (f.object_is, b, c) refl) in
-            rw (place, ← same) w
-      ]
-
-pub set_field-is : (t : Table) (x i : ℕ) (v : Option ℕ) (s : Stored) → object_at t x ≡ Some s
-    → set_field t x i v ≡ put_object t x (with_field s i v)
-unfolding set_field
-set_field-is t x i v s e = rw e refl
+      rw (set_field-is t x i (pointer_of v) s f.object_is)
+      (part_written size words rows t x (x + 2 + i) (suc i) v s (with_field s i (pointer_of v)) g e
+      (ap (λ (u : Table). object_at u x) e ∙ f.object_is) (omega arith) (omega (arith, f.within, count_fields s))
+      (turns_field s i v f.within) (field_size s i (pointer_of v)))

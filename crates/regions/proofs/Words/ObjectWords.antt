@@ -3,9 +3,9 @@ use Rattle.regions.proofs.Common.{◌≡◌, ◌+◌, ◌≤◌, ◌∷◌, ◌+
 use Rattle.regions.proofs.Common.{sym}
 use Rattle.regions.proofs.Common.{ap, subst, arith, drop-cons, length-take, length-drop, take-append-drop, get_or-drop, Stored, Object}
 use Rattle.regions.proofs.Common.{tile_size, stored_of, Table, object_at, object_words, stored_size, object_pointers, object_weaks}
-use Rattle.regions.proofs.Common.{object_values, pointers_at, weaks_at, values_at, IsSome, header_of, pointer_count, counts_of, object_size}
+use Rattle.regions.proofs.Common.{object_values, pointers_at, weaks_at, values_at, IsSome, header_of, pointer_count, counts_of}
 use Rattle.regions.proofs.Common.{sizes_in, table_of, IsTable, Row}
-use Rattle.regions.specs.Rows.{weak_count, value_count}
+use Rattle.heap_words.specs.Contents.{weak_count, value_count, pointers_of, weaks_of, values_of, counted_size}
 use Rattle.regions.proofs.Words.Parse.{stored_of-append}
 use Rattle.regions.proofs.Words.Places.{table_right, IsInObject, IsIn, object_is_in}
 use Rattle.regions.proofs.Words.Fields.{IsOne, one_object}
@@ -39,14 +39,14 @@ there size words rows t x s g e h =
       is = h;
       is_in = i;
       words_are = n;
-      size_is = ap object_size i.header_is ∙ sym n;
+      size_is = ap counted_size i.header_is ∙ sym n;
       fits = omega (arith, i.fits);
       large = omega arith;
     }
 
--- an object in words has no held slots
+-- an object in words has no held slots yet
 pub none_held : (words : List ℕ) (t : Table) (x : ℕ) (s : Stored) → IsThere words t x s → s.held ≡ []
-none_held words t x s i = ap (λ (r : Stored). r.held) i.is_in.stored_is
+none_held words t x s i = i.is_in.bare
 
 pub some_object : (o : Option Stored) → IsSome o → (s : Stored) × (o ≡ Some s)
 some_object None h = cc
@@ -71,17 +71,17 @@ is_counted words t x s i = rw i.is_in.header_is refl
 pub pointers_counted : (words : List ℕ) (t : Table) (x : ℕ) (s : Stored) → IsThere words t x s
     → pointer_count (header_of (get_or words x 0)) ≡ length (pointers_at t x)
 unfolding pointers_at
-pointers_counted words t x s i = ap pointer_count i.is_in.header_is ∙ sym (ap (λ (o : Option Stored). length (object_pointers o)) i.is)
+pointers_counted words t x s i = ap pointers_of i.is_in.header_is ∙ sym (ap (λ (o : Option Stored). length (object_pointers o)) i.is)
 
 pub weaks_counted : (words : List ℕ) (t : Table) (x : ℕ) (s : Stored) → IsThere words t x s
     → weak_count (header_of (get_or words x 0)) ≡ length (weaks_at t x)
 unfolding weaks_at
-weaks_counted words t x s i = ap weak_count i.is_in.header_is ∙ sym (ap (λ (o : Option Stored). length (object_weaks o)) i.is)
+weaks_counted words t x s i = ap weaks_of i.is_in.header_is ∙ sym (ap (λ (o : Option Stored). length (object_weaks o)) i.is)
 
 pub values_counted : (words : List ℕ) (t : Table) (x : ℕ) (s : Stored) → IsThere words t x s
     → value_count (header_of (get_or words x 0)) ≡ length (values_at t x)
 unfolding values_at
-values_counted words t x s i = ap value_count i.is_in.header_is ∙ sym (ap (λ (o : Option Stored). length (object_values o)) i.is)
+values_counted words t x s i = ap values_of i.is_in.header_is ∙ sym (ap (λ (o : Option Stored). length (object_values o)) i.is)
 
 -- an object's words are one tile, wherever they stand
 pub one_copy : (sizes : ℕ → ℕ) (words : List ℕ) (x : ℕ) (s : Stored) → IsIn words x s
@@ -89,17 +89,18 @@ pub one_copy : (sizes : ℕ → ℕ) (words : List ℕ) (x : ℕ) (s : Stored) �
 one_copy sizes words x s i =
     let p : ℕ = length s.pointers in
     let weak : ℕ = length s.weaks in
+    let held : ℕ = length s.held in
     let d : ℕ = length s.values in
     let body : List ℕ = drop (x + 1) words in
-    let m : ℕ = 1 + p + weak + d in
+    let m : ℕ = 1 + p + (weak + held) + d in
     let at : x + 1 ≡ suc x = omega arith in
     let whole : drop x words ≡ get_or words x 0 ∷ body = rw at (drop-cons words x 0 (omega (arith, i.fits))) in
     let n : tile_size (Object s) ≡ suc m = omega arith in
     let block : take (tile_size (Object s)) (drop x words) ≡ get_or words x 0 ∷ take m body = rw (n, whole) refl in
     let len : length (take m body) ≡ m = simp (length-take, length-drop) (omega (arith, i.fits)) in
-    let one = one_object sizes (get_or words x 0) p weak d (take m body) i.header_is len in
-    let same : stored_of p weak d (take m body ++ drop m body) ≡ stored_of p weak d (take m body) =
-    stored_of-append p weak d (take m body) (drop m body) (omega arith) in
+    let one = one_object sizes (get_or words x 0) p weak held d (take m body) i.head i.header_is len in
+    let same : stored_of p weak held d (take m body ++ drop m body) ≡ stored_of p weak held d (take m body) =
+    stored_of-append p weak held d (take m body) (drop m body) (omega arith) in
     let joined : take m body ++ drop m body ≡ body = take-append-drop m body in
-    let stored : stored_of p weak d (take m body) ≡ s = sym same ∙ ap (stored_of p weak d) joined ∙ sym i.stored_is in
+    let stored : stored_of p weak held d (take m body) ≡ s = sym same ∙ ap (stored_of p weak held d) joined ∙ sym i.stored_is in
     rw block (subst (λ (r : Stored). IsOne sizes (get_or words x 0 ∷ take m body) (Object r)) stored one)

@@ -28,9 +28,9 @@ IsTiled-append sizes (suc k) (x ∷ xs) ys h g = IsTiled-append sizes k xs ys h 
 pub get_or-append : (xs ys : List ℕ) (i : ℕ) → i < length xs → get_or (xs ++ ys) i 0 ≡ get_or xs i 0
 get_or-append xs ys i h = get_or_append_left xs ys 0 i h
 
-pub stored_of-append : (p weak d : ℕ) (xs ys : List ℕ) → 1 + p + weak + d ≤ length xs
-    → stored_of p weak d (xs ++ ys) ≡ stored_of p weak d xs
-stored_of-append p weak d xs ys h =
+pub stored_of-append : (p weak held d : ℕ) (xs ys : List ℕ) → 1 + p + (weak + held) + d ≤ length xs
+    → stored_of p weak held d (xs ++ ys) ≡ stored_of p weak held d xs
+stored_of-append p weak held d xs ys h =
     let e0 : get_or (xs ++ ys) 0 0 ≡ get_or xs 0 0 = get_or-append xs ys 0 (omega arith) in
     let e1 : drop 1 (xs ++ ys) ≡ drop 1 xs ++ ys = drop-append-le 1 xs ys (omega arith) in
     let e2 : drop (suc p) (xs ++ ys) ≡ drop (suc p) xs ++ ys = drop-append-le (suc p) xs ys (omega arith) in
@@ -38,14 +38,19 @@ stored_of-append p weak d xs ys h =
     let e4 : take weak (drop (suc p) xs ++ ys) ≡ take weak (drop (suc p) xs) =
     take-append-le weak (drop (suc p) xs) ys (omega (arith, length-drop (suc p) xs)) in
     let e5 : drop (suc (p + weak)) (xs ++ ys) ≡ drop (suc (p + weak)) xs ++ ys = drop-append-le (suc (p + weak)) xs ys (omega arith) in
-    let e6 : take d (drop (suc (p + weak)) xs ++ ys) ≡ take d (drop (suc (p + weak)) xs) =
-    take-append-le d (drop (suc (p + weak)) xs) ys (omega (arith, length-drop (suc (p + weak)) xs)) in
+    let e6 : take held (drop (suc (p + weak)) xs ++ ys) ≡ take held (drop (suc (p + weak)) xs) =
+    take-append-le held (drop (suc (p + weak)) xs) ys (omega (arith, length-drop (suc (p + weak)) xs)) in
+    let e7 : drop (suc (p + (weak + held))) (xs ++ ys) ≡ drop (suc (p + (weak + held))) xs ++ ys =
+    drop-append-le (suc (p + (weak + held))) xs ys (omega arith) in
+    let e8 : take d (drop (suc (p + (weak + held))) xs ++ ys) ≡ take d (drop (suc (p + (weak + held))) xs) =
+    take-append-le d (drop (suc (p + (weak + held))) xs) ys (omega (arith, length-drop (suc (p + (weak + held))) xs)) in
     cc
 
 -- what a tile says does not depend on the words after it
 pub tile_by-append : (sizes : ℕ → ℕ) (o : Option Header) (xs ys : List ℕ) → size_by sizes o - 1 ≤ length xs
     → tile_by sizes (xs ++ ys) o ≡ tile_by sizes xs o
-tile_by-append sizes (Some (headers.Object p weak d)) xs ys h = ap Object (stored_of-append p weak d xs ys (omega arith))
+tile_by-append sizes (Some (headers.Object p weak d)) xs ys h = ap Object (stored_of-append p weak 0 d xs ys (omega arith))
+tile_by-append sizes (Some (headers.Pairs p n d)) xs ys h = ap Object (stored_of-append p n n d xs ys (omega arith))
 tile_by-append sizes _ xs ys h = refl
 
 pub tiles-append : (sizes : ℕ → ℕ) (k : ℕ) (xs ys : List ℕ) → IsTiled sizes k xs
@@ -63,6 +68,7 @@ tiles-append sizes (suc k) (x ∷ xs) ys h = tiles-append sizes k xs ys h
 pub tile_size-by : (sizes : ℕ → ℕ) (o : Option Header) (ws : List ℕ) → size_by sizes o - 1 ≤ length ws
     → tile_size (tile_by sizes ws o) ≡ size_by sizes o
 tile_size-by sizes (Some (headers.Object p weak d)) ws h = simp (length-map, length-take, length-drop) (omega arith)
+tile_size-by sizes (Some (headers.Pairs p n d)) ws h = simp (length-map, length-take, length-drop) (omega arith)
 tile_size-by sizes _ ws h = refl
 
 -- the tile that the words begin with

@@ -6,6 +6,10 @@ use Rattle.regions.proofs.Common.{header_of, Stored, Tile, Object, tile_size, ti
 use Rattle.regions.proofs.Common.{region_tile, region_at, tile_in, object_at, object_size, stored_by, first_stored, region_by}
 use Rattle.regions.proofs.Common.{IsObjectHeader, IsRow, left_by, AreRows, free_row, table_by, IsTableBy, IsTable, sizes_in, Row, Kind}
 use Rattle.heap_words.specs.declared.header.Header.TheVariants as headers
+use Rattle.heap_words.specs.declared.header.ObjectCounts.{ObjectCounts}
+use Rattle.heap_words.specs.Contents.{counts_of, counted_size, IsPlainHeader}
+use Rattle.regions.specs.Tiles.{IsTileHeader}
+use Rattle.regions.proofs.Words.Counts.{counted, counts_in, counted_tile}
 use Rattle.regions.proofs.Tiles.Laws.{object_tile}
 use Rattle.regions.proofs.Words.Parse.{skip_le, first_tile, tile_at-tiles, stored_of-append}
 use Rattle.regions.proofs.Rows.RowLemmas.{regions-at, regions-past, start_at, left_le}
@@ -61,23 +65,44 @@ object_place f size words rows x s h = place_of f size words rows x (Object s) (
 
 -- an object is its words: it lies in the table, and its header says so
 pub record IsIn (words : List ℕ) (x : ℕ) (s : Stored) : Type 0 where
-  pub header_is : header_of (get_or words x 0) ≡ Some (headers.Object (length s.pointers) (length s.weaks) (length s.values))
-  pub stored_is : s ≡ stored_of (length s.pointers) (length s.weaks) (length s.values) (drop (x + 1) words)
-  pub fits : x + 2 + length s.pointers + length s.weaks + length s.values ≤ length words
+  pub header_is : counts_of (header_of (get_or words x 0)) ≡ Some (counts_in s)
+  pub head : IsTileHeader (header_of (get_or words x 0))
+  pub plain : IsPlainHeader (header_of (get_or words x 0))
+  pub bare : s.held ≡ []
+  pub stored_is : s ≡ stored_of (length s.pointers) (length s.weaks) (length s.held) (length s.values) (drop (x + 1) words)
+  pub fits : x + 2 + length s.pointers + (length s.weaks + length s.held) + length s.values ≤ length words
 
-pub live_by : (sizes : ℕ → ℕ) (o : Option Header) (ws : List ℕ) (s : Stored) → size_by sizes o - 1 ≤ length ws
-    → tile_by sizes ws o ≡ Object s → (o ≡ Some (headers.Object (length s.pointers) (length s.weaks) (length s.values)))
-    × (s ≡ stored_of (length s.pointers) (length s.weaks) (length s.values) ws)
-live_by sizes (Some (headers.Object p weak d)) ws s f h =
-    let e : stored_of p weak d ws ≡ s = cc in
-    let ep : length (stored_of p weak d ws).pointers ≡ p = simp (length-map, length-take, length-drop) (omega arith) in
-    let ed : length (stored_of p weak d ws).values ≡ d = simp (length-take, length-drop) (omega arith) in
-    let lp : length s.pointers ≡ p = ap (λ (r : Stored). length r.pointers) (sym e) ∙ ep in
-    let ld : length s.values ≡ d = ap (λ (r : Stored). length r.values) (sym e) ∙ ed in
-    let ew : length (stored_of p weak d ws).weaks ≡ weak = simp (length-map, length-take, length-drop) (omega arith) in
-    let lw : length s.weaks ≡ weak = ap (λ (r : Stored). length r.weaks) (sym e) ∙ ew in
-    (rw (lp, lw, ld) refl, rw (lp, lw, ld) (sym e))
-live_by sizes _ ws s f h = cc
+-- what the words after a header say is an object, and the header counts it
+pub record IsLive (o : Option Header) (ws : List ℕ) (s : Stored) : Type 0 where
+  pub counts : counts_of o ≡ Some (counts_in s)
+  pub plain : IsPlainHeader o
+  pub bare : s.held ≡ []
+  pub stored : s ≡ stored_of (length s.pointers) (length s.weaks) (length s.held) (length s.values) ws
+
+-- the object of so many words has so many fields
+pub counts_are : (p weak held d : ℕ) (ws : List ℕ) → 1 + p + (weak + held) + d ≤ length ws
+    → counts_in (stored_of p weak held d ws) ≡ counted p weak held d
+counts_are p weak held d ws f =
+    let ep : length (stored_of p weak held d ws).pointers ≡ p = simp (length-map, length-take, length-drop) (omega arith) in
+    let ew : length (stored_of p weak held d ws).weaks ≡ weak = simp (length-map, length-take, length-drop) (omega arith) in
+    let eh : length (stored_of p weak held d ws).held ≡ held = simp (length-map, length-take, length-drop) (omega arith) in
+    let ed : length (stored_of p weak held d ws).values ≡ d = simp (length-take, length-drop) (omega arith) in
+    cc
+
+counted_again : (s : Stored) (p weak held d : ℕ) (ws : List ℕ) → 1 + p + (weak + held) + d ≤ length ws → stored_of p weak held d ws ≡ s
+    → (counts_in s ≡ counted p weak held d) × (s ≡ stored_of (length s.pointers) (length s.weaks) (length s.held) (length s.values) ws)
+counted_again s p weak held d ws f e =
+    let are : counts_in s ≡ counted p weak held d = ap counts_in (sym e) ∙ counts_are p weak held d ws f in
+    (are, sym e ∙ ap (λ (c : ObjectCounts). stored_of c.pointers c.weaks c.held c.values ws) (sym are))
+
+pub live_by : (sizes : ℕ → ℕ) (o : Option Header) (ws : List ℕ) (s : Stored) → IsTileHeader o → size_by sizes o - 1 ≤ length ws
+    → tile_by sizes ws o ≡ Object s → IsLive o ws s
+live_by sizes (Some (headers.Object p weak d)) ws s t f h =
+    let e : stored_of p weak 0 d ws ≡ s = cc in
+    let again = counted_again s p weak 0 d ws (omega arith) e in
+    record { counts = ap Some (sym again.0); plain = tt; bare = ap (λ (r : Stored). r.held) (sym e); stored = again.1 }
+live_by sizes (Some (headers.Pairs p n d)) ws s t f h = absurd t
+live_by sizes _ ws s t f h = cc
 
 pub front_word : (words : List ℕ) (x w : ℕ) (v : List ℕ) → drop x words ≡ w ∷ v → get_or words x 0 ≡ w
 front_word words x w v e =
@@ -89,15 +114,19 @@ live_in : (sizes : ℕ → ℕ) (v u words : List ℕ) (x : ℕ) (s : Stored) �
 live_in sizes [] u words x s e t h = cc
 live_in sizes (w ∷ v) u words x s e t h =
     let fits : size_by sizes (header_of w) - 1 ≤ length v = skip_le sizes _ v t.2 in
-    let l = live_by sizes (header_of w) v s fits h in
+    let l = live_by sizes (header_of w) v s t.0 fits h in
     let word : get_or words x 0 ≡ w = front_word words x w (v ++ u) e in
     let behind : drop (x + 1) words ≡ v ++ u = sym (drop-drop 1 x words) ∙ ap (λ (ws : List ℕ). drop 1 ws) e in
-    let size : size_by sizes (header_of w) ≡ 2 + length s.pointers + length s.weaks + length s.values = ap (size_by sizes) l.0 in
+    let size : size_by sizes (header_of w) ≡ 2 + length s.pointers + (length s.weaks + length s.held) + length s.values =
+    (counted_tile sizes (header_of w) v (counts_in s) l.counts).1 in
     let whole : length (drop x words) ≡ suc (length v) + length u = rw e (length-append (w ∷ v) u) in
     record {
-      header_is = rw word l.0;
-      stored_is = l.1 ∙ sym (stored_of-append _ _ _ v u (omega arith))
-          ∙ ap (stored_of (length s.pointers) (length s.weaks) (length s.values)) (sym behind);
+      header_is = rw word l.counts;
+      head = rw word t.0;
+      plain = rw word l.plain;
+      bare = l.bare;
+      stored_is = l.stored ∙ sym (stored_of-append _ _ _ _ v u (omega arith))
+          ∙ ap (stored_of (length s.pointers) (length s.weaks) (length s.held) (length s.values)) (sym behind);
       fits = omega (arith, length-drop x words);
     }
 
@@ -127,16 +156,20 @@ room : (m k l size n : ℕ) → l ≡ m + suc k → n ≡ l * size → n ≡ m *
 room m k l size n e f = f ∙ rw e (omega arith)
 
 first_by : (o : Option Header) (ws : List ℕ) (s : Stored) → IsObjectHeader o → object_size o - 1 ≤ length ws → stored_by ws o ≡ s
-    → (o ≡ Some (headers.Object (length s.pointers) (length s.weaks) (length s.values)))
-    × (s ≡ stored_of (length s.pointers) (length s.weaks) (length s.values) ws)
-first_by (Some (headers.Object p weak d)) ws s i f h = live_by (λ _. 0) (Some (headers.Object p weak d)) ws s f (ap Object h)
+    → IsLive o ws s
+first_by (Some (headers.Object p weak d)) ws s i f h = live_by (λ _. 0) (Some (headers.Object p weak d)) ws s tt f (ap Object h)
 first_by _ ws s i f h = absurd i
 
 object_size_pos : (o : Option Header) → 0 < object_size o
 object_size_pos None = omega arith
 object_size_pos (Some (headers.Object p weak d)) = omega arith
+object_size_pos (Some (headers.Pairs p n d)) = omega arith
 object_size_pos (Some (headers.Filler n)) = omega arith
 object_size_pos (Some (headers.Forwarded to)) = omega arith
+
+object_tile_header : (o : Option Header) → IsObjectHeader o → IsTileHeader o
+object_tile_header (Some (headers.Object p weak d)) i = tt
+object_tile_header _ i = absurd i
 
 first_in : (v words : List ℕ) (x : ℕ) (s : Stored) → drop x words ≡ v → IsObjectHeader (header_of (get_or v 0 0)) → first_stored v ≡ s
     → object_size (header_of (get_or v 0 0)) ≤ length v → IsIn words x s
@@ -145,11 +178,15 @@ first_in (w ∷ v) words x s e i h f =
     let l = first_by (header_of w) v s i (omega arith) h in
     let word : get_or words x 0 ≡ w = front_word words x w v e in
     let behind : drop (x + 1) words ≡ v = sym (drop-drop 1 x words) ∙ ap (λ (ws : List ℕ). drop 1 ws) e in
-    let size : object_size (header_of w) ≡ 2 + length s.pointers + length s.weaks + length s.values = ap object_size l.0 in
+    let size : object_size (header_of w) ≡ 2 + length s.pointers + (length s.weaks + length s.held) + length s.values =
+    ap counted_size l.counts in
     let whole : length (drop x words) ≡ suc (length v) = ap (λ (ws : List ℕ). length ws) e in
     record {
-      header_is = rw word l.0;
-      stored_is = l.1 ∙ sym (ap (stored_of (length s.pointers) (length s.weaks) (length s.values)) behind);
+      header_is = rw word l.counts;
+      head = rw word (object_tile_header (header_of w) i);
+      plain = rw word l.plain;
+      bare = l.bare;
+      stored_is = l.stored ∙ sym (ap (stored_of (length s.pointers) (length s.weaks) (length s.held) (length s.values)) behind);
       fits = omega (arith, length-drop x words);
     }
 

@@ -1,9 +1,10 @@
 -- Reads and writes of an object's data.
-use Rattle.regions.proofs.Common.{◌≡◌, ◌+◌, ◌<◌, ◌≤◌, ◌∷◌, ◌∙◌, ℕ, suc, Some, List, [], length, take, drop, get_or, set, refl, sym, ap}
+use Rattle.regions.proofs.Common.{◌≡◌, ◌+◌, ◌-◌, ◌<◌, ◌≤◌, ◌∷◌, ◌∙◌, ℕ, suc, Some, List, [], length, take, drop, get_or, set, refl, sym, ap}
 use Rattle.regions.proofs.Common.{arith, length-set, drop-drop, drop-set-add, take-set-le, get_or-drop, get_or-take, slice_get-get_or}
 use Rattle.regions.proofs.Common.{header_of, Stored, stored_of, Table, object_at, values_at, object_values, set_value, put_object, table_of}
 use Rattle.regions.proofs.Common.{IsTable, IsSome, counts_of, field_count, Row}
 use Rattle.std.specs.List.{slice_get}
+use Rattle.heap_words.specs.Contents.{fields_of}
 use Rattle.regions.proofs.Words.Places.{IsInObject, IsIn}
 use Rattle.regions.proofs.Words.Access.{HasPart, has_part, part_written}
 use Rattle.regions.proofs.Words.Fields.{Turns, take_set}
@@ -15,11 +16,11 @@ unfolding values_at
 has_value t x i h = has_part t x i (λ s. length s.values) (λ o. length (object_values o)) (λ s. refl) refl h
 
 value_word_at : (words : List ℕ) (x i : ℕ) (s : Stored) → IsIn words x s → i < length s.values
-    → slice_get s.values i ≡ Some (get_or words (x + 2 + (length s.pointers + length s.weaks) + i) 0)
+    → slice_get s.values i ≡ Some (get_or words (x + 2 + (length s.pointers + (length s.weaks + length s.held)) + i) 0)
 value_word_at words x i s g h =
     let p : ℕ = length s.pointers in
     let d : ℕ = length s.values in
-    let weak : ℕ = length s.weaks in
+    let weak : ℕ = length s.weaks + length s.held in
     let rest : List ℕ = drop (suc (p + weak)) (drop (x + 1) words) in
     let are : s.values ≡ take d rest = ap (λ (r : Stored). r.values) g.stored_is in
     let at : rest ≡ drop (x + 1 + suc (p + weak)) words = drop-drop (suc (p + weak)) (x + 1) words in
@@ -43,8 +44,8 @@ unfolding values_at
 value_read size words rows t x i g e h =
     let p = has_value t x i h in
     let o = there size words rows t x p.object g e p.object_is in
-    let count : field_count (header_of (get_or words x 0)) ≡ length p.object.pointers + length p.object.weaks =
-    ap field_count o.is_in.header_is in
+    let count : field_count (header_of (get_or words x 0)) ≡ length p.object.pointers + (length p.object.weaks + length p.object.held) =
+    ap fields_of o.is_in.header_is in
     record {
       at = record { object = p.object; is = p.object_is; below = omega arith };
       object = rw o.is_in.header_is refl;
@@ -55,22 +56,29 @@ value_read size words rows t x i g e h =
 abbrev pub with_value : Stored → ℕ → ℕ → Stored
 with_value s i v = record s { values = set s.values i v }
 
-stored_of-set_value : (p weak d : ℕ) (body : List ℕ) (i v : ℕ) → 1 + p + weak + d ≤ length body
-    → stored_of p weak d (set body (suc (p + weak) + i) v) ≡ with_value (stored_of p weak d body) i v
-stored_of-set_value p weak d [] i v l = absurd (omega arith)
-stored_of-set_value p weak d (w ∷ ws) i v l =
-    let at : suc (p + weak) + i ≡ suc (p + weak + i) = omega arith in
-    let from : p + weak + i ≡ p + (weak + i) = omega arith in
-    let a : take p (set ws (p + weak + i) v) ≡ take p ws = take-set-le p ws (p + weak + i) v (omega arith) in
-    let b : take weak (drop p (set ws (p + weak + i) v)) ≡ take weak (drop p ws) =
-    ap (λ n. take weak (drop p (set ws n v))) from ∙ ap (take weak) (drop-set-add p ws (weak + i) v)
-    ∙ take-set-le weak (drop p ws) (weak + i) v (omega arith) in
-    let e : take d (drop (p + weak) (set ws (p + weak + i) v)) ≡ set (take d (drop (p + weak) ws)) i v =
-    ap (take d) (drop-set-add (p + weak) ws i v) ∙ take_set d (drop (p + weak) ws) i v in
-    rw (at, a, b, e) refl
+-- words are read from one on, and one after them is written
+before_set : (n k : ℕ) (ws : List ℕ) (j v : ℕ) → n + k ≤ j → take k (drop n (set ws j v)) ≡ take k (drop n ws)
+before_set n k ws j v h =
+    let at : j ≡ n + (j - n) = omega arith in
+    ap (λ m. take k (drop n (set ws m v))) at ∙ ap (take k) (drop-set-add n ws (j - n) v)
+    ∙ take-set-le k (drop n ws) (j - n) v (omega arith)
 
-turns_value : (s : Stored) (i v : ℕ) → Turns s (suc (length s.pointers + length s.weaks) + i) v (with_value s i v)
-turns_value s i v = λ body l e. stored_of-set_value _ _ _ body i v l ∙ ap (λ (r : Stored). with_value r i v) (sym e)
+stored_of-set_value : (p weak held d : ℕ) (body : List ℕ) (i v : ℕ) → 1 + p + (weak + held) + d ≤ length body
+    → stored_of p weak held d (set body (suc (p + (weak + held)) + i) v) ≡ with_value (stored_of p weak held d body) i v
+stored_of-set_value p weak held d [] i v l = absurd (omega arith)
+stored_of-set_value p weak held d (w ∷ ws) i v l =
+    let q : ℕ = p + (weak + held) in
+    let at : suc (p + (weak + held)) + i ≡ suc (p + (weak + held) + i) = omega arith in
+    let a : take p (set ws (q + i) v) ≡ take p ws = take-set-le p ws (q + i) v (omega arith) in
+    let b : take weak (drop p (set ws (q + i) v)) ≡ take weak (drop p ws) = before_set p weak ws (q + i) v (omega arith) in
+    let c : take held (drop (p + weak) (set ws (q + i) v)) ≡ take held (drop (p + weak) ws) =
+    before_set (p + weak) held ws (q + i) v (omega arith) in
+    let e : take d (drop q (set ws (q + i) v)) ≡ set (take d (drop q ws)) i v =
+    ap (take d) (drop-set-add q ws i v) ∙ take_set d (drop q ws) i v in
+    rw (at, a, b, c, e) refl
+
+turns_value : (s : Stored) (i v : ℕ) → Turns s (suc (length s.pointers + (length s.weaks + length s.held)) + i) v (with_value s i v)
+turns_value s i v = λ body l e. stored_of-set_value _ _ _ _ body i v l ∙ ap (λ (r : Stored). with_value r i v) (sym e)
 
 pub set_value-is : (t : Table) (x i v : ℕ) (s : Stored) → object_at t x ≡ Some s → set_value t x i v ≡ put_object t x (with_value s i v)
 unfolding set_value
@@ -82,10 +90,10 @@ pub value_written : (size : ℕ) (words : List ℕ) (rows : List Row) (t : Table
 value_written size words rows t x i v g e h =
     let p = has_value t x i h in
     let o = there size words rows t x p.object g e p.object_is in
-    let count : field_count (header_of (get_or words x 0)) ≡ length p.object.pointers + length p.object.weaks =
-    ap field_count o.is_in.header_is in
+    let count : field_count (header_of (get_or words x 0)) ≡ length p.object.pointers + (length p.object.weaks + length p.object.held) =
+    ap fields_of o.is_in.header_is in
     rw (set_value-is t x i v p.object p.object_is)
     (part_written size words rows t x (x + 2 + field_count (header_of (get_or words x 0)) + i)
-    (suc (length p.object.pointers + length p.object.weaks) + i) v p.object (with_value p.object i v) g e
+    (suc (length p.object.pointers + (length p.object.weaks + length p.object.held)) + i) v p.object (with_value p.object i v) g e
     (ap (λ (u : Table). object_at u x) e ∙ p.object_is) (omega (arith, count)) (omega (arith, p.within))
     (turns_value p.object i v) (simp length-set))

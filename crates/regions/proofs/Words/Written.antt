@@ -47,7 +47,8 @@ one_content : (words : List ℕ) (n m v used : ℕ) → take used (drop n (set w
 one_content words n m v used = rw (drop-set-add n words m v) (take_set used (drop n words) m v)
 
 pub write_ordinary : (size : ℕ) (words : List ℕ) (rows : List Row) (x j v : ℕ) (s s' : Stored) → IsTable size words rows
-    → InOrdinary (sizes_in words) size words rows x (Object s) → j < 1 + length s.pointers + length s.weaks + length s.values
+    → InOrdinary (sizes_in words) size words rows x (Object s)
+    → j < 1 + length s.pointers + (length s.weaks + length s.held) + length s.values
     → Turns s j v s' → EachForwardedIn (IsKept (table_of size words rows) (put_object (table_of size words rows) x s'))
     (put_object (table_of size words rows) x s').regions
     → IsWrittenTable size (set words (x + suc j) v) rows (put_object (table_of size words rows) x s')

@@ -267,7 +267,8 @@ module _ (k c : CoreState) (e : k ≡ c) (core : IsCore k) (m : ℕ) (object : R
       let d : CoreState = record k { table = t } in
       let p : Object = record h.object { values = slice_set h.object.values i v } in
       written_kept k core a h.stored (with_value h.stored i v) h.object p t h.at writes refl refl
-      (ap (λ (n : ℕ). 2 + length h.stored.pointers + length h.stored.weaks + n) (length-set h.stored.values i v)) h.named refl
+      (ap (λ (n : ℕ). 2 + length h.stored.pointers + (length h.stored.weaks + length h.stored.held) + n) (length-set h.stored.values i v))
+      h.named refl
       h.pointers h.weaks h.held (same_pairs (heap_of k) (marking_of k) h.stored (with_value h.stored i v) refl refl)
       (no_change core.footing.snapshot h.object p refl refl)
       (object_shows core.footing.graph k d a h.stored (with_value h.stored i v) h.object p core.rests.shows

@@ -25,7 +25,7 @@ use Rattle.step_core.proofs.Cores.Keeping.{core_of, register_inside, write_does,
 use Rattle.step_core.proofs.Mutating.Reading.{leads, root_rooted}
 use Rattle.step_core.proofs.Mutating.Acting.{read_done, read_past, refused_does, write_past}
 
-abbrev read_op : ℕ → Register → ℕ → Op
+abbrev pub read_op : ℕ → Register → ℕ → Op
 read_op m object i = record { mutator = m; action = actions.Read object i }
 
 abbrev pub write_op : ℕ → Register → ℕ → ℕ → Op

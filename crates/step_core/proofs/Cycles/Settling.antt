@@ -8,6 +8,7 @@ use Rattle.heap_model.specs.Marking.{Marking, KeepsSnapshot}
 use Rattle.heap_model.specs.Weak.{cleared, cleared_object, cleared_word}
 use Rattle.std.proofs.lemmas.Bool.{cases_lt}
 use Rattle.regions.specs.Shaped.{IsShaped}
+use Rattle.regions.proofs.Words.Fields.{held_by_long}
 use Rattle.regions.specs.Tiles.{Object, tile_size}
 use Rattle.regions.specs.Table.{Table, object_at, object_words}
 use Rattle.alloc_buffers.specs.Placement.{Buffers, BuffersStand, AreAbove, IsAbove}
@@ -62,7 +63,10 @@ was_object m t t' d a y c e = elim (c.each a) [
         record { before = x; was = is; is = inr (let some = ap (cleared_object m) is in let same : cleared m x ≡ y = cc in sym same) }
 
 cleared_size : (m : Marking) (x : Stored) → tile_size (Object (cleared m x)) ≡ tile_size (Object x)
-cleared_size m x = ap (λ (n : ℕ). 2 + length x.pointers + n + length x.values) (length-map x.weaks (cleared_word m))
+cleared_size m x =
+    let weaks = length-map x.weaks (cleared_word m) in
+    let held = held_by_long (map (cleared_word m) x.weaks) x.held in
+    omega (arith, weaks, held)
 
 module _ (m : Marking) (t t' : Table) (d : ℕ → Type 0) (c : ClearsSome m t t' d) where
   -- objects have as many words as before

@@ -21,7 +21,7 @@ use Rattle.heap_steps.specs.declared.step.Refusal.TheVariants as refusals
 use Rattle.step_core.specs.Stands.{CoreState, kept_of, heap_of, ShowsGraph, IsCore, IsWordOf, RootNames, Leads, name_in}
 use Rattle.step_core.specs.Answers.{Acts}
 use Rattle.step_core.specs.Mutators.{with_root_word}
-use Rattle.step_core.specs.Parts.{DoesAction}
+use Rattle.step_core.specs.Parts.{DoesAction, GetsWeak}
 use Rattle.step_core.proofs.Mutating.Reading.{field_shown, slot_shown, no_field, no_slot, no_value, shown_name}
 use Rattle.step_core.proofs.Mutating.Reading.{object_kept, pointers_there, weaks_there, AllZip-length}
 use Rattle.step_core.proofs.Mutating.Written.{SamePlaces, object_written}
@@ -68,6 +68,17 @@ get_nil g c s m to object i = nil_acts g c s m object (actions.Get to object i) 
 pub refused_does : (m : ℕ) (a : Action) (why : Refusal) (c : CoreState)
     → ((g : Graph) → ShowsGraph g c → Acts g m a (replies.Refused why) c) → DoesAction m a (replies.Refused why) c c
 refused_does m a why c acts = record { acts = acts; keeps = λ s f. f; after = refl; leaves = record { config = refl; in_use = λ j n. n } }
+
+-- the same of one that reads a weak slot
+pub refused_gets : (m : ℕ) (to object : Register) (slot : ℕ) (why : Refusal) (c : CoreState)
+    → ((g : Graph) → ShowsGraph g c → Acts g m (actions.GetWeak to object slot) (replies.Refused why) c)
+    → GetsWeak m to object slot (replies.Refused why) c c
+refused_gets m to object slot why c acts = record {
+  acts = acts;
+  keeps = λ s g shows u f. f;
+  after = refl;
+  leaves = record { config = refl; in_use = λ j n. n };
+}
 
 pub root_shows : (g : Graph) (c : CoreState) (place : ℕ) (w v : Option ℕ) → ShowsGraph g c → IsShown (heap_of c) w v
     → ShowsGraph (with_root g place v) (with_root_word c place w)

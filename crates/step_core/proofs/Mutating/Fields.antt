@@ -8,7 +8,7 @@ use Rattle.regions.proofs.Words.Fields.{with_pointer, with_weak}
 use Rattle.regions.specs.Table.{Table, new_object, object_at, pointers_at, weaks_at}
 use Rattle.regions.specs.Table.{fields_at, object_pointers, object_weaks, object_fields}
 use Rattle.regions.specs.Shaped.{IsShaped}
-use Rattle.refinement.proofs.Holders.{fields_are}
+use Rattle.regions.proofs.Words.FieldAccess.{count_fields}
 use Rattle.std.proofs.lemmas.List.{length-append}
 
 set_front : (xs ys : List (Option ℕ)) (i : ℕ) (v : Option ℕ) → i < length xs → slice_set xs i v ++ ys ≡ slice_set (xs ++ ys) i v
@@ -46,7 +46,8 @@ fields_exact t a shape = go (object_at t a) refl
   where
     go : (o : Option Stored) → object_at t a ≡ o → length (object_fields o) ≡ length (object_pointers o) + length (object_weaks o)
     go None e = refl
-    go (Some x) e = fields_are t a x shape e
+    go (Some x) e =
+        let none = ap (λ (hs : List (Option ℕ)). length hs) (shape.bare a x e) in omega (arith, count_fields x, none)
 
 -- a pointer is a field
 pub pointer_within : (t : Table) (a i : ℕ) → i < length (pointers_at t a) → i < length (fields_at t a)

@@ -2,6 +2,7 @@
 use Rattle.std.proofs.Common.{◌≡◌, ◌+◌, ◌*◌, ◌/◌, ◌<◌, ◌≤◌, ◌∙◌, ℕ, Bool, true, false, Option, Some, List, length, refl, sym, ap, subst}
 use Rattle.std.proofs.Common.{arith, inl, ◌||◌, ◌==◌}
 use Rattle.heap_model.specs.Heap.{Heap, Stored, IsRoot, IsHeld, IsShown}
+use Rattle.regions.proofs.Words.FieldAccess.{count_fields}
 use Rattle.regions.specs.Table.{Table, object_at, fields_at, pointers_at}
 use Rattle.regions.specs.Tiles.{Object, tile_size}
 use Rattle.regions.specs.Shaped.{IsShaped}
@@ -18,7 +19,6 @@ use Rattle.heap_words.proofs.Limits.{card_between}
 use Rattle.std.proofs.Math.Nat.{mul_assoc, mul-div_cancel, div-lt_iff_lt-mul}
 use Rattle.step_core.specs.Stands.{CoreState, kept_of, heap_of, ShowsGraph, KeepsFrom, IsCore, IsWordOf}
 use Rattle.step_core.specs.Storing.{CanStore}
-use Rattle.refinement.proofs.Holders.{fields_are}
 use Rattle.step_core.proofs.Mutating.Reading.{object_kept, fields_there}
 use Rattle.step_core.proofs.Cores.Slots.{slots_same}
 use Rattle.step_core.proofs.Cores.Resting.{core_stays}
@@ -37,7 +37,7 @@ field_inside k c a i e core shaped root within =
     let here : i < length (fields_at k.table a) = subst (λ (d : CoreState). i < length (fields_at d.table a)) (sym e) within in
     let is = object_kept k a r.stored r.at in
     let whole = tile_of k.table a r.stored shaped is in
-    let count = ap (λ (ps : List (Option ℕ)). length ps) (fields_there k a r.stored r.at) ∙ fields_are k.table a r.stored shaped is in
+    let count = ap (λ (ps : List (Option ℕ)). length ps) (fields_there k a r.stored r.at) ∙ count_fields r.stored in
     omega (arith, whole, count, here)
 
 -- a card has a word

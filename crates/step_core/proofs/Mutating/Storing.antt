@@ -85,7 +85,7 @@ module _ (k : CoreState) (core : IsCore k) (a i : ℕ) (w : Option ℕ) (t : Tab
       (pointer_put k.table a i w x (some_words k core) (object_kept k a x at))
 
   long : tiles.tile_size (tiles.Object (with_pointer x i w)) ≡ tiles.tile_size (tiles.Object x)
-  long = ap (λ (n : ℕ). 2 + n + length x.weaks + length x.values) (length-set x.pointers i w)
+  long = ap (λ (n : ℕ). 2 + n + (length x.weaks + length x.held) + length x.values) (length-set x.pointers i w)
 
   module _ (m : Marker) (same : SameRoles k.marker m) where
     abbrev after : CoreState

@@ -114,7 +114,8 @@ module _ (k : CoreState) (core : IsCore k) (a i : ℕ) (w : Option ℕ) (t : Tab
   kept_by_store =
       let o = core.rests.shows.shows.objects a x r.at in
       written_kept k core a x (with_weak x i w) o.object (record o.object { weaks = slice_set o.object.weaks i word.name }) t r.at writes
-      refl refl (ap (λ (n : ℕ). 2 + length x.pointers + n + length x.values) (length-set x.weaks i w)) o.named refl o.pointers
+      refl refl (ap (λ (n : ℕ). 2 + length x.pointers + (n + length x.held) + length x.values) (length-set x.weaks i w))
+      o.named refl o.pointers
       (AllZip-set (IsWeakShown (heap_of k)) x.weaks o.object.weaks o.weaks i w word.name (weak_shown (heap_of k) w word.name word.shown))
       (held_by_slots o.object.held o.held) (bare_pairs (heap_of k) (marking_of k) x (with_weak x i w) none none)
       (let bare = none_shown (map (kept_word (kept_of k)) x.weaks) o.object.held o.held in

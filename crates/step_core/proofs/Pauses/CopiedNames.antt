@@ -1,11 +1,12 @@
 -- The names of the objects that a pause copies.
-use Rattle.std.proofs.Common.{◌≡◌, ℕ, zero, suc, ◌+◌, Bool, List, [], ◌∷◌, Option, Some, None, length, refl, sym, ◌∙◌, ap, arith}
+use Rattle.std.proofs.Common.{◌≡◌, ℕ, zero, suc, ◌+◌, Bool, List, [], ◌∷◌, Option, Some, None, length, map, refl, sym, ◌∙◌, ap, arith}
 use Rattle.std.specs.Prelude.{slice_get}
 use Rattle.heap_model.specs.Graph.{Graph, object_named}
 use Rattle.heap_model.specs.Heap.{Heap, Stored, IsClosed, IsShown}
-use Rattle.heap_model.specs.Clearing.{WillShow, IsWeakShown}
+use Rattle.heap_model.specs.Clearing.{WillShow, IsWeakShown, kept_held, kept_word}
 use Rattle.heap_model.specs.Evacuation.{IsReached, ByRootWord, ByOutside, ByInside}
 use Rattle.regions.specs.Tiles.{Object, tile_size}
+use Rattle.regions.proofs.Words.Fields.{held_by_long}
 use Rattle.evacuation.specs.Evacuates.{AreReachedWords, stored_words, words_at}
 use Rattle.step_core.specs.Pause.{AreCopiedNames, named_words, words_of}
 use Rattle.step_core.proofs.Mutating.Reading.{AllZip-length}
@@ -53,12 +54,14 @@ module _ (g : Graph) (h : Heap) (shows : WillShow g h) (set : ℕ → Bool) wher
       let o = shows.objects a x e in
       let count = AllZip-length (IsShown h) x.pointers o.object.pointers o.pointers in
       let slots = AllZip-length (IsWeakShown h) x.weaks o.object.weaks o.weaks in
+      let held = AllZip-length (IsShown h) (kept_held h.kept x) o.object.held o.held in
+      let long = held_by_long (map (kept_word h.kept) x.weaks) x.held in
       let values = ap (λ (vs : List ℕ). length vs) o.values in
       let in_graph : named_words (object_named g (name_at (h.kept a)))
-      ≡ 2 + length o.object.pointers + length o.object.weaks + length o.object.values =
+      ≡ 2 + length o.object.pointers + (length o.object.weaks + length o.object.held) + length o.object.values =
       ap (λ (n : ℕ). named_words (object_named g n)) (name_is a x e) ∙ ap named_words o.named in
       let in_heap : stored_words (h.kept a) ≡ tile_size (Object x) = ap stored_words e in
-      omega (arith, in_graph, in_heap, count, slots, values)
+      omega (arith, in_graph, in_heap, count, slots, held, long, values)
 
   pub words_same : (addresses : List ℕ) → ((i a : ℕ) → slice_get addresses i ≡ Some a → (x : Stored) × (h.kept a ≡ Some x))
       → words_of g (names_of addresses) ≡ words_at h.kept addresses

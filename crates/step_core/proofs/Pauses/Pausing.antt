@@ -229,8 +229,9 @@ module _ (k : CoreState) (core : IsCore k) (which : Choice) (budget : ℕ) (chos
     same_long x y s =
         let pointers = s.pointers in
         let weaks = s.weaks in
+        let held = s.held in
         let values = ap (λ (vs : List ℕ). length vs) s.values in
-        omega (arith, pointers, weaks, values)
+        omega (arith, pointers, weaks, held, values)
 
     words_stay : (a : ℕ) (x : Stored) → set_in k.table.words_per_region chosen a ≡ false → object_at k.table a ≡ Some x
         → object_words t a ≡ object_words k.table a

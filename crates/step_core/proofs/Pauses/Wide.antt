@@ -21,8 +21,9 @@ same_size : (x y : Stored) → IsSameBut x y → tile_size (Object y) ≡ tile_s
 same_size x y s =
     let pointers = s.pointers in
     let weaks = s.weaks in
+    let held = s.held in
     let values = ap (λ (vs : List ℕ). length vs) s.values in
-    omega (arith, pointers, weaks, values)
+    omega (arith, pointers, weaks, held, values)
 
 module _ (rows : List LiveRow) (t t' : Table) (r : RegionsAfter rows t t') where
   -- a region of a run was one before, and wasn't evacuated

@@ -1,21 +1,16 @@
-use Rattle.std.proofs.Common.{◌≡◌, ◌≢◌, ◌+◌, ◌*◌, ◌<◌, ◌≤◌, ◌∙◌, Option, Some, None, ℕ, inl, inr, refl, sym, ap, subst, arith}
-use Rattle.heap_model.specs.Heap.{Stored}
+use Rattle.std.proofs.Common.{◌≡◌, ◌⊎◌, ◌+◌, ◌*◌, ◌<◌, ◌≤◌, ◌∙◌, ℕ, inl, inr, sym, ap, subst, arith}
+use Rattle.std.proofs.lemmas.Bool.{cases_lt}
 use Rattle.heap_words.specs.declared.config.Config.{Config}
 use Rattle.heap_steps.specs.Actors.{IsThird}
 use Rattle.regions.specs.Table.{free_count}
-use Rattle.step_core.specs.Stands.{kept_of}
-use Rattle.collection.specs.Space.{IsPackedAt, ordinary_count, run_count}
-use Rattle.collection.specs.Steps.{AsksWithin, LeavesTwo, asked_words}
+use Rattle.alloc_buffers.specs.Placement as placement
+use Rattle.collection.specs.Space.{IsCollected, IsCompact, IsPacked, IsPackedBut}
+use Rattle.collection.specs.Steps.{AsksWithin, LeavesTwo, asked_words, regions_for}
 use Rattle.collection.specs.Rooms.{HasRun}
-use Rattle.collection.proofs.Counts.{count_all}
-use Rattle.collection.proofs.Leaving.{clash, leaves_four, leaves_not, leaves_still}
-use Rattle.collection.proofs.Packed.{but_three, but_two}
+use Rattle.collection.proofs.Compact.{few_free, packed_but}
+use Rattle.collection.proofs.Leaving.{clash, leaves_not, leaves_still, takes_one, takes_run}
 use Rattle.collection.proofs.Took.{chain, more}
 use Rattle.collection.proofs.making.collect_all.Goals as goal
-
-some_kept : (o : Option Stored) → o ≢ None → (x : Stored) × (o ≡ Some x)
-some_kept None n = absurd (n refl)
-some_kept (Some x) n = (x, refl)
 
 pub is_spared-requires : goal.is_spared-requires
 is_spared-requires g c = record {
@@ -49,49 +44,45 @@ returns-clause-leaves g c e =
 pub returns-clause-filled : goal.returns-clause-filled
 returns-clause-filled g c e s stands = record {
   collected = c.collect.ensures.quiet s stands;
-  small = λ leaves small two. packed leaves small two;
+  full = λ leaves two how. packed leaves two (small how);
   large = λ leaves large run. c.is_spared.ensures.large c.if-is_spared.false
       (let f = ap (λ (x : Config). x.words) c.collect.ensures.collects.config in let h = c.requires.asked.size in
       omega (arith, f, h, large))
       (subst (λ (n : ℕ). HasRun c.collect.new.core n) (sym c.requires.asked.size) run);
   dense = λ leaves large two. c.collect.ensures.packed s stands two;
-  side_by_side = λ third leaves large two. absurd (clash c.may_compact.result (c.may_compact.ensures.1 (can third large))
-      c.if-may_compact.false);
+  compact = λ third leaves large two. absurd (no_compaction third large);
 }
   where
-    can : IsThird c.args.core.now.config.format → c.args.core.now.config.words < 2 * asked_words c.args.op.now.action
-        → (c.config.result.words < 2 * c.args.size) × IsThird c.config.result.format
-    can third large =
+    no_compaction : IsThird c.args.core.now.config.format → c.args.core.now.config.words < 2 * asked_words c.args.op.now.action → ⊥
+    no_compaction third large =
         let same = c.config.ensures.config ∙ c.collect.ensures.collects.config in
         let words = ap (λ (x : Config). x.words) same in
         let h = c.requires.asked.size in
-        (omega (arith, words, h, large), subst (λ (x : Config). IsThird x.format) (sym same) third)
+        let can : (c.config.result.words < 2 * c.args.size) × IsThird c.config.result.format =
+        (omega (arith, words, h, large), subst (λ (x : Config). IsThird x.format) (sym same) third) in
+        clash c.may_compact.result (c.may_compact.ensures.1 can) c.if-may_compact.false
 
-    packed : LeavesTwo c.args.core.now.config c.args.op.now.action → 2 * asked_words c.args.op.now.action ≤ c.args.core.now.config.words
-        → 2 ≤ free_count c.args.core.now.table → IsPackedAt s.graph c.collect.new.core
-    packed leaves small two =
+    small : (2 * asked_words c.args.op.now.action ≤ c.args.core.now.config.words) ⊎ IsThird c.args.core.now.config.format
+        → 2 * asked_words c.args.op.now.action ≤ c.args.core.now.config.words
+    small (inl few) = few
+    small (inr third) = elim (cases_lt c.args.core.now.config.words (2 * asked_words c.args.op.now.action)) [
+      | inl large ↦ absurd (no_compaction third large)
+      | inr few ↦ few
+    ]
+
+    packed : LeavesTwo c.args.core.now.config c.args.op.now.action → 2 ≤ free_count c.args.core.now.table
+        → 2 * asked_words c.args.op.now.action ≤ c.args.core.now.config.words
+        → IsPackedBut s.graph c.collect.new.core (regions_for c.args.core.now.config.words (asked_words c.args.op.now.action))
+    packed leaves two small =
         let f = ap (λ (x : Config). x.words) c.collect.ensures.collects.config in
+        let l = ap (λ (x : Config). x.regions) c.collect.ensures.collects.config in
         let h = c.requires.asked.size in
         let few = c.is_spared.ensures.small c.if-is_spared.false (omega (arith, f, h, small)) in
-        let d = c.collect.ensures.collects.two two in
-        let i = count_all c.collect.new.core.table in
-        let j = c.law_remembers.ensures.core.layers.region_count in
+        let one = takes_one c.args.core.now.config.words (asked_words c.args.op.now.action) small in
         let w = c.collect.ensures.quiet s stands in
-        let p = c.collect.ensures.packed s stands two in
-        let l = ap (λ (x : Config). x.regions) c.collect.ensures.collects.config in
-        let four = leaves_four c.args.core.now.config c.args.op.now.action small leaves in
-        let counts : ordinary_count c.collect.new.core.table + run_count c.collect.new.core.table + 2 ≡ c.collect.new.core.config.regions =
-        omega (arith, few, d, i, j) in
-        record {
-          packed = p;
-          free = omega (arith, few, d);
-          regions = counts;
-          all_but_three = but_three s.graph c.collect.new.core p counts (omega (arith, four, l));
-          all_but_two = but_two s.graph c.collect.new.core p counts (omega (arith, four, l));
-          runs = λ k e. (let (x, is) = some_kept (kept_of c.collect.new.core (k * c.collect.new.core.table.words_per_region))
-              (w.quiet.runs k e) in
-              (x, is, w.reached.back x.name (w.quiet.reached (k * c.collect.new.core.table.words_per_region) x is)));
-        }
+        packed_but s.graph w.after c.collect.new.core (regions_for c.args.core.now.config.words (asked_words c.args.op.now.action))
+        c.law_remembers.ensures.core w.quiet w.reached (c.collect.ensures.packed s stands two) (c.collect.ensures.collects.two two)
+        (omega (arith, few, one)) (omega (arith, leaves, l))
 
 -- ---- with compactions
 pub compact_all-requires-clause-third : goal.compact_all-requires-clause-third
@@ -111,7 +102,7 @@ compact_all-requires-clause-large g c =
 pub returns-then-may_compact-clause-collects : goal.returns-then-may_compact-clause-collects
 returns-then-may_compact-clause-collects g c =
     let regions = ap (λ (x : Config). x.regions) c.collect.ensures.collects.config in
-    chain g.W.Watch.sees _ (c.collect.new.core.config.regions + 1) _ c.args.core.now c.collect.new.core c.compact_all.new.core
+    chain g.W.Watch.sees _ (2 * c.collect.new.core.config.regions + 1) _ c.args.core.now c.collect.new.core c.compact_all.new.core
     c.args.watch.now c.collect.new.watch c.compact_all.new.watch (omega (arith, regions)) c.collect.ensures.collects
     c.compact_all.ensures.collects
 
@@ -130,17 +121,44 @@ returns-then-may_compact-clause-leaves g c e =
     subst (λ (x : Config). LeavesTwo x c.args.op.now.action) c.collect.ensures.collects.config (c.compact_all.ensures.leaves e)
 
 pub returns-then-may_compact-clause-filled : goal.returns-then-may_compact-clause-filled
-returns-then-may_compact-clause-filled g c e s stands =
-    let w = c.collect.ensures.quiet s stands in
-    let same = c.config.ensures.config ∙ c.collect.ensures.collects.config in
-    let words = ap (λ (x : Config). x.words) same in
-    let over = (c.may_compact.ensures.0 c.if-may_compact.true).0 in
-    let h = c.requires.asked.size in
-    record {
-      collected = record { after = w.after; quiet = c.compact_all.ensures.quiet w.after w.quiet; reached = w.reached };
-      small = λ leaves small. absurd (omega (arith, small, words, over, h));
-      large = λ leaves large run. c.compact_all.ensures.none e
-          (subst (λ (n : ℕ). HasRun c.compact_all.new.core n) (sym c.requires.asked.size) run);
-      dense = λ leaves large two. c.compact_all.ensures.packed s.graph (c.collect.ensures.packed s stands two);
-      side_by_side = λ third leaves large two. c.compact_all.ensures.below e w.after w.quiet (c.collect.ensures.collects.two two);
-    }
+returns-then-may_compact-clause-filled g c e s stands = record {
+  collected = record { after = w.after; quiet = c.compact_all.ensures.quiet w.after w.quiet; reached = w.reached };
+  full = λ leaves two how. packed leaves two;
+  large = λ leaves large run. none run;
+  dense = λ leaves large two. dense two;
+  compact = λ third leaves large two. compact two;
+}
+  where
+    w : IsCollected s.graph c.collect.new.core
+    w = c.collect.ensures.quiet s stands
+
+    none : HasRun c.compact_all.new.core (asked_words c.args.op.now.action) → ⊥
+    none run = c.compact_all.ensures.none e (subst (λ (n : ℕ). HasRun c.compact_all.new.core n) (sym c.requires.asked.size) run)
+
+    dense : 2 ≤ free_count c.args.core.now.table → IsPacked s.graph c.compact_all.new.core
+    dense two = c.compact_all.ensures.packed w.after w.quiet (c.collect.ensures.collects.two two) s.graph
+        (c.collect.ensures.packed s stands two)
+
+    compact : 2 ≤ free_count c.args.core.now.table → IsCompact c.compact_all.new.core.table
+    compact two = c.compact_all.ensures.compact e w.after w.quiet (c.collect.ensures.collects.two two)
+
+    packed : LeavesTwo c.args.core.now.config c.args.op.now.action → 2 ≤ free_count c.args.core.now.table
+        → IsPackedBut s.graph c.compact_all.new.core (regions_for c.args.core.now.config.words (asked_words c.args.op.now.action))
+    packed leaves two =
+        let same = c.compact_all.ensures.collects.config ∙ c.collect.ensures.collects.config in
+        let words = ap (λ (x : Config). x.words) same in
+        let regions = ap (λ (x : Config). x.regions) same in
+        let over = (c.may_compact.ensures.0 c.if-may_compact.true).0 in
+        let h = c.requires.asked.size in
+        let f = ap (λ (x : Config). x.words) (c.config.ensures.config ∙ c.collect.ensures.collects.config) in
+        let core = c.compact_all.ensures.core e in
+        let at = core.layers.region_size in
+        let size : c.compact_all.new.core.table.words_per_region ≡ c.args.core.now.config.words = omega (arith, at, words) in
+        let takes = takes_run c.args.core.now.config.words (asked_words c.args.op.now.action) (omega (arith, over, h, f)) in
+        let left = c.compact_all.ensures.collects.two (c.collect.ensures.collects.two two) in
+        let run = ap (λ (n : ℕ). placement.run_count n (asked_words c.args.op.now.action)) size in
+        let few = few_free c.compact_all.new.core (asked_words c.args.op.now.action)
+        (regions_for c.args.core.now.config.words (asked_words c.args.op.now.action)) (takes ∙ sym run) (compact two) none left in
+        packed_but s.graph w.after c.compact_all.new.core (regions_for c.args.core.now.config.words (asked_words c.args.op.now.action))
+        core (c.compact_all.ensures.quiet w.after w.quiet) w.reached (dense two) left few
+        (omega (arith, leaves, regions))

@@ -56,7 +56,7 @@ pub returns-clause-collects : goal.returns-clause-collects
 returns-clause-collects g c =
     let f = ap (λ (x : Config). x.regions) c.finish_cycle.ensures.config in
     let e = ap (λ (x : Config). x.regions) c.look.ensures.collects.config in
-    chain g.W.Watch.sees (7 + 2 * c.args.core.now.config.regions) (5 + 2 * c.finish_cycle.new.core.config.regions) _
+    chain g.W.Watch.sees (7 + 2 * c.args.core.now.config.regions) (5 + 3 * c.finish_cycle.new.core.config.regions) _
     c.args.core.now c.finish_cycle.new.core c.collect_all.new.core c.args.watch.now c.finish_cycle.new.watch c.collect_all.new.watch
     (omega (arith, e, f)) (looked_on g.W.Watch.sees c.args.due _ _ _ _ _ _ c.look.ensures.collects c.finish_cycle.ensures)
     c.collect_all.ensures.collects
@@ -107,12 +107,12 @@ returns-clause-paced g c = record {
   seen = c.look.new.watch;
   look = c.look.ensures.collects;
   some = c.look.ensures.some;
-  rest = 7 + 3 * c.look.new.core.config.regions;
+  rest = 7 + 4 * c.look.new.core.config.regions;
   few = (let e = ap (λ (x : Config). x.regions) c.look.ensures.collects.config in omega (arith, e));
   none = λ h. absurd (c.is_spared.ensures.full c.if-is_spared.false h);
   more = (let f = ap (λ (x : Config). x.regions) c.finish_cycle.ensures.config in
-      chain g.W.Watch.sees (2 + c.look.new.core.config.regions) (5 + 2 * c.finish_cycle.new.core.config.regions)
-      (7 + 3 * c.look.new.core.config.regions) c.look.new.core c.finish_cycle.new.core c.collect_all.new.core
+      chain g.W.Watch.sees (2 + c.look.new.core.config.regions) (5 + 3 * c.finish_cycle.new.core.config.regions)
+      (7 + 4 * c.look.new.core.config.regions) c.look.new.core c.finish_cycle.new.core c.collect_all.new.core
       c.look.new.watch c.finish_cycle.new.watch c.collect_all.new.watch (omega (arith, f)) c.finish_cycle.ensures
       c.collect_all.ensures.collects);
 }

@@ -9,7 +9,7 @@ returns-in-Script g c =
     (λ followed is. elim c.in-Script.is [
       | inl script ↦ (let e = script.1 in cc)
       | inr other ↦ elim other [
-        | inl view ↦ (let e = view.4 in cc)
+        | inl view ↦ (let e = view.3 in cc)
         | inr draw ↦ (let e = draw.2 in cc)
       ]
     ])

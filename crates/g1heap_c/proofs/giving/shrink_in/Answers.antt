@@ -22,5 +22,5 @@ returns g c = elim c.give_back_of.ensures.given [
           c.collect_down.ensures.collects;
       collected = c.collect_down.ensures.quiet;
       packed = c.collect_down.ensures.packed;
-      below = c.collect_down.ensures.below;
+      compact = c.collect_down.ensures.compact;
     }

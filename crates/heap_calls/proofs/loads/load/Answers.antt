@@ -1,25 +1,20 @@
-use Rattle.std.proofs.Common.{◌∙◌, ap, refl, subst}
-use Rattle.heap_steps.specs.declared.step.Action.TheVariants as actions
+use Rattle.std.proofs.Common.{Some, subst, sym}
 use Rattle.heap_steps.specs.declared.step.Register.{Register}
-use Rattle.heap_steps.specs.declared.step.Step.{Step}
-use Rattle.step_core.specs.Words.{Takes}
-use Rattle.heap_calls.specs.Numbers.{by, register}
+use Rattle.step_core.specs.Loads.{LoadsWord}
+use Rattle.heap_calls.specs.Loads.{Loads}
+use Rattle.heap_calls.specs.Numbers.{register}
+use Rattle.heap_calls.specs.declared.answer.Answer.{Answer}
+use Rattle.heap_calls.proofs.Loading.{told_loaded}
 use Rattle.heap_calls.proofs.loads.load.Goals as goal
 
 pub returns : goal.returns
-returns c = record {
-  reply = c.step-loaded.result;
-  loaded = c.step-loaded.new.self;
-  loads = subst (λ (s : Step). Takes c.args.core.now s c.step-loaded.result c.step-loaded.new.self)
-      (c.by.ensures ∙ ap (λ (r : Register). by c.args.mutator (actions.Get r c.register-2.result c.args.field)) c.register.ensures
-      ∙ ap (λ (r : Register). by c.args.mutator (actions.Get (register c.args.to) r c.args.field)) c.register-2.ensures)
-      (record {
-        follows = c.step-loaded.ensures.follows;
-        does = c.step-loaded.ensures.does;
-        reclaims = c.step-loaded.ensures.reclaims;
-        full = c.step-loaded.ensures.full;
-      });
-  core = c.read_loaded.new.core;
-  reads = c.read_loaded.ensures;
-  held = refl;
-}
+returns c =
+    let a = c.args in
+    let reply = c.get_word.result in
+    let after = c.get_word.new.self in
+    let to = subst (λ (r : Register). LoadsWord a.core.now a.mutator r c.register-2.result a.field a.word reply after)
+    c.register.ensures c.get_word.ensures in
+    let both = subst (λ (r : Register). LoadsWord a.core.now a.mutator (register a.to) r a.field a.word reply after) c.register-2.ensures
+    to in
+    subst (λ (r : Answer). Loads a.core.now a.mutator a.to a.object a.field a.word r (Some c.get_word.new.self)) (sym c.answer_of.ensures)
+    (told_loaded a.core.now c.get_word.new.self a.mutator a.to a.object a.field a.word c.get_word.result both)

@@ -1,6 +1,7 @@
 use Rattle.std.proofs.Common.{sym}
 use Rattle.regions.specs.Table.{Table}
-use Rattle.heap_dump.specs.Fields.{links_at, spaced_pointer}
+use Rattle.heap_walk.specs.Holders.{links_at}
+use Rattle.heap_dump.specs.Fields.{spaced_pointer}
 use Rattle.heap_dump.proofs.Putting.{adds_more, adds_at}
 use Rattle.heap_dump.proofs.fields.put_links.Goals as goal
 

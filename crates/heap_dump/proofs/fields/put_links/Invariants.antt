@@ -1,7 +1,8 @@
 use Rattle.std.proofs.Common.{take}
 use Rattle.std.specs.List.{flat_map}
 use Rattle.script_text.specs.Texts.{Adds}
-use Rattle.heap_dump.specs.Fields.{links_at, spaced_pointer}
+use Rattle.heap_walk.specs.Holders.{links_at}
+use Rattle.heap_dump.specs.Fields.{spaced_pointer}
 use Rattle.heap_dump.proofs.fields.put_links.Given as goal
 
 abbrev pub invariant-loop-index : goal.invariant-loop-index

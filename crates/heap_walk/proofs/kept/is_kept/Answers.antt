@@ -24,7 +24,7 @@ pub returns-in-Object : goal.returns-in-Object
 unfolding object_at
 returns-in-Object c =
     let there = subst (λ (t : Table). IsSome (object_at t c.args.at)) c.table.ensures
-    (is_object _ c.in-Object.pointers c.in-Object.weaks c.in-Object.values
+    (is_object _ c.in-Object.pointers c.in-Object.slots c.in-Object.values
     (subst (λ (t : Table). IsSome (tile_in t c.args.at)) (sym c.table.ensures) c.requires) c.in-Object.ensures) in
     kept_by c.args.core.now c.law_remembers.ensures.core c.args.at c.lasting.result c.is_some.result there
     (c.lasting.ensures ∙ ap₂ (λ (t : Table) (m : Marker). cleared_word (ended_marking_of t m) (Some c.args.at)) c.table-in-Object.ensures

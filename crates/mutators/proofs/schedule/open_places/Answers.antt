@@ -1,7 +1,6 @@
 use Rattle.std.proofs.Common.{arith, ap, ◌<◌, ◌≤◌, ◌≡◌, ◌+◌, ◌++◌, ◌∷◌, [], ◌∙◌, sym, refl, length, List, ℕ, drop, append-nil, append_assoc}
 use Rattle.std.specs.Prelude.{slice_index}
 use Rattle.mutators.specs.Journals.{script_at, mutators_of}
-use Rattle.heap_words.specs.declared.config.Config.{Config}
 use Rattle.mutators.specs.Draws.{lefts_of, open_from}
 use Rattle.mutators.proofs.Drops.{open_here, open_past, open_end, lefts_len, left_here}
 use Rattle.mutators.proofs.schedule.open_places.Goals.{then-is_left+in_ok-push, else-is_left}
@@ -10,8 +9,8 @@ use Rattle.mutators.proofs.schedule.open_places.Goals as goal
 pub returns : goal.returns
 returns c =
     let d = c.args.journal.now in
-    let len = lefts_len d d refl c.config-mutators.ensures.keeps in
-    let m : c.config-mutators.result.mutators ≡ mutators_of d = ap (λ (x : Config). x.mutators) c.config-mutators.ensures.value in
+    let len = lefts_len d d refl c.mutators-mutators.ensures.keeps in
+    let m : c.mutators-mutators.result ≡ mutators_of d = c.mutators-mutators.ensures.value in
     let none = open_end (lefts_of d) c.loop-k.k (omega (arith, len, m, c.loop-k-test.false)) in
     sym (append-nil c.loop-k.unfinished.items) ∙ ap (λ (l : List ℕ). c.loop-k.unfinished.items ++ l) (sym none) ∙ c.loop-k.invariant
 
@@ -19,8 +18,8 @@ pub loop-k-preserved : goal.loop-k-preserved
 loop-k-preserved c =
     let d = c.args.journal.now in
     let k = c.loop-k.k in
-    let len = lefts_len d d refl c.config-mutators.ensures.keeps in
-    let m : c.config-mutators.result.mutators ≡ mutators_of d = ap (λ (x : Config). x.mutators) c.config-mutators.ensures.value in
+    let len = lefts_len d d refl c.mutators-mutators.ensures.keeps in
+    let m : c.mutators-mutators.result ≡ mutators_of d = c.mutators-mutators.ensures.value in
     let row : k < length d.scripts = omega (arith, len, m, c.loop-k-test.true) in
     let within : k < length (lefts_of d) = omega (arith, len, m, c.loop-k-test.true) in
     let rest : List ℕ = open_from (k + 1) (drop (k + 1) (lefts_of d)) in

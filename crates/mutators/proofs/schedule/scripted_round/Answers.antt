@@ -8,29 +8,29 @@ use Rattle.mutators.proofs.schedule.scripted_round.Goals as goal
 
 pub overflow_cast-n : goal.overflow_cast-n
 overflow_cast-n c =
-    let few = few_open c.args.journal.now c.args.unfinished.now.items c.config-mutators.ensures.keeps c.requires.unfinished in
+    let few = few_open c.args.journal.now c.args.unfinished.now.items c.mutators-mutators.ensures.keeps c.requires.unfinished in
     let count : c.len.result ≡ length c.args.unfinished.now.items = search rules in
     omega (arith, count, few)
 
 pub scripted_at-requires-clause-place : goal.scripted_at-requires-clause-place
 scripted_at-requires-clause-place c =
     let at = picked c.args.journal.now c.args.word c.len.result c.index-place.result.now c.args.unfinished.now.items
-    c.config-mutators.ensures.keeps c.requires.unfinished c.requires.some (search rules) c.index-place.ensures in
-    omega (arith, at.1, ap (λ x. x.mutators) c.config-mutators.ensures.value)
+    c.mutators-mutators.ensures.keeps c.requires.unfinished c.requires.some (search rules) c.index-place.ensures in
+    omega (arith, at.1, c.mutators-mutators.ensures.value)
 
 pub is_left-requires : goal.is_left-requires
 is_left-requires c =
     let at = picked c.args.journal.now c.args.word c.len.result c.index-place.result.now c.args.unfinished.now.items
-    c.config-mutators.ensures.keeps c.requires.unfinished c.requires.some (search rules) c.index-place.ensures in
+    c.mutators-mutators.ensures.keeps c.requires.unfinished c.requires.some (search rules) c.index-place.ensures in
     omega (arith, at.1, ap (λ x. x.mutators) c.in_ok-turn_at.ensures.plan.0)
 
 pub returns : goal.returns
 returns c =
     let at = picked c.args.journal.now c.args.word c.len.result c.index-place.result.now c.args.unfinished.now.items
-    c.config-mutators.ensures.keeps c.requires.unfinished c.requires.some (search rules) c.index-place.ensures in
+    c.mutators-mutators.ensures.keeps c.requires.unfinished c.requires.some (search rules) c.index-place.ensures in
     let turn = picked_turn c.args.journal.now c.turn_at.new.self c.in_ok-turn_at.field-0 c.scripted_at.result c.args.word
-    c.index-place.result.now c.config-mutators.result.mutators c.config-mutators.ensures.keeps
-    (ap (λ x. x.mutators) c.config-mutators.ensures.value) at c.scripted_at.ensures.is c.in_ok-turn_at.ensures.turn
+    c.index-place.result.now c.mutators-mutators.result c.mutators-mutators.ensures.keeps
+    c.mutators-mutators.ensures.value at c.scripted_at.ensures.is c.in_ok-turn_at.ensures.turn
     c.in_ok-turn_at.ensures.plan in
     let d = c.args.journal.now in
     let e = c.turn_at.new.self in
@@ -38,7 +38,7 @@ returns c =
     let n = c.args.word % c.len.result in
     let count : c.len.result ≡ length c.args.unfinished.now.items = search rules in
     let below : n < length c.args.unfinished.now.items = omega (arith, count, c.requires.some) in
-    let len = lefts_len d d refl c.config-mutators.ensures.keeps in
+    let len = lefts_len d d refl c.mutators-mutators.ensures.keeps in
     let row : p < length e.scripts = omega (arith, at.1, len, ap (λ (l : List (List Step)). length l) c.in_ok-turn_at.ensures.plan.1) in
     let here = left_here e p row in
     record {

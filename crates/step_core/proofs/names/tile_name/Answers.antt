@@ -6,12 +6,12 @@ use Rattle.step_core.proofs.names.tile_name.Goals as goal
 
 pub name-requires : goal.name-requires
 unfolding object_at
-name-requires c = is_object _ c.in-Object.pointers c.in-Object.weaks c.in-Object.values c.requires c.in-Object.ensures
+name-requires c = is_object _ c.in-Object.pointers c.in-Object.slots c.in-Object.values c.requires c.in-Object.ensures
 
 pub returns-in-Object : goal.returns-in-Object
 unfolding object_at
 returns-in-Object c = sym (has_name _ c.name.result
-    (is_object _ c.in-Object.pointers c.in-Object.weaks c.in-Object.values c.requires c.in-Object.ensures) c.name.ensures)
+    (is_object _ c.in-Object.pointers c.in-Object.slots c.in-Object.values c.requires c.in-Object.ensures) c.name.ensures)
 
 pub returns-in-Filler : goal.returns-in-Filler
 unfolding object_at

@@ -20,11 +20,11 @@ save-full-requires-clause-kept c = word_kept _ _ c.self.view_is c.self.invariant
 -- ---- while marking doesn't run
 pub invariant_of-self : goal.invariant_of-self
 invariant_of-self c = (idle_ends _ _ c.self.view_is c.self.invariant c.args.mutator c.args.to c.args.value.now c.requires.word _
-    c.set_register.ensures c.if-not-self.true).core
+    c.set_register.ensures c.if-not-running.true).core
 
-pub returns-then-not-self : goal.returns-then-not-self
-returns-then-not-self c = (idle_ends _ _ c.self.view_is c.self.invariant c.args.mutator c.args.to c.args.value.now c.requires.word _
-    c.set_register.ensures c.if-not-self.true).does
+pub returns-then-not-running : goal.returns-then-not-running
+returns-then-not-running c = (idle_ends _ _ c.self.view_is c.self.invariant c.args.mutator c.args.to c.args.value.now c.requires.word _
+    c.set_register.ensures c.if-not-running.true).does
 
 -- ---- a log was taken
 pub invariant_of-self-then-full : goal.invariant_of-self-then-full
@@ -32,7 +32,7 @@ invariant_of-self-then-full c =
     let s = c.save-full.ensures in
     let t = c.take_log.ensures in
     (taken_ends _ _ c.self.view_is c.self.invariant c.args.mutator c.args.to c.args.value.now c.requires.word _ c.set_register.ensures
-    c.if-not-self.false _
+    c.if-not-running.false _
     (saves s.after s.saved s.same s.stands s.mutators s.most s.others)
     c.requires.known (sym s.full ∙ c.if-full.true) _
     (takes_log t.emptied t.marks t.same t.scanned t.scans t.waiting t.snapshots t.stands)).core
@@ -42,7 +42,7 @@ returns-then-full c =
     let s = c.save-full.ensures in
     let t = c.take_log.ensures in
     (taken_ends _ _ c.self.view_is c.self.invariant c.args.mutator c.args.to c.args.value.now c.requires.word _ c.set_register.ensures
-    c.if-not-self.false _
+    c.if-not-running.false _
     (saves s.after s.saved s.same s.stands s.mutators s.most s.others)
     c.requires.known (sym s.full ∙ c.if-full.true) _
     (takes_log t.emptied t.marks t.same t.scanned t.scans t.waiting t.snapshots t.stands)).does
@@ -52,12 +52,12 @@ pub invariant_of-self-else-full : goal.invariant_of-self-else-full
 invariant_of-self-else-full c =
     let s = c.save-full.ensures in
     (saved_ends _ _ c.self.view_is c.self.invariant c.args.mutator c.args.to c.args.value.now c.requires.word _ c.set_register.ensures
-    c.if-not-self.false _
+    c.if-not-running.false _
     (saves s.after s.saved s.same s.stands s.mutators s.most s.others) (sym s.full ∙ c.if-full.false)).core
 
 pub returns-else-full : goal.returns-else-full
 returns-else-full c =
     let s = c.save-full.ensures in
     (saved_ends _ _ c.self.view_is c.self.invariant c.args.mutator c.args.to c.args.value.now c.requires.word _ c.set_register.ensures
-    c.if-not-self.false _
+    c.if-not-running.false _
     (saves s.after s.saved s.same s.stands s.mutators s.most s.others) (sym s.full ∙ c.if-full.false)).does

@@ -18,6 +18,6 @@ pub object_seen-requires : goal.object_seen-requires
 unfolding object_at
 object_seen-requires c =
     let shape = subst (λ (t : Table).
-    IfSome (tile_in t c.args.at) (λ t. shapes.Object c.in-Object.pointers c.in-Object.weaks c.in-Object.values ≡ tile_shape t))
+    IfSome (tile_in t c.args.at) (λ t. shapes.Object c.in-Object.pointers c.in-Object.slots c.in-Object.values ≡ tile_shape t))
     c.table.ensures c.in-Object.ensures in
-    is_object _ c.in-Object.pointers c.in-Object.weaks c.in-Object.values c.requires shape
+    is_object _ c.in-Object.pointers c.in-Object.slots c.in-Object.values c.requires shape
