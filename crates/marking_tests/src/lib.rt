@@ -1,27 +1,12 @@
-//! Tests of the layers that marking rests on, and of marking. They go by public calls alone and are apart from the crates that they try,
-//! so that these are proved once. The crate has nothing else, and nothing depends on it.
+//! Tests of marking, and of what it rests on. They go by public calls alone and are apart from the crates that they try, so that these are
+//! proved once. The crate has nothing else, and nothing depends on it.
 //!
-//! `headers`, `sizes` and `memory` try `heap_words`, `number_sets` and `bounded_sets` try `bit_sets`, `roots` tries `root_table`,
-//! `steps` tries `heap_steps`, `marks` tries `mark_bitmap`, `logs` tries `satb_log`, and `cycles` the `marker`, over tables made by hand.
+//! `marks` tries `mark_bitmap`, `logs` tries `satb_log`, and `cycles` the `marker`, over tables made by hand.
 #![tactic(auto)]
 
 #[cfg(test)]
-mod bounded_sets;
-#[cfg(test)]
 mod cycles;
-#[cfg(test)]
-mod headers;
 #[cfg(test)]
 mod logs;
 #[cfg(test)]
 mod marks;
-#[cfg(test)]
-mod memory;
-#[cfg(test)]
-mod number_sets;
-#[cfg(test)]
-mod roots;
-#[cfg(test)]
-mod sizes;
-#[cfg(test)]
-mod steps;
