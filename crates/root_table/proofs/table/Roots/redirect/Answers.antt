@@ -52,7 +52,7 @@ loop-row-preserved c =
     let words : AreRedirectedBetween c.args.from c.args.to 0 (row_start t.places c.loop-row.row) c.args.self.now.words t.words =
     rw at c.loop-row.invariant.words in
     let more : AreRedirectedBetween c.args.from c.args.to (row_start t.places c.loop-row.row) (row_start t.places c.loop-row.row + x)
-        t.words c.redirect_among.new.self.words =
+    t.words c.redirect_among.new.self.words =
     rw (← start) c.redirect_among.ensures.words in
     record {
       words = rw (← c.loop-row.invariant.places) (row_redirected t.places used c.args.from c.args.to c.loop-row.row x
