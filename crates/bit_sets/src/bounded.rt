@@ -153,7 +153,8 @@ impl BoundedBits {
         self.high = high;
     }
 
-    /// The numbers from `from` up to `to`, which is not one of them, are not in the set. It touches nothing where none is within the bounds.
+    /// The numbers from `from` up to `to`, which is not one of them, are not in the set. It touches nothing outside the
+    /// bounds.
     pub fn clear_range(&mut self, from: u32, to: u32)
         requires { to ≤ length self.old }
         ensures len { length self.new ≡ length self.old }

@@ -339,7 +339,7 @@ impl PagedWords {
         );
     }
 
-    /// The words of one page, from one up to another, which is not one of them, are 0. It is a look at the page's place, and no page is taken.
+    /// The words of one page, from one up to another, which is not one of them, are 0. It is a look at the page's place, and takes no page.
     #[inline(always)]
     pub(crate) fn clear_between(&mut self, first: u32, past: u32)
         requires order { first < past }

@@ -1,6 +1,6 @@
 -- One address gives way to another, place by place.
-use Rattle.std.proofs.Common.{◌≡◌, ◌≢◌, ◌⊎◌, ◌+◌, ◌∙◌, ◌<◌, ◌≤◌, ℕ, suc, List, Option, Some, None, length, get_or, set, refl, sym, ap, arith}
-use Rattle.std.proofs.Common.{inl, inr, map, subst}
+use Rattle.std.proofs.Common.{◌≡◌, ◌≢◌, ◌⊎◌, ◌+◌, ◌∙◌, ◌<◌, ◌≤◌, ℕ, suc, List, Option, Some, None, length, get_or, set}
+use Rattle.std.proofs.Common.{refl, sym, ap, arith, inl, inr, map, subst}
 use Rattle.std.proofs.lemmas.Bool.{cases_lt, cases_eq, eq-eqb, ne_eqb}
 use Rattle.std.proofs.lemmas.List.{ext_get_or, get_or-map, length-map, length-set, get_or-set_same, get_or-set_other}
 use Rattle.heap_model.specs.Graph.{RootCounts}
@@ -102,7 +102,8 @@ unused_redirected p used from to row x old now b known read none r =
       left = λ j h. refl;
     }
 
-pub all_redirected : (p : RootCounts) (from to end : ℕ) (old now : List (Option ℕ)) → AreRedirectedBetween from to 0 (row_start p end) old now
+pub all_redirected : (p : RootCounts) (from to end : ℕ) (old now : List (Option ℕ))
+    → AreRedirectedBetween from to 0 (row_start p end) old now
     → end ≡ p.mutators + 1 → length old ≤ row_start p (suc p.mutators) → now ≡ map (redirected from to) old
 all_redirected p from to end old now r e most =
     let at : row_start p end ≡ row_start p (suc p.mutators) = ap (row_start p) {x = end} {y = suc p.mutators} (omega (arith, e)) in
