@@ -20,7 +20,8 @@ and 20,000 steps; and of the same events by `check` and by `check --follow`. Wit
 programs: the difference of two scripts. With --weak those of a marking cycle with weak slots and without, by `run` and by `check`: the
 difference of scripts that differ by some cycles.
 
-With --moves a compaction that moves a run down by one region is counted, on top of one with budget 0, beside memmove of as many words.
+With --moves a compaction that moves a run down by one region is counted, on top of one whose budget is a word too few for it, as is written
+in as many digits, beside memmove of as many words.
 
 With --pages `draw` is measured beside the `run` of the same script: seconds, instructions, the page's bytes and moments.
 """
@@ -252,7 +253,7 @@ def measure_moves(program):
             bare = (long - short) / 500
             for pointers in (0, size // 2):
                 counts = []
-                for budget in (size, 0):
+                for budget in (size, size - 1):
                     cost_scripts.write_lines(path, cost_scripts.run_moves(size, pointers, words, regions, budget, MOVE_TIMES))
                     counts.append([instructions(tried, "run", path) for tried in (program, plain)])
                 one, other = ((moved - still) / MOVE_TIMES for moved, still in zip(*counts))

@@ -1,5 +1,5 @@
 -- Sets of numbers with bounds of their members.
-use Rattle.std.proofs.Common.{◌≡◌, ◌+◌, ◌<◌, ◌≤◌, ◌∙◌, ℕ, max, Bool, true, false, List, length, length-set, set, replicate}
+use Rattle.std.proofs.Common.{◌≡◌, ◌+◌, ◌<◌, ◌≤◌, ◌⊎◌, ◌∙◌, ℕ, max, Bool, true, false, List, length, length-set, set, replicate}
 use Rattle.std.proofs.Common.{get_or-set_other, inl, inr, refl, sym, ap, arith, if◌then◌else◌, ext_get_or}
 use Rattle.std.proofs.lemmas.List.{length-replicate, get_or-replicate}
 use Rattle.std.proofs.lemmas.Bool.{cases_lt, cases_eq}
@@ -46,6 +46,23 @@ within_range flags new low high low' high' from to inside len put w x = record {
         ]
       ];
 }
+
+-- no member is in a range that is outside the bounds
+pub nothing_cleared : (flags : List Bool) (low high from to a : ℕ) → AreWithin flags low high → (high ≤ from) ⊎ (to ≤ low)
+    → has flags a ≡ (if is_between from to a then false else has flags a)
+nothing_cleared flags low high from to a w out = elim (cases_lt a from) [
+  | inl b ↦ sym (ap (λ (x : Bool). if x then false else has flags a) (between_no_below from to a b))
+  | inr b ↦ elim (cases_lt a to) [
+    | inl d ↦ is_none (has flags a) refl (λ e. let m = w.each a e in
+        elim out [ inl o ↦ absurd (omega (arith, o, b, m.1)) | inr o ↦ absurd (omega (arith, o, d, m.0)) ])
+        ∙ sym (ap (λ (x : Bool). if x then false else has flags a) (between_yes from to a b d))
+    | inr d ↦ sym (ap (λ (x : Bool). if x then false else has flags a) (between_no_above from to a d))
+  ]
+]
+  where
+    is_none : (x : Bool) → has flags a ≡ x → (has flags a ≡ true → ⊥) → has flags a ≡ false
+    is_none true e f = absurd (f e)
+    is_none false e f = e
 
 pub none_left : (flags new : List Bool) (low high : ℕ) → AreWithin flags low high → length new ≡ length flags
     → ((a : ℕ) → has new a ≡ (if is_between low high a then false else has flags a)) → new ≡ replicate (length flags) false

@@ -12,7 +12,7 @@ use Rattle.bit_sets.specs.Bits.{is_between}
 use Rattle.bit_sets.specs.BitWords.{AreSame}
 use Rattle.bit_sets.specs.Pages.{index_of, page_size, paged_word, words_of, taken_words, ArePages}
 use Rattle.bit_sets.proofs.BitWords.{all_zeros}
-use Rattle.bit_sets.proofs.BitRanges.{between_yes, between_no_below, between_no_above}
+use Rattle.bit_sets.proofs.BitRanges.{between_yes, between_no_below, between_no_above, between_same}
 
 -- ---- one word
 pub word_none : (places pool : List ℕ) (g : ℕ) → slice_index places (g / 512) ≡ 0 → paged_word places pool g ≡ 0
@@ -311,6 +311,35 @@ nothing_filled places pool from to value g page none e = elim (cases_eq (g / 512
       [ true ↦ word_none places pool g (rw same none) ∙ sym e | false ↦ refl ]
   | inr ne ↦ sym (ap (λ (b : Bool). if b then value else paged_word places pool g) (other_page from to g page ne))
 ]
+
+-- ---- word by word
+abbrev pub AreFilled : ℕ → ℕ → List ℕ → List ℕ → ℕ → Type 0
+AreFilled from value old now upto = (i : ℕ) → slice_index now i ≡ (if is_between from upto i then value else slice_index old i)
+
+pub none_filled : (from value : ℕ) (old : List ℕ) → AreFilled from value old old from
+none_filled from value old i =
+    sym (ap (λ (b : Bool). if b then value else slice_index old i) (elim (cases_lt i from) [
+      | inl h ↦ between_no_below from from i h
+      | inr h ↦ between_no_above from from i h
+    ]))
+
+pub one_filled : (from value : ℕ) (old now : List ℕ) (index : ℕ) → from ≤ index → index < length now → AreFilled from value old now index
+    → AreFilled from value old (set now index value) (index + 1)
+one_filled from value old now index low inside filled i = elim (cases_eq i index) [
+  | inl q ↦ ap (λ (k : ℕ). slice_index (set now index value) k) q ∙ get_or-set_same now index value 0 inside
+      ∙ sym (ap (λ (b : Bool). if b then value else slice_index old i)
+      (between_yes from (index + 1) i (omega (arith, q, low)) (omega (arith, q))))
+  | inr n ↦ get_or-set_other now index i value 0 n ∙ filled i
+      ∙ ap (λ (b : Bool). if b then value else slice_index old i)
+      (between_same from index (index + 1) i (λ h. omega (arith, h)) (λ h. omega (arith, h, n)))
+]
+
+-- up to the end, or none where that is before the first
+pub all_filled : (from to value : ℕ) (old now : List ℕ) (index : ℕ) → from ≤ to → to ≤ index → index ≤ max from to
+    → AreFilled from value old now index → AreFilled from value old now to
+all_filled from to value old now index order past most filled i =
+    filled i ∙ ap (λ (b : Bool). if b then value else slice_index old i)
+    (between_same from index to i (λ h. omega (arith, h, order, most)) (λ h. omega (arith, h, past)))
 
 -- ---- page by page
 abbrev pub IsFilledUpTo : ℕ → ℕ → ℕ → List ℕ → List ℕ → List ℕ → List ℕ → ℕ → Type 0

@@ -19,7 +19,7 @@ ghost use Rattle.std.specs.List.{range_with_len};
 ghost use Rattle.bit_sets.specs.Bits.{has, has_alone, is_between, is_passing, HasNone, HasNoneBelow, IsLowest};
 
 use crate::groups::{count_bits, join_bits, lowest_if_any, lowest_of, put_bits, whole_word};
-use crate::pages::PagedWords;
+use crate::pages::{PAGE, PagedWords};
 use std::alloc::{AllocError, Global};
 use std::marker::Model;
 
@@ -214,13 +214,56 @@ impl Bits {
         count_bits(&self.words, from, to)
     }
 
-    /// The numbers from `from` up to `to`, which is not one of them, are not in the set.
+    /// The numbers from `from` up to `to`, which is not one of them, are not in the set. Where it is whole words of one page that is a look
+    /// at the page's place and one fill.
+    #[inline(never)]
     pub fn clear_range(&mut self, from: u32, to: u32)
         requires { to ≤ length self.old }
         ensures len { length self.new ≡ length self.old }
         ensures flags { (a : ℕ) → has self.new a ≡ (if is_between from to a then false else has self.old a) }
     {
+        if from >= to {
+            return;
+        }
+        if from % 64 == 0 {
+            if to % 64 == 0 {
+                if from / 64 / PAGE == (to / 64 - 1) / PAGE {
+                    self.clear_groups(from / 64, to / 64);
+                    return;
+                }
+            }
+        }
+        self.clear_any(from, to);
+    }
+
+    /// The same, of any numbers.
+    #[inline(never)]
+    fn clear_any(&mut self, from: u32, to: u32)
+        requires { to ≤ length self.old }
+        ensures len { length self.new ≡ length self.old }
+        ensures flags { (a : ℕ) → has self.new a ≡ (if is_between from to a then false else has self.old a) }
+    {
         self.put_range(from, to, false);
+    }
+
+    /// The numbers of whole groups of one page, from one up to another, which is not one of them, are not in the set.
+    #[inline(always)]
+    fn clear_groups(&mut self, first: u32, past: u32)
+        requires order { first < past }
+        requires page { past ≤ 512 * (first / 512) + 512 }
+        requires within { 64 * past ≤ length self.old }
+        ensures len { length self.new ≡ length self.old }
+        ensures flags { (a : ℕ) → has self.new a ≡ (if is_between (64 * first) (64 * past) a then false else has self.old a) }
+    {
+        self.words.clear_between(first, past);
+    }
+
+    /// Whether no number came into the set since it was made or cleared: then it is empty, and if not, it may be. It costs one look.
+    #[inline(always)]
+    pub fn is_untouched(&self) -> bool
+        ensures { result ≡ true → self.now ≡ replicate (length self.now) false }
+    {
+        self.words.is_untouched()
     }
 
     /// The lowest number of the set at or above `from`.

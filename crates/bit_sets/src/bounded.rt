@@ -153,24 +153,44 @@ impl BoundedBits {
         self.high = high;
     }
 
-    /// The numbers from `from` up to `to`, which is not one of them, are not in the set.
+    /// The numbers from `from` up to `to`, which is not one of them, are not in the set. It touches nothing outside the
+    /// bounds.
     pub fn clear_range(&mut self, from: u32, to: u32)
         requires { to ≤ length self.old }
         ensures len { length self.new ≡ length self.old }
         ensures flags { (a : ℕ) → has self.new a ≡ (if is_between from to a then false else has self.old a) }
     {
+        if self.high <= from {
+            return;
+        }
+        if to <= self.low {
+            return;
+        }
         self.bits.clear_range(from, to);
     }
 
-    /// The lowest number of the set at or above `from`. Where members are in a row it looks at one bit for the next one.
+    /// The lowest number of the set at or above `from`. Where members are in a row it looks at one bit for the next one, and above the
+    /// highest one at nothing.
+    #[inline(always)]
     pub fn next(&self, from: u32) -> Option<u32>
         ensures lowest { MatchOption result (HasNone (has self.now) from) (IsLowest (has self.now) from) }
         ensures within { IfSome result (λ found. found < length self.now) }
     {
-        if from < self.high {
-            if self.bits.get(from) {
-                return Some(from);
-            }
+        if self.high <= from {
+            return None;
+        }
+        self.next_below_high(from)
+    }
+
+    /// The same, below the highest bound.
+    #[inline(never)]
+    fn next_below_high(&self, from: u32) -> Option<u32>
+        requires { from < length self.now }
+        ensures lowest { MatchOption result (HasNone (has self.now) from) (IsLowest (has self.now) from) }
+        ensures within { IfSome result (λ found. found < length self.now) }
+    {
+        if self.bits.get(from) {
+            return Some(from);
         }
         self.bits.search_below(from.max(self.low), self.high)
     }

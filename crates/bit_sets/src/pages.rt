@@ -25,7 +25,7 @@ use std::alloc::{AllocError, Global};
 use std::marker::Model;
 
 /// How many words a page has. The last one may have fewer.
-const PAGE: u32 = 512;
+pub(crate) const PAGE: u32 = 512;
 
 /// More than the first group of any page. Of a page that is taken the place is this, and where the page begins in the pool, less its first
 /// group: so a word is found by one addition, and no place of such a page is 0.
@@ -69,7 +69,9 @@ fn fill_words(words: &mut [u64], from: usize, to: usize, value: u64)
     ensures len { length words.new ≡ length words.old }
     ensures each { (i : ℕ) → slice_index words.new i ≡ (if is_between from to i then value else slice_index words.old i) }
 {
-    words[from..to].fill(value);
+    for index in from..to {
+        words[index] = value;
+    }
 }
 
 /// The lowest one of the words that isn't 0, or how many there are.
@@ -169,6 +171,25 @@ fn fill_page(places: &mut Vec<u32>, pool: &mut Vec<u64>, len: u32, from: u32, to
     }
     let start = find_or_take(places, pool, len, from);
     fill_words(pool, start, start + (to - from) as usize, value);
+}
+
+/// The words of one page, from one up to another, which is not one of them, are 0. No page is taken for it.
+#[inline(always)]
+fn clear_in_page(places: &[u32], pool: &mut [u64], len: u32, from: u32, to: u32)
+    requires pages { ArePages places.now pool.old len }
+    requires some { from < to }
+    requires known { to ≤ len }
+    requires page { to ≤ 512 * (from / 512) + 512 }
+    ensures pages { ArePages places.now pool.new len }
+    ensures each { (g : ℕ) → g < len → paged_word places.now pool.new g
+        ≡ (if is_between from to g then 0 else paged_word places.now pool.old g) }
+    ensures len { length pool.new ≡ length pool.old }
+{
+    let place = places[from as usize / 512];
+    if place != 0 {
+        let start = index_in(place, from);
+        fill_words(pool, start, start + (to - from) as usize, 0);
+    }
 }
 
 /// The words from one up to another, which is not one of them, hold this value. Where that is 0, no page is taken for it.
@@ -316,6 +337,30 @@ impl PagedWords {
             past,
             value,
         );
+    }
+
+    /// The words of one page, from one up to another, which is not one of them, are 0. It is a look at the page's place, and takes no page.
+    #[inline(always)]
+    pub(crate) fn clear_between(&mut self, first: u32, past: u32)
+        requires order { first < past }
+        requires known { past ≤ length self.old }
+        requires page { past ≤ 512 * (first / 512) + 512 }
+        ensures len { length self.new ≡ length self.old }
+        ensures each { (i : ℕ) → slice_index self.new i ≡ (if is_between first past i then 0 else slice_index self.old i) }
+    {
+        clear_in_page(&self.places, &mut self.pool, self.len, first, past);
+    }
+
+    /// Whether no page is taken.
+    #[inline(always)]
+    pub(crate) fn is_untouched(&self) -> bool
+        ensures { result ≡ true → self.now ≡ replicate (length self.now) 0 }
+    {
+        let taken = self.pool.len();
+        if taken == 0 {
+            return true;
+        }
+        false
     }
 
     /// Each word is 0. It touches the places of the pages, where one is taken, and none of the words.

@@ -114,6 +114,19 @@ fn card_from(shift: u32, word: u32) -> u32
     (word + ((1 << shift) - 1)) >> shift
 }
 
+/// So many cards are written at once where many have the same entry.
+const BLOCK: usize = 64;
+
+/// The cards of a block from one on have this entry: as the block's size is known, that takes no loop.
+#[inline(always)]
+fn fill_block(entries: &mut [u32], from: usize, entry: u32)
+    requires { from + 64 ≤ length entries.old }
+    ensures len { length entries.new ≡ length entries.old }
+    ensures entries { (c : ℕ) → slice_index entries.new c ≡ (if is_between from (from + 64) c then entry else slice_index entries.old c) }
+{
+    entries[from..from + BLOCK].fill(entry);
+}
+
 /// The cards from one on up to another, which is not one of them, have this entry.
 #[cold]
 #[inline(never)]
@@ -122,8 +135,14 @@ fn fill_more(entries: &mut [u32], from: u32, to: u32, entry: u32)
     ensures len { length entries.new ≡ length entries.old }
     ensures entries { (c : ℕ) → slice_index entries.new c ≡ (if is_between from to c then entry else slice_index entries.old c) }
 {
-    for card in from..to {
-        entries[card as usize] = entry;
+    let end = to as usize;
+    let mut next = from as usize;
+    'full: while next + BLOCK <= end {
+        fill_block(entries, next, entry);
+        next += BLOCK;
+    }
+    for card in next..end {
+        entries[card] = entry;
     }
 }
 
@@ -138,9 +157,8 @@ fn fill_cards(entries: &mut [u32], from: u32, to: u32, entry: u32)
         return;
     }
     entries[from as usize] = entry;
-    let next = from + 1;
-    if next < to {
-        fill_more(entries, next, to, entry);
+    if from + 1 < to {
+        fill_more(entries, from, to, entry);
     }
 }
 

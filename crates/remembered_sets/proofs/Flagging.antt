@@ -1,5 +1,6 @@
 -- The cards of one marked region after another.
 use Rattle.std.proofs.Common.{◌≡◌, ◌≢◌, ◌+◌, ◌*◌, ◌/◌, ◌<◌, ◌≤◌, ◌∙◌, inl, inr, ℕ, Bool, List, sym, ap, ap₂, arith}
+use Rattle.std.proofs.Common.{zero, suc, refl, false, true, length, replicate}
 use Rattle.std.specs.Prelude.{◌||◌, ◌&&◌}
 use Rattle.std.proofs.lemmas.Bool.{cases_eq, cases_lt, eq-eqb, ne_eqb}
 use Rattle.bit_sets.specs.Bits.{has, is_between, IsLowest}
@@ -33,3 +34,15 @@ flagged_below w source start k sources old cur new member some h lowest below ab
             ∙ ap (λ (b : Bool). old || (b && member)) (sym (lowest.lowest (k / w) late (omega (arith, h, ne))))
       ]
 ]
+
+-- where no region is marked a flag stays
+none_in : (n i : ℕ) → has (replicate n false) i ≡ false
+none_in zero i = refl
+none_in (suc n) zero = refl
+none_in (suc n) (suc i) = none_in n i
+
+pub unmarked_stays : (sources : List Bool) (region : ℕ) (flag passes : Bool) → sources ≡ replicate (length sources) false
+    → flag ≡ (flag || (has sources region && passes))
+unmarked_stays sources region true passes e = refl
+unmarked_stays sources region false passes e =
+    sym (ap (λ (b : Bool). b && passes) (ap (λ (l : List Bool). has l region) e ∙ none_in (length sources) region))

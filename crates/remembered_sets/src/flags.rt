@@ -79,6 +79,9 @@ pub(crate) fn flag_sources(
     ensures len { length flags.new ≡ length flags.old }
 {
     flags.law();
+    if sources.is_untouched() {
+        return;
+    }
     let mut start = 0;
     while let Some(source) = sources.next(start) {
         filter.mark(part, source, cards_per_region, entered, flags);

@@ -1,8 +1,9 @@
 -- The table of roots, as contracts see it.
-use Rattle.std.specs.Prelude.{◌≡◌, ℕ, zero, suc, ◌≤◌, ◌<◌, List, Option, Some, None, slice_index_or}
+use Rattle.std.specs.Prelude.{◌≡◌, ◌≢◌, ◌⊎◌, ℕ, zero, suc, ◌≤◌, ◌<◌, List, Option, Some, None, length, slice_index_or}
 use Rattle.heap_words.specs.declared.config.Config.{Config}
 use Rattle.heap_words.specs.Configs.{globals_of, registers_of}
 use Rattle.heap_model.specs.Graph.{RootCounts, register_place}
+use Rattle.heap_model.specs.Redirection.{redirected}
 
 -- how many globals, mutators and registers sizes ask for
 abbrev pub root_counts_of : Config → RootCounts
@@ -33,3 +34,19 @@ pub record IsNextNamed (words : List (Option ℕ)) (from place : ℕ) : Type 0 w
   pub nil_before : AreNil words from place
   pub address : ℕ
   pub holds : slice_index_or words place None ≡ Some address
+
+-- no place from one on, below another, holds an address
+abbrev pub HoldNowhere : List (Option ℕ) → ℕ → ℕ → ℕ → Type 0
+HoldNowhere words at from to = (place : ℕ) → from ≤ place → place < to → slice_index_or words place None ≢ Some at
+
+-- the lowest place from one on that holds an address
+pub record IsNextHolder (words : List (Option ℕ)) (at from place : ℕ) : Type 0 where
+  pub from_on : from ≤ place
+  pub not_before : HoldNowhere words at from place
+  pub holds : slice_index_or words place None ≡ Some at
+
+-- what holds one address of the places from one on, below another, holds the other address now, and all else is as it was
+pub record AreRedirectedBetween (from to first past : ℕ) (old now : List (Option ℕ)) : Type 0 where
+  pub count : length now ≡ length old
+  pub done : (place : ℕ) → first ≤ place → place < past → slice_index_or now place None ≡ redirected from to (slice_index_or old place None)
+  pub left : (place : ℕ) → (place < first) ⊎ (past ≤ place) → slice_index_or now place None ≡ slice_index_or old place None

@@ -1,6 +1,6 @@
 //! What a root place holds.
 
-ghost use Rattle.std.specs.Prelude.{◌≡◌, None};
+ghost use Rattle.std.specs.Prelude.{◌≡◌, ◌≢◌, false, true, None, Some};
 
 use heap_words::addr::{Addr, Ptr};
 use std::marker::Model;
@@ -53,6 +53,18 @@ impl Held {
                 word: at.word(),
             },
         }
+    }
+
+    /// Whether it is an address.
+    #[inline(always)]
+    pub(crate) fn is(&self, at: Addr) -> bool
+        ensures yes { result ≡ true → self.now ≡ Some at }
+        ensures no { result ≡ false → self.now ≢ Some at }
+    {
+        if self.word != at.word() {
+            return false;
+        }
+        self.named != 0
     }
 
     /// The same as a pointer.

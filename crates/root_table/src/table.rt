@@ -4,7 +4,7 @@ ghost use Rattle.std.specs.Prelude.{◌≡◌, ◌≢◌, ◌<◌, ◌≤◌, �
 ghost use Rattle.std.specs.Prelude.{None, IfOk, IfSome, IsSome, length, MatchOption, replicate, slice_index_or, slice_set};
 ghost use Rattle.heap_model.specs.Graph.{register_place, root_places, with_nils};
 ghost use Rattle.heap_model.specs.Redirection.{redirected};
-ghost use Rattle.root_table.specs.Roots.{AreNil, IsNextNamed};
+ghost use Rattle.root_table.specs.Roots.{AreNil, AreRedirectedBetween, HoldNowhere, IsNextHolder, IsNextNamed};
 
 use crate::held::Held;
 use crate::root_counts::RootCounts;
@@ -55,6 +55,21 @@ fn fill_nil(words: &mut [Held], first: usize, count: usize)
     for index in 0..count {
         words[first + index] = Held::nil();
     }
+}
+
+/// The lowest index from `from` on, below `to`, where an address is held, or `to` where there is none.
+fn first_holder(words: &[Held], from: usize, to: usize, at: Addr) -> usize
+    requires { to ≤ length words.now }
+    ensures none { HoldNowhere words.now at from result }
+    ensures found { result < to → IsNextHolder words.now at from result }
+    ensures end { to ≤ result → HoldNowhere words.now at from to }
+{
+    for index in from..to {
+        if words[index].is(at) {
+            return index;
+        }
+    }
+    to
 }
 
 /// Bounds of rows of which nothing is in use.
@@ -252,25 +267,49 @@ impl Roots {
     pub fn redirect(&mut self, from: Addr, to: Addr)
         ensures { self.new ≡ record self.old { words = map (redirected from to) self.old.words } }
     {
-        let mut place = 0;
-        'places: while let Some(named) = self.next_named(place) {
-            if self.names(named, from) {
-                self.update(named, Some(to));
+        for row in 0..self.places.mutators() as usize + 1 {
+            let used = self.used[row];
+            if used == 0 {
+                continue;
             }
+            let start = self.places.start_of(row);
+            self.redirect_among(start, start + used as usize, from, to);
+        }
+    }
+
+    /// Each place from `first` on, below `past`, that holds one address holds another from now on.
+    fn redirect_among(&mut self, first: usize, past: usize, from: Addr, to: Addr)
+        requires order { first ≤ past }
+        requires within { past ≤ length self.old.words }
+        ensures places { self.new.places ≡ self.old.places }
+        ensures words { AreRedirectedBetween from to first past self.old.words self.new.words }
+    {
+        let mut place = first;
+        'places: while let Some(named) = self.holder_among(place, past, from) {
+            self.update(named, Some(to));
             place = named + 1;
         }
     }
 
-    /// Whether a place holds an address.
-    fn names(&self, place: usize, at: Addr) -> bool
-        requires { place < length self.now.words }
-        ensures yes { result ≡ true → slice_index_or self.now.words place None ≡ Some at }
-        ensures no { result ≡ false → slice_index_or self.now.words place None ≢ Some at }
+    /// The lowest place from `from` on, below `to`, that holds an address.
+    fn holder_among(&self, from: usize, to: usize, at: Addr) -> Option<usize>
+        requires { to ≤ length self.now.words }
+        ensures lowest { MatchOption result (HoldNowhere self.now.words at from to) (IsNextHolder self.now.words at from) }
+        ensures below { IfSome result (λ place. place < to) }
     {
-        match self.get(place) {
-            Some(held) => held.word() == at.word(),
-            None => false,
+        let globals = self.globals.len();
+        let end = to.min(globals);
+        let global = first_holder(&self.globals, from, end, at);
+        if global < end {
+            return Some(global);
         }
+        let start = from.saturating_sub(globals);
+        let past = to.saturating_sub(globals);
+        let register = first_holder(&self.registers, start, past, at);
+        if register < past {
+            return Some(globals + register);
+        }
+        None
     }
 
     /// A mutator's registers from `register` on are nil. It costs those below their bound.

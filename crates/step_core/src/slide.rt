@@ -116,7 +116,6 @@ impl Core {
         ensures few { result.regions < 2 ^ 32 }
     {
         self.table.law();
-        let count = self.table.run_length(first);
         let moved = redirect_run(
             &mut self.table,
             &self.marker.tams,
@@ -136,14 +135,15 @@ impl Core {
             &mut self.sets,
             &mut self.ages,
             first,
-            count,
+            moved.regions as u32,
         );
         self.table.move_run(first, to);
         self.table.law();
         moved
     }
 
-    /// The lowest run that can moves down, where marking doesn't run.
+    /// The lowest run that can moves down, where marking doesn't run. It is no part of its caller, which does all other steps too.
+    #[inline(never)]
     pub(crate) fn slide(&mut self, words: u32) -> Moved
         requires settled { self.old.clearing ≡ None }
         requires clean { (card : ℕ) → is_dirty self.old.cards card ≡ false }

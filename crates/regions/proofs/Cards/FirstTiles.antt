@@ -75,6 +75,23 @@ if_above from to w x y h = go (leb from w)
     go true = rw none refl
     go false = refl
 
+-- the same of a block of cards
+pub block_written : (old new new' : List ℕ) (first upto next last entry : ℕ) → first ≤ upto → upto ≤ next → next ≤ last
+    → length new' ≡ length new → ((c : ℕ) → get_or new' c 0 ≡ (if is_between upto next c then entry else get_or new c 0))
+    → AreWritten old new first upto last entry → AreWritten old new' first next last entry
+block_written old new new' first upto next last entry l m k len put w = record {
+  bound = inl k;
+  len = len ∙ w.len;
+  inside = λ c x y. put c ∙ elim (cases_lt c upto) [
+    | inl b ↦ if_below upto next c entry (get_or new c 0) b ∙ w.inside c x b
+    | inr b ↦ if_between upto next c entry (get_or new c 0) b y
+  ];
+  outside = λ c x. put c ∙ elim x [
+    | inl b ↦ if_below upto next c entry (get_or new c 0) (omega (arith, b, l)) ∙ w.outside c (inl b)
+    | inr b ↦ if_above upto next c entry (get_or new c 0) b ∙ w.outside c (inr (omega (arith, b, m)))
+  ];
+}
+
 -- all cards from one on up to another have the entry
 pub filled : (old new : List ℕ) (from to entry i : ℕ) → to ≤ i → AreWritten old new from i to entry → (c : ℕ)
     → get_or new c 0 ≡ (if is_between from to c then entry else get_or old c 0)

@@ -1,9 +1,27 @@
 use Rattle.std.proofs.Common.{arith}
-use Rattle.regions.proofs.Cards.FirstTiles.{written_none, written_more, filled}
+use Rattle.regions.proofs.Cards.FirstTiles.{block_written, written_none, written_more, filled}
 use Rattle.regions.proofs.first_tiles.fill_more.Goals as goal
 
+pub full-init : goal.full-init
+full-init c = record { low = omega arith; small = omega (arith, c.ranges.from.fits); words = written_none _ _ _ _ }
+
+pub fill_block-requires : goal.fill_block-requires
+fill_block-requires c =
+    let w = c.full.invariant in
+    omega (arith, c.full-test.true, c.requires, w.words.len)
+
+pub full-preserved : goal.full-preserved
+full-preserved c =
+    let w = c.full.invariant in
+    record {
+      low = omega (arith, w.low);
+      small = omega (arith, c.full-test.true, c.ranges.to.fits);
+      words = block_written _ _ _ _ _ _ _ _ w.low (omega arith) (omega (arith, c.full-test.true)) c.fill_block.ensures.len
+          c.fill_block.ensures.entries w.words;
+    }
+
 pub loop-card-init : goal.loop-card-init
-loop-card-init c = (omega arith, written_none _ _ _ _)
+loop-card-init c = (c.full.invariant.low, c.full.invariant.words)
 
 pub loop-card-preserved : goal.loop-card-preserved
 loop-card-preserved c =

@@ -1,9 +1,15 @@
-use Rattle.std.proofs.Common.{◌∙◌, arith, ◌&&◌}
+use Rattle.std.proofs.Common.{◌∙◌, ◌/◌, arith, ◌&&◌}
 use Rattle.bit_sets.specs.Bits.{has}
 use Rattle.remembered_sets.specs.Sets.{lets_through}
 use Rattle.remembered_sets.specs.Sharing.{filter_at}
-use Rattle.remembered_sets.proofs.Flagging.{flagged_below, flagged_above}
+use Rattle.remembered_sets.proofs.Flagging.{flagged_below, flagged_above, unmarked_stays}
 use Rattle.remembered_sets.proofs.flags.flag_sources.Goals as goal
+
+pub returns-then-is_untouched-clause-flags : goal.returns-then-is_untouched-clause-flags
+returns-then-is_untouched-clause-flags c = λ k.
+    unmarked_stays c.args.sources.now (k / c.args.cards_per_region) (has c.args.flags.now k)
+    (has c.args.entered.now k && lets_through (filter_at c.args.filter.now c.args.part) c.args.cards_per_region k)
+    (c.is_untouched.ensures c.if-is_untouched.true)
 
 pub loop-source-preserved : goal.loop-source-preserved
 loop-source-preserved c = record {

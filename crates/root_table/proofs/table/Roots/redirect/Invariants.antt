@@ -1,12 +1,9 @@
-use Rattle.std.proofs.Common.{◌≡◌, ◌-◌, length}
-use Rattle.root_table.proofs.Redirected.{AreRedirected}
+use Rattle.std.proofs.Common.{◌≡◌}
+use Rattle.root_table.specs.Roots.{row_start, AreRedirectedBetween}
 use Rattle.root_table.proofs.table.Roots.redirect.Given as goal
 
-abbrev pub decreases-places : goal.decreases-places
-decreases-places l = length l.self.words - l.place
-
-abbrev pub invariant-places : goal.invariant-places
-invariant-places l = record {
-  words : AreRedirected l.from l.to l.initial.self.words l.self.words l.place;
-  places : l.self.places ≡ l.initial.self.places;
+abbrev pub invariant-loop-row : goal.invariant-loop-row
+invariant-loop-row l = record {
+  words : AreRedirectedBetween l.from l.to 0 (row_start l.fn.self.places l.row) l.fn.self.words l.self.words;
+  places : l.self.places ≡ l.fn.self.places;
 }

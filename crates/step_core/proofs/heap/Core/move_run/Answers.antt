@@ -21,13 +21,17 @@ few_regions t g n le =
     let some = mul-le (length t.regions) 1 (length t.regions) t.words_per_region (omega arith) g.positive in
     omega (arith, le, all, some)
 
-pub run_length-count-requires : goal.run_length-count-requires
-run_length-count-requires c =
+pub overflow_cast-moved : goal.overflow_cast-moved
+overflow_cast-moved c =
     let mv = to_fields _ _ c.self.view_is (λ d. IsMovable d c.args.first c.args.to) c.requires.movable in
     let idle = to_fields _ _ c.self.view_is (λ d. d.marker.running ≡ false) c.requires.idle in
     let none = to_fields _ _ c.self.view_is (λ d. d.clearing ≡ None) c.requires.settled in
     let clean = to_fields _ _ c.self.view_is (λ d. (card : ℕ) → is_dirty d.cards card ≡ false) c.requires.clean in
-    movable_known _ c.self.invariant c.law.ensures c.args.first c.args.to mv idle none clean
+    let known = movable_known _ c.self.invariant c.law.ensures c.args.first c.args.to mv idle none clean in
+    let fits = block_within c.self.inside.table c.args.first known in
+    let few : c.redirect_run-moved.result.regions < 2 ^ 32 =
+    few_regions _ c.law.ensures _ (omega (arith, fits, c.redirect_run-moved.ensures.regions)) in
+    omega (arith, few)
 
 pub redirect_run-moved-requires-clause-can : goal.redirect_run-moved-requires-clause-can
 redirect_run-moved-requires-clause-can c =
@@ -57,7 +61,7 @@ forget-requires-clause-within c =
     let clean = to_fields _ _ c.self.view_is (λ d. (card : ℕ) → is_dirty d.cards card ≡ false) c.requires.clean in
     let known = movable_known _ c.self.invariant c.law.ensures c.args.first c.args.to mv idle none clean in
     let fits = block_within c.self.inside.table c.args.first known in
-    omega (arith, fits, c.run_length-count.ensures, c.redirect_run-moved.ensures.redirected.table.count)
+    omega (arith, fits, c.redirect_run-moved.ensures.regions, c.redirect_run-moved.ensures.redirected.table.count)
 
 pub move_run-requires-clause-known : goal.move_run-requires-clause-known
 move_run-requires-clause-known c =
@@ -109,7 +113,7 @@ invariant_of-self c =
     let closed_all =
     to_fields _ _ c.self.view_is (λ d. d.buffers ≡ closed d.buffers.words (length d.buffers.open_buffers)) c.requires.closed in
     let e = c.redirect_run-moved.ensures in
-    let f = rw c.run_length-count.ensures at c.forget.ensures in
+    let f = rw c.redirect_run-moved.ensures.regions at c.forget.ensures in
     rw (e.roots, e.room, c.move_run.ensures)
     (slid_kept _ c.self.invariant c.law.ensures c.args.first c.args.to mv idle none clean _ _ (rw c.card_words.ensures at e.redirected)
     c.law-2.ensures _ f.stands f.forgotten _ f.cleared _ f.aged closed_all)
@@ -123,7 +127,7 @@ returns c =
     let closed_all =
     to_fields _ _ c.self.view_is (λ d. d.buffers ≡ closed d.buffers.words (length d.buffers.open_buffers)) c.requires.closed in
     let e = c.redirect_run-moved.ensures in
-    let f = rw c.run_length-count.ensures at c.forget.ensures in
+    let f = rw c.redirect_run-moved.ensures.regions at c.forget.ensures in
     let redirected = rw c.card_words.ensures at e.redirected in
     record {
       shows = λ g s. rw (e.roots, e.room, c.move_run.ensures)
