@@ -21,7 +21,7 @@ fill_made-requires-clause-made g c =
 pub nil_where_full-requires : goal.nil_where_full-requires
 nil_where_full-requires g c full =
     let same : c.fill_made.new.core ≡ c.make-reply.new.core = not_filled c.make-reply.result c.make-reply.new.core c.fill_made.new.core
-        c.args.mutator c.args.to c.args.from.now c.args.words.now full c.fill_made.ensures in
+    c.args.mutator c.args.to c.args.from.now c.args.words.now full c.fill_made.ensures in
     let sizes : c.fill_made.new.core.config ≡ c.args.core.now.config =
     ap (λ (x : CoreState). x.config) same ∙ c.make-reply.ensures.config in
     let known =
