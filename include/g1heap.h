@@ -87,8 +87,8 @@ typedef struct g1_sizes {
 uint32_t g1_version(void);
 
 /* What came of a call. Below 16 it was done. From 16 on it wasn't, and objects and roots are as they were; but g1_make and g1_make_filled
-   may take steps of the collector before they refuse an object, so that weak slots become nil, and counts and the policy's numbers differ.
-   From 32 on nothing changed at all. */
+   may take steps of the collector before they refuse an object, so that weak slots become nil, and counts and the policy's numbers differ;
+   and after FULL `to` is nil where the policy's `nil_on_full` is set. From 32 on nothing changed at all. */
 enum {
     G1_DONE = 0,       /* there is nothing to tell */
     G1_NIL_VALUE = 1,  /* g1_get, g1_get_word, g1_load, g1_get_weak, g1_name: nil */
@@ -371,7 +371,7 @@ g1_answer g1_give_back(g1_heap *heap);
        g1_make(&heap, &policy, 0, 0, 2, 0, 1);           // register 0 of mutator 0: a new object of 2 pointers, 0 weak slots, 1 data word
 
    A policy is the caller's, like the heap, and calls on both go under one lock. It holds plain numbers, and any will do: they decide when
-   the collector works, and how much at a time. The first nine may be set at any time.
+   the collector works, and how much at a time. The first nine may be set at any time, and so may `nil_on_full`.
 
    TWO REGIONS ARE KEPT, since live objects are copied into free regions alone. No region is taken for an object where fewer than 2 would
    stay free. Before that comes a whole collection: a marking from begin to remark with nothing between, a cleanup, and pauses for as long
@@ -418,22 +418,26 @@ typedef struct g1_policy {
     uint64_t rest;         /* words to be asked for before the next pause, while regions enough are free */
     uint64_t looked;       /* words that the marking of the running cycle looked at, */
     uint64_t marked;       /* and that of the last one */
-    uint64_t cycles;       /* cycles that ended, */
+    uint64_t cycles;       /* markings that ended by calls with this policy, those of whole collections too, */
     uint64_t scanned;      /* and the objects that they marked */
     uint64_t pauses;       /* pauses, those of whole collections too, */
     uint64_t copied;       /* and the words that they copied */
     uint64_t compactions;  /* compactions, by g1_shrink and for larger objects that found no room, */
     uint64_t compacted;    /* and the words that they copied */
+    uint32_t nil_on_full;  /* not 0: where g1_make or g1_make_filled answers FULL, `to` becomes nil; 0 at first, and then it stays */
+    uint32_t reserved[11]; /* room for numbers of later versions: 0 */
 } g1_policy;
 
 /* A policy for a new heap of these sizes. */
 void g1_policy_start(g1_policy *policy, const g1_sizes *sizes);
 
-/* g1_new_object, or g1_new_weak where there are weak slots, after the steps of the collector that are due. Answers as these do. */
+/* g1_new_object, or g1_new_weak where there are weak slots, after the steps of the collector that are due. Answers as these do. Where it
+   answers FULL and `nil_on_full` isn't 0, a g1_drop of `to` comes after it, and a record has that step: so an answer that is overlooked
+   leaves no older object in the place of the new one. */
 g1_answer g1_make(g1_heap *heap, g1_policy *policy, uint32_t mutator, uint32_t to, uint32_t pointers, uint32_t weaks, uint32_t values);
 
 /* The same with its fields, as g1_new_filled has them: where g1_make answers NAME, a g1_put for each pointer and a g1_write for each data
-   word. `to` may not be among the sources: G1_NO_STEP, and so where a source is no register.
+   word; and where that drops `to`, so does this. `to` may not be among the sources: G1_NO_STEP, and so where a source is no register.
 
        uint32_t from[] = {FIRST, REST};
        uint64_t words[] = {PAIR_TAG};

@@ -397,8 +397,8 @@ std::uint64_t g1_sizes_bytes(const g1_sizes* sizes) { return size_fault(*sizes) 
 
 void g1_policy_start(g1_policy* policy, const g1_sizes* sizes) { policy_start(policy, sizes); }
 
-g1_answer g1_make(g1_heap* heap, g1_policy* policy, std::uint32_t mutator, std::uint32_t to, std::uint32_t pointers, std::uint32_t weaks,
-                  std::uint32_t values) {
+static g1_answer asked(g1_heap* heap, g1_policy* policy, std::uint32_t mutator, std::uint32_t to, std::uint32_t pointers,
+                       std::uint32_t weaks, std::uint32_t values) {
     if (!heap->live) return answer(G1_NO_HEAP);
     if (weaks > largest_weaks || !in(heap).has_mutator(mutator) || !in(heap).has_register(to)) return answer(G1_NO_STEP);
     g1_sizes sizes = sizes_of(in(heap));
@@ -406,6 +406,13 @@ g1_answer g1_make(g1_heap* heap, g1_policy* policy, std::uint32_t mutator, std::
     Word size = Word(2) + pointers + weaks + values;
     if (!policy_room(&of, mutator, size)) return answer(G1_FULL);
     return weaks == 0 ? g1_new_object(heap, mutator, to, pointers, values) : g1_new_weak(heap, mutator, to, pointers, weaks, values);
+}
+
+g1_answer g1_make(g1_heap* heap, g1_policy* policy, std::uint32_t mutator, std::uint32_t to, std::uint32_t pointers, std::uint32_t weaks,
+                  std::uint32_t values) {
+    g1_answer made = asked(heap, policy, mutator, to, pointers, weaks, values);
+    if (made.code == G1_FULL && policy->nil_on_full != 0) g1_drop(heap, mutator, to);
+    return made;
 }
 
 g1_answer g1_make_filled(g1_heap* heap, g1_policy* policy, std::uint32_t mutator, std::uint32_t to, const std::uint32_t* from,

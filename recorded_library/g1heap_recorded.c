@@ -151,7 +151,7 @@ uint32_t g1_new(g1_heap *heap, const g1_sizes *sizes)
         free(in);
         return code;
     }
-    in->room = 4 * (size_t)sizes->regions + 16; /* a call of the policy takes no more steps */
+    in->room = 5 * (size_t)sizes->regions + 13; /* a call of the policy takes no more steps */
     in->entries = (entry *)calloc(in->room, sizeof *in->entries);
     if (in->entries == NULL) {
         g1raw_free(&in->heap);
@@ -307,15 +307,25 @@ static int note_all(box *in, uint32_t count)
     return 0;
 }
 
+/* Where an object was refused as Full and the policy says so, its register became nil by a step. */
+static g1_answer note_nil(box *in, const g1_policy *policy, g1_answer made, uint32_t mutator, uint32_t to)
+{
+    g1_answer done = {G1_DONE, 0, 0};
+    if (made.code == G1_FULL && policy->nil_on_full != 0) note(in, done, "% drop r%", (uint64_t[]){mutator, to});
+    return made;
+}
+
 /* An object that is refused as Full without a step of its own has no line. */
 g1_answer g1_make(g1_heap *heap, g1_policy *policy, uint32_t mutator, uint32_t to, uint32_t pointers, uint32_t weaks, uint32_t values)
 {
     box *in = box_of(heap);
     uint32_t count = 0;
     g1_answer made = g1_make_noted(&in->heap, policy, mutator, to, pointers, weaks, values, in->entries, in->room, &count);
-    if (!note_all(in, count)) return made;
-    if (weaks == 0) return note(in, made, "% new r% % %", (uint64_t[]){mutator, to, pointers, values});
-    return note(in, made, "% newweak r% % % %", (uint64_t[]){mutator, to, pointers, weaks, values});
+    if (note_all(in, count)) {
+        if (weaks == 0) note(in, made, "% new r% % %", (uint64_t[]){mutator, to, pointers, values});
+        else note(in, made, "% newweak r% % % %", (uint64_t[]){mutator, to, pointers, weaks, values});
+    }
+    return note_nil(in, policy, made, mutator, to);
 }
 
 g1_answer g1_make_filled(g1_heap *heap, g1_policy *policy, uint32_t mutator, uint32_t to, const uint32_t *from, size_t pointers,
@@ -326,7 +336,7 @@ g1_answer g1_make_filled(g1_heap *heap, g1_policy *policy, uint32_t mutator, uin
     g1_answer made = g1_make_filled_noted(&in->heap, policy, mutator, to, from, pointers, words, values, in->entries, in->room, &count);
     if (note_all(in, count)) note(in, made, "% new r% % %", (uint64_t[]){mutator, to, pointers, values});
     if (made.code == G1_NAME) note_filling(in, mutator, to, from, pointers, words, values);
-    return made;
+    return note_nil(in, policy, made, mutator, to);
 }
 
 g1_answer g1_collect(g1_heap *heap, g1_policy *policy)

@@ -1,5 +1,6 @@
 /* The policy where a heap gets full: most of what fills it dies, and room has to come back; heaps of 2 and 3 regions;
-   objects that take whole regions; calls that name no step; random loads, of which each g1_make is looked at.
+   objects that take whole regions; calls that name no step; registers of refused objects; weak slots, which are cleared where a
+   marking is counted; random loads, of which each g1_make is looked at.
 
      policy [LOADS]      300 random loads where it is left out */
 #include <g1heap.h>
@@ -119,6 +120,66 @@ static void use_wrongly(void)
     is(make(0, 0, 4) == G1_NO_HEAP, "no heap", 0, 0);
 }
 
+/* What a register holds where an object is refused: what it held, or nil where the policy says so after FULL. No other changes. */
+static void drop_refused(void)
+{
+    uint32_t from[] = {2};
+    uint64_t words[] = {7};
+    for (uint32_t k = 0; k < 3; k++) {
+        uint32_t held = G1_NAME, then = k == 0 ? G1_NAME : G1_NIL_VALUE;
+        start(8, 64, 7, 2);
+        policy.nil_on_full = k == 2 ? UINT32_MAX : k;
+        for (uint32_t mutator = 0; mutator < 2; mutator++)
+            for (uint32_t to = 1; to < 8; to++) g1_make(&heap, &policy, mutator, to, 0, 0, 1);
+        fill(2);
+        for (uint32_t to = 1; to < 6; to++) {
+            uint32_t code = to == 1 ? make(1, to, 8) : to == 2 ? g1_make(&heap, &policy, 1, to, 0, 3, 0).code : to == 3 ? make(1, to, 50)
+                          : to == 4 ? g1_make_filled(&heap, &policy, 1, to, from, 1, words, 1).code : make(1, to, 64 * 9);
+            is(code == (to == 5 ? G1_TOO_BIG : G1_FULL), "an object in a full heap", k, to);
+            is(g1_name(&heap, 1, to).code == (to == 5 ? held : then), "the register of a refused object", k, to);
+            for (uint32_t other = to + 1; other < 8; other++) is(g1_name(&heap, 1, other).code == held, "another register", to, other);
+            is(g1_name(&heap, 0, to).code == held, "another mutator's register", k, to);
+        }
+        for (uint32_t to = 1; to < 8; to++) g1_drop(&heap, 0, to), g1_drop(&heap, 1, to);
+        for (uint32_t slot = 0; slot < SLOTS; slot++) g1_save(&heap, 0, slot, 0);
+        is(make(1, 1, 8) == G1_NAME && g1_name(&heap, 1, 1).code == G1_NAME, "an object once there is room", k, 0);
+    }
+}
+
+/* Weak slots become nil where the policy counts a marking more, or a g1_remark of the program's own answers MARKED, and never else. */
+static void count_markings(void)
+{
+    enum { WEAKS = 8 };
+    uint64_t own = 0;
+    uint32_t lost[2] = {0, 0}, held[WEAKS] = {0};
+    start(16, 64, 7, 1);
+    g1_make(&heap, &policy, 0, 1, 0, WEAKS, 0);
+    for (uint32_t i = 0; i < 20000; i++) {
+        uint64_t cycles = policy.cycles, sum = cycles + own;
+        switch (draw(40)) {
+        case 0: g1_begin(&heap); break;
+        case 1: g1_begin(&heap), own += g1_remark(&heap).code == G1_MARKED; break;     /* what is read meanwhile is kept */
+        case 2: g1_collect_all(&heap, &policy); break;
+        case 3: g1_collect(&heap, &policy); break;
+        case 4: g1_pause(&heap, 64), g1_cleanup(&heap), g1_clear(&heap, 1); break;
+        case 5: if (draw(8) == 0) g1_shrink(&heap, &policy); break;
+        case 6: case 7: g1_drop(&heap, 0, draw(2) == 0 ? 0 : 2); break;
+        case 8: g1_move(&heap, 0, 2, 0); break;
+        default: make(0, 0, 2 + draw(20));
+        }
+        for (uint32_t slot = 0; slot < WEAKS; slot++) {
+            uint32_t is_held = g1_get_weak(&heap, 0, 3, 1, slot).code == G1_NAME;
+            if (!held[slot] || is_held) continue;
+            is(policy.cycles + own != sum, "a weak slot was cleared and no marking counted", i, slot);
+            lost[policy.cycles == cycles]++;
+        }
+        g1_drop(&heap, 0, 3), g1_put_weak(&heap, 0, 1, i % WEAKS, 0);
+        for (uint32_t slot = 0; slot < WEAKS; slot++) held[slot] = g1_get_weak(&heap, 0, 3, 1, slot).code == G1_NAME;
+        g1_drop(&heap, 0, 3);
+    }
+    is(lost[0] > 100 && lost[1] > 100, "weak slots that were cleared by the policy, and by the program", lost[0], lost[1]);
+}
+
 /* One random load. Two regions stay free, but where an object needs more than the others; a small object is refused only where more than
    half of the other regions' words live, without those of large objects. */
 static void load(uint32_t number)
@@ -158,6 +219,8 @@ int main(int count, char **words)
     use_small_heaps();
     use_large();
     use_wrongly();
+    drop_refused();
+    count_markings();
     for (int i = 0; i < loads; i++) load((uint32_t)i);
     g1_free(&heap);
     if (failed == 0) puts("two regions are kept, and room comes back");

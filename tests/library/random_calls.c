@@ -32,6 +32,7 @@ static void start_policy(const g1_sizes *s)
 {
     g1_policy_start(&policy, s);
     by_policy = draw() % 2 == 0;
+    policy.nil_on_full = draw() % 3 == 0 ? within(9) : 0;
     if (draw() % 2 == 0) return;
     policy.reserve = below(4), policy.pause_words = below(600), policy.mark_words = below(30);
     policy.cycle_words = below(3 * s->words), policy.young_words = below(4 * s->words), policy.cards_left = below(40);
@@ -46,15 +47,6 @@ static void note_policy(void)
     note(policy.packed_free), note(policy.packed_live), note(policy.packed_next);
     note(policy.visits), note(policy.clears), note(policy.cleared), note(policy.last), note(policy.rest);
     note(policy.held), note(policy.most), note(policy.idle);
-}
-
-static g1_answer asked(g1_heap *h, const g1_sizes *s, uint32_t m, uint32_t a)
-{
-    switch (draw() % 12) {
-    case 0: return g1_make(h, &policy, m, a, below(2 * s->words), 0, below(9));
-    case 1: return g1_make(h, &policy, m, a, below(3), below(4), below(3));
-    default: return g1_make(h, &policy, m, a, below(5), 0, below(4));
-    }
 }
 
 static void differ(const char *call)
@@ -98,6 +90,26 @@ static g1_answer loaded(g1_heap *h, uint32_t m, uint32_t to, uint32_t object, ui
     return told;
 }
 
+/* An object that the policy refuses leaves its register as it was, or nil where the policy says so after FULL. */
+static g1_answer refused(g1_heap *h, uint32_t m, uint32_t a, g1_answer was, g1_answer answer)
+{
+    g1_answer is = g1_name(h, m, a);
+    bool dropped = answer.code == G1_FULL && policy.nil_on_full != 0;
+    if (answer.code == G1_NAME) return answer;
+    if (is.code != (dropped ? G1_NIL_VALUE : was.code) || is.first != (dropped ? 0 : was.first)) differ("a refused object's register");
+    return answer;
+}
+
+static g1_answer asked(g1_heap *h, const g1_sizes *s, uint32_t m, uint32_t a)
+{
+    g1_answer was = g1_name(h, m, a);
+    switch (draw() % 12) {
+    case 0: return refused(h, m, a, was, g1_make(h, &policy, m, a, below(2 * s->words), 0, below(9)));
+    case 1: return refused(h, m, a, was, g1_make(h, &policy, m, a, below(3), below(4), below(3)));
+    default: return refused(h, m, a, was, g1_make(h, &policy, m, a, below(5), 0, below(4)));
+    }
+}
+
 /* Several fields, and registers one after another: as by a call each, whose answers the other library has to have too. */
 static g1_answer several(g1_heap *h, const g1_sizes *s, uint32_t m, uint32_t a, uint32_t b, uint32_t field)
 {
@@ -138,8 +150,10 @@ static g1_answer filled(g1_heap *h, const g1_sizes *s, uint32_t m, uint32_t to)
     for (uint32_t i = 0; i < 6; i++) words[i] = draw();
     if (draw() % 4 != 0)
         for (uint32_t i = 0; i < 8; i++) from[i] = from[i] == to ? G1_NIL_REGISTER : from[i];
-    g1_answer answer = draw() % 2 ? g1_new_filled(h, m, to, from, pointers, words, values)
-                                  : g1_make_filled(h, &policy, m, to, from, pointers, words, values), field;
+    bool by_step = draw() % 2;
+    g1_answer was = g1_name(h, m, to), field, answer = by_step ? g1_new_filled(h, m, to, from, pointers, words, values)
+                                                               : g1_make_filled(h, &policy, m, to, from, pointers, words, values);
+    if (!by_step) refused(h, m, to, was, answer);
     if (answer.code != G1_NAME) return answer;
     for (uint32_t i = 0; i < values; i++)
         if (g1_read(h, m, to, i).first != words[i]) differ("filled");

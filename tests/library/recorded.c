@@ -159,6 +159,32 @@ static int load(void)
     return 1;
 }
 
+/* Objects that live, in registers one after another, until one is refused: the step that makes its register nil is the last line, or is
+   in none. */
+static int fill(uint32_t nil_on_full)
+{
+    static const char last[] = " 0 drop r9 = ok\n";
+    g1_sizes sizes = {4, 16, 8, 1, 0, 8, 0, 10};
+    g1_heap heap = G1_HEAP_NONE;
+    g1_policy policy;
+    g1_answer made = {G1_NAME, 0, 0};
+    size_t length = 0;
+    if (g1_new(&heap, &sizes) != G1_DONE) return 1;
+    g1_policy_start(&policy, &sizes);
+    policy.nil_on_full = nil_on_full;
+    left_lines = 100;
+    g1_record(&heap, take, &length);
+    g1_make(&heap, &policy, 0, 9, 0, 0, 1);
+    for (uint32_t to = 0; to < 9 && made.code == G1_NAME; to++) made = g1_make(&heap, &policy, 0, to, 0, 0, 6);
+    made = g1_make_filled(&heap, &policy, 0, 9, NULL, 0, (uint64_t[6]){0}, 6);
+    if (nil_on_full != 0 && (length < sizeof last || strcmp(got + length + 1 - sizeof last, last) != 0)) made.code = G1_DONE;
+    if (nil_on_full == 0 && strstr(got, "drop") != NULL) made.code = G1_DONE;
+    g1_free(&heap);
+    if (made.code == G1_FULL) return 0;
+    fprintf(stderr, "the record is\n%s", got);
+    return 1;
+}
+
 int main(void)
 {
     g1_sizes sizes = {4, 16, 8, 1, 7, 8, 1, 2};
@@ -180,7 +206,7 @@ int main(void)
     if (length != before || g1_record(&heap, take, &length) != G1_NO_STEP || g1_record(&heap, NULL, NULL) != G1_DONE) return 1;
     if (g1_record(&other, take, &length) != G1_NO_STEP) return 1;
     g1_free(&heap), g1_free(&other);
-    if (ask() != 0 || load() != 0) return 1;
+    if (ask() != 0 || load() != 0 || fill(0) != 0 || fill(1) != 0) return 1;
     puts("each line is as it should be");
     return 0;
 }

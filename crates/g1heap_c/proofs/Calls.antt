@@ -40,7 +40,7 @@ use Rattle.g1heap_c.specs.Calls.{NewCall, StepCall, NewFilledCall, MakeCall, Mak
 use Rattle.g1heap_c.specs.Calls.{GetWordCall, ManyCall, WriteWordsCall, WalkCall, WhoCall, AskCall, GiveBackCall, ShrinkCall, NoStepCall}
 use Rattle.g1heap_c.specs.Calls.{FreeCall}
 use Rattle.g1heap_c.specs.MadeFilled.{AsksToFill}
-use Rattle.g1heap_c.specs.Policies.{AnswersMake, CollectsIn, asked}
+use Rattle.g1heap_c.specs.Policies.{AnswersMake, AsksOrNils, CollectsIn, asked, nil_steps, nilling}
 use Rattle.g1heap_c.specs.Runs.{AreEventsOf, AreRun, CallRuns, HasCollected, HasEvents, HasFilling, HasLoaded, HasMaking}
 use Rattle.g1heap_c.specs.Runs.{HasDone, HasMakingAndFilling, HasMany, IsReadLoaded}
 use Rattle.g1heap_c.specs.Runs.{HasNoEvent, HasNotRead, HasRead, HasRefused, HasStep, HasWritten, IfElse, KeepsIfRefused, event_of, filling}
@@ -182,18 +182,6 @@ asks_from op s c answer after st h =
       own = own_from op h.reply first.last h.makes.core h.core _ _ _ _ first.stands h.makes.own;
     }
 
-make_done : (op : Op) (s : State) (c c' : CoreState) (answer : Answer) → Stands s c → AnswersMake c op answer (Some c')
-    → Found s c' (λ es. HasMaking es op answer)
-make_done op s c c' answer st h =
-    let same : c' ≡ h.core = held_is c' h.core h.held in
-    let a = asks_from op s c answer (Some c') st h in
-    let own = event_of (steps.Mutator op) h.reply ∷ [] in
-    record {
-      events = a.before ++ own;
-      from = subst (λ (d : CoreState). From s (a.before ++ own) d) (sym same) (then_from s a.before own a.core h.core a.first a.own);
-      has = record { reply = h.reply; before = a.before; collectors = a.collectors; events = refl; tells = h.tells };
-    }
-
 -- ---- the steps that fill an object
 join : (xs ys : List Step) (es fs : List Event) → AreEventsOf xs es → AreEventsOf ys fs → AreEventsOf (xs ++ ys) (es ++ fs)
 join xs ys es fs h k = record {
@@ -217,6 +205,32 @@ leads step (suc n) s c d st h =
       events = before.events ++ own;
       from = then_from s before.events own h.0 d before.from one;
       are = join (first_steps step n) (step n ∷ []) before.events own before.are (record { steps = refl; actors = refl });
+    }
+
+make_done : (number to : ℕ) (op : Op) (s : State) (c c' : CoreState) (answer : Answer) → Stands s c
+    → AsksOrNils number to c op answer (Some c') → Found s c' (λ es. HasMaking es number to op answer)
+make_done number to op s c c' answer st h =
+    let same : c' ≡ h.last = held_is c' h.last h.held in
+    let at : h.asks.core ≡ h.made = sym (held_is h.made h.asks.core h.asks.held) in
+    let a = asks_from op s c answer (Some h.made) st h.asks in
+    let own = event_of (steps.Mutator op) h.asks.reply in
+    let made : Stands a.own.last h.made = subst (λ (d : CoreState). Stands a.own.last d) at a.own.stands in
+    let rest = leads (nilling op.mutator to) (nil_steps number h.asks.reply) a.own.last h.made h.last made h.nils in
+    let from_own = then_from a.first.last (own ∷ []) rest.events h.asks.core h.last a.own rest.from in
+    let events = a.before ++ own ∷ rest.events in
+    record {
+      events = events;
+      from = subst (λ (d : CoreState). From s events d) (sym same)
+          (then_from s a.before (own ∷ rest.events) a.core h.last a.first from_own);
+      has = record {
+        reply = h.asks.reply;
+        before = a.before;
+        nils = rest.events;
+        collectors = a.collectors;
+        events = refl;
+        nilled = rest.are;
+        tells = h.asks.tells;
+      };
     }
 
 -- the same of steps that are all done
@@ -298,30 +312,34 @@ filled_done m to from words s c c' answer st h =
       };
     }
 
-make_filled_done : (m to : ℕ) (from words : List ℕ) (s : State) (c c' : CoreState) (answer : Answer) → Stands s c
-    → AsksToFill c m to from words answer (Some c') → Found s c' (λ es. HasMakingAndFilling es m to from words answer)
-make_filled_done m to from words s c c' answer st h =
+make_filled_done : (number m to : ℕ) (from words : List ℕ) (s : State) (c c' : CoreState) (answer : Answer) → Stands s c
+    → AsksToFill number c m to from words answer (Some c') → Found s c' (λ es. HasMakingAndFilling es number m to from words answer)
+make_filled_done number m to from words s c c' answer st h =
     let op = asked m to (length from) 0 (length words) in
-    let same : c' ≡ h.filled = held_is c' h.filled h.held in
+    let same : c' ≡ h.last = held_is c' h.last h.held in
     let at : h.made ≡ h.asks.core = held_is h.made h.asks.core h.asks.held in
     let a = asks_from op s c answer (Some h.made) st h.asks in
     let fills : FillsIt h.asks.reply h.asks.core m to from words h.filled =
     subst (λ (d : CoreState). FillsIt h.asks.reply d m to from words h.filled) at h.fills in
-    let rest = fills_from m to from words a.own.last h.asks.core h.filled h.asks.reply a.own.stands fills in
+    let filled = fills_from m to from words a.own.last h.asks.core h.filled h.asks.reply a.own.stands fills in
+    let count = nil_steps number h.asks.reply in
+    let nils = leads (nilling m to) count filled.run.last h.filled h.last filled.run.stands h.nils in
+    let after = filled.events ++ nils.events in
     let own = event_of (steps.Mutator op) h.asks.reply in
-    let from_own = then_from a.first.last (own ∷ []) rest.events h.asks.core h.filled a.own rest.run in
-    let events = a.before ++ own ∷ rest.events in
+    let from_after = then_from a.own.last filled.events nils.events h.filled h.last filled.run nils.from in
+    let from_own = then_from a.first.last (own ∷ []) after h.asks.core h.last a.own from_after in
+    let events = a.before ++ own ∷ after in
     record {
       events = events;
-      from = subst (λ (d : CoreState). From s events d) (sym same)
-          (then_from s a.before (own ∷ rest.events) a.core h.filled a.first from_own);
+      from = subst (λ (d : CoreState). From s events d) (sym same) (then_from s a.before (own ∷ after) a.core h.last a.first from_own);
       has = record {
         reply = h.asks.reply;
         before = a.before;
-        fills = rest.events;
+        fills = after;
         collectors = a.collectors;
         events = refl;
-        filled = rest.are;
+        filled = join (filling h.asks.reply m to from words) (first_steps (nilling m to) count) filled.events nils.events filled.are
+            nils.are;
         tells = h.asks.tells;
       };
     }
@@ -471,13 +489,14 @@ call_done (NewFilledCall m to from words) s c c' answer st h =
     choose s c' (AreFields c.config m to from words) (λ es. HasFilling c es m to from words answer c')
     (λ es. HasNoEvent c es no_step answer c') (are_fields c.config m to from words)
     (λ is. filled_done m to from words s c c' answer st (h.takes is)) (λ isnt. none_done no_step s c c' answer st (h.not isnt))
-call_done (MakeCall op) s c c' answer st h =
-    choose s c' (IsOp c.config op) (λ es. HasMaking es op answer) (λ es. HasNoEvent c es no_step answer c') (is_op c.config op)
-    (λ is. make_done op s c c' answer st (h.asks is)) (λ isnt. none_done no_step s c c' answer st (h.not isnt))
-call_done (MakeFilledCall m to from words) s c c' answer st h =
-    choose s c' (AreFields c.config m to from words) (λ es. HasMakingAndFilling es m to from words answer)
+call_done (MakeCall number m to pointers weaks values) s c c' answer st h =
+    let op = asked m to pointers weaks values in
+    choose s c' (IsOp c.config op) (λ es. HasMaking es number to op answer) (λ es. HasNoEvent c es no_step answer c') (is_op c.config op)
+    (λ is. make_done number to op s c c' answer st (h.asks is)) (λ isnt. none_done no_step s c c' answer st (h.not isnt))
+call_done (MakeFilledCall number m to from words) s c c' answer st h =
+    choose s c' (AreFields c.config m to from words) (λ es. HasMakingAndFilling es number m to from words answer)
     (λ es. HasNoEvent c es no_step answer c') (are_fields c.config m to from words)
-    (λ is. make_filled_done m to from words s c c' answer st (h.asks is)) (λ isnt. none_done no_step s c c' answer st (h.not isnt))
+    (λ is. make_filled_done number m to from words s c c' answer st (h.asks is)) (λ isnt. none_done no_step s c c' answer st (h.not isnt))
 call_done CollectCall s c c' answer st h =
     collect_done (c.config.regions + 5) s c h.core c' _ answer st (held_is c' h.core h.held) h.collects h.tells
 call_done CollectAllCall s c c' answer st h = collect_done _ s c h.core c' _ answer st (held_is c' h.core h.held) h.collects h.tells

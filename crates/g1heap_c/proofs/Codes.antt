@@ -91,8 +91,8 @@ of_call : (c : CoreState) (es : List Event) (call : Call) (y : Answer) (d : Core
 of_call c es (NewCall config) y d h = alike y _ h.tells live
 of_call c es (StepCall step) y d (inl h) = alike y _ h.1.tells (of_telling step c d h.1.reply)
 of_call c es (NewFilledCall m to from words) y d (inl h) = alike y _ h.1.tells (of_numbers h.1.reply)
-of_call c es (MakeCall op) y d (inl h) = alike y _ h.1.tells (of_numbers h.1.reply)
-of_call c es (MakeFilledCall m to from words) y d (inl h) = alike y _ h.1.tells (of_numbers h.1.reply)
+of_call c es (MakeCall number m to pointers weaks values) y d (inl h) = alike y _ h.1.tells (of_numbers h.1.reply)
+of_call c es (MakeFilledCall number m to from words) y d (inl h) = alike y _ h.1.tells (of_numbers h.1.reply)
 of_call c es CollectCall y d h = alike y _ h.tells (inl (omega arith))
 of_call c es CollectAllCall y d h = alike y _ h.tells (inl (omega arith))
 of_call c es (GetWordCall m to object field word) y d (inl h) = of_loaded h.1.reply h.1.reads m to word y h.1.read

@@ -1,6 +1,6 @@
 -- It can be told whether numbers name steps of a heap.
 use Rattle.std.proofs.Common.{◌≡◌, ◌⊎◌, ◌+◌, ◌-◌, ◌<◌, ◌^◌, ℕ, Bool, true, false, zero, suc, List, length, Option, Some, None, inl, inr}
-use Rattle.std.proofs.Common.{subst, arith}
+use Rattle.std.proofs.Common.{subst, sym, arith}
 use Rattle.std.specs.Prelude.{◌≢◌, slice_index}
 use Rattle.std.proofs.lemmas.Bool.{cases_eq, cases_lt}
 use Rattle.heap_words.specs.Configs.{registers_of}
@@ -129,3 +129,11 @@ are_steps c x = elim (both _ _ (is_step c (last_step x)) (is_apart x)) [
   | inl h ↦ inl (record { last = h.0; apart = h.1 })
   | inr nay ↦ inr (λ h. nay (h.last, h.apart))
 ]
+
+-- a register is there in a heap of the same sizes
+pub has_register : (c d : CoreState) (m r : ℕ) → d.config ≡ c.config → (m < c.config.mutators) × (r < registers_of c.config)
+    → HasRegister d m r
+has_register c d m r same there = record {
+  mutator = subst (λ (x : Config). m < x.mutators) (sym same) there.0;
+  register = subst (λ (x : Config). r < registers_of x) (sym same) there.1;
+}

@@ -25,6 +25,7 @@ use Rattle.g1heap_c.specs.Calls.{NewCall, StepCall, NewFilledCall, MakeCall, Mak
 use Rattle.g1heap_c.specs.Calls.{GetWordCall, ManyCall, WriteWordsCall, WalkCall, WhoCall, AskCall, GiveBackCall, ShrinkCall, NoStepCall}
 use Rattle.g1heap_c.specs.Calls.{FreeCall}
 use Rattle.g1heap_c.specs.Calls.{FreeRun, Marking, Grey, Clearing, Name}
+use Rattle.g1heap_c.specs.Policies.{asked}
 use Rattle.g1heap_c.specs.Runs.{HasEvents, HasFilling, HasLoaded, HasMaking, HasMakingAndFilling, HasNoEvent, HasNotRead, HasRead}
 use Rattle.g1heap_c.specs.Runs.{HasDone, HasMany, HasRefused, HasStep}
 use Rattle.g1heap_c.specs.Runs.{HasWritten, IfElse, IsReadLoaded, event_of, last_read, last_write, reads_of, writes_of}
@@ -73,15 +74,15 @@ module _ (c : CoreState) (es : List Event) (y z : Answer) (d : CoreState) where
       let same : h.reply ≡ k.reply = replies_are _ _ _ _ (sym h.events ∙ k.events) in
       h.tells ∙ ap numbers same ∙ sym k.tells
 
-  make_one : (op : Op) → HasMaking es op y → HasMaking es op z → y ≡ z
-  make_one op h k =
+  make_one : (number to : ℕ) (op : Op) → HasMaking es number to op y → HasMaking es number to op z → y ≡ z
+  make_one number to op h k =
       let same : h.reply ≡ k.reply =
-      own_is op h.reply k.reply h.before k.before [] [] h.collectors k.collectors (sym h.events ∙ k.events) in
+      own_is op h.reply k.reply h.before k.before h.nils k.nils h.collectors k.collectors (sym h.events ∙ k.events) in
       h.tells ∙ ap numbers same ∙ sym k.tells
 
-  make_fill_one : (m to : ℕ) (from words : List ℕ) → HasMakingAndFilling es m to from words y → HasMakingAndFilling es m to from words z
-      → y ≡ z
-  make_fill_one m to from words h k =
+  make_fill_one : (number m to : ℕ) (from words : List ℕ) → HasMakingAndFilling es number m to from words y
+      → HasMakingAndFilling es number m to from words z → y ≡ z
+  make_fill_one number m to from words h k =
       let same : h.reply ≡ k.reply =
       own_is _ h.reply k.reply h.before k.before h.fills k.fills h.collectors k.collectors (sym h.events ∙ k.events) in
       h.tells ∙ ap numbers same ∙ sym k.tells
@@ -191,9 +192,11 @@ module _ (c : CoreState) (es : List Event) (y z : Answer) (d : CoreState) where
   one_answer (StepCall step) h k = same_side (IsStep c.config step) _ _ _ _ (y ≡ z) h k (step_one step) none_else
   one_answer (NewFilledCall m to from words) h k =
       same_side (AreFields c.config m to from words) _ _ _ _ (y ≡ z) h k (fill_one m to from words) none_else
-  one_answer (MakeCall op) h k = same_side (IsOp c.config op) _ _ _ _ (y ≡ z) h k (make_one op) none_else
-  one_answer (MakeFilledCall m to from words) h k =
-      same_side (AreFields c.config m to from words) _ _ _ _ (y ≡ z) h k (make_fill_one m to from words) none_else
+  one_answer (MakeCall number m to pointers weaks values) h k =
+      let op = asked m to pointers weaks values in
+      same_side (IsOp c.config op) _ _ _ _ (y ≡ z) h k (make_one number to op) none_else
+  one_answer (MakeFilledCall number m to from words) h k =
+      same_side (AreFields c.config m to from words) _ _ _ _ (y ≡ z) h k (make_fill_one number m to from words) none_else
   one_answer CollectCall h k = h.tells ∙ sym k.tells
   one_answer CollectAllCall h k = h.tells ∙ sym k.tells
   one_answer (GetWordCall m to object field word) h k =

@@ -4,7 +4,6 @@ use Rattle.heap_words.specs.Configs.{globals_of, registers_of}
 use Rattle.heap_words.specs.declared.config.Config.{Config}
 use Rattle.regions.specs.Table.{free_count}
 use Rattle.heap_steps.specs.declared.step.CollectorStep.TheVariants as collector
-use Rattle.heap_steps.specs.declared.step.Op.{Op}
 use Rattle.heap_steps.specs.declared.step.Reply.{Reply}
 use Rattle.heap_steps.specs.declared.step.Step.{Step}
 use Rattle.heap_steps.specs.declared.step.Step.TheVariants as steps
@@ -22,7 +21,7 @@ use Rattle.heap_calls.specs.declared.answer.Answer.{Answer}
 use Rattle.heap_walk.specs.declared.objects.Entry.{Entry}
 use Rattle.heap_walk.specs.declared.holders.Holder.{Holder}
 use Rattle.g1heap_c.specs.MadeFilled.{AsksFilled}
-use Rattle.g1heap_c.specs.Policies.{AsksFor, CollectsAll, CollectsDue, Shrinks}
+use Rattle.g1heap_c.specs.Policies.{AsksFor, CollectsAll, CollectsDue, Shrinks, asked}
 
 -- What is asked of a heap: how many regions are free, and how many of them side by side; how many words are handed out, and how many are
 -- live; whether marking runs, whether it has more to scan, and whether weak slots wait to be cleared; how many cards are queued; how many
@@ -41,17 +40,17 @@ pub data Question : Type 0 where
   Name : (m r : ℕ) → Question
 
 -- Which call it is, with its numbers. A heap is made; it takes a step; it makes an object and fills it; it makes an object by the policy,
--- and makes one by the policy and fills it; the steps of the collector that are due; a whole collection; a pointer is loaded, with a data
--- word of what it leads to; several fields are loaded or stored; data words are read from one on, with what the buffer holds before and
--- after, and are written; objects are told from a cursor on, with the buffer, and so is who names one; something is asked; memory is given
--- back, and what that asks for meanwhile is granted or not; the same after a whole collection and compactions; the numbers name no step of
--- any heap; it is freed
+-- which has this `nil_on_full`, and makes one by the policy and fills it; the steps of the collector that are due; a whole collection; a
+-- pointer is loaded, with a data word of what it leads to; several fields are loaded or stored; data words are read from one on, with what
+-- the buffer holds before and after, and are written; objects are told from a cursor on, with the buffer, and so is who names one;
+-- something is asked; memory is given back, and what that asks for meanwhile is granted or not; the same after a whole collection and
+-- compactions; the numbers name no step of any heap; it is freed
 pub data Call : Type 0 where
   NewCall : (config : Config) → Call
   StepCall : (step : Step) → Call
   NewFilledCall : (m to : ℕ) (from words : List ℕ) → Call
-  MakeCall : (op : Op) → Call
-  MakeFilledCall : (m to : ℕ) (from words : List ℕ) → Call
+  MakeCall : (nil_on_full m to pointers weaks values : ℕ) → Call
+  MakeFilledCall : (nil_on_full m to : ℕ) (from words : List ℕ) → Call
   CollectCall : Call
   CollectAllCall : Call
   GetWordCall : (m to object field word : ℕ) → Call
@@ -91,8 +90,9 @@ abbrev pub IsCall : Option CoreState → Call → Answer → Option CoreState �
 IsCall heap (NewCall config) answer after = (answer ≡ told answer.code 0 0) × MakesHeap heap config answer.code after
 IsCall heap (StepCall step) answer after = TakesStep (telling step) heap step answer after
 IsCall heap (NewFilledCall m to from words) answer after = MakesFilled heap m to from words answer after
-IsCall heap (MakeCall op) answer after = AsksFor heap op answer after
-IsCall heap (MakeFilledCall m to from words) answer after = AsksFilled heap m to from words answer after
+IsCall heap (MakeCall number m to pointers weaks values) answer after =
+    AsksFor number to heap (asked m to pointers weaks values) answer after
+IsCall heap (MakeFilledCall number m to from words) answer after = AsksFilled number heap m to from words answer after
 IsCall heap CollectCall answer after = CollectsDue heap answer after
 IsCall heap CollectAllCall answer after = CollectsAll heap answer after
 IsCall heap (GetWordCall m to object field word) answer after = GetsWord heap m to object field word answer after

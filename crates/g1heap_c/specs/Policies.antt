@@ -1,9 +1,11 @@
 -- What a call of the policy does to a heap: nothing, where there is none, or a core.
-use Rattle.std.specs.Prelude.{◌≡◌, ◌+◌, ◌-◌, ◌*◌, ◌≤◌, ◌==◌, ℕ, ⊤, Bool, Option, Some, None, if◌then◌else◌}
+use Rattle.std.specs.Prelude.{◌≡◌, ◌+◌, ◌-◌, ◌*◌, ◌≤◌, ◌==◌, ℕ, ⊤, Bool, Option, Some, None, if◌then◌else◌, min, replicate}
+use Rattle.heap_words.specs.declared.config.Config.{Config}
 use Rattle.regions.specs.Table.{free_count}
 use Rattle.heap_steps.specs.Actors.{IsOp, IsThird}
 use Rattle.heap_steps.specs.declared.step.Action.TheVariants as actions
 use Rattle.heap_steps.specs.declared.step.Op.{Op}
+use Rattle.heap_steps.specs.declared.step.Step.{Step}
 use Rattle.heap_steps.specs.declared.step.Reply.{Reply}
 use Rattle.heap_steps.specs.declared.step.Reply.TheVariants as replies
 use Rattle.heap_steps.specs.declared.step.Refusal.TheVariants as refusals
@@ -11,10 +13,19 @@ use Rattle.graph_runs.specs.State.{State}
 use Rattle.step_core.specs.Stands.{CoreState, Stands}
 use Rattle.collection.specs.Space.{IsCollected, IsCompact, IsPacked}
 use Rattle.collection.specs.Steps.{CollectsWithin, CollectsSome, IsDue, LeavesTwo, Makes}
+use Rattle.collection.specs.Numbers.{IsStarted}
 use Rattle.collection.specs.Rooms.{IsFilled}
-use Rattle.heap_calls.specs.Numbers.{counts, no_heap, no_step, numbers, register, told}
+use Rattle.heap_calls.specs.Filled.{StepsTo}
+use Rattle.heap_calls.specs.Numbers.{by, counts, no_heap, no_step, numbers, register, told}
 use Rattle.heap_calls.specs.Steps.{StaysSame, given_back}
 use Rattle.heap_calls.specs.declared.answer.Answer.{Answer}
+use Rattle.g1heap_c.specs.declared.caller.CallerPolicy.{CallerPolicy}
+
+-- a policy that begins: a refused object leaves its register as it is, and no number of a later version is set
+pub record Starts (config : Config) (p : CallerPolicy) : Type 0 where
+  pub numbers : IsStarted config p.numbers
+  pub keeps : p.nil_on_full ≡ 0
+  pub reserved : p.reserved ≡ replicate 11 0
 
 -- the step that makes an object, a plain one where it has no weak slots
 abbrev pub asked : ℕ → ℕ → ℕ → ℕ → ℕ → Op
@@ -47,14 +58,31 @@ pub record AnswersMake (c : CoreState) (op : Op) (answer : Answer) (after : Opti
   pub full : reply ≡ replies.Refused refusals.Full → (s : State) → Stands s c → IsFilled s.graph c op.action core
   pub two : LeavesTwo c.config op.action → 2 ≤ free_count c.table → 2 ≤ free_count core.table
 
+-- so many steps make the register nil that was to take an object: one where it was refused as Full and a policy's number is set, else none
+abbrev pub nil_steps : ℕ → Reply → ℕ
+nil_steps number (replies.Refused refusals.Full) = min number 1
+nil_steps number _ = 0
+
+-- each makes a mutator's register nil
+abbrev pub nilling : ℕ → ℕ → ℕ → Step
+nilling m to i = by m (actions.Drop (register to))
+
+-- an object is asked for, and where it is refused as Full and the number is set, a step more makes the register nil that was to take it
+pub record AsksOrNils (number to : ℕ) (c : CoreState) (op : Op) (answer : Answer) (after : Option CoreState) : Type 0 where
+  pub made : CoreState
+  pub asks : AnswersMake c op answer (Some made)
+  pub last : CoreState
+  pub nils : StepsTo made (nilling op.mutator to) (nil_steps number asks.reply) last
+  pub held : after ≡ Some last
+
 -- if the heap's sizes have the step; else it is as it was
-pub record AsksOrNot (c : CoreState) (op : Op) (answer : Answer) (after : Option CoreState) : Type 0 where
-  pub asks : IsOp c.config op → AnswersMake c op answer after
+pub record AsksOrNot (number to : ℕ) (c : CoreState) (op : Op) (answer : Answer) (after : Option CoreState) : Type 0 where
+  pub asks : IsOp c.config op → AsksOrNils number to c op answer after
   pub not : (IsOp c.config op → ⊥) → StaysSame (Some c) no_step answer after
 
-abbrev pub AsksFor : Option CoreState → Op → Answer → Option CoreState → Type 0
-AsksFor None op answer after = StaysSame None no_heap answer after
-AsksFor (Some c) op answer after = AsksOrNot c op answer after
+abbrev pub AsksFor : ℕ → ℕ → Option CoreState → Op → Answer → Option CoreState → Type 0
+AsksFor number to None op answer after = StaysSame None no_heap answer after
+AsksFor number to (Some c) op answer after = AsksOrNot number to c op answer after
 
 -- the steps that are due
 pub record CollectsDueIn (c : CoreState) (answer : Answer) (after : Option CoreState) : Type 0 where

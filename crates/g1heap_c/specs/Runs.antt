@@ -29,7 +29,7 @@ use Rattle.g1heap_c.specs.Calls.{Call, Called, AreCalls, IsAnswerTo, IsCall, tel
 use Rattle.g1heap_c.specs.Calls.{NewCall, StepCall, NewFilledCall, MakeCall, MakeFilledCall, CollectCall, CollectAllCall, ReadWordsCall}
 use Rattle.g1heap_c.specs.Calls.{GetWordCall, ManyCall, WriteWordsCall, WalkCall, WhoCall, AskCall, GiveBackCall, ShrinkCall, NoStepCall}
 use Rattle.g1heap_c.specs.Calls.{FreeCall}
-use Rattle.g1heap_c.specs.Policies.{asked}
+use Rattle.g1heap_c.specs.Policies.{asked, nil_steps, nilling}
 
 -- the event of a step with a reply, taken by whose step it is
 abbrev pub event_of : Step → Reply → Event
@@ -93,22 +93,29 @@ pub record HasFilling (c : CoreState) (es : List Event) (m to : ℕ) (from words
   pub tells : answer ≡ numbers reply
   pub kept : KeepsIfRefused reply c c'
 
--- steps of the collector, and after them the one that makes the object, whose reply the answer tells
-pub record HasMaking (es : List Event) (op : Op) (answer : Answer) : Type 0 where
+-- the step that makes the register nil that was to take an object, where that was refused as Full and the number is set
+abbrev pub nils_of : ℕ → Reply → ℕ → ℕ → List Step
+nils_of number reply m to = first_steps (nilling m to) (nil_steps number reply)
+
+-- steps of the collector, and after them the one that makes the object, whose reply the answer tells; and the one that makes its register
+-- nil, or none
+pub record HasMaking (es : List Event) (number to : ℕ) (op : Op) (answer : Answer) : Type 0 where
   pub reply : Reply
   pub before : List Event
+  pub nils : List Event
   pub collectors : All IsCollectors before
-  pub events : es ≡ before ++ event_of (steps.Mutator op) reply ∷ []
+  pub events : es ≡ before ++ event_of (steps.Mutator op) reply ∷ nils
+  pub nilled : AreEventsOf (nils_of number reply op.mutator to) nils
   pub tells : answer ≡ numbers reply
 
 -- the same, and if the object was made the steps that fill it
-pub record HasMakingAndFilling (es : List Event) (m to : ℕ) (from words : List ℕ) (answer : Answer) : Type 0 where
+pub record HasMakingAndFilling (es : List Event) (number m to : ℕ) (from words : List ℕ) (answer : Answer) : Type 0 where
   pub reply : Reply
   pub before : List Event
   pub fills : List Event
   pub collectors : All IsCollectors before
   pub events : es ≡ before ++ event_of (steps.Mutator (asked m to (length from) 0 (length words))) reply ∷ fills
-  pub filled : AreEventsOf (filling reply m to from words) fills
+  pub filled : AreEventsOf (filling reply m to from words ++ nils_of number reply m to) fills
   pub tells : answer ≡ numbers reply
 
 -- steps of the collector alone, after which this is answered
@@ -184,9 +191,11 @@ HasEvents c es (NewCall config) answer c' = HasNoEvent c es (told 34 0 0) answer
 HasEvents c es (StepCall step) answer c' = IfElse (IsStep c.config step) (HasStep c es step answer c') (HasNoEvent c es no_step answer c')
 HasEvents c es (NewFilledCall m to from words) answer c' =
     IfElse (AreFields c.config m to from words) (HasFilling c es m to from words answer c') (HasNoEvent c es no_step answer c')
-HasEvents c es (MakeCall op) answer c' = IfElse (IsOp c.config op) (HasMaking es op answer) (HasNoEvent c es no_step answer c')
-HasEvents c es (MakeFilledCall m to from words) answer c' =
-    IfElse (AreFields c.config m to from words) (HasMakingAndFilling es m to from words answer) (HasNoEvent c es no_step answer c')
+HasEvents c es (MakeCall number m to pointers weaks values) answer c' =
+    IfElse (IsOp c.config (asked m to pointers weaks values)) (HasMaking es number to (asked m to pointers weaks values) answer)
+    (HasNoEvent c es no_step answer c')
+HasEvents c es (MakeFilledCall number m to from words) answer c' =
+    IfElse (AreFields c.config m to from words) (HasMakingAndFilling es number m to from words answer) (HasNoEvent c es no_step answer c')
 HasEvents c es CollectCall answer c' = HasCollected es (told 0 0 0) answer
 HasEvents c es CollectAllCall answer c' = HasCollected es (told 0 0 0) answer
 HasEvents c es (GetWordCall m to object field word) answer c' =

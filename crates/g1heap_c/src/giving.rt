@@ -4,6 +4,7 @@ ghost use Rattle.std.specs.Prelude.{◌⊎◌, Some, false, true};
 ghost use Rattle.g1heap_c.specs.Calls.{GiveBackCall, IsCall, ShrinkCall};
 ghost use Rattle.g1heap_c.specs.Policies.{Shrinks, ShrinksIn};
 
+use crate::caller::CallerPolicy;
 use crate::noted::{Entry, Notes};
 use collection::{Policy, Unwatched, Watch, collect_down};
 use heap_calls::answer::{Answer, no_heap};
@@ -46,11 +47,11 @@ fn shrink_now<W: Watch>(
 
 /// A whole collection, and compactions until none moves anything; then the memory above the highest region in use goes back to the system.
 #[unsafe(no_mangle)]
-pub extern "C" fn g1_shrink(alloc: Global, heap: &mut Heap, policy: &mut Policy) -> Answer
+pub extern "C" fn g1_shrink(alloc: Global, heap: &mut Heap, policy: &mut CallerPolicy) -> Answer
     ensures { IsCall heap.old.handle.core (ShrinkCall true) result heap.new.handle.core
         ⊎ IsCall heap.old.handle.core (ShrinkCall false) result heap.new.handle.core }
 {
-    shrink_now(heap, policy, alloc, &mut Unwatched)
+    shrink_now(heap, &mut policy.numbers, alloc, &mut Unwatched)
 }
 
 /// The same, and the steps that were taken are noted, as by `g1_make_noted`.
@@ -58,7 +59,7 @@ pub extern "C" fn g1_shrink(alloc: Global, heap: &mut Heap, policy: &mut Policy)
 pub extern "C" fn g1_shrink_noted(
     alloc: Global,
     heap: &mut Heap,
-    policy: &mut Policy,
+    policy: &mut CallerPolicy,
     entries: &mut [Entry],
     count: &mut u32,
 ) -> Answer
@@ -66,7 +67,7 @@ pub extern "C" fn g1_shrink_noted(
         ⊎ IsCall heap.old.handle.core (ShrinkCall false) result heap.new.handle.core }
 {
     let mut notes = Notes { entries, count: 0 };
-    let answer = shrink_now(heap, policy, alloc, &mut notes);
+    let answer = shrink_now(heap, &mut policy.numbers, alloc, &mut notes);
     *count = notes.count;
     answer
 }

@@ -11,6 +11,7 @@
 //! step.
 #![tactic(auto)]
 
+pub mod caller;
 pub mod collector;
 pub mod filled;
 pub mod giving;

@@ -5,9 +5,10 @@ ghost use Rattle.heap_calls.specs.Filled.{AreFields};
 ghost use Rattle.g1heap_c.specs.Calls.{IsCall, MakeFilledCall};
 ghost use Rattle.g1heap_c.specs.MadeFilled.{AsksFilled, AsksToFill, AsksToFillOrNot};
 
+use crate::caller::{CallerPolicy, nil_where_full};
 use crate::noted::{Entry, Notes};
 use crate::policy::plain;
-use collection::{Policy, Unwatched, Watch, make};
+use collection::{Unwatched, Watch, make};
 use heap_calls::answer::{Answer, answer_of, no_heap};
 use heap_calls::filled::{fill_made, has_fields};
 use heap_calls::heap::{Heap, no_step_of};
@@ -17,7 +18,7 @@ use step_core::Core;
 #[inline(always)]
 fn make_and_fill<W: Watch>(
     core: &mut Core,
-    policy: &mut Policy,
+    policy: &mut CallerPolicy,
     mutator: u32,
     to: u32,
     from: &[u32],
@@ -25,11 +26,12 @@ fn make_and_fill<W: Watch>(
     watch: &mut W,
 ) -> Answer
     requires { AreFields core.old.config mutator to from.now words.now }
-    ensures { AsksToFill core.old mutator to from.now words.now result (Some core.new) }
+    ensures { AsksToFill policy.old.nil_on_full core.old mutator to from.now words.now result (Some core.new) }
 {
     let op = plain(mutator, to, from.len() as u32, words.len() as u32);
-    let reply = make(core, policy, op, watch);
+    let reply = make(core, &mut policy.numbers, op, watch);
     fill_made(core, reply, mutator, to, from, words);
+    nil_where_full(core, policy.nil_on_full, mutator, to, reply);
     answer_of(reply)
 }
 
@@ -37,14 +39,14 @@ fn make_and_fill<W: Watch>(
 #[inline(always)]
 fn make_in<W: Watch>(
     core: &mut Core,
-    policy: &mut Policy,
+    policy: &mut CallerPolicy,
     mutator: u32,
     to: u32,
     from: &[u32],
     words: &[u64],
     watch: &mut W,
 ) -> Answer
-    ensures { AsksToFillOrNot core.old mutator to from.now words.now result (Some core.new) }
+    ensures { AsksToFillOrNot policy.old.nil_on_full core.old mutator to from.now words.now result (Some core.new) }
 {
     if !has_fields(core, mutator, to, from, words) {
         return no_step_of(core, true);
@@ -56,14 +58,14 @@ fn make_in<W: Watch>(
 #[inline(always)]
 fn ask<W: Watch>(
     heap: &mut Heap,
-    policy: &mut Policy,
+    policy: &mut CallerPolicy,
     mutator: u32,
     to: u32,
     from: &[u32],
     words: &[u64],
     watch: &mut W,
 ) -> Answer
-    ensures { AsksFilled heap.old.handle.core mutator to from.now words.now result heap.new.handle.core }
+    ensures { AsksFilled policy.old.nil_on_full heap.old.handle.core mutator to from.now words.now result heap.new.handle.core }
 {
     if !heap.live {
         return no_heap();
@@ -84,13 +86,14 @@ fn ask<W: Watch>(
 #[unsafe(no_mangle)]
 pub extern "C" fn g1_make_filled(
     heap: &mut Heap,
-    policy: &mut Policy,
+    policy: &mut CallerPolicy,
     mutator: u32,
     to: u32,
     from: &[u32],
     words: &[u64],
 ) -> Answer
-    ensures { IsCall heap.old.handle.core (MakeFilledCall mutator to from.now words.now) result heap.new.handle.core }
+    ensures { IsCall heap.old.handle.core (MakeFilledCall policy.old.nil_on_full mutator to from.now words.now) result
+        heap.new.handle.core }
 {
     ask(heap, policy, mutator, to, from, words, &mut Unwatched)
 }
@@ -99,7 +102,7 @@ pub extern "C" fn g1_make_filled(
 #[unsafe(no_mangle)]
 pub extern "C" fn g1_make_filled_noted(
     heap: &mut Heap,
-    policy: &mut Policy,
+    policy: &mut CallerPolicy,
     mutator: u32,
     to: u32,
     from: &[u32],
@@ -107,7 +110,8 @@ pub extern "C" fn g1_make_filled_noted(
     entries: &mut [Entry],
     count: &mut u32,
 ) -> Answer
-    ensures { IsCall heap.old.handle.core (MakeFilledCall mutator to from.now words.now) result heap.new.handle.core }
+    ensures { IsCall heap.old.handle.core (MakeFilledCall policy.old.nil_on_full mutator to from.now words.now) result
+        heap.new.handle.core }
 {
     let mut notes = Notes { entries, count: 0 };
     let answer = ask(heap, policy, mutator, to, from, words, &mut notes);

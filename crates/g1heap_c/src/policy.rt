@@ -4,14 +4,14 @@
 ghost use Rattle.std.specs.Prelude.{◌≡◌, ◌↔◌, ◌+◌, ◌<◌, ◌≤◌, Some, IsTrue};
 ghost use Rattle.heap_steps.specs.Actors.{IsOp};
 ghost use Rattle.graph_runs.specs.Run.{IsNew};
-ghost use Rattle.collection.specs.Numbers.{IsStarted};
 ghost use Rattle.collection.specs.Steps.{IsDue};
 ghost use Rattle.heap_calls.specs.Numbers.{config_of};
-ghost use Rattle.heap_calls.specs.Steps.{IsUpTo};
+ghost use Rattle.heap_calls.specs.Steps.{HasRegister, IsUpTo};
 ghost use Rattle.g1heap_c.specs.Calls.{CollectCall, IsCall, MakeCall, NoStepCall, CollectAllCall};
-ghost use Rattle.g1heap_c.specs.Policies.{AnswersMake, AsksFor, CollectsAll, CollectsAllIn, CollectsDue, CollectsDueIn, CollectsSomeIn};
-ghost use Rattle.g1heap_c.specs.Policies.{TakesDue, asked};
+ghost use Rattle.g1heap_c.specs.Policies.{AsksFor, AsksOrNils, CollectsAll, CollectsAllIn, CollectsDue, CollectsDueIn, CollectsSomeIn};
+ghost use Rattle.g1heap_c.specs.Policies.{Starts, TakesDue, asked};
 
+use crate::caller::{CallerPolicy, nil_where_full};
 use crate::noted::{Entry, Notes};
 use collection::{Policy, Unwatched, Watch, collect, collect_due, make};
 use heap_calls::answer::{Answer, answer_of, done, no_heap, no_step};
@@ -52,20 +52,35 @@ fn with_weaks(mutator: u32, to: u32, pointers: u32, weaks: u8, values: u32) -> O
 }
 
 #[inline(always)]
-fn make_in<W: Watch>(core: &mut Core, policy: &mut Policy, op: Op, watch: &mut W) -> Answer
+fn make_in<W: Watch>(
+    core: &mut Core,
+    policy: &mut CallerPolicy,
+    op: Op,
+    to: u32,
+    watch: &mut W,
+) -> Answer
     requires op { IsOp core.old.config op }
     requires new { IsNew op.action }
-    ensures { AnswersMake core.old op result (Some core.new) }
+    requires to { HasRegister core.old op.mutator to }
+    ensures { AsksOrNils policy.old.nil_on_full to core.old op result (Some core.new) }
 {
-    answer_of(make(core, policy, op, watch))
+    let reply = make(core, &mut policy.numbers, op, watch);
+    nil_where_full(core, policy.nil_on_full, op.mutator, to, reply);
+    answer_of(reply)
 }
 
 /// Makes the object, if the heap's sizes have the step: the mutator, and the register that takes the object.
 #[inline(always)]
-fn ask<W: Watch>(heap: &mut Heap, policy: &mut Policy, op: Op, to: u32, watch: &mut W) -> Answer
+fn ask<W: Watch>(
+    heap: &mut Heap,
+    policy: &mut CallerPolicy,
+    op: Op,
+    to: u32,
+    watch: &mut W,
+) -> Answer
     requires new { IsNew op.action }
     requires known { IsUpTo to op }
-    ensures { AsksFor heap.old.handle.core op result heap.new.handle.core }
+    ensures { AsksFor policy.old.nil_on_full to heap.old.handle.core op result heap.new.handle.core }
 {
     if !heap.live {
         return no_heap();
@@ -74,22 +89,26 @@ fn ask<W: Watch>(heap: &mut Heap, policy: &mut Policy, op: Op, to: u32, watch: &
     if !is_known(core, op.mutator, to) {
         return no_step();
     }
-    make_in(core, policy, op, watch)
+    make_in(core, policy, op, to, watch)
 }
 
 /// A policy for a new heap of these sizes.
 #[unsafe(no_mangle)]
-pub extern "C" fn g1_policy_start(policy: &mut Policy, sizes: &Sizes)
-    ensures { IsStarted (config_of sizes.now) policy.new }
+pub extern "C" fn g1_policy_start(policy: &mut CallerPolicy, sizes: &Sizes)
+    ensures { Starts (config_of sizes.now) policy.new }
 {
-    *policy = Policy::new(&config_of(sizes));
+    *policy = CallerPolicy {
+        numbers: Policy::new(&config_of(sizes)),
+        nil_on_full: 0,
+        reserved: [0; 11],
+    };
 }
 
 /// `to` takes a new object of so many pointers, weak slots and data words, after the steps of the collector that are due.
 #[unsafe(no_mangle)]
 pub extern "C" fn g1_make(
     heap: &mut Heap,
-    policy: &mut Policy,
+    policy: &mut CallerPolicy,
     mutator: u32,
     to: u32,
     pointers: u32,
@@ -97,7 +116,7 @@ pub extern "C" fn g1_make(
     values: u32,
 ) -> Answer
     ensures few { weaks ≤ 255 → IsCall heap.old.handle.core
-        (MakeCall (asked mutator to pointers weaks values)) result heap.new.handle.core }
+        (MakeCall policy.old.nil_on_full mutator to pointers weaks values) result heap.new.handle.core }
     ensures many { 255 < weaks → IsCall heap.old.handle.core NoStepCall result heap.new.handle.core }
 {
     // Each call of `ask` is written out here with the kind of its action known.
@@ -150,26 +169,26 @@ fn collect_all_now<W: Watch>(heap: &mut Heap, policy: &mut Policy, watch: &mut W
 
 /// Takes the steps of the collector that are due at a look.
 #[unsafe(no_mangle)]
-pub extern "C" fn g1_collect(heap: &mut Heap, policy: &mut Policy) -> Answer
+pub extern "C" fn g1_collect(heap: &mut Heap, policy: &mut CallerPolicy) -> Answer
     ensures call { IsCall heap.old.handle.core CollectCall result heap.new.handle.core }
-    ensures due { TakesDue heap.old.handle.core policy.old.begin_at heap.new.handle.core }
+    ensures due { TakesDue heap.old.handle.core policy.old.numbers.begin_at heap.new.handle.core }
 {
-    collect_now(heap, policy, &mut Unwatched)
+    collect_now(heap, &mut policy.numbers, &mut Unwatched)
 }
 
 /// A whole collection.
 #[unsafe(no_mangle)]
-pub extern "C" fn g1_collect_all(heap: &mut Heap, policy: &mut Policy) -> Answer
+pub extern "C" fn g1_collect_all(heap: &mut Heap, policy: &mut CallerPolicy) -> Answer
     ensures { IsCall heap.old.handle.core CollectAllCall result heap.new.handle.core }
 {
-    collect_all_now(heap, policy, &mut Unwatched)
+    collect_all_now(heap, &mut policy.numbers, &mut Unwatched)
 }
 
 /// The same as `g1_make`, and the steps that were taken are noted: their number, and as many of the first ones as there are entries.
 #[unsafe(no_mangle)]
 pub extern "C" fn g1_make_noted(
     heap: &mut Heap,
-    policy: &mut Policy,
+    policy: &mut CallerPolicy,
     mutator: u32,
     to: u32,
     pointers: u32,
@@ -179,7 +198,7 @@ pub extern "C" fn g1_make_noted(
     count: &mut u32,
 ) -> Answer
     ensures few { weaks ≤ 255 → IsCall heap.old.handle.core
-        (MakeCall (asked mutator to pointers weaks values)) result heap.new.handle.core }
+        (MakeCall policy.old.nil_on_full mutator to pointers weaks values) result heap.new.handle.core }
     ensures many { 255 < weaks → IsCall heap.old.handle.core NoStepCall result heap.new.handle.core }
 {
     *count = 0;
@@ -201,15 +220,15 @@ pub extern "C" fn g1_make_noted(
 #[unsafe(no_mangle)]
 pub extern "C" fn g1_collect_noted(
     heap: &mut Heap,
-    policy: &mut Policy,
+    policy: &mut CallerPolicy,
     entries: &mut [Entry],
     count: &mut u32,
 ) -> Answer
     ensures call { IsCall heap.old.handle.core CollectCall result heap.new.handle.core }
-    ensures due { TakesDue heap.old.handle.core policy.old.begin_at heap.new.handle.core }
+    ensures due { TakesDue heap.old.handle.core policy.old.numbers.begin_at heap.new.handle.core }
 {
     let mut notes = Notes { entries, count: 0 };
-    let answer = collect_now(heap, policy, &mut notes);
+    let answer = collect_now(heap, &mut policy.numbers, &mut notes);
     *count = notes.count;
     answer
 }
@@ -218,14 +237,14 @@ pub extern "C" fn g1_collect_noted(
 #[unsafe(no_mangle)]
 pub extern "C" fn g1_collect_all_noted(
     heap: &mut Heap,
-    policy: &mut Policy,
+    policy: &mut CallerPolicy,
     entries: &mut [Entry],
     count: &mut u32,
 ) -> Answer
     ensures { IsCall heap.old.handle.core CollectAllCall result heap.new.handle.core }
 {
     let mut notes = Notes { entries, count: 0 };
-    let answer = collect_all_now(heap, policy, &mut notes);
+    let answer = collect_all_now(heap, &mut policy.numbers, &mut notes);
     *count = notes.count;
     answer
 }

@@ -92,6 +92,8 @@ pub struct g1_policy {
     pub copied: u64,
     pub compactions: u64,
     pub compacted: u64,
+    pub nil_on_full: u32,
+    pub reserved: [u32; 11],
 }
 
 pub const G1_HEAP_NONE: g1_heap = g1_heap { live: false, at: std::ptr::null_mut() };

@@ -1,15 +1,27 @@
 use Rattle.std.proofs.Common.{refl}
 use Rattle.collection.proofs.Took.{unseen_made}
+use Rattle.g1heap_c.proofs.Named.{has_register}
 use Rattle.g1heap_c.proofs.policy.make_in.Goals as goal
+
+pub nil_where_full-requires : goal.nil_where_full-requires
+nil_where_full-requires g c full =
+    has_register c.args.core.now c.make-reply.new.core c.args.op.mutator c.args.to c.make-reply.ensures.config
+    (c.requires.to.mutator, c.requires.to.register)
 
 pub returns : goal.returns
 returns g c = record {
-  reply = c.make.result;
-  core = c.make.new.core;
-  tells = c.answer_of.ensures;
+  made = c.make-reply.new.core;
+  asks = record {
+    reply = c.make-reply.result;
+    core = c.make-reply.new.core;
+    tells = c.answer_of.ensures;
+    held = refl;
+    makes = unseen_made g.W.Watch.sees _ c.args.op c.make-reply.result c.args.core.now c.make-reply.new.core c.args.watch.now
+        c.make-reply.new.watch c.make-reply.ensures.makes;
+    full = c.make-reply.ensures.full;
+    two = c.make-reply.ensures.two;
+  };
+  last = c.nil_where_full.new.core;
+  nils = c.nil_where_full.ensures;
   held = refl;
-  makes = unseen_made g.W.Watch.sees _ c.args.op c.make.result c.args.core.now c.make.new.core c.args.watch.now c.make.new.watch
-      c.make.ensures.makes;
-  full = c.make.ensures.full;
-  two = c.make.ensures.two;
 }
