@@ -21,6 +21,7 @@ pub mod making;
 pub mod memory;
 pub mod mutator;
 mod noted;
+pub mod paths;
 pub mod policy;
 pub mod readers;
 pub mod rows;
