@@ -58,7 +58,8 @@ module _ (c : CoreState) (a : ℕ) (q : List Holder) (from to at : ℕ) (step : 
     | inr other ↦ p x n h on (omega arith) named told strong
   ]
 
-pub nowhere_all : (c : CoreState) (a : ℕ) (q : List Holder) (from to at : ℕ) → to ≤ at → LeadsNowhere c q from at a → LeadsNowhere c q from to a
+pub nowhere_all : (c : CoreState) (a : ℕ) (q : List Holder) (from to at : ℕ) → to ≤ at → LeadsNowhere c q from at a
+    → LeadsNowhere c q from to a
 nowhere_all c a q from to at le p = λ x n h on under named told strong. p x n h on (omega arith) named told strong
 
 -- ---- one object and all steps
@@ -118,8 +119,8 @@ module _ (c : CoreState) (q : List Holder) (from to next room : ℕ) where
   covers_all left (Some b) e k p = cc
 
 -- no room is left
-pub grows_none : (c : CoreState) (old new : List Holder) (low last next room : ℕ) (h : Holder) → next ≡ 1 → HasGrown c old new low last next room
-    → IsNewStep c new low last next room h → GrowsTo c old new low last room None
+pub grows_none : (c : CoreState) (old new : List Holder) (low last next room : ℕ) (h : Holder) → next ≡ 1
+    → HasGrown c old new low last next room → IsNewStep c new low last next room h → GrowsTo c old new low last room None
 grows_none c old new low last next room h e g n = (
   subst (λ (x : ℕ). HasGrown c old new low last x room) e g,
   (h, subst (λ (x : ℕ). IsNewStep c new low last x room h) e n),

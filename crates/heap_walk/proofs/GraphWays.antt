@@ -52,7 +52,8 @@ first_below p (y ∷ xs) (suc i) x at is = go (p y) refl (first_below p xs i x a
     go true e less = rw e (omega arith)
     go false e less = rw e (omega arith)
 
-position_some : {A : Type 0} (p : A → Bool) (xs : List A) (i : ℕ) → position p xs ≡ Some i → (x : A) × (slice_get xs i ≡ Some x) × (p x ≡ true)
+position_some : {A : Type 0} (p : A → Bool) (xs : List A) (i : ℕ) → position p xs ≡ Some i
+    → (x : A) × (slice_get xs i ≡ Some x) × (p x ≡ true)
 position_some {A = A} p xs i e = elim (cases_lt (position_or_len p xs) (length xs)) [
   | inl lt ↦
       let is : position p xs ≡ Some (position_or_len p xs) = rw (lt-ltb (position_or_len p xs) (length xs) lt) refl in

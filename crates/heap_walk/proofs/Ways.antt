@@ -41,8 +41,8 @@ pub record Searched (c : CoreState) (n : ℕ) (q : List Holder) (room low last d
   pub covered : (a : ℕ) → IsCovered c q last room low room a
   pub rootless : (x m : ℕ) (h : Holder) → last ≤ x → x < room → name_at q x ≡ Some m → HoldsByRoot c m h → ⊥
 
-pub searched_first : (c : CoreState) (n : ℕ) (q : List Holder) (room low last depth : ℕ) → 2 ≤ room → low ≡ room - 1 → last ≡ room → depth ≡ 0
-    → name_at q (room - 1) ≡ Some n → Searched c n q room low last depth
+pub searched_first : (c : CoreState) (n : ℕ) (q : List Holder) (room low last depth : ℕ) → 2 ≤ room → low ≡ room - 1 → last ≡ room
+    → depth ≡ 0 → name_at q (room - 1) ≡ Some n → Searched c n q room low last depth
 searched_first c n q room low last depth two is end first named = record {
   positive = omega arith;
   down = omega arith;
@@ -145,7 +145,8 @@ module _ (c : CoreState) (n : ℕ) (q : List Holder) (room low last depth : ℕ)
       let all = slice_set r 0 h in
       record {
         names = map (λ (x : Holder). x.name) (take room all);
-        counted = length-map (take room all) (λ (x : Holder). x.name) ∙ taken all (let same : length all ≡ length r = set_length r 0 h in omega arith);
+        counted = length-map (take room all) (λ (x : Holder). x.name) ∙
+            taken all (let same : length all ≡ length r = set_length r 0 h in omega arith);
         once = λ i j m a b.
             let (il, ie) = named_in all room i m a in
             let (jl, je) = named_in all room j m b in
@@ -206,8 +207,8 @@ pub record Writing (c : CoreState) (q out : List Holder) (root : Holder) (at roo
   pub way : (m n : ℕ) → name_at q at ≡ Some m → HoldsByRoot c m root → (k : ℕ) (hs : List Holder) → name_at q left ≡ Some k
       → Leads c k hs n → IsWay c (take (suc place) out ++ hs) n
 
-pub writing_first : (c : CoreState) (q : List Holder) (root : Holder) (at room depth place left : ℕ) → place ≡ 0 → left ≡ at → 0 < at → at < room
-    → room ≤ length q → Chain c q room at depth → Writing c q (slice_set q 0 root) root at room depth place left
+pub writing_first : (c : CoreState) (q : List Holder) (root : Holder) (at room depth place left : ℕ) → place ≡ 0 → left ≡ at → 0 < at
+    → at < room → room ≤ length q → Chain c q room at depth → Writing c q (slice_set q 0 root) root at room depth place left
 writing_first c [] root at room depth place left p l positive under long chain = absurd (omega arith)
 writing_first c (z ∷ q) root at room depth place left p l positive under long chain = record {
   below = omega arith;
@@ -228,7 +229,8 @@ pub writing_next : (c : CoreState) (q out : List Holder) (root step : Holder) (a
 writing_next c q out root step at room depth place left place' left' w lt long is on one =
     go (depth - place) refl w.chain
   where
-    taken : place' < length out → take (suc place') (slice_set out place' (entry_of_step step)) ≡ take (suc place) out ++ entry_of_step step ∷ []
+    taken : place' < length out
+        → take (suc place') (slice_set out place' (entry_of_step step)) ≡ take (suc place) out ++ entry_of_step step ∷ []
     taken le = take_more out place' (suc place') (entry_of_step step) le refl
         ∙ ap (λ (k : ℕ). take k out ++ entry_of_step step ∷ []) (let e : place' ≡ suc place = omega arith in e)
 

@@ -12,7 +12,9 @@ pub loop-place-preserved : goal.loop-place-preserved
 loop-place-preserved c =
     writing_next c.args.core.now c.args.steps.now c.loop-place.steps c.args.root c.step_at-step.result c.args.at c.args.room c.args.depth
     c.loop-place.place c.loop-place.left (c.loop-place.place + 1) c.step_at-step.result.mutator c.loop-place.invariant
-    c.loop-place-test.true (let same = set_length c.args.steps.now 0 c.args.root in omega (arith, same, c.loop-place.auto.steps, c.requires.room)) c.step_at-step.ensures refl refl
+    c.loop-place-test.true
+    (let same = set_length c.args.steps.now 0 c.args.root in omega (arith, same, c.loop-place.auto.steps, c.requires.room))
+    c.step_at-step.ensures refl refl
 
 pub returns-clause-way : goal.returns-clause-way
 returns-clause-way c = λ m n first last root.

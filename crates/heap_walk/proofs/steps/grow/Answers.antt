@@ -74,7 +74,8 @@ loop-object-preserved c =
             long = (let stays = c.match-new_step.auto.steps in omega (arith, stays, long));
           }
       | in_default-new_step w ↦
-          let here = subst (λ (o : Option Holder). IsNewStepOf core at steps low last next room o) w.in_default-new_step.is c.new_step.ensures in
+          let here =
+          subst (λ (o : Option Holder). IsNewStepOf core at steps low last next room o) w.in_default-new_step.is c.new_step.ensures in
           record {
             positive = rw w.next-is positive;
             grown = rw (w.steps-is, w.next-is) old.grown;
