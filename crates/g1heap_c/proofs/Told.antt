@@ -212,7 +212,8 @@ module _ (c : CoreState) (es : List Event) (y z : Answer) (d : CoreState) where
       let same : h.answers.count ≡ k.answers.count = h.answers.tells.count_is ∙ sym k.answers.tells.count_is in
       h.answers.is ∙ ap (λ (n : ℕ). told 10 n 0) same ∙ sym k.answers.is
   one_answer (PathCall name ended before after) h k =
-      h.answers.is ∙ ap way_answer (one_way c name before after h.answers.count k.answers.count (h.answers.ended_is ∙ sym k.answers.ended_is)
+      h.answers.is ∙ ap way_answer (one_way c name before after h.answers.count k.answers.count
+      (h.answers.ended_is ∙ sym k.answers.ended_is)
       h.answers.tells k.answers.tells) ∙ sym k.answers.is
   one_answer (AskCall q) h k = ask_one q h.answers k.answers
   one_answer (GiveBackCall granted) h k = none_one (given_back granted) h k

@@ -9,7 +9,8 @@ use Rattle.heap_calls.specs.Ways.{FindsWay, way_answer}
 use Rattle.heap_calls.specs.declared.answer.Answer.{Answer}
 
 pub found_way : (name : ℕ) (before after : List Holder) (c : CoreState) (answer : Answer) (count : Option ℕ) → answer ≡ way_answer count
-    → TellsWay c name before after count → ((s : State) → Stands s c → LinksShow s.graph c) → ((s : State) → Stands s c → WaysShow s.graph c)
+    → TellsWay c name before after count → ((s : State) → Stands s c → LinksShow s.graph c)
+    → ((s : State) → Stands s c → WaysShow s.graph c)
     → FindsWay name true before after c answer ⊎ FindsWay name false before after c answer
 found_way name before after c answer (Some k) is tells shows ways =
     inl (record { count = Some k; ended_is = refl; is = is; tells = tells; shows = shows; ways = ways })
