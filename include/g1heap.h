@@ -104,7 +104,8 @@ enum {
 
     G1_NIL = 16,          /* the register that should name an object is nil */
     G1_NO_FIELD = 17,     /* the object has no such field */
-    G1_FULL = 18,         /* no place was found for the new object: collect, and try again, which g1_make has done already */
+    G1_FULL = 18,         /* no place was found for the new object: collect, and try again, which g1_make has done already;
+                             of g1_path: its buffer has no room for the search */
     G1_TOO_BIG = 19,      /* the new object is larger than the heap, or than 16,777,216 words */
     G1_NAMES_SPENT = 20,  /* no names are left */
     G1_MARK_RUNNING = 21, /* marking is running */
@@ -352,6 +353,19 @@ typedef struct g1_holder {
    A weak slot that reads nil names nothing, also one that waits to be cleared. Answers, cursor and buffer are as g1_walk's, but that each
    has a cursor of its own. It takes time for the roots, and for the pointers and weak slots of the objects that it walks over. */
 g1_answer g1_who(const g1_heap *heap, uint64_t name, uint64_t *cursor, g1_holder *holders, size_t count);
+
+/* A shortest way from a root to the object of a name, by pointers: what keeps it. Nothing changes, and a record has no line for it.
+
+       g1_holder way[64];
+       g1_answer told = g1_path(&heap, leaked, way, 64);
+       for (uint64_t i = 0; i < told.first; i++) show(&way[i]);         // way[0] is a root's
+
+   NUMBER, and `way`, which points to `count` structs, begins with `first` entries, as g1_who tells them: a root's, and then those of
+   objects, each of which the one before it holds; the last one holds the object. No way has fewer. It is 0 where no root leads there. Or
+   FULL: as many objects lead there, with the object itself, as there is room for, `count` of them or 4,294,967,295, and the search went no
+   further. Or NO_HEAP. What `way` has after these entries, or where there are none, means nothing. It asks for no memory. It walks over the
+   heap once for each entry, from the object on up, and there looks at each pointer once for each object that the walk before found. */
+g1_answer g1_path(const g1_heap *heap, uint64_t name, g1_holder *way, size_t count);
 
 /* Memory goes back to the system. A word of the heap takes memory when it is first written, and keeps it when its object is gone. This call
    gives back the memory of all words above the highest region in use, and what marks, dirty cards and the queue of cards took beyond what

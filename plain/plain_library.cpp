@@ -7,6 +7,8 @@
 #include <cstddef>
 #include <cstdint>
 #include <new>
+#include <set>
+#include <vector>
 
 #include "../include/g1heap.h"
 #include "plain_heap.h"
@@ -389,6 +391,64 @@ g1_answer g1_who(const g1_heap* heap, std::uint64_t name, std::uint64_t* cursor,
     if (*cursor < places + plain.word_count())
         *cursor = places + plain.walk(*cursor - places, [&](plain::Address at) { return tell(plain.holder(at, name)); });
     return answer(G1_NUMBER, told);
+}
+
+namespace {
+
+// What holds the object of an earlier step, by that one's number.
+struct Step { g1_holder by; std::size_t to; };
+
+// The place of the first root that holds the object of a name, or how many there are.
+Word root_place(const Heap& heap, Word name) {
+    Word place = 0;
+    while (place < heap.place_count() && heap.root_holder(Number(place), name).fields == 0) ++place;
+    return place;
+}
+
+// The entries of a way: a root's, and those of the steps from one on.
+Word write_way(const Heap& heap, const std::vector<Step>& steps, std::size_t at, Word place, g1_holder* way) {
+    Word told = 0;
+    way[told++] = heap.root_holder(Number(place), steps[at].by.name);
+    for (; at != 0; at = steps[at].to) way[told++] = steps[at].by;
+    return told;
+}
+
+// Adds a step for each object of which a pointer leads to one of the last distance, from `first` to below `last`. False: there is no room.
+bool add_steps(Heap& heap, std::vector<Step>& steps, std::set<Word>& found, std::size_t first, std::size_t last, std::size_t room) {
+    bool fits = true;
+    heap.walk(0, [&](plain::Address at) {
+        for (std::size_t to = last; to-- > first;) {
+            g1_holder by = heap.holder(at, steps[to].by.name);
+            if (by.fields == 0 || by.kind != G1_POINTER) continue;
+            if (found.count(by.name) != 0) break;
+            if (steps.size() + 1 == room) return fits = false;
+            found.insert(by.name);
+            steps.push_back({by, to});
+            break;
+        }
+        return true;
+    });
+    return fits;
+}
+
+} // namespace
+
+g1_answer g1_path(const g1_heap* heap, std::uint64_t name, g1_holder* way, std::size_t count) {
+    if (!heap->live) return answer(G1_NO_HEAP);
+    std::size_t room = count < UINT32_MAX ? count : UINT32_MAX;
+    if (room < 2) return answer(G1_FULL);
+    Heap& plain = in(heap);
+    std::vector<Step> steps{{{name, G1_POINTER, 0, 0, 0}, 0}};
+    std::set<Word> found{name};
+    for (std::size_t first = 0, last = 1; first < last;) {
+        for (std::size_t at = last; at-- > first;) {
+            Word place = root_place(plain, steps[at].by.name);
+            if (place < plain.place_count()) return answer(G1_NUMBER, write_way(plain, steps, at, place, way));
+        }
+        if (!add_steps(plain, steps, found, first, last, room)) return answer(G1_FULL);
+        first = last, last = steps.size();
+    }
+    return answer(G1_NUMBER, 0);
 }
 
 std::uint32_t g1_version() { return G1_VERSION_MAJOR * 65536 + G1_VERSION_MINOR * 256 + G1_VERSION_PATCH; }

@@ -50,6 +50,7 @@ g1_answer g1raw_registers(const g1_heap *heap);
 g1_answer g1raw_name(const g1_heap *heap, uint32_t mutator, uint32_t of);
 g1_answer g1raw_walk(const g1_heap *heap, uint64_t *cursor, g1_object *objects, size_t count);
 g1_answer g1raw_who(const g1_heap *heap, uint64_t name, uint64_t *cursor, g1_holder *holders, size_t count);
+g1_answer g1raw_path(const g1_heap *heap, uint64_t name, g1_holder *way, size_t count);
 g1_answer g1raw_give_back(g1_heap *heap);
 void g1raw_policy_start(g1_policy *policy, const g1_sizes *sizes);
 g1_answer g1_make_noted(g1_heap *heap, g1_policy *policy, uint32_t mutator, uint32_t to, uint32_t pointers, uint32_t weaks, uint32_t values,
@@ -291,6 +292,11 @@ g1_answer g1_walk(const g1_heap *heap, uint64_t *cursor, g1_object *objects, siz
 g1_answer g1_who(const g1_heap *heap, uint64_t name, uint64_t *cursor, g1_holder *holders, size_t count)
 {
     return g1raw_who(&box_of(heap)->heap, name, cursor, holders, count);
+}
+
+g1_answer g1_path(const g1_heap *heap, uint64_t name, g1_holder *way, size_t count)
+{
+    return g1raw_path(&box_of(heap)->heap, name, way, count);
 }
 
 void g1_policy_start(g1_policy *policy, const g1_sizes *sizes)

@@ -55,6 +55,7 @@ static void refuse_sizes(void)
     is("no heap", g1_shrink(&heap, &(g1_policy){0}), G1_NO_HEAP, 0, 0);
     is("no heap", g1_walk(&heap, &cursor, &object, 1), G1_NO_HEAP, 0, 0);
     is("no heap", g1_who(&heap, 0, &cursor, &holder, 1), G1_NO_HEAP, 0, 0);
+    is("no heap", g1_path(&heap, 0, &holder, 1), G1_NO_HEAP, 0, 0);
     if (cursor != 3 || object.name != 4 || holder.name != 5) is_code("no heap", 0, 1);
     g1_free(&heap);
 }

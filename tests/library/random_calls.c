@@ -216,6 +216,18 @@ static void note_holders(g1_heap *h, uint64_t name)
     } while (told.first != 0);
 }
 
+/* A shortest way to an object, in a buffer that may be too small. */
+static void note_way(g1_heap *h, uint64_t name, uint32_t room)
+{
+    g1_holder way[9];
+    way[room].name = UINT64_MAX - 1;
+    g1_answer told = g1_path(h, name, way, room);
+    note_answer(told);
+    if (told.first > room || way[room].name != UINT64_MAX - 1) differ("g1_path");
+    for (uint64_t i = 0; i < told.first; i++)
+        note(way[i].name), note(way[i].kind), note(way[i].mutator), note(way[i].place), note(way[i].fields);
+}
+
 /* The objects that the heap keeps, told a few at a time: nothing is written past a buffer. */
 static void note_objects(g1_heap *h)
 {
@@ -231,6 +243,7 @@ static void note_objects(g1_heap *h)
             note(objects[i].name), note(objects[i].word), note(objects[i].pointers), note(objects[i].weaks), note(objects[i].values);
     } while (told.first != 0);
     note_holders(h, objects[0].name);
+    for (uint32_t room = 0; room <= 8; room++) note_way(h, objects[room % 3].name, room);
 }
 
 static g1_answer step_of_collector(g1_heap *h)

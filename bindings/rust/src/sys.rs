@@ -92,6 +92,12 @@ impl Raw {
         // SAFETY: as for `walk`.
         unsafe { g1_who(self.heap.get(), name, cursor, holders.as_mut_ptr(), holders.len()) }.first as usize
     }
+    /// A shortest way to the object of a name: how many entries, `None` where there is no room for the search.
+    pub fn path(&self, name: u64, way: &mut [g1_holder]) -> Option<usize> {
+        // SAFETY: as for `walk`.
+        let told = unsafe { g1_path(self.heap.get(), name, way.as_mut_ptr(), way.len()) };
+        (told.code != FULL).then_some(told.first as usize)
+    }
     /// A new object by the policy.
     #[inline(always)]
     pub fn make(&self, mutator: u32, to: u32, pointers: u32, weaks: u32, values: u32) -> g1_answer {

@@ -121,6 +121,16 @@ pub(crate) fn holders(raw: &Raw, name: Name) -> Holders<'_> {
     Holders { raw, name: name.0, cursor: 0, room: [g1_holder::default(); ROOM], at: 0, told: 0 }
 }
 
+pub(crate) fn path(raw: &Raw, name: Name) -> Vec<Holder> {
+    let mut way = vec![g1_holder::default(); ROOM];
+    loop {
+        if let Some(told) = raw.path(name.0, &mut way) {
+            return way[..told].iter().map(holder).collect();
+        }
+        way.resize(2 * way.len(), g1_holder::default());
+    }
+}
+
 impl Heap {
     /// The objects that the heap keeps, one after another: those that the last marking marked, and all made since it began. After
     /// [`Frame::collect`](crate::Frame::collect) these are the objects that roots reach. It takes no memory, in the heap or beside it.
@@ -174,6 +184,32 @@ impl Heap {
     pub fn holders(&self, name: Name) -> Holders<'_> {
         holders(self.raw(), name)
     }
+
+    /// A shortest way from a root to the object of a name, by pointers: a root, and then objects, each held by the one before it, of which
+    /// the last one holds the object. It is empty where no root leads there. It goes over the heap once for each of them, and takes room for
+    /// 32 objects that lead there, twice as many where they are more, and so on.
+    ///
+    /// ```
+    /// # use g1heap::*;
+    /// # layout! { struct Cell { pointers { next: Cell } words { number: u64 } } }
+    /// let mut heap = Heap::new(&Sizes::default())?;
+    /// let list = heap.new_global::<Cell>()?;
+    /// let names = heap.run(|f| {
+    ///     let (first, second, lost) = (f.alloc::<Cell>()?, f.alloc::<Cell>()?, f.alloc::<Cell>()?);
+    ///     f.put(first, Cell::next, second);
+    ///     f.put(lost, Cell::next, second);
+    ///     f.save(list, first)?;
+    ///     Ok::<_, Error>([f.name(first), f.name(second)])
+    /// })?;
+    /// heap.run(|f| f.collect());
+    /// let way = heap.path(names[1]);
+    /// assert!(matches!(way[0], Holder::Global(_)));
+    /// assert_eq!(way[1..], [Holder::Object { name: names[0], field: 0, is_weak: false, fields: 1 }]);
+    /// # Ok::<_, Box<dyn std::error::Error>>(())
+    /// ```
+    pub fn path(&self, name: Name) -> Vec<Holder> {
+        path(self.raw(), name)
+    }
 }
 
 impl<'a> Steps<'a> {
@@ -185,5 +221,9 @@ impl<'a> Steps<'a> {
     /// The same as [`Heap::holders`](crate::Heap::holders), within a run, and right as long.
     pub fn holders(&self, name: Name) -> Holders<'a> {
         holders(self.raw(), name)
+    }
+    /// The same as [`Heap::path`](crate::Heap::path), within a run.
+    pub fn path(&self, name: Name) -> Vec<Holder> {
+        path(self.raw(), name)
     }
 }

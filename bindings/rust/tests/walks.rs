@@ -63,3 +63,32 @@ fn each_holder_is_told() {
     heap.run(|f| f.collect());
     assert!(!heap.holders(last.name).any(|it| matches!(it, Holder::Object { .. })));
 }
+
+#[test]
+fn a_shortest_way_is_told() {
+    let (mut heap, list) = listed();
+    let names: Vec<Name> = (0..COUNT).rev().map(|number| heap.objects().find(|it| it.word == number).unwrap().name).collect();
+    // More objects lead to the list's end than the first room has entries.
+    let way = heap.path(names[names.len() - 1]);
+    assert_eq!(way.len() as u64, COUNT);
+    assert!(matches!(way[0], Holder::Global(_)));
+    for (entry, &name) in way[1..].iter().zip(&names) {
+        assert_eq!(*entry, Holder::Object { name, field: 0, is_weak: false, fields: 1 });
+    }
+    // A second way, by one object, and one by a weak slot, which isn't followed.
+    let short = heap.new_global::<Cell>().unwrap();
+    let cell = heap.run(|f| {
+        let mut end = f.load(list)?.unwrap();
+        for _ in 1..COUNT {
+            end = f.get(end, Cell::next)?.unwrap();
+        }
+        let (cell, guess) = (f.alloc::<Cell>()?, f.alloc::<Guess>()?);
+        f.put(cell, Cell::next, end);
+        f.put_weak(guess, Guess::of, end);
+        f.save(short, cell)?;
+        Ok::<_, Error>(f.name(cell))
+    });
+    heap.run(|f| f.collect());
+    let way = heap.path(names[names.len() - 1]);
+    assert_eq!(way[1..], [Holder::Object { name: cell.unwrap(), field: 0, is_weak: false, fields: 1 }]);
+}

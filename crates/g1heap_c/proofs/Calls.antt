@@ -38,7 +38,7 @@ use Rattle.heap_calls.specs.declared.answer.Answer.{Answer}
 use Rattle.g1heap_c.specs.Calls.{AreCalls, Call, Called, IsCall, telling}
 use Rattle.g1heap_c.specs.Calls.{NewCall, StepCall, NewFilledCall, MakeCall, MakeFilledCall, CollectCall, CollectAllCall, ReadWordsCall}
 use Rattle.g1heap_c.specs.Calls.{GetWordCall, ManyCall, WriteWordsCall, WalkCall, WhoCall, AskCall, GiveBackCall, ShrinkCall, NoStepCall}
-use Rattle.g1heap_c.specs.Calls.{FreeCall}
+use Rattle.g1heap_c.specs.Calls.{FreeCall, PathCall}
 use Rattle.g1heap_c.specs.MadeFilled.{AsksToFill}
 use Rattle.g1heap_c.specs.Policies.{AnswersMake, AsksOrNils, CollectsIn, asked, nil_steps, nilling}
 use Rattle.g1heap_c.specs.Runs.{AreEventsOf, AreRun, CallRuns, HasCollected, HasEvents, HasFilling, HasLoaded, HasMaking}
@@ -524,6 +524,9 @@ call_done (WalkCall from to before after) s c c' answer st h =
     let same : c' ≡ c = held_is c' c h.1 in
     record { events = []; from = same_from s c c' st same; has = record { events = refl; answers = h.0; same = same } }
 call_done (WhoCall name from to before after) s c c' answer st h =
+    let same : c' ≡ c = held_is c' c h.1 in
+    record { events = []; from = same_from s c c' st same; has = record { events = refl; answers = h.0; same = same } }
+call_done (PathCall name ended before after) s c c' answer st h =
     let same : c' ≡ c = held_is c' c h.1 in
     record { events = []; from = same_from s c c' st same; has = record { events = refl; answers = h.0; same = same } }
 call_done (AskCall question) s c c' answer st h =

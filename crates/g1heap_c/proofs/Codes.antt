@@ -1,5 +1,5 @@
 -- The code of each answer of a run is one that calls on a heap have.
-use Rattle.std.proofs.Common.{◌≡◌, ◌-◌, ℕ, Bool, false, true, List, [], ◌∷◌, Some, None, inl, inr, refl, sym, subst, arith}
+use Rattle.std.proofs.Common.{◌≡◌, ◌-◌, ℕ, Bool, false, true, List, [], ◌∷◌, Option, Some, None, inl, inr, refl, sym, subst, arith}
 use Rattle.std.specs.Prelude.{All}
 use Rattle.std.proofs.lemmas.List.Elements.{All-cons, All-nil}
 use Rattle.heap_steps.specs.declared.step.CollectorStep.TheVariants as collector
@@ -16,11 +16,12 @@ use Rattle.step_core.specs.Stands.{CoreState, name_in}
 use Rattle.heap_calls.specs.Numbers.{counted, numbers, refused, register}
 use Rattle.heap_calls.specs.Loads.{word_or_name}
 use Rattle.heap_calls.specs.Steps.{given_back}
+use Rattle.heap_calls.specs.Ways.{way_answer}
 use Rattle.heap_calls.specs.declared.answer.Answer.{Answer}
 use Rattle.g1heap_c.specs.Calls.{Call, Called, IsAnswerTo, Question, telling}
 use Rattle.g1heap_c.specs.Calls.{NewCall, StepCall, NewFilledCall, MakeCall, MakeFilledCall, CollectCall, CollectAllCall, ReadWordsCall}
 use Rattle.g1heap_c.specs.Calls.{GetWordCall, ManyCall, WriteWordsCall, WalkCall, WhoCall, AskCall, GiveBackCall, ShrinkCall, NoStepCall}
-use Rattle.g1heap_c.specs.Calls.{FreeCall}
+use Rattle.g1heap_c.specs.Calls.{FreeCall, PathCall}
 use Rattle.g1heap_c.specs.Calls.{FreeRun, Marking, Grey, Clearing, Name}
 use Rattle.g1heap_c.specs.Runs.{AreRun, CallsRun, HasCode, HasEvents, IsCode, IsReadLoaded}
 use Rattle.g1heap_c.proofs.Named.{is_register}
@@ -52,6 +53,10 @@ of_counted n _ = inl (omega arith)
 of_telling : (step : Step) (c d : CoreState) (r : Reply) → IsCode (telling step c d r).code
 of_telling (steps.Collector (collector.Mark k)) c d r = of_counted (d.marker.scans.since - c.marker.scans.since) r
 of_telling _ c d r = of_numbers r
+
+of_way : (count : Option ℕ) → IsCode (way_answer count).code
+of_way None = inr (inl (omega arith, omega arith))
+of_way (Some k) = inl (omega arith)
 
 -- an answer that equals another one has its code
 alike : (y z : Answer) → y ≡ z → IsCode z.code → IsCode y.code
@@ -105,6 +110,7 @@ of_call c es (WriteWordsCall m object from words) y d (inl (is, inl h)) = alike 
 of_call c es (WriteWordsCall m object from words) y d (inl (is, inr h)) = alike y _ h.tells (of_refused h.why)
 of_call c es (WalkCall from to before after) y d h = alike y _ h.answers.is (inl (omega arith))
 of_call c es (WhoCall name from to before after) y d h = alike y _ h.answers.is (inl (omega arith))
+of_call c es (PathCall name ended before after) y d h = alike y _ h.answers.is (of_way h.answers.count)
 of_call c es (AskCall question) y d h = of_question question c y h.answers
 of_call c es (GiveBackCall granted) y d h = alike y _ h.tells (of_given granted)
 of_call c es (ShrinkCall granted) y d h = alike y _ h.tells (of_given granted)

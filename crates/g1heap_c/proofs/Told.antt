@@ -19,17 +19,19 @@ use Rattle.heap_calls.specs.Loads.{loading, word_or_name}
 use Rattle.heap_calls.specs.Numbers.{numbers, register, told}
 use Rattle.heap_calls.specs.Rows.{AreSteps, Many, last_step}
 use Rattle.heap_calls.specs.Steps.{HasRegister, IsMarking, given_back}
+use Rattle.heap_calls.specs.Ways.{way_answer}
 use Rattle.heap_calls.specs.declared.answer.Answer.{Answer}
 use Rattle.g1heap_c.specs.Calls.{Call, IsAnswerTo, Question, telling}
 use Rattle.g1heap_c.specs.Calls.{NewCall, StepCall, NewFilledCall, MakeCall, MakeFilledCall, CollectCall, CollectAllCall, ReadWordsCall}
 use Rattle.g1heap_c.specs.Calls.{GetWordCall, ManyCall, WriteWordsCall, WalkCall, WhoCall, AskCall, GiveBackCall, ShrinkCall, NoStepCall}
-use Rattle.g1heap_c.specs.Calls.{FreeCall}
+use Rattle.g1heap_c.specs.Calls.{FreeCall, PathCall}
 use Rattle.g1heap_c.specs.Calls.{FreeRun, Marking, Grey, Clearing, Name}
 use Rattle.g1heap_c.specs.Policies.{asked}
 use Rattle.g1heap_c.specs.Runs.{HasEvents, HasFilling, HasLoaded, HasMaking, HasMakingAndFilling, HasNoEvent, HasNotRead, HasRead}
 use Rattle.g1heap_c.specs.Runs.{HasDone, HasMany, HasRefused, HasStep}
 use Rattle.g1heap_c.specs.Runs.{HasWritten, IfElse, IsReadLoaded, event_of, last_read, last_write, reads_of, writes_of}
 use Rattle.g1heap_c.proofs.Named.{is_register}
+use Rattle.g1heap_c.proofs.OneWay.{one_way}
 
 head_is : (x y : Event) (xs ys : List Event) → x ∷ xs ≡ y ∷ ys → x ≡ y
 head_is x y xs ys e = cc
@@ -212,6 +214,10 @@ module _ (c : CoreState) (es : List Event) (y z : Answer) (d : CoreState) where
   one_answer (WhoCall name from to before after) h k =
       let same : h.answers.count ≡ k.answers.count = h.answers.tells.count_is ∙ sym k.answers.tells.count_is in
       h.answers.is ∙ ap (λ (n : ℕ). told 10 n 0) same ∙ sym k.answers.is
+  one_answer (PathCall name ended before after) h k =
+      h.answers.is ∙ ap way_answer (one_way c name before after h.answers.count k.answers.count
+      (h.answers.ended_is ∙ sym k.answers.ended_is)
+      h.answers.tells k.answers.tells) ∙ sym k.answers.is
   one_answer (AskCall q) h k = ask_one q h.answers k.answers
   one_answer (GiveBackCall granted) h k = none_one (given_back granted) h k
   one_answer (ShrinkCall granted) h k = h.tells ∙ sym k.tells

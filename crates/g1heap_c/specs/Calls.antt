@@ -16,6 +16,7 @@ use Rattle.heap_calls.specs.Numbers.{told}
 use Rattle.heap_calls.specs.Steps.{GivesBack, IsMarking, IsName, IsNumber, IsFreeRun, IsSign, MakesHeap, TakesStep, TakesNone, Tells}
 use Rattle.heap_calls.specs.Steps.{plain, scanned}
 use Rattle.heap_calls.specs.Walks.{FindsOn, WalksOn}
+use Rattle.heap_calls.specs.Ways.{FindsWayOn}
 use Rattle.heap_calls.specs.Words.{ReadsWords, WritesWords}
 use Rattle.heap_calls.specs.declared.answer.Answer.{Answer}
 use Rattle.heap_walk.specs.declared.objects.Entry.{Entry}
@@ -42,9 +43,10 @@ pub data Question : Type 0 where
 -- Which call it is, with its numbers. A heap is made; it takes a step; it makes an object and fills it; it makes an object by the policy,
 -- which has this `nil_on_full`, and makes one by the policy and fills it; the steps of the collector that are due; a whole collection; a
 -- pointer is loaded, with a data word of what it leads to; several fields are loaded or stored; data words are read from one on, with what
--- the buffer holds before and after, and are written; objects are told from a cursor on, with the buffer, and so is who names one;
--- something is asked; memory is given back, and what that asks for meanwhile is granted or not; the same after a whole collection and
--- compactions; the numbers name no step of any heap; it is freed
+-- the buffer holds before and after, and are written; objects are told from a cursor on, with the buffer, and so is who names one; a way
+-- from a root to one is searched for, and the search ends or spends the buffer's room; something is asked; memory is given back, and what
+-- that asks for meanwhile is granted or not; the same after a whole collection and compactions; the numbers name no step of any heap; it is
+-- freed
 pub data Call : Type 0 where
   NewCall : (config : Config) → Call
   StepCall : (step : Step) → Call
@@ -59,6 +61,7 @@ pub data Call : Type 0 where
   WriteWordsCall : (m object from : ℕ) (words : List ℕ) → Call
   WalkCall : (from to : ℕ) (before after : List Entry) → Call
   WhoCall : (name from to : ℕ) (before after : List Holder) → Call
+  PathCall : (name : ℕ) (ended : Bool) (before after : List Holder) → Call
   AskCall : (question : Question) → Call
   GiveBackCall : (granted : Bool) → Call
   ShrinkCall : (granted : Bool) → Call
@@ -101,6 +104,7 @@ IsCall heap (ReadWordsCall m object from before out) answer after = ReadsWords h
 IsCall heap (WriteWordsCall m object from words) answer after = WritesWords heap m object from words answer after
 IsCall heap (WalkCall from to before out) answer after = WalksOn heap from to before out answer after
 IsCall heap (WhoCall name from to before out) answer after = FindsOn heap name from to before out answer after
+IsCall heap (PathCall name ended before out) answer after = FindsWayOn heap name ended before out answer after
 IsCall heap (AskCall question) answer after = Tells (IsAnswerTo question) heap answer after
 IsCall heap (GiveBackCall granted) answer after = GivesBack granted heap answer after
 IsCall heap (ShrinkCall granted) answer after = Shrinks granted heap answer after

@@ -24,11 +24,12 @@ use Rattle.heap_calls.specs.Rows.{AreSteps, Many, count_of, last_step, step_of}
 use Rattle.heap_calls.specs.Numbers.{no_step, numbers, refused, register, told}
 use Rattle.heap_calls.specs.Steps.{HasRegister, given_back}
 use Rattle.heap_calls.specs.Walks.{Finds, Walks}
+use Rattle.heap_calls.specs.Ways.{FindsWay}
 use Rattle.heap_calls.specs.declared.answer.Answer.{Answer}
 use Rattle.g1heap_c.specs.Calls.{Call, Called, AreCalls, IsAnswerTo, IsCall, telling}
 use Rattle.g1heap_c.specs.Calls.{NewCall, StepCall, NewFilledCall, MakeCall, MakeFilledCall, CollectCall, CollectAllCall, ReadWordsCall}
 use Rattle.g1heap_c.specs.Calls.{GetWordCall, ManyCall, WriteWordsCall, WalkCall, WhoCall, AskCall, GiveBackCall, ShrinkCall, NoStepCall}
-use Rattle.g1heap_c.specs.Calls.{FreeCall}
+use Rattle.g1heap_c.specs.Calls.{FreeCall, PathCall}
 use Rattle.g1heap_c.specs.Policies.{asked, nil_steps, nilling}
 
 -- the event of a step with a reply, taken by whose step it is
@@ -214,6 +215,7 @@ HasEvents c es (WriteWordsCall m object from words) answer c' =
     (HasNoEvent c es no_step answer c')
 HasEvents c es (WalkCall from to before after) answer c' = HasAsked c es (Walks from to before after) answer c'
 HasEvents c es (WhoCall name from to before after) answer c' = HasAsked c es (Finds name from to before after) answer c'
+HasEvents c es (PathCall name ended before after) answer c' = HasAsked c es (FindsWay name ended before after) answer c'
 HasEvents c es (AskCall question) answer c' = HasAsked c es (IsAnswerTo question) answer c'
 HasEvents c es (GiveBackCall granted) answer c' = HasNoEvent c es (given_back granted) answer c'
 HasEvents c es (ShrinkCall granted) answer c' = HasCollected es (given_back granted) answer

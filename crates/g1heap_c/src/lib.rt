@@ -22,6 +22,7 @@ pub mod making;
 pub mod memory;
 pub mod mutator;
 mod noted;
+pub mod paths;
 pub mod policy;
 pub mod readers;
 pub mod rows;

@@ -3,3 +3,4 @@ pub mod Values
 pub mod Filling
 pub mod Loading
 pub mod FreeRuns
+pub mod FoundWays

@@ -8,3 +8,4 @@ pub mod FreeRuns
 pub mod Walks
 pub mod Loads
 pub mod Rows
+pub mod Ways

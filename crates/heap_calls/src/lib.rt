@@ -9,7 +9,7 @@
 //! `named` has what a call's numbers name, `answer` the numbers that a call answers, `heap` a heap as C keeps it, `handle` its pointer,
 //! `loose` the box that this points to, `making` how it begins, `filled` a new object with its fields, `words` several data words, `loads`
 //! a pointer with a data word of the object that it leads to, `rows` several fields, `readers` what is looked for in a heap, `walks` its
-//! objects one after another, and `giving` memory that is given back to the system.
+//! objects one after another, `paths` a shortest way to one, and `giving` memory that is given back to the system.
 #![tactic(auto)]
 
 pub mod answer;
@@ -21,6 +21,7 @@ pub mod loads;
 pub mod loose;
 pub mod making;
 pub mod named;
+pub mod paths;
 pub mod readers;
 pub mod rows;
 pub mod walks;

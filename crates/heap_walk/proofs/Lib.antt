@@ -6,3 +6,8 @@ pub mod Showing
 pub mod Linking
 pub mod Placing
 pub mod ObjectNames
+pub mod Places
+pub mod Growing
+pub mod Covering
+pub mod Ways
+pub mod GraphWays

@@ -2,3 +2,5 @@ pub mod Starts
 pub mod Kept
 pub mod Walks
 pub mod Holders
+pub mod Paths
+pub mod Searching

@@ -25,7 +25,7 @@ struct Stop {
 }
 
 /// How many root places there are.
-fn root_count(core: &Core) -> u32
+pub(crate) fn root_count(core: &Core) -> u32
     ensures value { result ≡ length core.now.roots }
     ensures few { result ≤ max_roots }
 {

@@ -8,13 +8,14 @@
 //!
 //! A walk goes from tile to tile by the cursor, takes no memory and changes nothing. `starts` has where tiles start over all regions,
 //! `kept` which of them are kept objects, `naming` which of these has a name, `objects` what is told of them; `holders` an object's links,
-//! and whether a root or an object names another one, `finding` all that do, one after another.
+//! and whether a root or an object names another one, `finding` all that do, one after another; `paths` a shortest way from a root to an
+//! object, by a search from this on, whose `steps` are in the buffer.
 //!
 //! Examples of calls go on from this one, in which `rt` is a test's `HostRuntime` and `alloc` its allocator:
 //!
 //! ```rust
 //! use heap_steps::{Action, Counts, Op, Register, Step};
-//! use heap_walk::{Entry, Holder, link_at, links, object_of, walk, who};
+//! use heap_walk::{Entry, Holder, link_at, links, object_of, path, walk, who};
 //! use heap_words::addr::Addr;
 //! use heap_words::config::{Config, Format};
 //! use step_core::Core;
@@ -31,9 +32,12 @@ mod holders;
 mod kept;
 mod naming;
 mod objects;
+mod paths;
 mod starts;
+mod steps;
 
 pub use finding::who;
 pub use holders::{Holder, link_at, links};
 pub use naming::object_of;
 pub use objects::{Entry, walk};
+pub use paths::path;

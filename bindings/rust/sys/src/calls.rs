@@ -206,6 +206,7 @@ extern "C" {
     pub fn g1_name(heap: *const g1_heap, mutator: u32, of: u32) -> g1_answer;
     pub fn g1_walk(heap: *const g1_heap, cursor: *mut u64, objects: *mut g1_object, count: usize) -> g1_answer;
     pub fn g1_who(heap: *const g1_heap, name: u64, cursor: *mut u64, holders: *mut g1_holder, count: usize) -> g1_answer;
+    pub fn g1_path(heap: *const g1_heap, name: u64, way: *mut g1_holder, count: usize) -> g1_answer;
     pub fn g1_give_back(heap: *mut g1_heap) -> g1_answer;
     pub fn g1_policy_start(policy: *mut g1_policy, sizes: *const g1_sizes);
     pub fn g1_make(heap: *mut g1_heap, policy: *mut g1_policy, mutator: u32, to: u32, pointers: u32, weaks: u32, values: u32) -> g1_answer;
