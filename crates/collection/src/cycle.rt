@@ -97,15 +97,13 @@ fn end_marking<W: Watch>(core: &mut Core, policy: &mut Policy, watch: &mut W)
     }
 }
 
-/// Marks, and ends marking where nothing is left to be marked, or the cycle where few regions are free.
+/// Marks, and ends marking where nothing is left to be marked, or few regions are free.
 fn mark_on<W: Watch>(core: &mut Core, policy: &mut Policy, watch: &mut W)
     ensures { CollectsSome W.sees 3 core.old watch.old core.new watch.new }
 {
     let words = policy.spend_marks(&core.config(), core.free_regions());
     take(core, policy, CollectorStep::Mark(words), watch);
-    if core.free_regions() <= policy.reserve {
-        end_cycle(core, policy, watch);
-    } else if !core.grey() {
+    if core.free_regions() <= policy.reserve || !core.grey() {
         end_marking(core, policy, watch);
     }
 }
@@ -213,7 +211,7 @@ fn begin_cycle<W: Watch>(core: &mut Core, policy: &mut Policy, watch: &mut W) ->
     policy.plan_marking(&core.config(), free, words);
     take(core, policy, CollectorStep::Begin, watch);
     if free <= policy.reserve {
-        end_cycle(core, policy, watch);
+        end_marking(core, policy, watch);
     }
     true
 }
@@ -264,6 +262,19 @@ fn refine_most<W: Watch>(core: &mut Core, policy: &mut Policy, watch: &mut W) ->
     policy.last != REFINED && cards > policy.cards_left
 }
 
+/// Clears weak slots where few regions are free. Where hardly any are, it reclaims what is dead, which clears all that is left, and
+/// evacuates.
+fn clear_or_reclaim<W: Watch>(core: &mut Core, policy: &mut Policy, watch: &mut W)
+    ensures { CollectsSome W.sees (core.old.config.regions + 5) core.old watch.old core.new watch.new }
+{
+    if core.free_regions() > policy.reserve / 4 {
+        clear_on(core, policy, watch);
+        return;
+    }
+    reclaim(core, policy, watch);
+    evacuate(core, policy, watch);
+}
+
 /// All that is due, where few regions are free.
 fn hurry<W: Watch>(core: &mut Core, policy: &mut Policy, watch: &mut W)
     ensures collects { CollectsWithin W.sees (core.old.config.regions + 5) core.old watch.old core.new watch.new }
@@ -271,8 +282,7 @@ fn hurry<W: Watch>(core: &mut Core, policy: &mut Policy, watch: &mut W)
         → CollectsSome W.sees (core.old.config.regions + 5) core.old watch.old core.new watch.new }
 {
     if core.clearing() {
-        reclaim(core, policy, watch);
-        evacuate(core, policy, watch);
+        clear_or_reclaim(core, policy, watch);
         return;
     }
     refine_most(core, policy, watch);
