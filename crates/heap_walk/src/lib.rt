@@ -14,7 +14,7 @@
 //!
 //! ```rust
 //! use heap_steps::{Action, Counts, Op, Register, Step};
-//! use heap_walk::{Entry, Holder, link_at, links, object_of, walk, who};
+//! use heap_walk::{Entry, Holder, entry_of, kept_above, link_at, links, object_of, root_holder, walk, who};
 //! use heap_words::addr::Addr;
 //! use heap_words::config::{Config, Format};
 //! use step_core::Core;
@@ -34,6 +34,7 @@ mod objects;
 mod starts;
 
 pub use finding::who;
-pub use holders::{Holder, link_at, links};
+pub use holders::{Holder, link_at, links, root_holder};
+pub use kept::kept_above;
 pub use naming::object_of;
-pub use objects::{Entry, walk};
+pub use objects::{Entry, entry_of, walk};
