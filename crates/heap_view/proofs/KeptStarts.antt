@@ -99,23 +99,22 @@ module _ (c : CoreState) where
   above : (low a n : ℕ) → low < a → AllByRecursion (λ y. nat_cmp low y ≡ Less) (told_among (starts_at c) a n)
   unfolding told_among
   above low a zero lt = tt
-  above low a (suc n) lt = go (kept_of c a)
+  above low a (suc n) lt = go (kept_of c a) (above low (suc a) n (omega (arith, lt)))
     where
-      rest : AllByRecursion (λ y. nat_cmp low y ≡ Less) (told_among (starts_at c) (suc a) n)
-      rest = above low (suc a) n (omega (arith, lt))
-
-      go : (o : Option Stored) → AllByRecursion (λ y. nat_cmp low y ≡ Less) (start_if a o ++ told_among (starts_at c) (suc a) n)
-      go None = rest
-      go (Some s) = (less_is low a lt, rest)
+      go : (o : Option Stored) → AllByRecursion (λ y. nat_cmp low y ≡ Less) (told_among (starts_at c) (suc a) n)
+          → AllByRecursion (λ y. nat_cmp low y ≡ Less) (start_if a o ++ told_among (starts_at c) (suc a) n)
+      go None rest = rest
+      go (Some s) rest = (less_is low a lt, rest)
 
   rises : (a n : ℕ) → IsStrictlySortedBy nat_cmp (told_among (starts_at c) a n)
   unfolding told_among IsStrictlySortedBy
   rises a zero = tt
-  rises a (suc n) = go (kept_of c a)
+  rises a (suc n) = go (kept_of c a) (rises (suc a) n)
     where
-      go : (o : Option Stored) → IsStrictlySortedBy nat_cmp (start_if a o ++ told_among (starts_at c) (suc a) n)
-      go None = rises (suc a) n
-      go (Some s) = (above a (suc a) n (omega arith), rises (suc a) n)
+      go : (o : Option Stored) → IsStrictlySortedBy nat_cmp (told_among (starts_at c) (suc a) n)
+          → IsStrictlySortedBy nat_cmp (start_if a o ++ told_among (starts_at c) (suc a) n)
+      go None rest = rest
+      go (Some s) rest = (above a (suc a) n (omega arith), rest)
 
   all_kept : (a n : ℕ) → All (λ x. IsSome (kept_of c x)) (told_among (starts_at c) a n)
   unfolding told_among
@@ -181,7 +180,7 @@ module _ (c : CoreState) where
     items_small g =
         subst (λ (l : List ℕ). sum_by (edges_from c) l ≤ 9223372036854775808) (sym same) (edges_small g nodes (starts_few g nodes))
 
-pub item_at : (items : List ℕ) (i d : ℕ) → i < length items → slice_get items i ≡ Some (get_or items i d)
+pub item_at : {A : Type 0} (items : List A) (i : ℕ) (d : A) → i < length items → slice_get items i ≡ Some (get_or items i d)
 item_at [] i d lt = absurd (omega (arith, lt))
 item_at (x ∷ items) zero d lt = refl
 item_at (x ∷ items) (suc i) d lt = item_at items i d (omega (arith, lt))
