@@ -93,7 +93,7 @@ fn put_head(core: &Core, numbering: &Numbering, text: &mut Text)
     put_other_fields(text);
     put_counts(
         text,
-        2 + numbering.starts.len() as u64,
+        2 + numbering.starts.as_slice().len() as u64,
         edge_count(core, numbering),
     );
 }
