@@ -25,13 +25,16 @@ ghost use Rattle.heap_view.specs.Snapshot.{IsNumbering, first_weak, starts, wide
 ghost use Rattle.heap_view.specs.SnapshotTexts.{IsSnapshot, class_name, counts_text, edge_kind, edge_name, edge_text};
 ghost use Rattle.heap_view.specs.SnapshotTexts.{edge_types, edges_text};
 ghost use Rattle.heap_view.specs.SnapshotTexts.{empty_lists, head_text, link_edge, link_edges, node_fields, node_types, nodes_text};
-ghost use Rattle.heap_view.specs.SnapshotTexts.{object_edges, object_node, other_fields, root_edge, root_name, root_nodes, shape_text, slot_text};
-ghost use Rattle.heap_view.specs.SnapshotTexts.{snapshot_text, strings_text, weak_name};
+ghost use Rattle.heap_view.specs.SnapshotTexts.{object_edges, object_node, other_fields, root_edge, root_name, root_nodes, shape_text};
+ghost use Rattle.heap_view.specs.SnapshotTexts.{slot_text, snapshot_text, strings_text, weak_name};
 
 use crate::census_lines::put_first;
 use crate::classes::{Class, class_of, class_size};
 use crate::object_lines::put_root_holder;
-use crate::snapshot::{Numbering, class_place, edge_count, edges_from, node_of, numbering_of, root_at, root_count, root_edges, widest};
+use crate::snapshot::{
+    Numbering, class_place, edge_count, edges_from, node_of, numbering_of, root_at, root_count,
+    root_edges, widest,
+};
 use heap_walk::{entry_of, link_at, links, root_holder};
 use heap_words::addr::{Addr, Ptr};
 use script_text::Text;
@@ -42,14 +45,18 @@ use step_core::Core;
 fn put_node_fields(text: &mut Text)
     ensures { Adds text.old node_fields text.new }
 {
-    text.put("{\"snapshot\":{\"meta\":{\"node_fields\":[\"type\",\"name\",\"id\",\"self_size\",\"edge_count\",\"detachedness\"],");
+    text.put(
+        "{\"snapshot\":{\"meta\":{\"node_fields\":[\"type\",\"name\",\"id\",\"self_size\",\"edge_count\",\"detachedness\"],",
+    );
 }
 
 /// Puts which kinds of nodes there are.
 fn put_node_types(text: &mut Text)
     ensures { Adds text.old node_types text.new }
 {
-    text.put("\"node_types\":[[\"hidden\",\"array\",\"string\",\"object\",\"code\",\"closure\",\"regexp\",\"number\",\"native\",");
+    text.put(
+        "\"node_types\":[[\"hidden\",\"array\",\"string\",\"object\",\"code\",\"closure\",\"regexp\",\"number\",\"native\",",
+    );
     text.put("\"synthetic\"],\"string\",\"number\",\"number\",\"number\",\"number\"],");
 }
 
@@ -57,7 +64,9 @@ fn put_node_types(text: &mut Text)
 fn put_edge_types(text: &mut Text)
     ensures { Adds text.old edge_types text.new }
 {
-    text.put("\"edge_fields\":[\"type\",\"name_or_index\",\"to_node\"],\"edge_types\":[[\"context\",\"element\",\"property\",");
+    text.put(
+        "\"edge_fields\":[\"type\",\"name_or_index\",\"to_node\"],\"edge_types\":[[\"context\",\"element\",\"property\",",
+    );
     text.put("\"internal\",\"hidden\",\"shortcut\",\"weak\"],\"string_or_number\",\"node\"],");
 }
 
@@ -65,8 +74,12 @@ fn put_edge_types(text: &mut Text)
 fn put_other_fields(text: &mut Text)
     ensures { Adds text.old other_fields text.new }
 {
-    text.put("\"trace_function_info_fields\":[\"function_id\",\"name\",\"script_name\",\"script_id\",\"line\",\"column\"],");
-    text.put("\"trace_node_fields\":[\"id\",\"function_info_index\",\"count\",\"size\",\"children\"],");
+    text.put(
+        "\"trace_function_info_fields\":[\"function_id\",\"name\",\"script_name\",\"script_id\",\"line\",\"column\"],",
+    );
+    text.put(
+        "\"trace_node_fields\":[\"id\",\"function_info_index\",\"count\",\"size\",\"children\"],",
+    );
     text.put("\"sample_fields\":[\"timestamp_us\",\"last_assigned_id\"],");
     text.put("\"location_fields\":[\"object_index\",\"script_id\",\"line\",\"column\"]},");
 }
@@ -373,7 +386,9 @@ fn put_strings(core: &Core, text: &mut Text, classes: &[Class])
 fn put_empty_lists(text: &mut Text)
     ensures { Adds text.old empty_lists text.new }
 {
-    text.put("\"trace_function_infos\":[],\n\"trace_tree\":[],\n\"samples\":[],\n\"locations\":[],\n");
+    text.put(
+        "\"trace_function_infos\":[],\n\"trace_tree\":[],\n\"samples\":[],\n\"locations\":[],\n",
+    );
 }
 
 /// Puts a snapshot by its numbers.
