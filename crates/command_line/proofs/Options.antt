@@ -7,7 +7,7 @@ use Rattle.clap.specs.Words.{Text}
 use Rattle.command_line.specs.Asked.{Asks, asked_in, is_path, names_in, names_of}
 use Rattle.command_line.specs.Program.{drawn}
 use Rattle.command_line.specs.declared.Task.TheVariants.{Draw, View}
-use Rattle.command_line.specs.declared.Viewed.TheVariants.{Census, Object, Regions}
+use Rattle.command_line.specs.declared.Viewed.TheVariants.{Census, Object, Regions, Snapshot}
 use Rattle.command_line.proofs.Levels.{asks, asks_names, end_fault, from_path, is_value, leaf, takes_value, to_draw, to_view}
 use Rattle.command_line.proofs.Levels.{value_is_taken}
 
@@ -58,3 +58,8 @@ pub census : (program path : Text) → is_path path ≡ true
     → Asks (program ∷ codes "view" ∷ path ∷ codes "--census" ∷ []) (path, View false None Census, false)
 unfolding clap_on_literals
 census program path h = asks _ _ to_view program path (codes "--census" ∷ []) _ h refl refl
+
+pub heapsnapshot : (program path : Text) → is_path path ≡ true
+    → Asks (program ∷ codes "view" ∷ path ∷ codes "--heapsnapshot" ∷ []) (path, View false None Snapshot, false)
+unfolding clap_on_literals
+heapsnapshot program path h = asks _ _ to_view program path (codes "--heapsnapshot" ∷ []) _ h refl refl

@@ -16,7 +16,7 @@ use Rattle.command_line.specs.declared.Order.TheVariants.{File, Drawn, Concurren
 use Rattle.command_line.specs.declared.Task.{Task}
 use Rattle.command_line.specs.declared.Task.TheVariants.{Script, Check, View, Draw}
 use Rattle.command_line.specs.declared.Viewed.{Viewed}
-use Rattle.command_line.specs.declared.Viewed.TheVariants.{Census, Object, Regions}
+use Rattle.command_line.specs.declared.Viewed.TheVariants.{Census, Object, Regions, Snapshot}
 
 -- the number of so many bits that a text spells
 abbrev pub number_of : ℕ → Text → Option ℕ
@@ -44,9 +44,9 @@ threads_in rows =
 abbrev pub flag_in : Text → List Row → Bool
 flag_in name rows = option_map_or (λ text. bytes_eq text (codes "true")) (first_of name rows) false
 
--- what of a heap is viewed where no object's name was given: its census, where that was asked for; else its regions
+-- what of a heap is viewed where no object's name was given: its census or its snapshot, where that was asked for; else its regions
 abbrev pub wide_in : List Row → Viewed
-wide_in rows = if flag_in (codes "census") rows then Census
+wide_in rows = if flag_in (codes "census") rows then Census else if flag_in (codes "heapsnapshot") rows then Snapshot
     else Regions (number_in 32 (codes "region") rows) (flag_in (codes "summary") rows)
 
 -- what of a heap is viewed: an object, where its name was given; else something of all objects

@@ -9,6 +9,7 @@
 //!   g1heap view FILE --at 9           Task::View { recorded: false, at: Some(9), viewed: Regions { region: None, summary: false } }
 //!   g1heap view FILE --object 7       Task::View { recorded: false, at: None, viewed: Object(7) }
 //!   g1heap view FILE --census         Task::View { recorded: false, at: None, viewed: Census }
+//!   g1heap view FILE --heapsnapshot   Task::View { recorded: false, at: None, viewed: Snapshot }
 //!   g1heap draw FILE --every 10       Task::Draw { every: 10, recorded: false }
 //!   g1heap help, and every mistake    an `Error`, whose text is for the user
 //! ```
@@ -27,7 +28,7 @@ ghost use Rattle.command_line.specs.Asked.{Asks, asked_by, asked_in, asked_of, d
 ghost use Rattle.command_line.specs.Asked.{names_by, names_in, names_of, threads_in, viewed_in, wide_in};
 ghost use Rattle.command_line.specs.declared.Order.TheVariants.{Concurrent, Drawn, File};
 ghost use Rattle.command_line.specs.declared.Task.TheVariants.{Check, Draw, Script, View};
-ghost use Rattle.command_line.specs.declared.Viewed.TheVariants.{Census, Object, Regions};
+ghost use Rattle.command_line.specs.declared.Viewed.TheVariants.{Census, Object, Regions, Snapshot};
 ghost use Rattle.command_line.specs.Program.{IsReadAs, background, bare, by_actors, checked, count, drawn, every, file, flag, g1heap};
 ghost use Rattle.command_line.specs.Program.{large, names, number, plain, schedule, viewed, with_path, workers};
 
@@ -64,6 +65,8 @@ pub enum Viewed {
     Object(u64),
     /// Its kept objects, by classes.
     Census,
+    /// Its kept objects and who names whom, for other tools.
+    Snapshot,
 }
 
 /// What is done with the file.
@@ -421,7 +424,9 @@ fn view_command<'a>(alloc: Global) -> Result<Command<'a>, AllocError>
     let help = "Views object #N alone: all its fields, and who names it";
     let command = with_arg(command, large(alloc, "object", help));
     let help = "Counts objects and words by shape and first data word, most words first";
-    with_arg(command, flag(alloc, "census", help))
+    let command = with_arg(command, flag(alloc, "census", help));
+    let help = "Prints a snapshot for the tools of Chrome and Node: a .heapsnapshot file";
+    with_arg(command, flag(alloc, "heapsnapshot", help))
 }
 
 fn draw_command<'a>(alloc: Global) -> Result<Command<'a>, AllocError>
@@ -504,12 +509,15 @@ fn flag_in(found: &ArgMatches, name: &str) -> bool
     }
 }
 
-/// What of a heap is viewed where no object's name was given: its census where that was asked for.
+/// What of a heap is viewed where no object's name was given: its census or its snapshot, where that was asked for.
 fn wide_in(found: &ArgMatches) -> Viewed
     ensures { result ≡ wide_in (rows_of (found_of found.now)) }
 {
     if flag_in(found, "census") {
         return Viewed::Census;
+    }
+    if flag_in(found, "heapsnapshot") {
+        return Viewed::Snapshot;
     }
     Viewed::Regions {
         region: count_in(found, "region"),
@@ -643,6 +651,8 @@ pub fn words_law()
         → Asks (program ∷ codes "view" ∷ path ∷ codes "--object" ∷ codes "7" ∷ []) (path, View false None (Object 7), false) }
     ensures census { (program path : List ℕ) → is_path path ≡ true
         → Asks (program ∷ codes "view" ∷ path ∷ codes "--census" ∷ []) (path, View false None Census, false) }
+    ensures heapsnapshot { (program path : List ℕ) → is_path path ≡ true
+        → Asks (program ∷ codes "view" ∷ path ∷ codes "--heapsnapshot" ∷ []) (path, View false None Snapshot, false) }
     ensures run_explained { (program path : List ℕ) → is_path path ≡ true
         → Asks (program ∷ codes "run" ∷ path ∷ codes "--explain" ∷ []) (path, Script File, true) }
     ensures check_explained { (program path : List ℕ) → is_path path ≡ true

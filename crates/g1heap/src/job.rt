@@ -83,6 +83,10 @@ pub(crate) fn glance_of(at: Option<u32>, viewed: Viewed) -> Glance
             at,
             viewed: heap_view::Viewed::Census,
         },
+        Viewed::Snapshot => Glance {
+            at,
+            viewed: heap_view::Viewed::Snapshot,
+        },
     }
 }
 

@@ -3,6 +3,8 @@ pub mod Counting
 pub mod FreeRegions
 pub mod Fronts
 pub mod KeptClasses
+pub mod KeptStarts
+pub mod Ranks
 pub mod Rows
 pub mod Holding
 pub mod Nexts

@@ -1,5 +1,6 @@
 -- The text of a view, by what of the heap is viewed.
-use Rattle.std.specs.Prelude.{◌≡◌, ℕ, ◌*◌, nat_lt, ◌&&◌, Bool, true, false, List, ◌++◌, Option, Some, None, length, codes, if◌then◌else◌}
+use Rattle.std.specs.Prelude.{◌≡◌, ℕ, ◌*◌, nat_lt, ◌&&◌, Bool, true, false, List, [], ◌++◌, Option, Some, None, length, codes}
+use Rattle.std.specs.Prelude.{if◌then◌else◌}
 use Rattle.std.specs.Fmt.{decimal}
 use Rattle.heap_steps.specs.Actors.{is_third}
 use Rattle.script_text.specs.Spelling.{heap_words, line}
@@ -8,9 +9,10 @@ use Rattle.step_core.specs.Stands.{CoreState}
 use Rattle.step_core.specs.Measures.{used_words, live_words}
 use Rattle.heap_view.specs.declared.glance.Glance.{Glance}
 use Rattle.heap_view.specs.declared.glance.Viewed.{Viewed}
-use Rattle.heap_view.specs.declared.glance.Viewed.TheVariants.{Census, Object, Regions}
+use Rattle.heap_view.specs.declared.glance.Viewed.TheVariants.{Census, Object, Regions, Snapshot}
 use Rattle.heap_view.specs.Objects.{AreObjectLines}
 use Rattle.heap_view.specs.Census.{AreCensusLines}
+use Rattle.heap_view.specs.SnapshotTexts.{IsSnapshot}
 use Rattle.heap_dump.specs.Lists.{text_below}
 use Rattle.heap_view.specs.Areas.{region_line, region_lines}
 use Rattle.heap_view.specs.Folds.{folded_line}
@@ -68,9 +70,18 @@ abbrev pub AreViewed : Viewed → CoreState → List ℕ → Type 0
 AreViewed (Regions region summary) c lines = lines ≡ viewed_regions region summary c
 AreViewed (Object name) c lines = AreObjectLines c name lines
 AreViewed Census c lines = AreCensusLines c lines
+AreViewed Snapshot c lines = IsSnapshot c lines
 
--- the text of a view: the sizes as the script's first line has them, the state, and what is viewed
+-- what comes before that: the sizes as the script's first line has them, and the state; nothing before a snapshot, which other tools read
+abbrev pub has_head : Viewed → Bool
+has_head Snapshot = false
+has_head _ = true
+
+abbrev pub head_lines : Viewed → CoreState → List ℕ
+head_lines viewed c = if has_head viewed then line (heap_words c.config) ++ state_lines c else []
+
+-- the text of a view: these, and what is viewed
 pub record IsViewText (glance : Glance) (c : CoreState) (text : List ℕ) : Type 0 where
   pub lines : List ℕ
   pub viewed : AreViewed glance.viewed c lines
-  pub is : text ≡ line (heap_words c.config) ++ state_lines c ++ lines
+  pub is : text ≡ head_lines glance.viewed c ++ lines

@@ -5,6 +5,8 @@ pub mod Folds
 pub mod Nexts
 pub mod Objects
 pub mod Census
+pub mod Snapshot
+pub mod SnapshotTexts
 pub mod Actors
 pub mod Glances
 pub mod Views

@@ -40,7 +40,7 @@ fn put_column(text: &mut Text, number: u64)
 }
 
 /// Puts the first data word of a class, if its objects have one.
-fn put_first(text: &mut Text, class: &Class)
+pub(crate) fn put_first(text: &mut Text, class: &Class)
     ensures { Adds text.old (first_text class.now) text.new }
 {
     if class.values == 0 {

@@ -21,7 +21,7 @@ pub(crate) struct Class {
 }
 
 /// The class of an object.
-fn class_of(entry: &Entry) -> Class
+pub(crate) fn class_of(entry: &Entry) -> Class
     ensures { result ≡ class_of entry.now }
 {
     Class {

@@ -5,6 +5,7 @@ ghost use Rattle.script_text.specs.Texts.{Adds};
 ghost use Rattle.heap_dump.specs.Lists.{text_below};
 ghost use Rattle.heap_view.specs.Glances.{one_region, numbered_region, is_folded, listed_region};
 ghost use Rattle.heap_view.specs.Glances.{AreViewed, IsViewText, total_words, total_regions, below_regions, viewed_regions};
+ghost use Rattle.heap_view.specs.Glances.{has_head, head_lines};
 
 use crate::card_lines::put_queue;
 use crate::census_lines::put_census;
@@ -13,6 +14,7 @@ use crate::heads::{put_sizes, put_state};
 use crate::object_lines::put_object;
 use crate::region_lines::{put_region, put_region_line};
 use crate::root_lines::put_actors;
+use crate::snapshot_lines::put_snapshot;
 use heap_steps::is_third;
 use heap_words::addr::RegionNo;
 use script_text::Text;
@@ -34,6 +36,8 @@ pub enum Viewed {
     Object(u64),
     /// How many kept objects there are of each class, and how many words they have.
     Census,
+    /// The kept objects and who names whom, in JSON that other tools read, and nothing before it.
+    Snapshot,
 }
 
 /// What of a heap is viewed, and when.
@@ -164,7 +168,29 @@ fn put_viewed(alloc: Global, core: &Core, text: &mut Text, viewed: Viewed) -> Re
             Ok(())
         }
         Viewed::Census => put_census(alloc, core, text),
+        Viewed::Snapshot => put_snapshot(alloc, core, text),
     }
+}
+
+/// Whether lines of the heap as a whole come before what is viewed: but for a snapshot.
+fn has_head(viewed: Viewed) -> bool
+    ensures { result ≡ has_head viewed }
+{
+    match viewed {
+        Viewed::Snapshot => false,
+        _ => true,
+    }
+}
+
+/// Puts the sizes and the state, where they come before what is viewed.
+fn put_head(core: &Core, text: &mut Text, viewed: Viewed)
+    ensures { Adds text.old (head_lines viewed core.now) text.new }
+{
+    if !has_head(viewed) {
+        return;
+    }
+    put_sizes(core, text);
+    put_state(core, text);
 }
 
 /// The text of what of a heap is viewed. The error is want of memory.
@@ -172,8 +198,7 @@ pub fn view_text(alloc: Global, core: &Core, glance: &Glance) -> Result<Vec<u8>,
     ensures { IfOk result (λ text. IsViewText glance.now core.now text.items) }
 {
     let mut text = Text::new(alloc);
-    put_sizes(core, &mut text);
-    put_state(core, &mut text);
+    put_head(core, &mut text, glance.viewed);
     put_viewed(alloc, core, &mut text, glance.viewed)?;
     text.into_bytes()
 }

@@ -114,7 +114,7 @@ fn put_each_field(core: &Core, text: &mut Text, object: Addr)
 }
 
 /// Puts a root that names an object.
-fn put_root_holder(text: &mut Text, holder: &Holder)
+pub(crate) fn put_root_holder(text: &mut Text, holder: &Holder)
     ensures { Adds text.old (root_text holder.now) text.new }
 {
     if holder.kind == 0 {

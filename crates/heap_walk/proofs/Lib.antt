@@ -1,5 +1,6 @@
 pub mod TileStarts
 pub mod Keeping
+pub mod KeptAbove
 pub mod Telling
 pub mod Entries
 pub mod Showing

@@ -130,7 +130,11 @@ pub(crate) fn holder_in(core: &Core, object: Addr, name: u64) -> Option<Holder>
 }
 
 /// A root place: a global, or a register of a mutator.
-fn root_holder(places: RootCounts, place: u32) -> Holder
+///
+/// ```rust
+/// assert_eq!(rt; root_holder(core.roots().places(), 0).kind, 0);
+/// ```
+pub fn root_holder(places: RootCounts, place: u32) -> Holder
     requires { place < root_places places }
     ensures { result ≡ root_holder places place }
 {

@@ -15,7 +15,7 @@
 //!
 //! ```rust
 //! use heap_steps::{Action, Counts, Op, Register, Step};
-//! use heap_walk::{Entry, Holder, link_at, links, object_of, path, walk, who};
+//! use heap_walk::{Entry, Holder, entry_of, kept_above, link_at, links, object_of, path, root_holder, walk, who};
 //! use heap_words::addr::Addr;
 //! use heap_words::config::{Config, Format};
 //! use step_core::Core;
@@ -37,7 +37,8 @@ mod starts;
 mod steps;
 
 pub use finding::who;
-pub use holders::{Holder, link_at, links};
+pub use holders::{Holder, link_at, links, root_holder};
+pub use kept::kept_above;
 pub use naming::object_of;
-pub use objects::{Entry, walk};
+pub use objects::{Entry, entry_of, walk};
 pub use paths::path;

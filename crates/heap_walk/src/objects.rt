@@ -26,7 +26,12 @@ pub struct Entry {
 }
 
 /// What is told of a kept object.
-fn entry_of(core: &Core, object: Addr) -> Entry
+///
+/// ```rust
+/// core.step(new);
+/// assert_eq!(rt; entry_of(&core, Addr::new(0)).pointers, 1);
+/// ```
+pub fn entry_of(core: &Core, object: Addr) -> Entry
     requires { IsSome (kept_of core.now object) }
     ensures { entries_at core.now object ≡ result ∷ [] }
 {

@@ -179,6 +179,65 @@ named by nothing
     assert_glance(&rt, rt.alloc(), script, &glance_at(Viewed::Object(0)), view)
 }
 
+/// What each snapshot begins with.
+const META: &str = "\
+{\"snapshot\":{\"meta\":{\"node_fields\":[\"type\",\"name\",\"id\",\"self_size\",\"edge_count\",\"detachedness\"],\
+\"node_types\":[[\"hidden\",\"array\",\"string\",\"object\",\"code\",\"closure\",\"regexp\",\"number\",\"native\",\"synthetic\"],\
+\"string\",\"number\",\"number\",\"number\",\"number\"],\"edge_fields\":[\"type\",\"name_or_index\",\"to_node\"],\
+\"edge_types\":[[\"context\",\"element\",\"property\",\"internal\",\"hidden\",\"shortcut\",\"weak\"],\"string_or_number\",\"node\"],\
+\"trace_function_info_fields\":[\"function_id\",\"name\",\"script_name\",\"script_id\",\"line\",\"column\"],\
+\"trace_node_fields\":[\"id\",\"function_info_index\",\"count\",\"size\",\"children\"],\
+\"sample_fields\":[\"timestamp_us\",\"last_assigned_id\"],\
+\"location_fields\":[\"object_index\",\"script_id\",\"line\",\"column\"]},";
+
+/// An object that two roots, a pointer and a weak slot name.
+#[test]
+fn a_snapshot(rt: HostRuntime) -> Result<(), Fail> {
+    let script = "\
+heap3 2 64 8 1 7 8 2 2
+0 newweak r0 1 1 2
+0 new r1 0 0
+0 put r0 0 r1
+0 putweak r0 0 r1
+0 write r0 0 9
+0 save g1 r1
+";
+    let rest = "\
+\"node_count\":4,\"edge_count\":6,\"trace_function_count\":0},
+\"nodes\":[9,0,1,0,1,0
+,9,1,3,0,3,0
+,3,7,19,48,2,0
+,3,6,21,16,0,0],
+\"edges\":[1,1,6
+,2,3,18
+,2,4,12
+,2,5,18
+,1,0,18
+,6,8,18],
+\"trace_function_infos\":[],
+\"trace_tree\":[],
+\"samples\":[],
+\"locations\":[],
+\"strings\":[\"\",
+\"(roots)\",
+\"global g0\",
+\"global g1\",
+\"register r0 of mutator 0\",
+\"register r1 of mutator 0\",
+\"pointers 0, weak slots 0, data words 0, first word none\",
+\"pointers 1, weak slots 1, data words 2, first word 9\",
+\"weak slot 0\"]}
+";
+    let view = format!(in rt.alloc(); "{META}{rest}")?;
+    assert_glance(
+        &rt,
+        rt.alloc(),
+        script,
+        &glance_at(Viewed::Snapshot),
+        view.as_str(),
+    )
+}
+
 /// A run of three regions, and after a pause two copies in region 4. One of the cards that the pause made dirty is refined.
 #[test]
 fn a_run_and_a_pause(rt: HostRuntime) -> Result<(), Fail> {

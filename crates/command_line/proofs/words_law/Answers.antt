@@ -1,5 +1,5 @@
 use Rattle.command_line.proofs.Explained.{check_explained, draw_explained, run_explained, view_explained}
-use Rattle.command_line.proofs.Options.{at, census, every, names, no_names, object, redraw}
+use Rattle.command_line.proofs.Options.{at, census, every, heapsnapshot, names, no_names, object, redraw}
 use Rattle.command_line.proofs.Paths.{check, draw, follow, run, sim, threads, view}
 use Rattle.command_line.proofs.words_law.Goals as goal
 
@@ -19,6 +19,7 @@ returns c = record {
   at = at;
   object = object;
   census = census;
+  heapsnapshot = heapsnapshot;
   run_explained = run_explained;
   check_explained = check_explained;
   view_explained = view_explained;

@@ -1,0 +1,14 @@
+use Rattle.std.proofs.Common.{◌∙◌, sym}
+use Rattle.std.specs.List.{flat_map}
+use Rattle.heap_dump.proofs.Putting.{adds_at, then_adds}
+use Rattle.heap_view.specs.SnapshotTexts.{object_edges}
+use Rattle.heap_view.proofs.snapshot_lines.put_edges.Goals as goal
+
+pub put_each_edges-requires-clause-items : goal.put_each_edges-requires-clause-items
+put_each_edges-requires-clause-items c = c.deref.ensures.value ∙ c.requires.starts_are
+
+pub returns : goal.returns
+returns c =
+    then_adds _ _ _ _ _ (then_adds _ _ _ _ _ (then_adds _ _ _ _ _ c.put.ensures c.put_root_edges.ensures)
+    (adds_at (flat_map (object_edges c.args.core.now c.args.numbering.now.classes.items)) _ _ _ _
+    (sym (c.deref.ensures.value ∙ c.requires.starts_are)) c.put_each_edges.ensures)) c.put-2.ensures
