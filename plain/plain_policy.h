@@ -224,6 +224,13 @@ static inline void policy_end(policy_of *of)
     policy_remark(of);
     policy_reclaim(of);
 }
+/* Where few regions are free: marking ends, and the whole cycle if the reserve has few regions. */
+enum { LONG_RESERVE = 16 };
+static inline void policy_end_at_reserve(policy_of *of)
+{
+    if (of->policy->reserve < LONG_RESERVE) policy_end(of);
+    else policy_remark(of);
+}
 /* One pause of so many words at most. Answers whether it paid. */
 static inline int policy_evacuate_some(policy_of *of, uint32_t *left, int is_within)
 {
@@ -273,7 +280,7 @@ static inline int policy_begin(policy_of *of)
     policy->pace = pace < policy->mark_words ? (uint32_t)pace : policy->mark_words, policy->asked = 0, policy->wanted = 0;
     policy->looked = 0, policy->marked = words;
     g1_begin(of->heap);
-    if (free <= policy->reserve) policy_end(of);
+    if (free <= policy->reserve) policy_end_at_reserve(of);
     return 1;
 }
 /* How many objects with weak slots are cleared at a look: more where few regions are free above the reserve. */
@@ -282,8 +289,14 @@ static inline uint32_t policy_spend_clears(policy_of *of, uint32_t free)
     g1_policy *policy = of->policy;
     uint32_t room = policy_most(1, policy_above(free, policy_kept(policy, of->sizes)));
     uint32_t looks = 1 + policy_least(3, (uint32_t)(policy_above(policy->cleared, policy->clears) * 2ull / policy_looks(of->sizes) / room));
+    if (free <= policy->reserve) looks = 8;
     policy->clears = policy_within((uint64_t)policy->clears + looks);
     return policy_within((uint64_t)policy->clear_objects * looks);
+}
+static inline void policy_clear(policy_of *of)
+{
+    g1_clear(of->heap, policy_spend_clears(of, policy_free(of->heap)));
+    if (g1_clearing(of->heap).first == 0) policy_reclaim(of);
 }
 /* Words that marking looks at: more where few regions are free above the reserve. */
 static inline uint32_t policy_spend_marks(policy_of *of)
@@ -300,7 +313,7 @@ static inline uint32_t policy_spend_marks(policy_of *of)
 static inline void policy_mark(policy_of *of)
 {
     g1_mark(of->heap, policy_spend_marks(of));
-    if (policy_free(of->heap) <= of->policy->reserve) policy_end(of);
+    if (policy_free(of->heap) <= of->policy->reserve) policy_end_at_reserve(of);
     else if (g1_grey(of->heap).first == 0) policy_remark(of);
 }
 /* Refines what is queued beyond half of the cards that may be left, once they are more. Answers whether that is enough for a look. */
@@ -315,9 +328,15 @@ static inline int policy_refine(policy_of *of)
 /* All that is due, where few regions are free. */
 static inline void policy_hurry(policy_of *of)
 {
+    uint32_t reserve = of->policy->reserve;
     int is_young_due;
-    if (g1_clearing(of->heap).first == 1) policy_reclaim(of);
-    else {
+    if (g1_clearing(of->heap).first == 1) {
+        if (reserve >= LONG_RESERVE && policy_free(of->heap) > reserve / 4) {
+            policy_clear(of);
+            return;
+        }
+        policy_reclaim(of);
+    } else {
         policy_refine(of);
         is_young_due = policy_is_young_due(of->policy, policy_free(of->heap));
         if (is_young_due) policy_pause_young(of);
@@ -337,8 +356,7 @@ static inline uint32_t policy_work(policy_of *of)
         && free > policy_within((uint64_t)policy->held + policy_most(reserve, policy_free_in_play(policy, policy->wanted) / 3));
     if (policy_refine(of)) return 1;
     if (g1_clearing(of->heap).first == 1) {
-        g1_clear(of->heap, policy_spend_clears(of, free));
-        if (g1_clearing(of->heap).first == 0) policy_reclaim(of);
+        policy_clear(of);
         return 0;
     }
     if (policy->last != 2 && !rests && policy_is_young_due(policy, free)) {

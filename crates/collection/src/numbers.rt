@@ -165,6 +165,9 @@ pub(crate) const REFINED: u32 = 1;
 
 pub(crate) const EVACUATED: u32 = 2;
 
+/// Regions: a reserve of so many has room for looks that clear weak slots.
+pub(crate) const LONG_RESERVE: u32 = 16;
+
 impl Policy {
     ghost use Rattle.collection.specs.Numbers.{IsStarted};
 
@@ -453,11 +456,15 @@ impl Policy {
 
     /// Objects with weak slots: so many are cleared at the next look. It is `clear_objects`; but where fewer regions are free above the
     /// reserve than clearing has looks left, by those after the last marking, two, three or four times as many, so that it ends before the
-    /// reserve is reached. It counts as so many looks.
+    /// reserve is reached; and eight times as many below that. It counts as so many looks.
     pub(crate) fn spend_clears(&mut self, config: &Config, free: u32) -> u32 {
         let room = free.saturating_sub(self.kept(config)).max(1);
         let left = u64::from(self.cleared.saturating_sub(self.clears));
-        let looks = 1 + (left * 2 / looks_of(config) / u64::from(room)).min(3) as u32;
+        let looks = if free <= self.reserve {
+            8
+        } else {
+            1 + (left * 2 / looks_of(config) / u64::from(room)).min(3) as u32
+        };
         self.clears = self.clears.saturating_add(looks);
         self.clear_objects.saturating_mul(looks)
     }

@@ -44,17 +44,3 @@ returns-clause-some g c due =
         ap (λ (p : Policy). p.begin_at) (c.is_young_due.ensures c.if-is_young_due.false) ∙ ap (λ (p : Policy). p.begin_at) policy in
         subst (λ (b : ℕ). IsDue c.refine_most.new.core b) (sym begin)
         (subst (λ (k : CoreState). IsDue k c.args.policy.now.begin_at) (sym core) due)
-
-pub returns-then-clearing-clause-collects : goal.returns-then-clearing-clause-collects
-returns-then-clearing-clause-collects g c =
-    let e = ap (λ (x : Config). x.regions) c.reclaim.ensures.collects.config in
-    chain g.W.Watch.sees 1 (c.reclaim.new.core.config.regions + 1) (c.args.core.now.config.regions + 5)
-    c.args.core.now c.reclaim.new.core c.evacuate.new.core c.args.watch.now c.reclaim.new.watch c.evacuate.new.watch
-    (omega (arith, e)) c.reclaim.ensures.collects c.evacuate.ensures
-
-pub returns-then-clearing-clause-some : goal.returns-then-clearing-clause-some
-returns-then-clearing-clause-some g c due =
-    let e = ap (λ (x : Config). x.regions) c.reclaim.ensures.collects.config in
-    some_then g.W.Watch.sees 1 (c.reclaim.new.core.config.regions + 1) (c.args.core.now.config.regions + 5)
-    c.args.core.now c.reclaim.new.core c.evacuate.new.core c.args.watch.now c.reclaim.new.watch c.evacuate.new.watch
-    (omega (arith, e)) c.reclaim.ensures c.evacuate.ensures
