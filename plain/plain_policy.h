@@ -26,29 +26,10 @@ typedef struct policy_of {
 } policy_of;
 
 static inline uint32_t policy_regions(const g1_sizes *sizes, uint32_t words) { return policy_most(1, words / sizes->words); }
-#ifdef PLAIN_COUNTS
-uint32_t plain_shrunk = 1;      /* so many times smaller are regions than those of the heap that this one stands for */
-#else
-enum { plain_shrunk = 1 };
-#endif
 static inline uint32_t policy_pause_budget(const g1_sizes *sizes)
 {
-    uint32_t share = policy_within((uint64_t)sizes->regions * sizes->words / 32), most = sizes->words < 65536 ? 262144 : 98304;
-    return policy_most(policy_within((uint64_t)2 * sizes->words), policy_most(98304, policy_least(most, share)));
-}
-static inline uint32_t policy_marked_words(const g1_sizes *sizes)
-{
-    uint32_t most = sizes->words < 65536 ? 262144 : 131072;
-    return policy_most(sizes->words, policy_most(131072, policy_least(most, policy_within((uint64_t)16 * sizes->words))));
-}
-/* How many words are asked for from one look to the next, and how many looks come while a region of words is. */
-static inline uint32_t policy_look_words(const g1_sizes *sizes)
-{
-    return policy_most(sizes->words / 8, policy_least(sizes->words / 2, 8192 / plain_shrunk));
-}
-static inline uint64_t policy_looks(const g1_sizes *sizes)
-{
-    return policy_most(1, sizes->words / policy_most(1, policy_look_words(sizes)));
+    uint32_t share = policy_within((uint64_t)sizes->regions * sizes->words / 32);
+    return policy_most(policy_within((uint64_t)4 * sizes->words), policy_most(98304, policy_least(262144, share)));
 }
 /* How many regions are in play, and how many of a number of regions are beyond those held back. */
 static inline uint32_t policy_in_play(const g1_policy *policy, const g1_sizes *sizes) { return policy_above(sizes->regions, policy->held); }
@@ -75,7 +56,8 @@ static inline void policy_start(g1_policy *policy, const g1_sizes *sizes)
     memset(&start, 0, sizeof start);
     start.reserve = policy_most(3, sizes->regions / 24);
     start.pause_words = policy_pause_budget(sizes);
-    start.mark_words = policy_marked_words(sizes);
+    start.mark_words = policy_least(524288, policy_most(131072, policy_within((uint64_t)16 * sizes->words)));
+    start.mark_words = policy_most(start.mark_words, policy_within((uint64_t)4 * sizes->words));
     start.cycle_words = policy_within((uint64_t)4 * policy_within((uint64_t)sizes->regions * sizes->words));
     start.young_words = 131072, start.cards_left = 4096, start.clear_objects = 16384, start.packed_next = UINT64_MAX;
     start.visit_cards = policy_most(16384, policy_least(65536, sizes->words));
@@ -148,12 +130,10 @@ static inline void policy_plan_size(policy_of *of, uint64_t live)
     policy->held = of->sizes->regions - (uint32_t)apt;
     policy->most = policy_most(policy->most, (uint32_t)apt), policy->idle = apt <= policy->most / 2;
 }
-/* Regions: as many as are used at twice the looks that a cycle takes that marks and clears as much as the last one, and three times for
-   marking. */
-static inline uint64_t policy_cycle_room(const g1_policy *policy, const g1_sizes *sizes)
+/* Looks: as many as a cycle takes that marks and clears as much as the last one, and half as many more for marking. */
+static inline uint64_t policy_cycle_looks(const g1_policy *policy)
 {
-    uint64_t looks = policy_within(policy->marked) * 3ull / 2 / policy_most(policy->mark_words, 1) + policy->cleared;
-    return looks * 2 / policy_looks(sizes);
+    return policy_within(policy->marked) * 3ull / 2 / policy_most(policy->mark_words, 1) + policy->cleared;
 }
 /* Regions: so many are free where a quarter of those in play that are free now is used up, or as many as are borrowed. */
 static inline uint32_t policy_spent_to(const g1_policy *policy, const g1_sizes *sizes, uint32_t free)
@@ -164,14 +144,14 @@ static inline uint32_t policy_spent_to(const g1_policy *policy, const g1_sizes *
 /* After a pause that follows a cycle: the next one begins as early as it must to end before the reserve is reached. */
 static inline void policy_plan_next(policy_of *of, uint32_t free)
 {
-    uint32_t due = policy_within(policy_kept(of->policy, of->sizes) + policy_cycle_room(of->policy, of->sizes));
+    uint32_t due = policy_within(policy_kept(of->policy, of->sizes) + policy_cycle_looks(of->policy));
     uint32_t begin_at = policy_least(due, policy_spent_to(of->policy, of->sizes, free));
     of->policy->begin_at = policy_most(of->policy->begin_at, begin_at);
 }
 static inline void policy_plan_cycle(policy_of *of, uint32_t free)
 {
     uint32_t kept = policy_kept(of->policy, of->sizes), room = policy_above(free, kept), needed;
-    needed = policy_least(policy_within(policy_cycle_room(of->policy, of->sizes)), room / 4 * 3);
+    needed = policy_least(policy_within(policy_cycle_looks(of->policy)), room / 4 * 3);
     of->policy->wanted = 0;
     of->policy->begin_at = room < 2 ? policy_above(free, policy_most(1, policy_borrowed(of->policy, of->sizes, free)))
         : policy_within((uint64_t)kept + policy_most(policy_least(room / 4, policy_in_play(of->policy, of->sizes) / 8), needed));
@@ -276,7 +256,7 @@ static inline int policy_begin(policy_of *of)
     uint64_t most = (uint64_t)policy->cycle_words * policy_in_play(policy, of->sizes) / of->sizes->regions;
     if (free > policy->begin_at && policy->asked < most) return 0;
     words = policy->cycles == 0 ? g1_used_words(of->heap).first / 2 : policy->marked;
-    pace = 64 + policy_within(words) * 3ull / policy_looks(of->sizes) / policy_most(1, policy_above(free, policy_kept(policy, of->sizes)));
+    pace = 64 + policy_within(words) * 3ull / 2 / policy_most(1, policy_above(free, policy_kept(policy, of->sizes)));
     policy->pace = pace < policy->mark_words ? (uint32_t)pace : policy->mark_words, policy->asked = 0, policy->wanted = 0;
     policy->looked = 0, policy->marked = words;
     g1_begin(of->heap);
@@ -288,8 +268,8 @@ static inline uint32_t policy_spend_clears(policy_of *of, uint32_t free)
 {
     g1_policy *policy = of->policy;
     uint32_t room = policy_most(1, policy_above(free, policy_kept(policy, of->sizes)));
-    uint32_t looks = 1 + policy_least(3, (uint32_t)(policy_above(policy->cleared, policy->clears) * 2ull / policy_looks(of->sizes) / room));
-    if (free <= policy->reserve) looks = 8;
+    uint32_t looks = 1 + policy_least(3, policy_above(policy->cleared, policy->clears) / room);
+    if (free <= policy->reserve) looks = 16;
     policy->clears = policy_within((uint64_t)policy->clears + looks);
     return policy_within((uint64_t)policy->clear_objects * looks);
 }
@@ -304,7 +284,7 @@ static inline uint32_t policy_spend_marks(policy_of *of)
     g1_policy *policy = of->policy;
     uint32_t room = policy_most(1, policy_above(policy_free(of->heap), policy->reserve)), words;
     uint64_t left = policy->marked > policy->looked ? policy->marked - policy->looked : 0;
-    uint64_t due = policy_within(left > policy->marked / 16 ? left : policy->marked / 16) * 5ull / 2 / policy_looks(of->sizes) / room;
+    uint64_t due = policy_within(left > policy->marked / 16 ? left : policy->marked / 16) * 5ull / 4 / room;
     words = policy_least(policy_within(due), policy_within((uint64_t)16 * policy->mark_words));
     words = policy_most(policy_least(policy->pace, policy->mark_words), words);
     policy->looked += words;
@@ -447,7 +427,7 @@ static inline int policy_room(policy_of *of, uint32_t mutator, uint64_t size)
     if (due) {
         policy->asked += policy->look + size;
         policy->rest = policy->rest > policy->look + size ? policy->rest - (policy->look + size) : 0;
-        policy->look = policy->left = policy_look_words(of->sizes);
+        policy->look = policy->left = of->sizes->words / 2;
         policy_due(of);
     }
     if (policy_spared(of, mutator, size)) return 1;

@@ -6,8 +6,6 @@
      cycle or takes a pause, and not both; two looks in turn don't both refine alone; and after a pause no card is queued
    - a look that clears weak slots counts as one to four, and at 85 percent too the clearing ends before the reserve is reached
    - at 20 and 50 percent live no look finds as few regions free, and no whole collection comes
-   - after a look half a region of words may be asked for before the next one, but 8,192 or an eighth of a region where regions are larger;
-     and from 65,536 words of a region on a pause copies two regions at most, and a look marks 131,072 words or a region
    - trees, lists and entries of which nine of ten words die at once, at 50 percent live: at most 0.15 words are copied and 0.04 objects
      scanned for each word made
 
@@ -151,24 +149,8 @@ static void run(const char *name, element one, uint32_t average, uint32_t percen
     is_at_most(name, "objects scanned", (double)(policy.scanned - before.scanned) / (double)made, 0.04);
 }
 
-/* Whether looks and budgets follow a region's words. */
-static void follows(uint32_t words, uint32_t look, uint32_t pause_words, uint32_t mark_words)
-{
-    sizes = (g1_sizes){16, words, words / 8 - 1, 1, 0, 64, 0, 8};
-    g1_free(&heap);
-    if (g1_new(&heap, &sizes) != G1_DONE) puts("no heap"), exit(1);
-    g1_policy_start(&policy, &sizes);
-    make(OTHER, 0, 0, 1);
-    if (policy.left == look && policy.pause_words == pause_words && policy.mark_words == mark_words) return;
-    printf("regions of %u words: %u words before the next look, pauses of %u, marks of %u\n", words, policy.left, policy.pause_words,
-           policy.mark_words);
-    failed = 1;
-}
-
 int main(void)
 {
-    follows(4096, 2048, 98304, 131072), follows(16384, 8192, 98304, 262144), follows(65536, 8192, 131072, 131072);
-    follows(262144, 32768, 524288, 262144);
     static const uint32_t shares[] = {20, 50, 75};
     for (int i = 0; i < 3; i++) {
         run("trees", make_tree, 91, shares[i], 10), run("lists", make_list, 81, shares[i], 10);

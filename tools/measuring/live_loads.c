@@ -69,7 +69,6 @@ static uint32_t draw(uint32_t below)
 /* What plain_work counts, and what one costs in nanoseconds. */
 enum { WORKS = 6 };
 uint64_t plain_work(const g1_heap *heap, uint32_t kind);
-extern uint32_t plain_shrunk;
 static const struct cost { const char *of; uint64_t each; } costs[WORKS] = {
     {"words copied", 15}, {"cards visited", 300}, {"cards refined", 400}, {"words marked", 25}, {"objects cleared", 150}, {"flags", 2}};
 static uint64_t longest_look, longest_work[WORKS], work_before[WORKS], starts[MOST_LOOKS], whole, packed_before;
@@ -174,9 +173,6 @@ static void shrink(void)
 static void start(void)
 {
     m_start();
-#ifdef MODEL
-    plain_shrunk = shrunk;
-#endif
     if (shrunk > 1) shrink();
     if (pause_words != 0) m_policy.pause_words = pause_words;
 }

@@ -262,7 +262,7 @@ pub struct Pace {
     pub cards_left: u32,
     /// Cards: as many may lead into the regions of a pause, and more only after one that gained little for them.
     pub visit_cards: u32,
-    /// Objects with weak slots: so many are cleared at a look after marking, up to four times as many where few regions are free.
+    /// Objects with weak slots: so many are cleared at a look after marking, up to 16 times as many where few regions are free.
     pub clear_objects: u32,
     /// Regions: so many are in play at least. More are while more live; the others are held back, and take no memory.
     pub least: u32,

@@ -1,5 +1,5 @@
 -- What a policy does for an object that is asked for, and at most how much of it.
-use Rattle.std.specs.Prelude.{◌≡◌, ◌+◌, ◌*◌, ◌/◌, ◌≤◌, max, min, ℕ, Bool, true, false, if◌then◌else◌}
+use Rattle.std.specs.Prelude.{◌≡◌, ◌+◌, ◌*◌, ◌/◌, ◌≤◌, ℕ, Bool, true, false, if◌then◌else◌}
 use Rattle.heap_words.specs.declared.config.Config.{Config}
 use Rattle.regions.specs.Table.{free_count}
 use Rattle.step_core.specs.Steps.{Event, Op, Reply}
@@ -14,10 +14,6 @@ use Rattle.collection.specs.Steps.{CollectsWithin, CollectsSome, FitsLeavingTwo,
 -- so many steps are due at most: none while words are left to ask for, else what a look takes
 abbrev pub due_steps : Config → Bool → ℕ
 due_steps config due = if due then config.regions + 5 else 0
-
--- of a region's words so many may be asked for from one look to the next: an eighth, or 8,192 if that is more, but half of them at most
-abbrev pub look_words : ℕ → ℕ
-look_words words = max (words / 8) (min (words / 2) 8192)
 
 -- The collector did what was due, one step at least if something was; and more only where there was no room for the object then
 pub record MakesRoom {W : Type 0} (sees : W → Event → W → Type 0) (due : Bool) (begin_at : ℕ) (op : Op) (c : CoreState) (x : W)
@@ -47,7 +43,7 @@ pub record MakesByPolicy {W : Type 0} (sees : W → Event → W → Type 0) (due
   pub paced : IsCreatable c op.action → IsPaced sees due begin_at op reply c x c' x'
   pub uncreated : (IsCreatable c op.action → ⊥) → Makes sees 0 op reply c x c' x'
   pub spent : due ≡ false → left' ≡ left
-  pub renewed : due ≡ true → IsCreatable c op.action → left' ≡ look_words c.config.words
+  pub renewed : due ≡ true → IsCreatable c op.action → left' ≡ c.config.words / 2
   pub full : reply ≡ replies.Refused refusals.Full → (s : State) → Stands s c → IsFilled s.graph c op.action c'
   pub two : LeavesTwo c.config op.action → 2 ≤ free_count c.table → 2 ≤ free_count c'.table
   pub made : HasMade op.mutator op.action reply c'

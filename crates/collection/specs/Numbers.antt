@@ -4,13 +4,13 @@ use Rattle.heap_words.specs.declared.config.Config.{Config}
 use Rattle.collection.specs.declared.numbers.Policy.{Policy}
 
 -- a policy that begins: a look comes before its first object, no cycle and no evacuation is under way, nothing was counted, a pause may
--- copy two regions and 98,304 words at least, as far as a number of 32 bits says so, a look may mark a region, and regions of 16,777,216
--- words are in play, at least 64
+-- copy four regions and 98,304 words at least, as far as a number of 32 bits says so, and regions of 16,777,216 words are in play, at least
+-- 64
 pub record IsStarted (config : Config) (p : Policy) : Type 0 where
   pub reserve : p.reserve ≡ max (config.regions / 24) 3
-  pub pause_regions : min (config.words * 2) (2 ^ 32 - 1) ≤ p.pause_words
+  pub pause_regions : min (config.words * 4) (2 ^ 32 - 1) ≤ p.pause_words
   pub pause_words : 98304 ≤ p.pause_words
-  pub mark_regions : config.words ≤ p.mark_words
+  pub mark_regions : min (config.words * 4) (2 ^ 32 - 1) ≤ p.mark_words
   pub young_words : p.young_words ≡ 131072
   pub cards_left : p.cards_left ≡ 4096
   pub clear_objects : p.clear_objects ≡ 16384

@@ -3,7 +3,6 @@
 //! Nothing is promised of these numbers, and any will do: the theorem of `make` holds whatever they are. They decide how often the
 //! collector works, and how much at a time.
 
-ghost use Rattle.collection.specs.Asked.{look_words};
 ghost use Rattle.std.specs.Prelude.{◌≡◌, ◌-◌, ◌*◌, ◌/◌, ◌<◌, ◌≤◌, ◌^◌, true, false, max, min, nat_le, if◌then◌else◌};
 
 use heap_steps::{CollectorStep, Reply};
@@ -29,7 +28,7 @@ pub struct Policy {
     pub cards_left: u32,
     /// Cards: as many may lead into the regions of a pause, and more only after one that gained little for them.
     pub visit_cards: u32,
-    /// Objects with weak slots: so many are cleared at a look after marking, and up to four times as many where few regions are free.
+    /// Objects with weak slots: so many are cleared at a look after marking, and up to 16 times as many where few regions are free.
     pub clear_objects: u32,
     /// Regions: so many are in play at least.
     pub least: u32,
@@ -100,23 +99,15 @@ fn regions_of(config: &Config, words: u32) -> u32 {
     (words / config.words.max(1)).max(1)
 }
 
-/// Words: from so many of a region on, budgets are of one or two regions.
-const LARGE_REGION: u32 = 65536;
-
-/// Words: the budget of a pause, a 32nd of the heap, 98,304 at least and 262,144 at most, but two regions where these are large. Smaller
-/// pauses visit the same cards again and again; and a pause leaves two regions filled in part, the one that it copied into last and that
-/// of the buffers, so that of one region gains little.
+/// Words: the budget of a pause, a 32nd of the heap, 98,304 at least and 262,144 at most, or four regions if that is more. Smaller pauses
+/// visit the same cards again and again.
 fn pause_budget(config: &Config) -> u32
-    ensures regions { min (config.now.words * 2) (2 ^ 32 - 1) ≤ result }
+    ensures regions { min (config.now.words * 4) (2 ^ 32 - 1) ≤ result }
     ensures words { 98304 ≤ result }
 {
     let all = u64::from(config.regions) * u64::from(config.words);
     let share = (all / 32).min(262144).max(98304) as u32;
-    if config.words < LARGE_REGION {
-        config.words.saturating_mul(2).max(share)
-    } else {
-        config.words.saturating_mul(2).max(98304)
-    }
+    config.words.saturating_mul(4).max(share)
 }
 
 /// Regions: so many are in play at least, and when a heap begins: as many as have 16,777,216 words, but 64 at least, or all.
@@ -132,32 +123,13 @@ fn cards_of(config: &Config) -> u32 {
     (words / u64::from(config.card_words().max(1))).min(u64::from(u32::MAX)) as u32
 }
 
-/// Words: as many are looked at by marking at a look, at most: 16 regions, 131,072 at least and 262,144 at most, but 131,072 or a region
-/// where these are large.
+/// Words: as many are looked at by marking at a look, at most: 16 regions, 131,072 at least and 524,288 at most, or four regions if that is
+/// more.
 fn marked_words(config: &Config) -> u32
-    ensures { config.now.words ≤ result }
+    ensures { min (config.now.words * 4) (2 ^ 32 - 1) ≤ result }
 {
-    let share = config.words.saturating_mul(16).max(131072).min(262144);
-    if config.words < LARGE_REGION {
-        config.words.max(share)
-    } else {
-        config.words.max(131072)
-    }
-}
-
-/// Words: so many are asked for from one look to the next, an eighth of a region, or 8,192 if that is more, but half a region at most. So
-/// where regions are large looks come more often, and each does less.
-fn look_words(config: &Config) -> u32
-    ensures { result ≡ look_words config.now.words }
-{
-    (config.words / 8).max((config.words / 2).min(8192))
-}
-
-/// How many looks come while a region of words is asked for.
-fn looks_of(config: &Config) -> u64
-    ensures { 0 < result }
-{
-    u64::from((config.words / look_words(config).max(1)).max(1))
+    let share = config.words.saturating_mul(16).max(131072).min(524288);
+    config.words.saturating_mul(4).max(share)
 }
 
 /// A look at which cards were refined and nothing else was done, and one at which new regions were evacuated.
@@ -334,21 +306,21 @@ impl Policy {
         }
     }
 
-    /// How many words may be asked for before the next look, once an object is made: as many as `look_words` says where a look was due.
+    /// How many words may be asked for before the next look, once an object is made: half a region where a look was due.
     pub(crate) fn left_after(&self, config: &Config, due: bool) -> u32
-        ensures { result ≡ (if due then look_words config.now.words else self.now.left) }
+        ensures { result ≡ (if due then config.now.words / 2 else self.now.left) }
     {
-        if due { look_words(config) } else { self.left }
+        if due { config.words / 2 } else { self.left }
     }
 
-    /// The next look is due after as many words as `look_words` says.
+    /// The next look is due after half a region of words.
     pub(crate) fn look_on(&mut self, config: &Config, size: u64)
         ensures { self.new.begin_at ≡ self.old.begin_at }
     {
         let asked = u64::from(self.look).saturating_add(size);
         self.asked = self.asked.saturating_add(asked);
         self.rest = self.rest.saturating_sub(asked);
-        self.look = look_words(config);
+        self.look = config.words / 2;
         self.left = self.look;
     }
 
@@ -356,7 +328,7 @@ impl Policy {
     /// estimate. What is left of an evacuation waits for the end of the cycle.
     pub(crate) fn plan_marking(&mut self, config: &Config, free: u32, words: u64) {
         let room = u64::from(free.saturating_sub(self.kept(config)).max(1));
-        let pace = 64 + words.min(u64::from(u32::MAX)) * 3 / looks_of(config) / room;
+        let pace = 64 + words.min(u64::from(u32::MAX)) * 3 / 2 / room;
         self.pace = pace.min(u64::from(self.mark_words)) as u32;
         self.asked = 0;
         self.wanted = 0;
@@ -367,13 +339,13 @@ impl Policy {
     /// Words that marking looks at, at the next look. They are as many as `plan_marking` set, but more where few regions are free above
     /// the reserve, so that it ends before that is reached; 16 times `mark_words` at most. What is left is by what the last marking
     /// looked at, and a 16th of that at least.
-    pub(crate) fn spend_marks(&mut self, config: &Config, free: u32) -> u32 {
+    pub(crate) fn spend_marks(&mut self, free: u32) -> u32 {
         let room = u64::from(free.saturating_sub(self.reserve).max(1));
         let left = self
             .marked
             .saturating_sub(self.looked)
             .max(self.marked / 16);
-        let due = left.min(u64::from(u32::MAX)) * 5 / 2 / looks_of(config) / room;
+        let due = left.min(u64::from(u32::MAX)) * 5 / 4 / room;
         let most = self.mark_words.saturating_mul(16);
         let hurried = due.min(u64::from(most)) as u32;
         let words = self.pace.min(self.mark_words).max(hurried);
@@ -381,12 +353,11 @@ impl Policy {
         words
     }
 
-    /// Regions: as many as are used at twice the looks that a cycle takes that marks and clears as much as the last one, and at three times
-    /// those for marking.
-    fn cycle_room(&self, config: &Config) -> u64 {
+    /// Looks: as many as a cycle takes that marks and clears as much as the last one, and half as many more for marking.
+    fn cycle_looks(&self) -> u64 {
         let words = self.marked.min(u64::from(u32::MAX));
         let marking = words * 3 / 2 / u64::from(self.mark_words.max(1));
-        marking.saturating_add(u64::from(self.cleared)) * 2 / looks_of(config)
+        marking.saturating_add(u64::from(self.cleared))
     }
 
     /// Regions: so many are free, or fewer, where a quarter of those in play that are free now is used up, or as many as `borrowed` says.
@@ -400,7 +371,7 @@ impl Policy {
     /// After a pause that follows a cycle: once a quarter of the regions that are free now is used up, the next cycle begins as early as it
     /// must to end before the reserve is reached.
     pub(crate) fn plan_next(&mut self, config: &Config, free: u32) {
-        let due = u64::from(self.kept(config)).saturating_add(self.cycle_room(config));
+        let due = u64::from(self.kept(config)).saturating_add(self.cycle_looks());
         let begin_at = due.min(u64::from(self.spent_to(config, free))) as u32;
         self.begin_at = self.begin_at.max(begin_at);
     }
@@ -456,14 +427,13 @@ impl Policy {
 
     /// Objects with weak slots: so many are cleared at the next look. It is `clear_objects`; but where fewer regions are free above the
     /// reserve than clearing has looks left, by those after the last marking, two, three or four times as many, so that it ends before the
-    /// reserve is reached; and eight times as many below that. It counts as so many looks.
+    /// reserve is reached; and 16 times as many below that. It counts as so many looks.
     pub(crate) fn spend_clears(&mut self, config: &Config, free: u32) -> u32 {
         let room = free.saturating_sub(self.kept(config)).max(1);
-        let left = u64::from(self.cleared.saturating_sub(self.clears));
         let looks = if free <= self.reserve {
-            8
+            16
         } else {
-            1 + (left * 2 / looks_of(config) / u64::from(room)).min(3) as u32
+            1 + (self.cleared.saturating_sub(self.clears) / room).min(3)
         };
         self.clears = self.clears.saturating_add(looks);
         self.clear_objects.saturating_mul(looks)
@@ -523,7 +493,7 @@ impl Policy {
         self.begin_at = if room < 2 {
             free.saturating_sub(self.borrowed(config, free).max(1))
         } else {
-            let needed = self.cycle_room(config).min(u64::from(room / 4 * 3)) as u32;
+            let needed = self.cycle_looks().min(u64::from(room / 4 * 3)) as u32;
             kept.saturating_add((room / 4).min(self.in_play(config) / 8).max(needed))
         };
         self.plan_young(config, free, self.span);

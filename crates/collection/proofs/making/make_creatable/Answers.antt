@@ -1,7 +1,6 @@
-use Rattle.std.proofs.Common.{◌∙◌, sym, ap, subst}
+use Rattle.std.proofs.Common.{◌/◌, ◌∙◌, sym, ap, subst}
 use Rattle.heap_words.specs.declared.config.Config.{Config}
 use Rattle.heap_steps.specs.Actors.{IsOp}
-use Rattle.collection.specs.Asked.{look_words}
 use Rattle.collection.specs.Steps.{LeavesTwo}
 use Rattle.collection.proofs.Asked.{held_makes, own_makes, room_full, room_two}
 use Rattle.collection.proofs.Paced.{creatable_after, if_due, if_not_due, refused_made}
@@ -31,8 +30,7 @@ returns-then-not-has_room g c =
       };
       uncreated = λ n. absurd (n c.requires.creatable);
       spent = λ e. c.left_after-left.ensures ∙ if_not_due c.args.due _ _ e;
-      renewed = λ e h. c.left_after-left.ensures ∙ if_due c.args.due _ _ e
-          ∙ ap (λ (x : Config). look_words x.words) c.config.ensures.config;
+      renewed = λ e h. c.left_after-left.ensures ∙ if_due c.args.due _ _ e ∙ ap (λ (x : Config). x.words / 2) c.config.ensures.config;
       full = λ e s stands. r.filled c.if-not-has_room.true s stands;
       two = λ leaves two. r.collects.two two;
       made = refused_made c.args.op.mutator c.args.op.action _ d;
@@ -58,8 +56,7 @@ returns g c =
       };
       uncreated = λ n. absurd (n c.requires.creatable);
       spent = λ e. c.left_after-left.ensures ∙ if_not_due c.args.due _ _ e;
-      renewed = λ e h. c.left_after-left.ensures ∙ if_due c.args.due _ _ e
-          ∙ ap (λ (x : Config). look_words x.words) c.config.ensures.config;
+      renewed = λ e h. c.left_after-left.ensures ∙ if_due c.args.due _ _ e ∙ ap (λ (x : Config). x.words / 2) c.config.ensures.config;
       full = λ e s stands. room_full g.W.Watch.sees _ c.args.op c.args.core.now d c.args.watch.now y r.collects c.take_own.result
           c.take_own.new.core c.take_own.new.watch own c.take_own.ensures.does room e s stands;
       two = λ leaves two. room_two g.W.Watch.sees _ c.args.op c.args.core.now d c.args.watch.now y r.collects c.take_own.result
