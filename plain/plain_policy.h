@@ -204,13 +204,6 @@ static inline void policy_end(policy_of *of)
     policy_remark(of);
     policy_reclaim(of);
 }
-/* Where few regions are free: marking ends, and the whole cycle if the reserve has few regions. */
-enum { LONG_RESERVE = 16 };
-static inline void policy_end_at_reserve(policy_of *of)
-{
-    if (of->policy->reserve < LONG_RESERVE) policy_end(of);
-    else policy_remark(of);
-}
 /* One pause of so many words at most. Answers whether it paid. */
 static inline int policy_evacuate_some(policy_of *of, uint32_t *left, int is_within)
 {
@@ -260,7 +253,7 @@ static inline int policy_begin(policy_of *of)
     policy->pace = pace < policy->mark_words ? (uint32_t)pace : policy->mark_words, policy->asked = 0, policy->wanted = 0;
     policy->looked = 0, policy->marked = words;
     g1_begin(of->heap);
-    if (free <= policy->reserve) policy_end_at_reserve(of);
+    if (free <= policy->reserve) policy_end(of);
     return 1;
 }
 /* How many objects with weak slots are cleared at a look: more where few regions are free above the reserve. */
@@ -269,7 +262,6 @@ static inline uint32_t policy_spend_clears(policy_of *of, uint32_t free)
     g1_policy *policy = of->policy;
     uint32_t room = policy_most(1, policy_above(free, policy_kept(policy, of->sizes)));
     uint32_t looks = 1 + policy_least(3, policy_above(policy->cleared, policy->clears) / room);
-    if (free <= policy->reserve) looks = 16;
     policy->clears = policy_within((uint64_t)policy->clears + looks);
     return policy_within((uint64_t)policy->clear_objects * looks);
 }
@@ -277,6 +269,16 @@ static inline void policy_clear(policy_of *of)
 {
     g1_clear(of->heap, policy_spend_clears(of, policy_free(of->heap)));
     if (g1_clearing(of->heap).first == 0) policy_reclaim(of);
+}
+/* Below the reserve, if that is long and a quarter of it is left: clears 16 times as many. Answers whether some are left. */
+static inline int policy_clears_on(policy_of *of)
+{
+    g1_policy *policy = of->policy;
+    if (policy_free(of->heap) <= (policy->reserve < 16 ? policy->reserve : policy->reserve / 4)) return 0;
+    g1_clear(of->heap, policy_within((uint64_t)policy->clear_objects * 16));
+    if (g1_clearing(of->heap).first == 0) return 0;
+    policy->clears = policy_within((uint64_t)policy->clears + 16);
+    return 1;
 }
 /* Words that marking looks at: more where few regions are free above the reserve. */
 static inline uint32_t policy_spend_marks(policy_of *of)
@@ -293,7 +295,7 @@ static inline uint32_t policy_spend_marks(policy_of *of)
 static inline void policy_mark(policy_of *of)
 {
     g1_mark(of->heap, policy_spend_marks(of));
-    if (policy_free(of->heap) <= of->policy->reserve) policy_end_at_reserve(of);
+    if (policy_free(of->heap) <= of->policy->reserve) policy_end(of);
     else if (g1_grey(of->heap).first == 0) policy_remark(of);
 }
 /* Refines what is queued beyond half of the cards that may be left, once they are more. Answers whether that is enough for a look. */
@@ -308,13 +310,9 @@ static inline int policy_refine(policy_of *of)
 /* All that is due, where few regions are free. */
 static inline void policy_hurry(policy_of *of)
 {
-    uint32_t reserve = of->policy->reserve;
     int is_young_due;
     if (g1_clearing(of->heap).first == 1) {
-        if (reserve >= LONG_RESERVE && policy_free(of->heap) > reserve / 4) {
-            policy_clear(of);
-            return;
-        }
+        if (policy_clears_on(of)) return;
         policy_reclaim(of);
     } else {
         policy_refine(of);

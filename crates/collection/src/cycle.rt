@@ -17,7 +17,7 @@ ghost use Rattle.regions.specs.Table.{free_count};
 ghost use Rattle.heap_steps.specs.Actors.{HasCollection};
 ghost use Rattle.collection.specs.Steps.{CollectsWithin, CollectsSome, IsDue};
 
-use crate::numbers::{EVACUATED, LONG_RESERVE, Policy, REFINED, moved};
+use crate::numbers::{EVACUATED, Policy, REFINED, moved};
 use crate::steps::{Watch, take};
 use crate::whole::pause_all;
 use heap_steps::{CollectorStep, Limits, Reply, is_third};
@@ -97,25 +97,14 @@ fn end_marking<W: Watch>(core: &mut Core, policy: &mut Policy, watch: &mut W)
     }
 }
 
-/// Ends marking where few regions are free, and the whole cycle if the reserve has few regions.
-fn end_at_reserve<W: Watch>(core: &mut Core, policy: &mut Policy, watch: &mut W)
-    ensures { CollectsWithin W.sees 2 core.old watch.old core.new watch.new }
-{
-    if policy.reserve < LONG_RESERVE {
-        end_cycle(core, policy, watch);
-    } else {
-        end_marking(core, policy, watch);
-    }
-}
-
-/// Marks, and ends marking where nothing is left to be marked, or few regions are free.
+/// Marks, and ends marking where nothing is left to be marked, or the cycle where few regions are free.
 fn mark_on<W: Watch>(core: &mut Core, policy: &mut Policy, watch: &mut W)
     ensures { CollectsSome W.sees 3 core.old watch.old core.new watch.new }
 {
     let words = policy.spend_marks(core.free_regions());
     take(core, policy, CollectorStep::Mark(words), watch);
     if core.free_regions() <= policy.reserve {
-        end_at_reserve(core, policy, watch);
+        end_cycle(core, policy, watch);
     } else if !core.grey() {
         end_marking(core, policy, watch);
     }
@@ -224,7 +213,7 @@ fn begin_cycle<W: Watch>(core: &mut Core, policy: &mut Policy, watch: &mut W) ->
     policy.plan_marking(&core.config(), free, words);
     take(core, policy, CollectorStep::Begin, watch);
     if free <= policy.reserve {
-        end_at_reserve(core, policy, watch);
+        end_cycle(core, policy, watch);
     }
     true
 }
@@ -275,17 +264,33 @@ fn refine_most<W: Watch>(core: &mut Core, policy: &mut Policy, watch: &mut W) ->
     policy.last != REFINED && cards > policy.cards_left
 }
 
-/// Clears weak slots where few regions are free. Where hardly any are, it reclaims what is dead, which clears all that is left, and
-/// evacuates.
+/// Reclaims what is dead, which clears all weak slots that are left, and evacuates.
+fn reclaim_all<W: Watch>(core: &mut Core, policy: &mut Policy, watch: &mut W)
+    ensures { CollectsSome W.sees (core.old.config.regions + 2) core.old watch.old core.new watch.new }
+{
+    reclaim(core, policy, watch);
+    evacuate(core, policy, watch);
+}
+
+/// Clears weak slots where few regions are free, and reclaims what is dead and evacuates once all are cleared, or where hardly any are free.
 fn clear_or_reclaim<W: Watch>(core: &mut Core, policy: &mut Policy, watch: &mut W)
     ensures { CollectsSome W.sees (core.old.config.regions + 5) core.old watch.old core.new watch.new }
 {
-    if policy.reserve >= LONG_RESERVE && core.free_regions() > policy.reserve / 4 {
-        clear_on(core, policy, watch);
+    if !is_third(core.config().format) {
+        reclaim_all(core, policy, watch);
         return;
     }
-    reclaim(core, policy, watch);
-    evacuate(core, policy, watch);
+    if core.free_regions() <= policy.clear_until() {
+        reclaim_all(core, policy, watch);
+        return;
+    }
+    let objects = policy.hurried_clears();
+    take(core, policy, CollectorStep::Clear(objects), watch);
+    if core.clearing() {
+        policy.note_clears();
+        return;
+    }
+    reclaim_all(core, policy, watch);
 }
 
 /// All that is due, where few regions are free.

@@ -138,7 +138,10 @@ pub(crate) const REFINED: u32 = 1;
 pub(crate) const EVACUATED: u32 = 2;
 
 /// Regions: a reserve of so many has room for looks that clear weak slots.
-pub(crate) const LONG_RESERVE: u32 = 16;
+const LONG_RESERVE: u32 = 16;
+
+/// How many times `clear_objects` a look clears below the reserve.
+const HURRIED_CLEARS: u32 = 16;
 
 impl Policy {
     ghost use Rattle.collection.specs.Numbers.{IsStarted};
@@ -427,16 +430,33 @@ impl Policy {
 
     /// Objects with weak slots: so many are cleared at the next look. It is `clear_objects`; but where fewer regions are free above the
     /// reserve than clearing has looks left, by those after the last marking, two, three or four times as many, so that it ends before the
-    /// reserve is reached; and 16 times as many below that. It counts as so many looks.
+    /// reserve is reached. It counts as so many looks.
     pub(crate) fn spend_clears(&mut self, config: &Config, free: u32) -> u32 {
         let room = free.saturating_sub(self.kept(config)).max(1);
-        let looks = if free <= self.reserve {
-            16
-        } else {
-            1 + (self.cleared.saturating_sub(self.clears) / room).min(3)
-        };
+        let looks = 1 + (self.cleared.saturating_sub(self.clears) / room).min(3);
         self.clears = self.clears.saturating_add(looks);
         self.clear_objects.saturating_mul(looks)
+    }
+
+    /// Regions: where no more are free, all weak slots are cleared at once. It is a quarter of the reserve, or all of a short one.
+    pub(crate) fn clear_until(&self) -> u32 {
+        if self.reserve < LONG_RESERVE {
+            self.reserve
+        } else {
+            self.reserve / 4
+        }
+    }
+
+    /// Objects with weak slots: so many are cleared at a look below the reserve.
+    pub(crate) fn hurried_clears(&self) -> u32 {
+        self.clear_objects.saturating_mul(HURRIED_CLEARS)
+    }
+
+    /// Counts them as so many looks, where that wasn't the end of clearing.
+    pub(crate) fn note_clears(&mut self)
+        ensures { self.new.begin_at ≡ self.old.begin_at }
+    {
+        self.clears = self.clears.saturating_add(HURRIED_CLEARS);
     }
 
     /// How many cards may lead into the regions of a pause.
