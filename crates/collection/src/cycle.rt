@@ -272,7 +272,7 @@ fn reclaim_all<W: Watch>(core: &mut Core, policy: &mut Policy, watch: &mut W)
     evacuate(core, policy, watch);
 }
 
-/// Clears weak slots where few regions are free, and reclaims what is dead and evacuates once all are cleared, or where hardly any are free.
+/// Clears weak slots where few regions are free. It reclaims what is dead and evacuates once all are cleared, or where hardly any are free.
 fn clear_or_reclaim<W: Watch>(core: &mut Core, policy: &mut Policy, watch: &mut W)
     ensures { CollectsSome W.sees (core.old.config.regions + 5) core.old watch.old core.new watch.new }
 {

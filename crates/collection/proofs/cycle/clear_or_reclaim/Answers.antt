@@ -11,8 +11,8 @@ returns-then-not-is_third g c =
 pub returns-then-free_regions-clear_until : goal.returns-then-free_regions-clear_until
 returns-then-free_regions-clear_until g c =
     some_more g.W.Watch.sees (c.args.core.now.config.regions + 2) (c.args.core.now.config.regions + 5) c.args.core.now
-    c.reclaim_all-then-free_regions-clear_until.new.core c.args.watch.now c.reclaim_all-then-free_regions-clear_until.new.watch (omega arith)
-    c.reclaim_all-then-free_regions-clear_until.ensures
+    c.reclaim_all-then-free_regions-clear_until.new.core c.args.watch.now c.reclaim_all-then-free_regions-clear_until.new.watch
+    (omega arith) c.reclaim_all-then-free_regions-clear_until.ensures
 
 pub returns-then-clearing : goal.returns-then-clearing
 returns-then-clearing g c =
