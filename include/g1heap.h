@@ -104,8 +104,7 @@ enum {
 
     G1_NIL = 16,          /* the register that should name an object is nil */
     G1_NO_FIELD = 17,     /* the object has no such field */
-    G1_FULL = 18,         /* no place was found for the new object: collect, and try again, which g1_make has done already;
-                             of g1_path: its buffer has no room for the search */
+    G1_FULL = 18,         /* no place was found for the new object: collect, and try again, as g1_make has done; of g1_path: no room */
     G1_TOO_BIG = 19,      /* the new object is larger than the heap, or than 16,777,216 words */
     G1_NAMES_SPENT = 20,  /* no names are left */
     G1_MARK_RUNNING = 21, /* marking is running */
