@@ -314,6 +314,15 @@ g1_answer g1_make_filled(g1_heap *heap, g1_policy *policy, uint32_t by, uint32_t
 }
 g1_answer g1_collect(g1_heap *heap, g1_policy *policy) { return (void)heap, (void)policy, tell(G1_DONE, 0); }
 g1_answer g1_collect_all(g1_heap *heap, g1_policy *policy) { return g1_collect(heap, policy); }
+/* It can't tell its objects. */
+g1_answer g1_walk(const g1_heap *heap, uint64_t *cursor, g1_object *objects, size_t count)
+{
+    return (void)heap, (void)cursor, (void)objects, (void)count, tell(G1_NUMBER, 0);
+}
+g1_answer g1_who(const g1_heap *heap, uint64_t name, uint64_t *cursor, g1_holder *holders, size_t count)
+{
+    return (void)heap, (void)name, (void)cursor, (void)holders, (void)count, tell(G1_NUMBER, 0);
+}
 
 static void *reserve(size_t bytes)
 {
