@@ -3,82 +3,16 @@ use Rattle.std.proofs.Common.{◌≡◌, ◌∙◌, ℕ, ◌+◌, ◌<◌, ◌�
 use Rattle.std.proofs.Common.{arith, inl, inr}
 use Rattle.std.specs.Prelude.{slice_get}
 use Rattle.std.proofs.lemmas.Bool.{cases_lt, cases_eq}
-use Rattle.step_core.specs.Stands.{CoreState, kept_of}
+use Rattle.step_core.specs.Stands.{CoreState}
 use Rattle.heap_walk.specs.Starts.{IsTileFrom, place_of}
 use Rattle.heap_walk.specs.Kept.{IsKeptFrom}
-use Rattle.heap_walk.specs.Holders.{holder_if, list_of, root_holders}
+use Rattle.heap_walk.specs.Holders.{root_holders}
 use Rattle.heap_walk.specs.Paths.{HoldsByRoot}
-use Rattle.heap_walk.specs.Searching.{name_at, name_if, IsAmong, LeadsNowhere, IsLinkOf, IsCovered, IsNewStep, IsNewStepOf}
-use Rattle.heap_walk.specs.Searching.{IsPointerOf, IsRootOf, HasGrown, GrowsTo}
+use Rattle.heap_walk.specs.Searching.{name_at, name_if, IsCovered}
+use Rattle.heap_walk.specs.Searching.{IsRootOf, HasGrown}
 use Rattle.heap_walk.specs.declared.holders.Holder.{Holder}
-use Rattle.heap_walk.proofs.Placing.{listed, unlisted, onward, until}
-use Rattle.heap_walk.proofs.Growing.{held_name, held_plain, step_entry, covered_none}
-
--- ---- one object and one name
-pub pointer_other : (xs : List Holder) (r : Option Holder) (x : Holder) → xs ≡ list_of r → r ≡ Some x → (x.kind ≡ 2 → ⊥) → (h : Holder)
-    → xs ≡ h ∷ [] → h.kind ≡ 2 → ⊥
-pointer_other xs r x e is other h told strong =
-    let one = sym (listed xs r x e is) ∙ told in
-    let same : x ≡ h = cc in
-    other (ap (λ (y : Holder). y.kind) same ∙ strong)
-
-pub pointer_none : (xs : List Holder) (r : Option Holder) → xs ≡ list_of r → r ≡ None → (h : Holder) → xs ≡ h ∷ [] → h.kind ≡ 2 → ⊥
-pointer_none xs r e is h told strong = let two = sym (unlisted xs r e is) ∙ told in absurd (cc)
-
--- ---- one object and a range of steps
-module _ (c : CoreState) (a : ℕ) (q : List Holder) (from to at : ℕ) (step : Holder) (is : slice_get q at ≡ Some step) (r : Option Holder)
-    (k : IsPointerOf c a step.name r) where
-  pub link_some : (h : Holder) → r ≡ Some h → from ≤ at → at < to
-      → IsLinkOf c a q from to (Some (record { name = h.name; kind = h.kind; mutator = at; place = h.place; fields = h.fields }))
-  link_some h e on under =
-      let found : IsPointerOf c a step.name (Some h) = subst (λ (o : Option Holder). IsPointerOf c a step.name o) e k in
-      let told = found.0 in
-      let same = step_entry h at (held_plain c step.name a h told) in (
-        record {
-          on = on;
-          under = under;
-          next = step.name;
-          named = ap name_if is;
-          holds = record {
-            address = a;
-            told = told ∙ ap (λ (x : Holder). x ∷ []) (sym same);
-            strong = ap (λ (x : Holder). x.kind) same ∙ found.1;
-          };
-        },
-        held_name c step.name a h told,
-      )
-
-  pub nowhere_more : r ≡ None → LeadsNowhere c q from at a → LeadsNowhere c q from (at + 1) a
-  nowhere_more e p = λ x n h on under named told strong. elim (cases_eq x at) [
-    | inl same ↦
-        let found : IsPointerOf c a step.name None = subst (λ (o : Option Holder). IsPointerOf c a step.name o) e k in
-        let one = sym (ap name_if is) ∙ ap (name_at q) (sym same) ∙ named in
-        let name : n ≡ step.name = cc in
-        found h (subst (λ (m : ℕ). holder_if c m a (kept_of c a) ≡ h ∷ []) name told) strong
-    | inr other ↦ p x n h on (omega arith) named told strong
-  ]
-
-pub nowhere_all : (c : CoreState) (a : ℕ) (q : List Holder) (from to at : ℕ) → to ≤ at → LeadsNowhere c q from at a
-    → LeadsNowhere c q from to a
-nowhere_all c a q from to at le p = λ x n h on under named told strong. p x n h on (omega arith) named told strong
-
--- ---- one object and all steps
-module _ (c : CoreState) (a : ℕ) (q : List Holder) (from to next room : ℕ) (r : Option Holder) (k : IsLinkOf c a q from to r) where
-  pub link_covered : r ≡ None → IsCovered c q from to next room a
-  link_covered e = λ x n h on under named told strong. absurd
-      ((subst (λ (o : Option Holder). IsLinkOf c a q from to o) e k) x n h on under named told strong)
-
-  pub link_among : (h : Holder) → r ≡ Some h → IsAmong q next room h.name → IsCovered c q from to next room a
-  link_among h e i = λ x n t on under named told strong.
-      let link : IsLinkOf c a q from to (Some h) = subst (λ (o : Option Holder). IsLinkOf c a q from to o) e k in
-      let one = sym link.1 ∙ held_name c n a t told in
-      let same : h.name ≡ t.name = cc in
-      subst (λ (m : ℕ). IsAmong q next room m) same i
-
-  pub link_new : (h : Holder) → r ≡ Some h → (IsAmong q next room h.name → ⊥) → IsNewStepOf c a q from to next room (Some h)
-  link_new h e i =
-      let link : IsLinkOf c a q from to (Some h) = subst (λ (o : Option Holder). IsLinkOf c a q from to o) e k in
-      ((link.0, i), link.1)
+use Rattle.heap_walk.proofs.Placing.{onward, until}
+use Rattle.heap_walk.proofs.Growing.{covered_none}
 
 -- ---- all objects
 pub grown_first : (c : CoreState) (q : List Holder) (low last next room : ℕ) → next ≡ low → HasGrown c q q low last next room
@@ -117,14 +51,6 @@ module _ (c : CoreState) (q : List Holder) (from to next room : ℕ) where
     | inr ge ↦ covered_none c q from to next room a (k a (omega arith))
   ]
   covers_all left (Some b) e k p = cc
-
--- no room is left
-pub grows_none : (c : CoreState) (old new : List Holder) (low last next room : ℕ) (h : Holder) → next ≡ 1
-    → HasGrown c old new low last next room → IsNewStep c new low last next room h → GrowsTo c old new low last room None
-grows_none c old new low last next room h e g n = (
-  subst (λ (x : ℕ). HasGrown c old new low last x room) e g,
-  (h, subst (λ (x : ℕ). IsNewStep c new low last x room h) e n),
-)
 
 -- ---- roots and a range of steps
 abbrev pub IsRootless : CoreState → List Holder → ℕ → ℕ → Type 0
