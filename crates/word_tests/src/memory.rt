@@ -110,7 +110,8 @@ fn holds_objects(rt: HostRuntime) -> Result<(), Fail> {
     store(&mut words, object, 1, 9);
     let size = FillerSize::new(2);
     assert!(rt;
-        is_there(&words, object, small().counts(), 7) && leads(&words, object, 0, Some(Addr::new(8)))
+        is_there(&words, object, small().counts(), 7)
+            && leads(&words, object, 0, Some(Addr::new(8)))
     );
     assert!(rt; has_value(&words, object, 0, 0) && has_value(&words, object, 1, 9));
     assert!(rt; has_header(&words, Addr::new(6), Header::Filler { size }));
