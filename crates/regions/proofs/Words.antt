@@ -10,4 +10,6 @@ pub mod ObjectWords
 pub mod Values
 pub mod Copies
 pub mod FieldAccess
+pub mod HeldSlots
+pub mod Fresh
 pub mod Divides

@@ -55,9 +55,10 @@ abbrev pub regions_of : (ℕ → ℕ) → ℕ → List ℕ → List Row → List
 regions_of sizes size ws [] = []
 regions_of sizes size ws (row ∷ rows) = region_of sizes ws row ∷ regions_of sizes size (drop size ws) rows
 
--- the header is an object's. None has pairs yet
+-- the header is an object's
 abbrev pub IsObjectHeader : Option Header → Type 0
 IsObjectHeader (Some (headers.Object p weak d)) = Unit {0}
+IsObjectHeader (Some (headers.Pairs p n d)) = 0 < n
 IsObjectHeader _ = ⊥
 
 -- a row that is no later one of a run says what the words of its region are

@@ -1,5 +1,5 @@
 -- What the value of every table meets beside what its type says.
-use Rattle.std.specs.Prelude.{◌≡◌, ℕ, ◌+◌, ◌-◌, ◌*◌, ◌<◌, ◌≤◌, false, Some, [], length, min}
+use Rattle.std.specs.Prelude.{◌≡◌, ℕ, ◌+◌, ◌-◌, ◌*◌, ◌<◌, ◌≤◌, ◌⊎◌, false, Some, [], length, min}
 use Rattle.heap_words.specs.Configs.{max_words, max_region_words}
 use Rattle.heap_model.specs.Heap.{Stored}
 use Rattle.regions.specs.Tiles.{Tile, Object, tile_size}
@@ -18,6 +18,10 @@ pub record IsLater (t : Table) (k n : ℕ) : Type 0 where
   pub reaches : later * t.words_per_region < tile_size (Object object)
   pub words : n ≡ min t.words_per_region (tile_size (Object object) - later * t.words_per_region)
 
+-- the object has no held slots, or one for each weak slot
+abbrev pub IsPaired : Stored → Type 0
+IsPaired s = (s.held ≡ []) ⊎ (length s.held ≡ length s.weaks)
+
 -- what is known of every table
 pub record IsShaped (t : Table) : Type 0 where
   pub positive : 0 < t.words_per_region
@@ -31,8 +35,16 @@ pub record IsShaped (t : Table) : Type 0 where
       → kind_of t (k + j) ≡ kinds.Rest
   pub later : (k n : ℕ) → nth_region t k ≡ Rest n → IsLater t k n
   pub targets : AreTargetsRight t
-  -- no object has held slots
-  pub bare : (a : ℕ) (object : Stored) → object_at t a ≡ Some object → object.held ≡ []
+  -- an object is plain, or one of pairs
+  pub paired : (a : ℕ) (object : Stored) → object_at t a ≡ Some object → IsPaired object
+
+-- the object at an address has no held slots, if one is there
+abbrev pub IsBareAt : Table → ℕ → Type 0
+IsBareAt t a = (object : Stored) → object_at t a ≡ Some object → object.held ≡ []
+
+-- no object has held slots
+abbrev pub AreBare : Table → Type 0
+AreBare t = (a : ℕ) → IsBareAt t a
 
 -- so many words from an address on lie in regions that aren't free
 abbrev pub AreInUse : Table → ℕ → ℕ → Type 0

@@ -60,6 +60,15 @@ object_weaks (Some s) = s.weaks
 unfoldable pub weaks_at : Table → ℕ → List (Option ℕ)
 weaks_at t a = object_weaks (object_at t a)
 
+-- an object's held slots
+abbrev pub object_held : Option Stored → List (Option ℕ)
+object_held None = []
+object_held (Some s) = s.held
+
+-- the held slots of the object at an address, none where there is no object
+unfoldable pub held_at : Table → ℕ → List (Option ℕ)
+held_at t a = object_held (object_at t a)
+
 -- an object's fields
 abbrev pub object_fields : Option Stored → List (Option ℕ)
 object_fields None = []
@@ -153,6 +162,14 @@ set_weak_of t a i v (Some s) = put_object t a (record s { weaks = slice_set s.we
 unfoldable pub set_weak : Table → ℕ → ℕ → Option ℕ → Table
 set_weak t a i v = set_weak_of t a i v (object_at t a)
 
+abbrev pub set_held_of : Table → ℕ → ℕ → Option ℕ → Option Stored → Table
+set_held_of t a i v None = t
+set_held_of t a i v (Some s) = put_object t a (record s { held = slice_set s.held i v })
+
+-- the table with one held slot of the object at the address changed
+unfoldable pub set_held : Table → ℕ → ℕ → Option ℕ → Table
+set_held t a i v = set_held_of t a i v (object_at t a)
+
 abbrev pub set_value_of : Table → ℕ → ℕ → ℕ → Option Stored → Table
 set_value_of t a i v None = t
 set_value_of t a i v (Some s) = put_object t a (record s { values = slice_set s.values i v })
@@ -226,6 +243,16 @@ new_object name p weak d = record {
   pointers = replicate p None;
   weaks = replicate weak None;
   held = [];
+  values = replicate d 0;
+}
+
+-- an object of pairs just made, with p nil pointers, n nil keys that hold nothing, and d zeros
+abbrev pub new_pairs : ℕ → ℕ → ℕ → ℕ → Stored
+new_pairs name p n d = record {
+  name = name;
+  pointers = replicate p None;
+  weaks = replicate n None;
+  held = replicate n None;
   values = replicate d 0;
 }
 

@@ -68,11 +68,11 @@ tiles sizes k [] = []
 tiles sizes zero (w ∷ ws) = tile_by sizes ws (header_of w) ∷ tiles sizes (size_by sizes (header_of w) - 1) ws
 tiles sizes (suc k) (w ∷ ws) = tiles sizes k ws
 
--- the header of a tile. None has pairs yet: marking doesn't follow what a key holds
+-- the header of a tile: an object without a pair has the header of one that can't have pairs
 abbrev pub IsTileHeader : Option Header → Type 0
 IsTileHeader None = ⊥
 IsTileHeader (Some (headers.Object p weak d)) = Unit {0}
-IsTileHeader (Some (headers.Pairs p n d)) = ⊥
+IsTileHeader (Some (headers.Pairs p n d)) = 0 < n
 IsTileHeader (Some (headers.Filler n)) = Unit {0}
 IsTileHeader (Some (headers.Forwarded to)) = Unit {0}
 

@@ -1,17 +1,27 @@
 //! Reads and writes of objects: each is one access to a word or two, and no walk.
 ghost use Rattle.std.specs.Prelude.{◌≡◌, ◌<◌, ◌≤◌, ◌+◌, length, take, drop, slice_get, Some, IsSome, IfSome};
 ghost use Rattle.heap_words.specs.Contents.{header_at, counts_of, pointer_count_at, field_count_at, weak_count, value_count, IsPlainHeader};
-ghost use Rattle.regions.specs.Table.{object_at, object_words, pointers_at, weaks_at, fields_at, values_at, set_pointer};
-ghost use Rattle.regions.specs.Table.{set_weak, set_field, set_value, set_values, tile_in, moved_to};
+ghost use Rattle.regions.specs.Table.{object_at, object_words, pointers_at, weaks_at, held_at, fields_at, values_at, set_pointer};
+ghost use Rattle.regions.specs.Table.{set_weak, set_held, set_field, set_value, set_values, tile_in, moved_to};
 ghost use Rattle.regions.specs.Rows.{header_target, sizes_in};
+ghost use Rattle.regions.specs.Shaped.{IsBareAt};
 
 use crate::table::RegionTable;
 use heap_words::addr::{Addr, Ptr};
 use heap_words::header::Header;
 use heap_words::words::Words;
 
-/// How many pointers the object at an address has. No object of the table has pairs yet.
+/// How many pointers the object at an address has.
 fn pointers_in(words: &Words, at: Addr) -> u32
+    requires within { at < words.now.written }
+    requires object { IsSome (counts_of (header_at words.now.all at)) }
+    ensures { result ≡ pointer_count_at words.now.all at }
+{
+    words.pointer_count(at)
+}
+
+/// The same of an object without held slots.
+fn plain_pointers_in(words: &Words, at: Addr) -> u32
     requires within { at < words.now.written }
     requires object { IsPlainHeader (header_at words.now.all at) }
     ensures { result ≡ pointer_count_at words.now.all at }
@@ -86,6 +96,15 @@ impl RegionTable {
         pointers_in(&self.words, object)
     }
 
+    /// The same of an object without held slots: its header isn't asked which kind it is.
+    pub fn plain_pointer_count(&self, object: Addr) -> u32
+        requires there { IsSome (object_at self.now object) }
+        requires bare { IsBareAt self.now object }
+        ensures { result ≡ length (pointers_at self.now object) }
+    {
+        plain_pointers_in(&self.words, object)
+    }
+
     /// How many weak slots the object at an address has.
     pub fn weak_count(&self, object: Addr) -> u32
         requires { IsSome (object_at self.now object) }
@@ -94,7 +113,7 @@ impl RegionTable {
         weaks_in(&self.words, object)
     }
 
-    /// How many fields the object at an address has: its pointers, and its weak slots behind them.
+    /// How many fields the object at an address has: its pointers, its weak slots behind them, and its held slots last.
     pub fn field_count(&self, object: Addr) -> u32
         requires { IsSome (object_at self.now object) }
         ensures { result ≡ length (fields_at self.now object) }
@@ -150,6 +169,34 @@ impl RegionTable {
     {
         let place = pointers_in(&self.words, object) + slot;
         self.words.set_field(object, place, target);
+    }
+
+    /// How many held slots the object at an address has: one for each weak slot, its key, in an object of pairs, and else none.
+    pub fn held_count(&self, object: Addr) -> u32
+        requires { IsSome (object_at self.now object) }
+        ensures { result ≡ length (held_at self.now object) }
+    {
+        self.field_count(object) - self.pointer_count(object) - self.weak_count(object)
+    }
+
+    /// A held slot of the object at an address: what it holds for the key in the weak slot of that place.
+    pub fn get_held(&self, object: Addr, slot: u32) -> Ptr
+        requires { slot < length (held_at self.now object) }
+        ensures { slice_get (held_at self.now object) slot ≡ Some result }
+    {
+        self.law();
+        let place = self.pointer_count(object) + self.weak_count(object) + slot;
+        self.get_field(object, place)
+    }
+
+    /// Stores an address, or nil, in a held slot of the object at an address. Its key stays.
+    pub fn set_held(&mut self, object: Addr, slot: u32, target: Ptr)
+        requires { slot < length (held_at self.old object) }
+        ensures { self.new ≡ set_held self.old object slot target }
+    {
+        self.law();
+        let place = self.pointer_count(object) + self.weak_count(object) + slot;
+        self.set_field(object, place, target);
     }
 
     /// A field of the object at an address, by its place among the fields in address order.

@@ -2,7 +2,7 @@
 ghost use Rattle.std.specs.Prelude.{◌≡◌, ◌≢◌, ◌+◌, ◌*◌, ◌/◌, ◌<◌, ◌≤◌, ℕ, length, replicate, Some};
 ghost use Rattle.heap_words.specs.Sizes.{size_of};
 ghost use lib.Seq.{paste};
-ghost use Rattle.regions.specs.Table.{first_run, is_free as region_is_free, new_object, run_length, run_regions, with_regions, with_run};
+ghost use Rattle.regions.specs.Table.{first_run, is_free as region_is_free, new_object, new_pairs, run_length, run_regions, with_regions, with_run};
 ghost use Rattle.regions.specs.Table.{kind_of, moved_run, EachForwardedIn};
 ghost use Rattle.regions.specs.Rows.{free_row, kind_is_free, run_rows, AreUsedBelow};
 ghost use Rattle.regions.specs.declared.row.Kind.TheVariants as kinds;
@@ -12,7 +12,7 @@ use crate::row::{Kind, Row, is_free};
 use crate::table::RegionTable;
 use crate::updates::{rests_from, write_free};
 use heap_words::addr::{Addr, RegionNo};
-use heap_words::header::HeaderCounts;
+use heap_words::header::{HeaderCounts, PairCounts};
 
 /// The lowest place from which `count` rows are free, where no row below `from` is.
 fn lowest_run(rows: &[Row], count: usize, from: usize) -> Option<usize>
@@ -98,6 +98,37 @@ impl RegionTable {
         let end = bottom + size;
         self.words.zero_below(end);
         self.words.write_object(Addr::new(bottom), name, counts);
+        self.first_tiles.put_tile(bottom, size);
+        write_run(
+            &mut self.rows,
+            number as usize,
+            count,
+            self.words_per_region,
+            size,
+        );
+        self.free -= count;
+        self.weak_starts.add(bottom, weaks);
+    }
+
+    /// The same of an object of pairs, whose keys are nil and hold nothing.
+    #[inline(never)]
+    pub fn make_run_of_pairs(&mut self, first: RegionNo, count: u32, name: u64, counts: PairCounts)
+        requires positive { 0 < count }
+        requires some { 0 < counts.pairs }
+        requires lowest { first_run region_is_free count self.old.regions ≡ Some first }
+        requires covers { size_of counts.pointers (counts.pairs + counts.pairs) counts.values ≤ count * self.old.words_per_region }
+        requires tight { count * self.old.words_per_region
+            < size_of counts.pointers (counts.pairs + counts.pairs) counts.values + self.old.words_per_region }
+        ensures { self.new ≡ with_regions self.old first count
+            (run_regions self.old.words_per_region (new_pairs name counts.pointers counts.pairs counts.values) count) }
+    {
+        let number = first.number();
+        let weaks = counts.pairs.get();
+        let size = counts.size();
+        let bottom = number * self.words_per_region;
+        let end = bottom + size;
+        self.words.zero_below(end);
+        self.words.write_pairs(Addr::new(bottom), name, counts);
         self.first_tiles.put_tile(bottom, size);
         write_run(
             &mut self.rows,

@@ -6,14 +6,14 @@ ghost use Rattle.heap_model.specs.Heap.{Stored};
 ghost use Rattle.regions.specs.Tiles.{Object, Filler, Forwarded};
 ghost use Rattle.regions.specs.Table.{first_free, taken, kind_of, used_of, top_of, region_at, IsOrdinary, IsReleasable};
 ghost use Rattle.regions.specs.Table.{released, EachForwardedIn, tile_in, object_at, object_words, push_tile};
-ghost use Rattle.regions.specs.Table.{replace_tile, new_object, front_count, remainder};
+ghost use Rattle.regions.specs.Table.{replace_tile, new_object, new_pairs, front_count, remainder};
 ghost use Rattle.regions.specs.Rows.{kind_is_free, kind_is_rest, free_row, put_remainder, AreUsedBelow};
 ghost use Rattle.regions.specs.declared.row.Kind.TheVariants as kinds;
 
 use crate::row::{Kind, Row, is_free, is_rest};
 use crate::table::RegionTable;
 use heap_words::addr::{Addr, RegionNo};
-use heap_words::header::{FillerSize, HeaderCounts};
+use heap_words::header::{FillerSize, HeaderCounts, PairCounts};
 use heap_words::words::Words;
 
 /// The lowest free row, where none below `from` is free.
@@ -153,6 +153,24 @@ impl RegionTable {
         let weaks = u32::from(counts.weaks);
         let size = counts.size();
         self.words.write_object(at, name, counts);
+        write_remainder(&mut self.words, at.word() + size, filler.get() - size);
+        self.first_tiles.cut_front(at.word(), size, filler.get());
+        self.weak_starts.add(at.word(), weaks);
+    }
+
+    /// Makes an object of pairs at the start of a filler of `filler` words: its pointers and its keys are nil, these hold nothing, and its
+    /// data words are 0. The rest is a filler again or nothing. One without a pair is made by `make_object`.
+    pub fn make_pairs(&mut self, at: Addr, filler: FillerSize, name: u64, counts: PairCounts)
+        requires there { tile_in self.old at ≡ Some (Filler filler) }
+        requires some { 0 < counts.pairs }
+        requires room { size_of counts.pointers (counts.pairs + counts.pairs) counts.values ≤ filler }
+        ensures { self.new ≡ replace_tile self.old at
+            (Object (new_pairs name counts.pointers counts.pairs counts.values)
+            ∷ remainder (filler - size_of counts.pointers (counts.pairs + counts.pairs) counts.values)) }
+    {
+        let weaks = counts.pairs.get();
+        let size = counts.size();
+        self.words.write_pairs(at, name, counts);
         write_remainder(&mut self.words, at.word() + size, filler.get() - size);
         self.first_tiles.cut_front(at.word(), size, filler.get());
         self.weak_starts.add(at.word(), weaks);

@@ -19,7 +19,11 @@ use Rattle.regions.proofs.Tiles.Spliced.{IsOutside, spliced_kept}
 use Rattle.regions.proofs.Tiles.Targets.{IsWrittenTable, written_table}
 use Rattle.regions.proofs.Tiles.Making.{targets_of, length-regions_of, free_region}
 use Rattle.regions.proofs.Words.Puts.{put_is}
-use Rattle.regions.proofs.Tiles.Pushes.{stored_of-new}
+use Rattle.regions.proofs.Words.Fresh.{fresh, stored_fresh, fresh_size}
+use Rattle.regions.proofs.Words.Counts.{counted, counted_stored, object_header}
+use Rattle.regions.specs.Tiles.{IsTileHeader}
+use Rattle.regions.specs.Table.{new_pairs}
+use Rattle.heap_words.specs.Contents.{counts_of, counted_size}
 use Rattle.regions.specs.declared.row.Kind.TheVariants as kinds
 use Rattle.regions.proofs.LongRuns.RunWrites.{drop_more_same}
 
@@ -195,18 +199,17 @@ run_there size words rows t k m g e h =
     let found = sym (first_run-is size words rows t m e) ∙ h in (found, run_here_is size words rows k m g found)
 
 -- an object's block, put at the run's bottom
-first_put : (words : List ℕ) (n w name p weak d : ℕ) → n + (2 + p + weak + d) ≤ length words
-    → drop n (put words n (w ∷ name ∷ replicate (p + weak + d) 0))
-    ≡ w ∷ (name ∷ replicate (p + weak + d) 0) ++ drop (n + (2 + p + weak + d)) words
-first_put words n w name p weak d h =
-    let block : List ℕ = w ∷ name ∷ replicate (p + weak + d) 0 in
-    let len : length block ≡ 2 + p + weak + d = omega (arith, length-replicate {A = ℕ} (p + weak + d) 0) in
+first_put : (words : List ℕ) (n w name z : ℕ) → n + (2 + z) ≤ length words
+    → drop n (put words n (w ∷ name ∷ replicate z 0)) ≡ w ∷ (name ∷ replicate z 0) ++ drop (n + (2 + z)) words
+first_put words n w name z h =
+    let block : List ℕ = w ∷ name ∷ replicate z 0 in
+    let len : length block ≡ 2 + z = omega (arith, length-replicate {A = ℕ} z 0) in
     let x = put_is words n block (omega arith) in
-    let a : take (2 + p + weak + d) (drop n (put words n block)) ≡ block = rw (← len) x.at in
-    let b : drop (2 + p + weak + d) (drop n (put words n block)) ≡ drop (n + (2 + p + weak + d)) words =
-    drop-drop (2 + p + weak + d) n (put words n block) ∙ rw (← len) x.after in
-    sym (take-append-drop (2 + p + weak + d) (drop n (put words n block)))
-    ∙ ap (λ (xs : List ℕ). xs ++ drop (2 + p + weak + d) (drop n (put words n block))) a ∙ ap (λ (xs : List ℕ). block ++ xs) b
+    let a : take (2 + z) (drop n (put words n block)) ≡ block = rw (← len) x.at in
+    let b : drop (2 + z) (drop n (put words n block)) ≡ drop (n + (2 + z)) words =
+    drop-drop (2 + z) n (put words n block) ∙ rw (← len) x.after in
+    sym (take-append-drop (2 + z) (drop n (put words n block)))
+    ∙ ap (λ (xs : List ℕ). xs ++ drop (2 + z) (drop n (put words n block))) a ∙ ap (λ (xs : List ℕ). block ++ xs) b
 
 -- what a `Vec` has once its rows are written through a slice
 pub with_rows : (items new : List Row) (len : ℕ) → len ≡ length items → length new ≡ length items
@@ -215,6 +218,55 @@ with_rows items new len e f =
     let none : drop (length new) items ≡ [] = drop_all (length new) items (omega arith) in
     rw (none, append-nil) (take_all len new (omega arith))
 
+-- an object of so many of each, of which z words are its fields and its data
+pub run_fresh : (size : ℕ) (words : List ℕ) (rows : List Row) (t : Table) (k m w name p weak held d z n long number : ℕ) (new : List ℕ)
+    (rows' : List Row) → IsTable size words rows → table_of size words rows ≡ t → first_run free m rows ≡ Some k → 0 < m
+    → IsTileHeader (header_of w) → counts_of (header_of w) ≡ Some (counted p weak held d) → z ≡ p + (weak + held) + d
+    → 2 + z ≤ m * t.words_per_region → m * t.words_per_region < 2 + z + t.words_per_region
+    → n ≡ k * size → long ≡ 2 + z → number ≡ length rows → new ≡ put words n (w ∷ name ∷ replicate z 0)
+    → rows' ≡ paste rows k (run_rows size long 0 m) m
+    → IsWrittenTable size new (take number (rows' ++ drop (length rows') rows))
+    (with_regions t k m (run_regions t.words_per_region (fresh name p weak held d) m))
+run_fresh size words rows t k m w name p weak held d z n long number new rows' g e h y head_is counts z_is covers tight
+    n_is long_is number_is new_is rows_is =
+    let size_is : size ≡ t.words_per_region = ap (λ (u : Table). u.words_per_region) e in
+    let covers' : 2 + z ≤ m * size = rw size_is covers in
+    let tight' : m * size < 2 + z + size = rw size_is tight in
+    let found = run_here_is size words rows k m g h in
+    let block : List ℕ = w ∷ name ∷ replicate z 0 in
+    let blen : length block ≡ 2 + z = omega (arith, length-replicate {A = ℕ} z 0) in
+    let words' : List ℕ = put words (k * size) block in
+    let fits : k * size + (2 + z) ≤ length words = omega (arith, found.ends) in
+    let x = put_is words (k * size) block (omega arith) in
+    let start = first_put words (k * size) w name z fits in
+    let head : header_of (get_or (drop (k * size) words') 0 0) ≡ header_of w = ap (λ (ws : List ℕ). header_of (get_or ws 0 0)) start in
+    let body : stored_of p weak held d ((name ∷ replicate z 0) ++ drop (k * size + (2 + z)) words) ≡ fresh name p weak held d =
+    stored_of-append p weak held d (name ∷ replicate z 0) (drop (k * size + (2 + z)) words)
+    (omega (arith, z_is, length-replicate {A = ℕ} z 0)) ∙ stored_fresh name p weak held d z z_is in
+    let stored : first_stored (drop (k * size) words') ≡ fresh name p weak held d = ap first_stored start
+    ∙ counted_stored (header_of w) ((name ∷ replicate z 0) ++ drop (k * size + (2 + z)) words) (counted p weak held d) counts ∙ body in
+    let after : drop (k * size + m * size) words' ≡ drop (k * size + m * size) words =
+    drop_more_same (k * size + length block) (k * size + m * size) words' words (omega (arith, blen)) x.after in
+    let ts : tile_size (Object (fresh name p weak held d)) ≡ 2 + z = fresh_size name p weak held d ∙ omega (arith, z_is) in
+    let osize : object_size (header_of w) ≡ 2 + z = ap counted_size counts ∙ omega (arith, z_is) in
+    let done = run_made size words words' rows t k m (2 + z) (fresh name p weak held d) g e found.free found.in_rows y covers'
+    tight' x.length_is x.before after (rw head (object_header (header_of w) (counted p weak held d) head_is counts))
+    (ap object_size head ∙ osize) stored ts in
+    let run : List Row = run_rows size (2 + z) 0 m in
+    let rows_are : rows' ≡ paste rows k run m = rows_is ∙ ap (λ (j : ℕ). paste rows k (run_rows size j 0 m) m) long_is in
+    let same : paste rows k run m ≡ take k rows ++ (run ++ drop (k + m) rows) =
+    append_assoc (take k rows) (take m run) (drop (k + m) rows)
+    ∙ ap (λ (rs : List Row). take k rows ++ (rs ++ drop (k + m) rows))
+    (take_all m run (omega (arith, length-run_rows size (2 + z) 0 m))) in
+    let count : length rows' ≡ length rows = ap (λ (rs : List Row). length rs) (rows_are ∙ same)
+    ∙ (simp (length-append, length-take, length-drop, length-run_rows) (omega (arith, found.room))) in
+    let whole_rows = with_rows rows rows' number number_is count in
+    let words_is : new ≡ words' = new_is ∙ ap (λ (j : ℕ). put words j (w ∷ name ∷ replicate z 0)) n_is in
+    rw (words_is, whole_rows, rows_are, same)
+    (subst (λ (r : ℕ). IsWrittenTable size words' (take k rows ++ (run ++ drop (k + m) rows))
+    (with_regions t k m (run_regions r (fresh name p weak held d) m))) size_is done)
+
+-- one without pairs
 pub run_taken : (size : ℕ) (words : List ℕ) (rows : List Row) (t : Table) (k m name p weak d n long number : ℕ) (new : List ℕ)
     (rows' : List Row) → IsTable size words rows → table_of size words rows ≡ t → first_run free m rows ≡ Some k → 0 < m
     → 2 + p + weak + d ≤ m * t.words_per_region → m * t.words_per_region < 2 + p + weak + d + t.words_per_region → p < 2 ^ 24 → weak < 2 ^ 8
@@ -225,43 +277,22 @@ pub run_taken : (size : ℕ) (words : List ℕ) (rows : List Row) (t : Table) (k
     (with_regions t k m (run_regions t.words_per_region (new_object name p weak d) m))
 run_taken size words rows t k m name p weak d n long number new rows' g e h y covers tight small_p small_w
     small_d n_is long_is number_is new_is rows_is =
-    let size_is : size ≡ t.words_per_region = ap (λ (u : Table). u.words_per_region) e in
-    let covers' : 2 + p + weak + d ≤ m * size = rw size_is covers in
-    let tight' : m * size < 2 + p + weak + d + size = rw size_is tight in
-    let found = run_here_is size words rows k m g h in
-    let w : ℕ = header_word (headers.Object p weak d) in
-    let is : header_of w ≡ Some (headers.Object p weak d) = header_of-word (headers.Object p weak d) (small_p, small_w, small_d) in
-    let block : List ℕ = w ∷ name ∷ replicate (p + weak + d) 0 in
-    let blen : length block ≡ 2 + p + weak + d = omega (arith, length-replicate {A = ℕ} (p + weak + d) 0) in
-    let words' : List ℕ = put words (k * size) block in
-    let fits : k * size + (2 + p + weak + d) ≤ length words = omega (arith, found.ends) in
-    let x = put_is words (k * size) block (omega arith) in
-    let start = first_put words (k * size) w name p weak d fits in
-    let head : header_of (get_or (drop (k * size) words') 0 0) ≡ Some (headers.Object p weak d) =
-    ap (λ (ws : List ℕ). header_of (get_or ws 0 0)) start ∙ is in
-    let body : stored_of p weak 0 d ((name ∷ replicate (p + weak + d) 0) ++ drop (k * size + (2 + p + weak + d)) words)
-    ≡ new_object name p weak d =
-    stored_of-append p weak 0 d (name ∷ replicate (p + weak + d) 0) (drop (k * size + (2 + p + weak + d)) words)
-    (omega (arith, length-replicate {A = ℕ} (p + weak + d) 0)) ∙ stored_of-new name p weak d in
-    let stored : first_stored (drop (k * size) words') ≡ new_object name p weak d = ap first_stored start ∙ rw is body in
-    let after : drop (k * size + m * size) words' ≡ drop (k * size + m * size) words =
-    drop_more_same (k * size + length block) (k * size + m * size) words' words (omega (arith, blen)) x.after in
-    let ts : tile_size (Object (new_object name p weak d)) ≡ 2 + p + weak + d =
-    omega (arith, length-replicate {A = Option ℕ} p None, length-replicate {A = Option ℕ} weak None, length-replicate {A = ℕ} d 0) in
-    let none : 2 + p + (weak + 0) + d ≡ 2 + p + weak + d = omega arith in
-    let done = run_made size words words' rows t k m (2 + p + weak + d) (new_object name p weak d) g e found.free found.in_rows y covers'
-    tight' x.length_is x.before after (rw head tt) (ap object_size head ∙ none) stored ts in
-    let run : List Row = run_rows size (2 + p + weak + d) 0 m in
-    let rows_are : rows' ≡ paste rows k run m = rows_is ∙ ap (λ (j : ℕ). paste rows k (run_rows size j 0 m) m) long_is in
-    let same : paste rows k run m ≡ take k rows ++ (run ++ drop (k + m) rows) =
-    append_assoc (take k rows) (take m run) (drop (k + m) rows)
-    ∙ ap (λ (rs : List Row). take k rows ++ (rs ++ drop (k + m) rows))
-    (take_all m run (omega (arith, length-run_rows size (2 + p + weak + d) 0 m))) in
-    let count : length rows' ≡ length rows = ap (λ (rs : List Row). length rs) (rows_are ∙ same)
-    ∙ (simp (length-append, length-take, length-drop, length-run_rows) (omega (arith, found.room))) in
-    let whole_rows = with_rows rows rows' number number_is count in
-    let words_is : new ≡ words' =
-    new_is ∙ ap (λ (j : ℕ). put words j (header_word (headers.Object p weak d) ∷ name ∷ replicate (p + weak + d) 0)) n_is in
-    rw (words_is, whole_rows, rows_are, same)
-    (subst (λ (r : ℕ). IsWrittenTable size words' (take k rows ++ (run ++ drop (k + m) rows))
-    (with_regions t k m (run_regions r (new_object name p weak d) m))) size_is done)
+    let is = header_of-word (headers.Object p weak d) (small_p, small_w, small_d) in
+    run_fresh size words rows t k m (header_word (headers.Object p weak d)) name p weak 0 d (p + weak + d) n long number new rows' g e h y
+    (rw is tt) (ap counts_of is) (omega arith) (omega (arith, covers)) (omega (arith, tight)) n_is (omega (arith, long_is)) number_is new_is
+    rows_is
+
+-- and one of pairs
+pub run_paired : (size : ℕ) (words : List ℕ) (rows : List Row) (t : Table) (k m name p q d n long number : ℕ) (new : List ℕ)
+    (rows' : List Row) → IsTable size words rows → table_of size words rows ≡ t → first_run free m rows ≡ Some k → 0 < m → 0 < q
+    → 2 + p + (q + q) + d ≤ m * t.words_per_region → m * t.words_per_region < 2 + p + (q + q) + d + t.words_per_region → p < 2 ^ 8
+    → q < 2 ^ 23 → d < 2 ^ 24 → n ≡ k * size → long ≡ 2 + p + (q + q) + d → number ≡ length rows
+    → new ≡ put words n (header_word (headers.Pairs p q d) ∷ name ∷ replicate (p + (q + q) + d) 0)
+    → rows' ≡ paste rows k (run_rows size long 0 m) m
+    → IsWrittenTable size new (take number (rows' ++ drop (length rows') rows))
+    (with_regions t k m (run_regions t.words_per_region (new_pairs name p q d) m))
+run_paired size words rows t k m name p q d n long number new rows' g e h y some covers tight small_p small_q
+    small_d n_is long_is number_is new_is rows_is =
+    let is = header_of-word (headers.Pairs p q d) (small_p, small_q, small_d) in
+    run_fresh size words rows t k m (header_word (headers.Pairs p q d)) name p q q d (p + (q + q) + d) n long number new rows' g e h y
+    (rw is some) (ap counts_of is) refl (omega (arith, covers)) (omega (arith, tight)) n_is (omega (arith, long_is)) number_is new_is rows_is

@@ -13,7 +13,7 @@ use Rattle.heap_words.specs.Headers.{header_of}
 use Rattle.heap_words.specs.Memory.{Memory}
 use Rattle.regions.specs.FirstTiles.{Entries, AreEntriesPut, IsPut}
 use Rattle.heap_words.specs.Contents.{object_size, counted_size}
-use Rattle.regions.proofs.Words.Counts.{counts_in, counted_stored, plain_object}
+use Rattle.regions.proofs.Words.Counts.{counts_in, counted_stored, object_header}
 use Rattle.regions.specs.Rows.{table_of, IsTable, IsRegionTable, AreUsedBelow, IsObjectHeader, first_stored, free_row}
 use Rattle.regions.specs.Rows.{free_row_count}
 use Rattle.regions.specs.Rows.{kind_is_free, run_rows, sizes_in}
@@ -122,7 +122,7 @@ first_moved words t x n s stands fits =
     ∙ sym (stored_of-append p weak held d (take m body) (drop m body) (omega arith))
     ∙ ap (stored_of p weak held d) joined ∙ sym i.stored_is in
     record {
-      is_object = rw head (plain_object (header_of w) i.plain);
+      is_object = rw head (object_header (header_of w) (counts_in s) i.head i.header_is);
       long = ap object_size head ∙ ap counted_size i.header_is;
       stored = ap first_stored there_now ∙ counted_stored (header_of w) (take m body ++ rest) (counts_in s) i.header_is ∙ stored;
     }

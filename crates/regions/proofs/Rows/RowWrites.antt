@@ -33,6 +33,12 @@ stored_by-front (Some (headers.Object p weak d)) ws m i h l =
     stored_of-append p weak 0 d (take m ws) (drop m ws) fits in
     let whole : take m ws ++ drop m ws ≡ ws = take-append-drop m ws in
     cc
+stored_by-front (Some (headers.Pairs p n d)) ws m i h l =
+    let fits : 1 + p + (n + n) + d ≤ length (take m ws) = simp length-take (omega arith) in
+    let e : stored_of p n n d (take m ws ++ drop m ws) ≡ stored_of p n n d (take m ws) =
+    stored_of-append p n n d (take m ws) (drop m ws) fits in
+    let whole : take m ws ++ drop m ws ≡ ws = take-append-drop m ws in
+    cc
 stored_by-front _ ws m i h l = absurd i
 
 first_stored-front : (ws : List ℕ) (n : ℕ) → IsObjectHeader (header_of (get_or ws 0 0)) → object_size (header_of (get_or ws 0 0)) ≤ n

@@ -65,22 +65,3 @@ pushed size words words' rows t k m tile g e h o room c one fresh =
     let kept = push_kept t k tile (targets_of size words rows t g e) fresh in
     region_changed size words words' rows t k (record { kind = kinds.Ordinary; used = used + m }) (region_with_tile (nth_region t k) tile) g
     e kn.in_rows (plain_from _ is) tt change right' region_is kept
-
-map_nil : (n : ℕ) → map pointer_of (replicate n 0) ≡ replicate n None
-map_nil zero = refl
-map_nil (suc n) = ap (λ ps. None ∷ ps) (map_nil n)
-
-abbrev pub zeros : ℕ → List ℕ
-zeros n = replicate n 0
-
-pub stored_of-new : (name p weak d : ℕ) → stored_of p weak 0 d (name ∷ zeros (p + weak + d)) ≡ new_object name p weak d
-stored_of-new name p weak d =
-    let e : take p (zeros (p + weak + d)) ≡ zeros p = take-replicate p (p + weak + d) 0 (omega arith) in
-    let le : p + weak + d - p ≡ weak + d = omega arith in
-    let le' : p + weak + d - (p + weak) ≡ d = omega arith in
-    let none : p + (weak + 0) ≡ p + weak = omega arith in
-    let f : take weak (drop p (zeros (p + weak + d))) ≡ zeros weak =
-    ap (take weak) (drop-replicate p (p + weak + d) 0 ∙ ap (λ n. zeros n) le) ∙ take-replicate weak (weak + d) 0 (omega arith) in
-    let k : drop (p + weak) (zeros (p + weak + d)) ≡ zeros d = drop-replicate (p + weak) (p + weak + d) 0 ∙ ap (λ n. zeros n) le' in
-    let g : take d (zeros d) ≡ zeros d = take-replicate d d 0 (omega arith) in
-    rw (e, f, map_nil, map_nil, none, k, g) refl

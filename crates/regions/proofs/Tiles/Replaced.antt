@@ -22,7 +22,11 @@ use Rattle.regions.proofs.Words.Written.{region_changed, IsChange}
 use Rattle.heap_words.proofs.Codec.{header_of-word}
 use Rattle.regions.proofs.Words.Puts.{put_is, put_drop, put_take, put_extend}
 use Rattle.heap_words.proofs.Blocks.{put_more}
-use Rattle.regions.proofs.Tiles.Pushes.{stored_of-new, change_of, IsPush}
+use Rattle.regions.proofs.Tiles.Pushes.{change_of, IsPush}
+use Rattle.regions.proofs.Words.Fresh.{fresh, stored_fresh}
+use Rattle.regions.proofs.Words.Counts.{counted}
+use Rattle.regions.specs.Tiles.{IsTileHeader}
+use Rattle.regions.specs.Table.{new_pairs}
 use Rattle.regions.specs.declared.row.Kind.TheVariants as kinds
 use Rattle.std.proofs.lemmas.List.{append-nil}
 
@@ -144,18 +148,18 @@ with_rest sizes words words' x m (suc r) new f l small =
       words_are = ap (λ (ws : List ℕ). set ws (x + m) header) f.words_are ∙ more ∙ extend ∙ ap (put words x) whole;
     }
 
-pub filled : (sizes : ℕ → ℕ) (words : List ℕ) (x w name p weak d rest : ℕ) → header_of w ≡ Some (headers.Object p weak d)
-    → x + (2 + p + weak + d) + rest ≤ length words → rest < 2 ^ 24
-    → IsFilled sizes words (put_remainder (put words x (w ∷ name ∷ replicate (p + weak + d) 0)) (x + (2 + p + weak + d)) rest) x
-    (2 + p + weak + d + rest) (Object (new_object name p weak d) ∷ remainder rest)
-filled sizes words x w name p weak d rest e l small =
-    let len : length (w ∷ name ∷ replicate (p + weak + d) 0) ≡ 2 + p + weak + d =
-    omega (arith, length-replicate {A = ℕ} (p + weak + d) 0) in
-    let one = one_object sizes w p weak 0 d (name ∷ replicate (p + weak + d) 0) (rw e tt) (ap counts_of e) (omega arith) in
-    let are = one.tiles_are ∙ ap (λ s. Object s ∷ []) (stored_of-new name p weak d) in
-    with_rest sizes words (put words x (w ∷ name ∷ replicate (p + weak + d) 0)) x (2 + p + weak + d) rest
-    (Object (new_object name p weak d) ∷ []) (record {
-      block = w ∷ name ∷ replicate (p + weak + d) 0;
+-- an object of so many of each at the start of a filler, of which z words are its fields and its data
+pub filled : (sizes : ℕ → ℕ) (words : List ℕ) (x w name p weak held d z rest : ℕ) → IsTileHeader (header_of w)
+    → counts_of (header_of w) ≡ Some (counted p weak held d) → z ≡ p + (weak + held) + d → x + (2 + z) + rest ≤ length words → rest < 2 ^ 24
+    → IsFilled sizes words (put_remainder (put words x (w ∷ name ∷ replicate z 0)) (x + (2 + z)) rest) x
+    (2 + z + rest) (Object (fresh name p weak held d) ∷ remainder rest)
+filled sizes words x w name p weak held d z rest head counts q l small =
+    let len : length (w ∷ name ∷ replicate z 0) ≡ 2 + z = omega (arith, length-replicate {A = ℕ} z 0) in
+    let one = one_object sizes w p weak held d (name ∷ replicate z 0) head counts (omega (arith, q)) in
+    let are = one.tiles_are ∙ ap (λ s. Object s ∷ []) (stored_fresh name p weak held d z q) in
+    with_rest sizes words (put words x (w ∷ name ∷ replicate z 0)) x (2 + z) rest
+    (Object (fresh name p weak held d) ∷ []) (record {
+      block = w ∷ name ∷ replicate z 0;
       is_block = record { length_is = len; tiled = one.tiled; tiles_are = are };
       words_are = refl;
     }) l small
@@ -203,32 +207,55 @@ pub tile_short : (size : ℕ) (words : List ℕ) (rows : List Row) (x : ℕ) (ti
 tile_short size words rows x tile g q = (tile_room size words rows x tile g q).1
 
 -- an object is made in a filler: the words as the steps leave them
+pub fresh_filled : (size : ℕ) (words : List ℕ) (rows : List Row) (t : Table) (x w name p weak held d z n at rest more : ℕ)
+    (made new : List ℕ) → IsTable size words rows → table_of size words rows ≡ t → tile_in t x ≡ Some (Filler n)
+    → IsTileHeader (header_of w) → counts_of (header_of w) ≡ Some (counted p weak held d) → z ≡ p + (weak + held) + d
+    → n ≡ 2 + z + rest → made ≡ put words x (w ∷ name ∷ replicate z 0)
+    → new ≡ put_remainder made at more → at ≡ x + (2 + z) → more ≡ rest
+    → IsWrittenTable size new rows (replace_tile t x (Object (fresh name p weak held d) ∷ remainder rest))
+fresh_filled size words rows t x w name p weak held d z n at rest more made new g e h head counts z_is n_is made_is new_is at_is more_is =
+    elim (place_of (sizes_in words) size words rows x (Filler n) (ap (λ (u : Table). tile_in u x) e ∙ h)) [
+      | inl q ↦
+          let fits = tile_fits size words rows x (Filler n) g q in
+          let short = tile_short size words rows x (Filler n) g q in
+          let f = filled (sizes_in words) words x w name p weak held d z rest head counts z_is (omega (arith, fits, n_is))
+          (omega (arith, short, n_is, g.region_size.1)) in
+          let b : IsBlock (sizes_in words) f.block n (Object (fresh name p weak held d) ∷ remainder rest) =
+          subst (λ (m : ℕ). IsBlock (sizes_in words) f.block m (Object (fresh name p weak held d) ∷ remainder rest)) (sym n_is)
+          f.is_block in
+          let r = tile_replaced size words rows t x (Filler n) f.block (Object (fresh name p weak held d) ∷ remainder rest) g e q b h
+          (spared_filler t x n h (targets_of size words rows t g e)) (filler_quiet _ rest) in
+          let words_is : new ≡ put words x f.block = new_is ∙ ap (λ (ws : List ℕ). put_remainder ws at more) made_is
+          ∙ ap (λ (a : ℕ). put_remainder (put words x (w ∷ name ∷ replicate z 0)) a more) at_is
+          ∙ ap (λ (m : ℕ). put_remainder (put words x (w ∷ name ∷ replicate z 0)) (x + (2 + z)) m) more_is
+          ∙ f.words_are in
+          subst (λ (ws : List ℕ).
+          IsWrittenTable size ws rows (replace_tile t x (Object (fresh name p weak held d) ∷ remainder rest))) (sym words_is) r.0
+      | inr q ↦ absurd (let f : Filler n ≡ Object (first_stored (drop (x / size * size) words)) = q.tile_is in cc)
+    ]
+
+-- one without pairs
 pub filler_filled : (size : ℕ) (words : List ℕ) (rows : List Row) (t : Table) (x name p weak d n at rest more : ℕ) (made new : List ℕ)
     → IsTable size words rows → table_of size words rows ≡ t → tile_in t x ≡ Some (Filler n) → n ≡ 2 + p + weak + d + rest → p < 2 ^ 24
     → weak < 2 ^ 8 → d < 2 ^ 24 → made ≡ put words x (header_word (headers.Object p weak d) ∷ name ∷ replicate (p + weak + d) 0)
     → new ≡ put_remainder made at more → at ≡ x + (2 + p + weak + d) → more ≡ rest
     → IsWrittenTable size new rows (replace_tile t x (Object (new_object name p weak d) ∷ remainder rest))
 filler_filled size words rows t x name p weak d n at rest more made new g e h n_is small_p small_w small_d made_is new_is at_is more_is =
-    elim (place_of (sizes_in words) size words rows x (Filler n) (ap (λ (u : Table). tile_in u x) e ∙ h)) [
-      | inl q ↦
-          let fits = tile_fits size words rows x (Filler n) g q in
-          let short = tile_short size words rows x (Filler n) g q in
-          let w : ℕ = header_word (headers.Object p weak d) in
-          let f = filled (sizes_in words) words x w name p weak d rest
-          (header_of-word (headers.Object p weak d) (small_p, small_w, small_d)) (omega arith) (omega (arith, short, g.region_size.1)) in
-          let b : IsBlock (sizes_in words) f.block n (Object (new_object name p weak d) ∷ remainder rest) =
-          subst (λ (m : ℕ). IsBlock (sizes_in words) f.block m (Object (new_object name p weak d) ∷ remainder rest)) (sym n_is)
-          f.is_block in
-          let r = tile_replaced size words rows t x (Filler n) f.block (Object (new_object name p weak d) ∷ remainder rest) g e q b h
-          (spared_filler t x n h (targets_of size words rows t g e)) (filler_quiet _ rest) in
-          let words_is : new ≡ put words x f.block = new_is ∙ ap (λ (ws : List ℕ). put_remainder ws at more) made_is
-          ∙ ap (λ (a : ℕ). put_remainder (put words x (w ∷ name ∷ replicate (p + weak + d) 0)) a more) at_is
-          ∙ ap (λ (m : ℕ). put_remainder (put words x (w ∷ name ∷ replicate (p + weak + d) 0)) (x + (2 + p + weak + d)) m) more_is
-          ∙ f.words_are in
-          subst (λ (ws : List ℕ).
-          IsWrittenTable size ws rows (replace_tile t x (Object (new_object name p weak d) ∷ remainder rest))) (sym words_is) r.0
-      | inr q ↦ absurd (let f : Filler n ≡ Object (first_stored (drop (x / size * size) words)) = q.tile_is in cc)
-    ]
+    let is = header_of-word (headers.Object p weak d) (small_p, small_w, small_d) in
+    fresh_filled size words rows t x (header_word (headers.Object p weak d)) name p weak 0 d (p + weak + d) n at rest more made new g e h
+    (rw is tt) (ap counts_of is) (omega arith) (omega (arith, n_is)) made_is new_is (omega (arith, at_is)) more_is
+
+-- and one of pairs
+pub pairs_filled : (size : ℕ) (words : List ℕ) (rows : List Row) (t : Table) (x name p m d n at rest more : ℕ) (made new : List ℕ)
+    → IsTable size words rows → table_of size words rows ≡ t → tile_in t x ≡ Some (Filler n) → n ≡ 2 + p + (m + m) + d + rest → 0 < m
+    → p < 2 ^ 8 → m < 2 ^ 23 → d < 2 ^ 24
+    → made ≡ put words x (header_word (headers.Pairs p m d) ∷ name ∷ replicate (p + (m + m) + d) 0)
+    → new ≡ put_remainder made at more → at ≡ x + (2 + p + (m + m) + d) → more ≡ rest
+    → IsWrittenTable size new rows (replace_tile t x (Object (new_pairs name p m d) ∷ remainder rest))
+pairs_filled size words rows t x name p m d n at rest more made new g e h n_is some small_p small_m small_d made_is new_is at_is more_is =
+    let is = header_of-word (headers.Pairs p m d) (small_p, small_m, small_d) in
+    fresh_filled size words rows t x (header_word (headers.Pairs p m d)) name p m m d (p + (m + m) + d) n at rest more made new g e h
+    (rw is some) (ap counts_of is) refl (omega (arith, n_is)) made_is new_is (omega (arith, at_is)) more_is
 
 pub filler_fits : (size : ℕ) (words : List ℕ) (rows : List Row) (t : Table) (x n : ℕ) → IsTable size words rows
     → table_of size words rows ≡ t → tile_in t x ≡ Some (Filler n) → x + n ≤ length words

@@ -13,7 +13,7 @@ use Rattle.regions.proofs.Words.Places.{table_right, place_of, InFirst, in_first
 use Rattle.regions.proofs.Tiles.Making.{length-regions_of, known, kind_is, top_is}
 use Rattle.regions.proofs.Walks.WalkMade.{walk_ordinary}
 use Rattle.heap_words.specs.Contents.{counted_size}
-use Rattle.regions.proofs.Words.ObjectWords.{there, none_held}
+use Rattle.regions.proofs.Words.ObjectWords.{there, paired_there}
 use Rattle.regions.proofs.Tiles.ForwardedLaws.{targets_right}
 
 pub kind_at : (t : Table) (k : ℕ) (r : Region) → nth_region t k ≡ r → kind_of t k ≡ region_kind r
@@ -268,5 +268,5 @@ shaped_of size words rows t g e =
       run = λ k j s h z l. run_rests size words rows t k j s g e h z l;
       later = λ k n h. later_is size words rows t k n g e h;
       targets = targets_right size words rows t g e;
-      bare = λ a s h. none_held words t a s (there size words rows t a s g e h);
+      paired = λ a s h. paired_there words t a s (there size words rows t a s g e h);
     }

@@ -9,7 +9,6 @@ use Rattle.regions.specs.declared.row.Kind.TheVariants as kinds
 use Rattle.regions.proofs.Tiles.Laws.{tile_of}
 use Rattle.regions.proofs.Tiles.Placing.{Replaces, remainder_total, tile_at-end}
 use Rattle.regions.proofs.Words.Places.{IsInObject}
-use Rattle.heap_words.specs.Contents.{IsPlainHeader}
 use Rattle.regions.proofs.Words.ObjectWords.{header_in, object_there, is_counted}
 use Rattle.regions.proofs.Tiles.Making.{targets_of}
 use Rattle.regions.proofs.Tiles.ForwardedLaws.{target_is, moved_in}
@@ -62,13 +61,13 @@ word_within u t n x place w e i =
     let below = i.below in
     omega arith
 
--- an object's header is in the words that are written, and counts its words
+-- an object's header is in the words that are written, and counts its fields
 pub header_there : (size : ℕ) (words : List ℕ) (rows : List Row) (t : Table) (n x : ℕ) → IsTable size words rows
     → AreTilesWritten (table_of size words rows) n → table_of size words rows ≡ t → IsSome (object_at t x)
-    → (x < n) × IsSome (counts_of (header_of (get_or words x 0))) × IsPlainHeader (header_of (get_or words x 0))
+    → (x < n) × IsSome (counts_of (header_of (get_or words x 0)))
 header_there size words rows t n x g w e h =
     let o = object_there size words rows t x g e h in
-    (word_within (table_of size words rows) t n x x w e (header_in t x o.0 o.1.is), is_counted words t x o.0 o.1, o.1.is_in.plain)
+    (word_within (table_of size words rows) t n x x w e (header_in t x o.0 o.1.is), is_counted words t x o.0 o.1)
 
 -- a forwarded header's target lies in the words that are written
 pub target_within : (size : ℕ) (words : List ℕ) (rows : List Row) (t : Table) (x : ℕ) (tile : Tile) (n : ℕ) → IsTable size words rows

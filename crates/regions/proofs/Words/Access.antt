@@ -6,7 +6,8 @@ use Rattle.regions.proofs.Common.{IsOrdinary, drop-drop, header_of, tile_size, r
 use Rattle.regions.proofs.Common.{set_weak, sizes_in, table_of, free_row, IsTable, length, get_or, Stored, Object, First, Table, ap}
 use Rattle.regions.proofs.Common.{Some, None, List, take, drop, refl, Tile, ◌≡◌, ◌+◌, ◌*◌, ◌/◌, ◌<◌, ◌≤◌, ◌∙◌, suc, map, set, inl, inr, Row}
 use Rattle.std.proofs.lemmas.List.{get_or-map}
-use Rattle.heap_words.specs.Contents.{pointers_of, IsPlainHeader}
+use Rattle.regions.proofs.Common.{IsSome}
+use Rattle.heap_words.specs.Contents.{counts_of, pointers_of}
 use Rattle.regions.proofs.Rows.RowLemmas.{regions-at}
 use Rattle.regions.proofs.Words.Places.{table_right, IsInObject, InFirst, object_place, IsIn, object_is_in}
 use Rattle.std.specs.List.{slice_get}
@@ -132,7 +133,7 @@ held_word_at words x i s g h =
 
 pub record IsWeakRead (words : List ℕ) (t : Table) (x i : ℕ) : Type 0 where
   pub at : IsInObject t x x
-  pub object : IsPlainHeader (header_of (get_or words x 0))
+  pub object : IsSome (counts_of (header_of (get_or words x 0)))
   pub in_words : x + 2 + (pointer_count (header_of (get_or words x 0)) + i) < length words
   pub in_object : IsInObject t x (x + 2 + (pointer_count (header_of (get_or words x 0)) + i))
   pub value : slice_get (weaks_at t x) i ≡ Some (pointer_of (get_or words (x + 2 + (pointer_count (header_of (get_or words x 0)) + i)) 0))
@@ -147,7 +148,7 @@ weak_read size words rows t x i g e h =
     let count : pointer_count (header_of (get_or words x 0)) ≡ length p.object.pointers = ap pointers_of is_in.header_is in
     record {
       at = record { object = p.object; is = p.object_is; below = omega arith };
-      object = is_in.plain;
+      object = rw is_in.header_is refl;
       in_words = omega (arith, is_in.fits, p.within);
       in_object = record { object = p.object; is = p.object_is; below = omega (arith, p.within, count) };
       value = rw (p.object_is, count) (weak_word_at words x i p.object is_in p.within);

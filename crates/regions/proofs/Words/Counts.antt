@@ -1,6 +1,7 @@
 -- What a header counts is what its tile has.
-use Rattle.regions.proofs.Common.{◌≡◌, ◌+◌, ℕ, Option, Some, List, length, refl, subst, Header, Object}
+use Rattle.regions.proofs.Common.{◌≡◌, ◌+◌, ◌<◌, ◌∷◌, ◌∙◌, ℕ, Option, Some, List, [], length, refl, sym, subst, Header, Object, inl, inr, arith}
 use Rattle.regions.proofs.Common.{Stored, stored_of, tile_by, size_by, counts_of, stored_by, IsObjectHeader, ap}
+use Rattle.regions.specs.Shaped.{IsPaired}
 use Rattle.heap_words.specs.Contents.{IsPlainHeader}
 use Rattle.regions.specs.Tiles.{IsTileHeader}
 use Rattle.heap_words.specs.Sizes.{size_of}
@@ -35,11 +36,30 @@ counted_stored (Some (headers.Pairs p n d)) ws c e =
     let same : counted p n n d ≡ c = cc in ap (λ (k : ObjectCounts). stored_of k.pointers k.weaks k.held k.values ws) same
 counted_stored _ ws c e = cc
 
--- a header without pairs is a tile's, and an object's
-pub plain_tile : (o : Option Header) → IsPlainHeader o → IsTileHeader o
-plain_tile (Some (headers.Object p weak d)) i = tt
-plain_tile _ i = absurd i
+-- a tile's header that counts fields is an object's
+pub object_header : (o : Option Header) (c : ObjectCounts) → IsTileHeader o → counts_of o ≡ Some c → IsObjectHeader o
+object_header (Some (headers.Object p weak d)) c t e = tt
+object_header (Some (headers.Pairs p n d)) c t e = t
+object_header _ c t e = cc
 
-pub plain_object : (o : Option Header) → IsPlainHeader o → IsObjectHeader o
-plain_object (Some (headers.Object p weak d)) i = tt
-plain_object _ i = absurd i
+-- and where it counts no held slots, that of an object without pairs
+pub plain_header : (o : Option Header) (c : ObjectCounts) → IsTileHeader o → counts_of o ≡ Some c → c.held ≡ 0 → IsPlainHeader o
+plain_header (Some (headers.Object p weak d)) c t e none = tt
+plain_header (Some (headers.Pairs p n d)) c t e none =
+    let same : n ≡ c.held = let k : counted p n n d ≡ c = cc in ap (λ (x : ObjectCounts). x.held) k in
+    absurd (let some : 0 < n = t in omega (arith, some, same, none))
+plain_header _ c t e none = cc
+
+-- an object has no held slots, or as many as weak slots
+pub paired_by : (o : Option Header) (s : Stored) → counts_of o ≡ Some (counts_in s) → IsPaired s
+paired_by (Some (headers.Object p weak d)) s e =
+    let k : counted p weak 0 d ≡ counts_in s = cc in
+    let none : length s.held ≡ 0 = sym (ap (λ (x : ObjectCounts). x.held) k) in inl (empty s.held none)
+  where
+    empty : (hs : List (Option ℕ)) → length hs ≡ 0 → hs ≡ []
+    empty [] q = refl
+    empty (h ∷ hs) q = absurd (omega (arith, q))
+paired_by (Some (headers.Pairs p n d)) s e =
+    let k : counted p n n d ≡ counts_in s = cc in
+    inr (sym (ap (λ (x : ObjectCounts). x.held) k) ∙ ap (λ (x : ObjectCounts). x.weaks) k)
+paired_by _ s e = cc

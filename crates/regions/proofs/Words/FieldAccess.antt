@@ -19,7 +19,7 @@ module _ {A : Type 0} where
   get-front (x ∷ xs) ys zero h = refl
   get-front (x ∷ xs) ys (suc i) h = get-front xs ys i (omega arith)
 
-  get-back : (xs ys : List A) (i j : ℕ) → i ≡ length xs + j → slice_get (xs ++ ys) i ≡ slice_get ys j
+  pub get-back : (xs ys : List A) (i j : ℕ) → i ≡ length xs + j → slice_get (xs ++ ys) i ≡ slice_get ys j
   get-back [] ys i j e = let same : i ≡ j = omega arith in rw same refl
   get-back (x ∷ xs) ys zero j e = absurd (omega arith)
   get-back (x ∷ xs) ys (suc i) j e = get-back xs ys i j (omega arith)

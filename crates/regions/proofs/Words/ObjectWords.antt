@@ -5,7 +5,9 @@ use Rattle.regions.proofs.Common.{ap, subst, arith, drop-cons, length-take, leng
 use Rattle.regions.proofs.Common.{tile_size, stored_of, Table, object_at, object_words, stored_size, object_pointers, object_weaks}
 use Rattle.regions.proofs.Common.{object_values, pointers_at, weaks_at, values_at, IsSome, header_of, pointer_count, counts_of}
 use Rattle.regions.proofs.Common.{sizes_in, table_of, IsTable, Row}
-use Rattle.heap_words.specs.Contents.{weak_count, value_count, pointers_of, weaks_of, values_of, counted_size}
+use Rattle.heap_words.specs.Contents.{weak_count, value_count, pointers_of, weaks_of, values_of, counted_size, IsPlainHeader}
+use Rattle.regions.specs.Shaped.{IsPaired}
+use Rattle.regions.proofs.Words.Counts.{counts_in, paired_by, plain_header}
 use Rattle.regions.proofs.Words.Parse.{stored_of-append}
 use Rattle.regions.proofs.Words.Places.{table_right, IsInObject, IsIn, object_is_in}
 use Rattle.regions.proofs.Words.Fields.{IsOne, one_object}
@@ -44,9 +46,15 @@ there size words rows t x s g e h =
       large = omega arith;
     }
 
--- an object in words has no held slots yet
-pub none_held : (words : List ℕ) (t : Table) (x : ℕ) (s : Stored) → IsThere words t x s → s.held ≡ []
-none_held words t x s i = i.is_in.bare
+-- an object in words is plain, or one of pairs
+pub paired_there : (words : List ℕ) (t : Table) (x : ℕ) (s : Stored) → IsThere words t x s → IsPaired s
+paired_there words t x s i = paired_by (header_of (get_or words x 0)) s i.is_in.header_is
+
+-- without held slots it has the header of one without pairs
+pub plain_there : (words : List ℕ) (t : Table) (x : ℕ) (s : Stored) → IsThere words t x s → s.held ≡ []
+    → IsPlainHeader (header_of (get_or words x 0))
+plain_there words t x s i none =
+    plain_header (header_of (get_or words x 0)) (counts_in s) i.is_in.head i.is_in.header_is (ap (λ (hs : List (Option ℕ)). length hs) none)
 
 pub some_object : (o : Option Stored) → IsSome o → (s : Stored) × (o ≡ Some s)
 some_object None h = cc

@@ -7,7 +7,7 @@ use Rattle.regions.proofs.Common.{region_tile, region_at, tile_in, object_at, ob
 use Rattle.regions.proofs.Common.{IsObjectHeader, IsRow, left_by, AreRows, free_row, table_by, IsTableBy, IsTable, sizes_in, Row, Kind}
 use Rattle.heap_words.specs.declared.header.Header.TheVariants as headers
 use Rattle.heap_words.specs.declared.header.ObjectCounts.{ObjectCounts}
-use Rattle.heap_words.specs.Contents.{counts_of, counted_size, IsPlainHeader}
+use Rattle.heap_words.specs.Contents.{counts_of, counted_size}
 use Rattle.regions.specs.Tiles.{IsTileHeader}
 use Rattle.regions.proofs.Words.Counts.{counted, counts_in, counted_tile}
 use Rattle.regions.proofs.Tiles.Laws.{object_tile}
@@ -67,16 +67,12 @@ object_place f size words rows x s h = place_of f size words rows x (Object s) (
 pub record IsIn (words : List ℕ) (x : ℕ) (s : Stored) : Type 0 where
   pub header_is : counts_of (header_of (get_or words x 0)) ≡ Some (counts_in s)
   pub head : IsTileHeader (header_of (get_or words x 0))
-  pub plain : IsPlainHeader (header_of (get_or words x 0))
-  pub bare : s.held ≡ []
   pub stored_is : s ≡ stored_of (length s.pointers) (length s.weaks) (length s.held) (length s.values) (drop (x + 1) words)
   pub fits : x + 2 + length s.pointers + (length s.weaks + length s.held) + length s.values ≤ length words
 
 -- what the words after a header say is an object, and the header counts it
 pub record IsLive (o : Option Header) (ws : List ℕ) (s : Stored) : Type 0 where
   pub counts : counts_of o ≡ Some (counts_in s)
-  pub plain : IsPlainHeader o
-  pub bare : s.held ≡ []
   pub stored : s ≡ stored_of (length s.pointers) (length s.weaks) (length s.held) (length s.values) ws
 
 -- the object of so many words has so many fields
@@ -100,8 +96,11 @@ pub live_by : (sizes : ℕ → ℕ) (o : Option Header) (ws : List ℕ) (s : Sto
 live_by sizes (Some (headers.Object p weak d)) ws s t f h =
     let e : stored_of p weak 0 d ws ≡ s = cc in
     let again = counted_again s p weak 0 d ws (omega arith) e in
-    record { counts = ap Some (sym again.0); plain = tt; bare = ap (λ (r : Stored). r.held) (sym e); stored = again.1 }
-live_by sizes (Some (headers.Pairs p n d)) ws s t f h = absurd t
+    record { counts = ap Some (sym again.0); stored = again.1 }
+live_by sizes (Some (headers.Pairs p n d)) ws s t f h =
+    let e : stored_of p n n d ws ≡ s = cc in
+    let again = counted_again s p n n d ws (omega arith) e in
+    record { counts = ap Some (sym again.0); stored = again.1 }
 live_by sizes _ ws s t f h = cc
 
 pub front_word : (words : List ℕ) (x w : ℕ) (v : List ℕ) → drop x words ≡ w ∷ v → get_or words x 0 ≡ w
@@ -123,8 +122,6 @@ live_in sizes (w ∷ v) u words x s e t h =
     record {
       header_is = rw word l.counts;
       head = rw word t.0;
-      plain = rw word l.plain;
-      bare = l.bare;
       stored_is = l.stored ∙ sym (stored_of-append _ _ _ _ v u (omega arith))
           ∙ ap (stored_of (length s.pointers) (length s.weaks) (length s.held) (length s.values)) (sym behind);
       fits = omega (arith, length-drop x words);
@@ -158,6 +155,7 @@ room m k l size n e f = f ∙ rw e (omega arith)
 first_by : (o : Option Header) (ws : List ℕ) (s : Stored) → IsObjectHeader o → object_size o - 1 ≤ length ws → stored_by ws o ≡ s
     → IsLive o ws s
 first_by (Some (headers.Object p weak d)) ws s i f h = live_by (λ _. 0) (Some (headers.Object p weak d)) ws s tt f (ap Object h)
+first_by (Some (headers.Pairs p n d)) ws s i f h = live_by (λ _. 0) (Some (headers.Pairs p n d)) ws s i f (ap Object h)
 first_by _ ws s i f h = absurd i
 
 object_size_pos : (o : Option Header) → 0 < object_size o
@@ -169,6 +167,7 @@ object_size_pos (Some (headers.Forwarded to)) = omega arith
 
 object_tile_header : (o : Option Header) → IsObjectHeader o → IsTileHeader o
 object_tile_header (Some (headers.Object p weak d)) i = tt
+object_tile_header (Some (headers.Pairs p n d)) i = i
 object_tile_header _ i = absurd i
 
 first_in : (v words : List ℕ) (x : ℕ) (s : Stored) → drop x words ≡ v → IsObjectHeader (header_of (get_or v 0 0)) → first_stored v ≡ s
@@ -184,8 +183,6 @@ first_in (w ∷ v) words x s e i h f =
     record {
       header_is = rw word l.counts;
       head = rw word (object_tile_header (header_of w) i);
-      plain = rw word l.plain;
-      bare = l.bare;
       stored_is = l.stored ∙ sym (ap (stored_of (length s.pointers) (length s.weaks) (length s.held) (length s.values)) behind);
       fits = omega (arith, length-drop x words);
     }
