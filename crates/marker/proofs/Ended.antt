@@ -29,7 +29,7 @@ use Rattle.satb_log.specs.Logs.{logged, log_of}
 use Rattle.satb_log.proofs.Logged.{none_logged}
 use Rattle.marker.specs.Views.{heap_of, marking_of, untaken, with_roles_exchanged, ended_marking_of}
 use Rattle.marker.specs.Waiting.{Waiting}
-use Rattle.marker.specs.Stands.{MarkerStands, CanFollow}
+use Rattle.marker.specs.Stands.{MarkerStands, CanFollow, KeepsBare}
 use Rattle.marker.specs.Live.{LiveCounts, CountsWords, counts_exchanged}
 use Rattle.marker.specs.Steps.{KeepsSnapshots, SameRoles}
 use Rattle.marker.specs.Clears.{ClearsSome, IsStaying, LeadIntoTable}
@@ -53,14 +53,25 @@ all_scanned true true e k = refl
 all_scanned true false e k = cc
 all_scanned false scanned e k = cc
 
--- nothing is left to mark
-pub is_done : (t : Table) (m : Marker) → IsShaped t → HasNone (is_grey m.bitmaps.next m.grey) 0 → m.waiting.addresses ≡ []
-    → ((k : ℕ) → k < length m.logs → log_of m.logs k ≡ []) → (roots : List (Option ℕ)) → IsDone (heap_of t roots m) (marking_of t m)
-is_done t m shape none waiting empty roots = record {
+-- no object is grey, and nothing is logged
+pub record IsScanned (m : Marking) : Type 0 where
+  pub grey : (a : ℕ) → m.marked a ≡ true → m.scanned a ≡ true
+  pub logged : m.logged ≡ []
+
+pub is_scanned : (t : Table) (m : Marker) → HasNone (is_grey m.bitmaps.next m.grey) 0 → m.waiting.addresses ≡ []
+    → ((k : ℕ) → k < length m.logs → log_of m.logs k ≡ []) → IsScanned (marking_of t m)
+is_scanned t m none waiting empty = record {
   grey = λ a k. all_scanned (is_marked m.bitmaps.next a) (is_marked m.grey.scanned a) (none a (omega arith)) k;
   logged = ap (λ (xs : List ℕ). xs ++ logged m.logs) waiting ∙ none_logged m.logs empty;
-  held = λ a k b _ _ p _. absurd (nowhere p.object.held p.slot b
-      (shape.bare a p.object (kept_object t m.tams m.bitmaps.previous a p.object p.at)) p.is.1);
+}
+
+-- so nothing is left to mark where nothing is held
+pub is_done : (t : Table) (m : Marker) → IsScanned (marking_of t m) → KeepsBare t m → (roots : List (Option ℕ))
+    → IsDone (heap_of t roots m) (marking_of t m)
+is_done t m scanned bare roots = record {
+  grey = scanned.grey;
+  logged = scanned.logged;
+  held = λ a k b _ _ p _. absurd (nowhere p.object.held p.slot b (bare a p.object p.at) p.is.1);
 }
   where
     nowhere : (vs : List (Option ℕ)) (i b : ℕ) → vs ≡ [] → slice_get vs i ≡ Some (Some b) → ⊥
@@ -87,7 +98,7 @@ agree false true f g = g refl
 agree false false f g = refl
 
 -- where nothing is left to mark, as many objects were scanned as are marked
-pub done_count : (t : Table) (m : Marker) → MarkerStands t m → m.running ≡ true → IsDone (heap_of t [] m) (marking_of t m)
+pub done_count : (t : Table) (m : Marker) → MarkerStands t m → m.running ≡ true → IsScanned (marking_of t m)
     → m.scans.since ≡ marked_count m.bitmaps.next
 done_count t m st run done =
     st.counted run ∙ ap marked_count
@@ -100,7 +111,7 @@ pub record IsOver (t : Table) (m m' : Marker) : Type 0 where
   pub running : m'.running ≡ true
   pub same : SameRoles m m'
   pub snapshots : KeepsSnapshots t m m'
-  pub done : (roots : List (Option ℕ)) → IsDone (heap_of t roots m') (marking_of t m')
+  pub scanned : IsScanned (marking_of t m')
 
 pub over : (t : Table) (m m' m'' : Marker) (n : ℕ) → IsShaped t → m.running ≡ true → SameRoles m m' → KeepsSnapshots t m m'
     → ((k : ℕ) → k < length m'.logs → log_of m'.logs k ≡ []) → MarkerStands t m'' → SameRoles m' m'' → KeepsSnapshots t m' m''
@@ -112,7 +123,7 @@ over t m m' m'' n shape run same keeps empty st same' keeps' logs taken waiting 
   running = same'.running ∙ same.running ∙ run;
   same = same_trans m m' m'' same same';
   snapshots = snapshots_trans t m m' m'' same keeps keeps';
-  done = is_done t m'' shape (none (few_scans t m' m'' n shape st count)) (ap (λ (w : Waiting). w.addresses) waiting ∙ taken)
+  scanned = is_scanned t m'' (none (few_scans t m' m'' n shape st count)) (ap (λ (w : Waiting). w.addresses) waiting ∙ taken)
       (subst (λ (x : List (List ℕ)). (k : ℕ) → k < length x → log_of x k ≡ []) (sym logs) empty);
 }
 
@@ -301,7 +312,7 @@ module _ (t t' : Table) (m : Marker) (roots : List (Option ℕ)) (d : ℕ → Ty
   clears_done a x done at = let s = is_staying a x at in staying_each a s (c.done_is a done s) x at
 
 -- ---- the roles are exchanged
-pub exchanged_stands : (t : Table) (m m' : Marker) → MarkerStands t m → IsDone (heap_of t [] m) (marking_of t m) → IsExchanged m m'
+pub exchanged_stands : (t : Table) (m m' : Marker) → MarkerStands t m → IsScanned (marking_of t m) → IsExchanged m m'
     → MarkerStands t m'
 exchanged_stands t m m' st done e = record {
   previous = subst (λ (x : Tops). MarksObjects t x.previous m'.bitmaps.previous) (sym e.tams)
@@ -341,7 +352,7 @@ swapped t m roots s newer i a = elim (bool_cases (is_marked m.bitmaps.next a)) [
 ]
 
 module _ (t : Table) (m m' m'' : Marker) (count : ℕ) (p : IsOver t m m') (e : IsExchanged m' m'')
-    (counts : count ≡ marked_count m'.bitmaps.next) where
+    (counts : count ≡ marked_count m'.bitmaps.next) (bare : KeepsBare t m) where
   same_kept_after : (s g : Graph) (roots : List (Option ℕ)) → WillShow g (heap_of t roots m)
       → KeepsSnapshot s (heap_of t roots m) (marking_of t m) → (a : ℕ)
       → (heap_of t roots m'').kept a ≡ kept_after (heap_of t roots m) (marking_of t m') a
@@ -362,7 +373,10 @@ module _ (t : Table) (m m' m'' : Marker) (count : ℕ) (p : IsOver t m m') (e : 
     kept_now a = same_kept_after s g roots shows keeps a
 
     done : IsDone h (marking_of t m')
-    done = subst (λ (x : Heap). IsDone x (marking_of t m')) (same_heap t roots m m' p.same) (p.done roots)
+    done =
+        let same = same_heap t roots m m' p.same in
+        subst (λ (x : Heap). IsDone x (marking_of t m')) same
+        (is_done t m' p.scanned (λ a x k. bare a x (sym (ap (λ (x : Heap). x.kept a) same) ∙ k)) roots)
 
     was_kept : (a : ℕ) (x : Stored) → kept_after h (marking_of t m') a ≡ Some x → WasKept t roots m a x
     was_kept a x k = record {

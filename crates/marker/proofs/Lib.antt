@@ -15,4 +15,5 @@ pub mod Logs
 pub mod Ended
 pub mod Forgotten
 pub mod Slots
+pub mod HeldSlots
 pub mod Swept

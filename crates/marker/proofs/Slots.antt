@@ -7,14 +7,13 @@ use Rattle.heap_model.specs.Heap.{Stored}
 use Rattle.heap_model.specs.Marking.{Marking}
 use Rattle.heap_model.specs.Weak.{cleared_word, cleared_object}
 use Rattle.regions.specs.Table.{Table, object_at, object_weaks, weaks_at, set_weak, used_of, top_of}
-use Rattle.regions.specs.Shaped.{IsShaped}
 use Rattle.regions.proofs.Tiles.Changes.{WritesObject, weak_put, object_same}
 use Rattle.mark_bitmap.specs.Tops.{is_below}
 use Rattle.mark_bitmap.specs.Kept.{MarksObjects}
 use Rattle.mark_bitmap.specs.Marks.{is_marked}
 use Rattle.mark_bitmap.specs.Grey.{done_in}
 use Rattle.marker.specs.Views.{marking_of, untaken}
-use Rattle.marker.specs.Clears.{HasCleared}
+use Rattle.marker.specs.Clears.{HasCleared, DropsHeld}
 use Rattle.marker.specs.declared.marker.Marker.{Marker}
 use Rattle.marker.proofs.Forgotten.{role_stays}
 
@@ -125,30 +124,30 @@ partly_next m t u x i j target target' e z p read is =
     let same : j ≡ suc i = omega arith in
     subst (λ (n : ℕ). IsPartly m t (set_weak u x i target') x n) (sym same) (next_slot m t u x i target target' z p read is)
 
-pub partly_last : (m : Marking) (t u : Table) (x i : ℕ) → IsShaped t → IsPartly m t u x i → i ≡ length (weaks_at t x) → HasCleared m t u x
-partly_last m t u x i shape p e =
+-- once all are cleared, what they held goes too
+pub partly_last : (m : Marking) (t u v : Table) (x i : ℕ) → IsPartly m t u x i → i ≡ length (weaks_at t x) → DropsHeld u v x
+    → HasCleared m t v x
+partly_last m t u v x i p e d =
     let w = p.writes in
     let all : partly (cleared_word m) i p.object.weaks ≡ map (cleared_word m) p.object.weaks =
     partly_all (cleared_word m) i p.object.weaks (omega (arith, e, ap length (weaks_are t x _ w.was))) in
     record {
       object = p.object;
       was = w.was;
-      size = w.size;
-      count = w.count;
-      kinds = w.kinds;
-      tops = λ k. ap (λ (n : ℕ). k * n + used_of u k) w.size ∙ ap (λ (n : ℕ). k * t.words_per_region + n) (w.used k);
-      unmoved = w.unmoved;
-      is = w.is ∙ ap (λ l. Some (record p.object { weaks = l })) all
-          ∙ ap (λ l. Some (record p.object { weaks = map (cleared_word m) p.object.weaks; held = l })) (still none)
+      size = d.size ∙ w.size;
+      count = d.count ∙ w.count;
+      kinds = λ k. d.kinds k ∙ w.kinds k;
+      tops = λ k. ap (λ (n : ℕ). k * n + used_of v k) (d.size ∙ w.size)
+          ∙ ap (λ (n : ℕ). k * t.words_per_region + n) (d.used k ∙ w.used k);
+      unmoved = λ n. d.unmoved (w.unmoved n);
+      is = d.is ∙ ap (λ (s : Stored). Some (record s { held = held_by s.weaks s.held })) same
+          ∙ ap (λ l. Some (record p.object { weaks = l; held = held_by l p.object.held })) all
           ∙ sym (ap (cleared_object m) w.was);
-      others = w.others;
+      others = λ y n. d.others y n ∙ w.others y n;
     }
   where
-    none : p.object.held ≡ []
-    none = shape.bare x p.object p.writes.was
-
-    still : p.object.held ≡ [] → p.object.held ≡ held_by (map (cleared_word m) p.object.weaks) p.object.held
-    still e = e ∙ sym (ap (held_by (map (cleared_word m) p.object.weaks)) e)
+    same : d.object ≡ with_slots m p.object i
+    same = let e1 = d.was in let e2 = p.writes.is in cc
 
 pub partly_marks : (m : Marking) (t u : Table) (x i : ℕ) (tops : List ℕ) (marks : List Bool) → IsPartly m t u x i
     → MarksObjects t tops marks → MarksObjects u tops marks

@@ -18,7 +18,7 @@ use Rattle.regions.specs.declared.row.Shape.{Shape}
 use Rattle.regions.specs.declared.row.Shape.TheVariants as shapes
 use Rattle.regions.specs.Table.{Table, object_at, tile_object, tile_in, kind_of, top_of, HasNoForwarded}
 use Rattle.heap_words.specs.Configs.{max_words}
-use Rattle.regions.specs.Shaped.{IsShaped}
+use Rattle.regions.specs.Shaped.{IsShaped, IsPaired}
 use Rattle.regions.specs.WeakStarts.{HasWeaks, IsNextWithWeaks}
 use Rattle.regions.proofs.Tiles.Laws.{object_tile}
 use Rattle.mark_bitmap.specs.Kept.{MarksObjects}
@@ -141,22 +141,32 @@ swept_object m t u x (inr c) = record {
 }
 
 -- ---- what has no weak slots is passed over
--- no object of the table has held slots
-abbrev pub IsBare : Table → Type 0
-IsBare t = (a : ℕ) (s : Stored) → object_at t a ≡ Some s → s.held ≡ []
+-- each object of the table is plain, or one of pairs
+abbrev pub ArePaired : Table → Type 0
+ArePaired t = (a : ℕ) (s : Stored) → object_at t a ≡ Some s → IsPaired s
+
+-- so what has no weak slots has no held slots
+none_held : (s : Stored) → IsPaired s → (0 < length s.weaks → ⊥) → s.held ≡ []
+none_held s (inl none) few = none
+none_held s (inr same) few = go s.held (elim (cases_lt 0 (length s.weaks)) [ inl some ↦ absurd (few some) | inr le ↦ omega (arith, same, le) ])
+  where
+    go : (hs : List (Option ℕ)) → length hs ≡ 0 → hs ≡ []
+    go [] e = refl
+    go (h ∷ hs) e = absurd (omega (arith, e))
 
 no_slots : (m : Marking) (ws : List (Option ℕ)) → (0 < length ws → ⊥) → map (cleared_word m) ws ≡ ws
 no_slots m [] none = refl
 no_slots m (w ∷ ws) none = absurd (none (omega arith))
 
 -- clearing doesn't change an object that has none
-module _ (m : Marking) (t u : Table) (d : ℕ → Type 0) (bare : IsBare t) (c : ClearsSome m t u d) (a : ℕ) (none : HasWeaks u a → ⊥) where
+module _ (m : Marking) (t u : Table) (d : ℕ → Type 0) (paired : ArePaired t) (c : ClearsSome m t u d) (a : ℕ) (none : HasWeaks u a → ⊥) where
   stored_passed : (s : Stored) → object_at t a ≡ Some s → object_at u a ≡ cleared_object m (object_at t a)
   stored_passed s is = elim (c.each a) [
     | inl same ↦
         let now : object_at u a ≡ Some s = same ∙ is in
-        let alike = no_slots m s.weaks (λ some. none (record { object = s; is = now; some = some })) in
-        let empty = bare a s is in
+        let few : 0 < length s.weaks → ⊥ = λ some. none (record { object = s; is = now; some = some }) in
+        let alike = no_slots m s.weaks few in
+        let empty = none_held s (paired a s is) few in
         let still = empty ∙ sym (ap (held_by (map (cleared_word m) s.weaks)) empty) in
         now ∙ ap (λ ws. Some (record s { weaks = ws })) (sym alike)
         ∙ ap (λ hs. Some (record s { weaks = map (cleared_word m) s.weaks; held = hs })) still ∙ sym (ap (cleared_object m) is)
@@ -173,7 +183,7 @@ module _ (m : Marking) (t u : Table) (d : ℕ → Type 0) (bare : IsBare t) (c :
 -- ---- as the code goes
 -- what is between is done, and the next one is an object with weak slots
 pub record IsSweep (m : Marking) (t u : Table) (from : ℕ) (left : Option ℕ) : Type 0 where
-  pub bare : IsBare t
+  pub paired : ArePaired t
   pub some : ClearsSome m t u (IsBetween from left)
   pub next : IfSome left (HasWeaks u)
 
@@ -182,9 +192,9 @@ abbrev pub left_over : Option ℕ → ℕ
 left_over None = 0
 left_over (Some a) = 2 ^ 32 - a
 
-sweep_done : (m : Marking) (t u : Table) (start from : ℕ) (left : Option ℕ) → IsBare t → ClearsSome m t u (IsBetween start (Some from))
+sweep_done : (m : Marking) (t u : Table) (start from : ℕ) (left : Option ℕ) → ArePaired t → ClearsSome m t u (IsBetween start (Some from))
     → ((a : ℕ) → from ≤ a → IsPassed left a → HasWeaks u a → ⊥) → ClearsSome m t u (IsBetween start left)
-sweep_done m t u start from left bare c none = record {
+sweep_done m t u start from left paired c none = record {
   size = c.size;
   count = c.count;
   kinds = c.kinds;
@@ -193,27 +203,27 @@ sweep_done m t u start from left bare c none = record {
   each = c.each;
   done_is = λ a between s. elim (cases_lt a from) [
     | inl low ↦ c.done_is a (between.0, low) s
-    | inr high ↦ passed m t u (IsBetween start (Some from)) bare c a (none a high between.1)
+    | inr high ↦ passed m t u (IsBetween start (Some from)) paired c a (none a high between.1)
   ];
   tiles = c.tiles;
 }
 
-sweep_on : (m : Marking) (t u : Table) (start from : ℕ) (left : Option ℕ) → IsBare t → ClearsSome m t u (IsBetween start (Some from))
+sweep_on : (m : Marking) (t u : Table) (start from : ℕ) (left : Option ℕ) → ArePaired t → ClearsSome m t u (IsBetween start (Some from))
     → IsNextWithWeaks u from left → IsSweep m t u start left
-sweep_on m t u start from None bare c next = record {
-  bare = bare;
-  some = sweep_done m t u start from None bare c (λ a low before h. next a low h);
+sweep_on m t u start from None paired c next = record {
+  paired = paired;
+  some = sweep_done m t u start from None paired c (λ a low before h. next a low h);
   next = tt;
 }
-sweep_on m t u start from (Some n) bare c next = record {
-  bare = bare;
-  some = sweep_done m t u start from (Some n) bare c (λ a low before h. next.2 a low before h);
+sweep_on m t u start from (Some n) paired c next = record {
+  paired = paired;
+  some = sweep_done m t u start from (Some n) paired c (λ a low before h. next.2 a low before h);
   next = next.1;
 }
 
 pub sweep_first : (m : Marking) (t : Table) (from : ℕ) (left : Option ℕ) → IsShaped t → IsNextWithWeaks t from left
     → IsSweep m t t from left
-sweep_first m t from left shape next = sweep_on m t t from from left shape.bare
+sweep_first m t from left shape next = sweep_on m t t from from left shape.paired
     (swept_trans m t t t (λ a. ⊥) (λ a. ⊥) (IsBetween from (Some from)) (swept_first m t) (swept_first m t)
     (λ a s. let low = s.0 in let high = s.1 in absurd (omega arith))) next
 
@@ -245,7 +255,7 @@ module _ (m : Marking) (t u : Table) (from : ℕ) (left : Option ℕ) (n : ℕ) 
         | inl lt ↦ inl (between.0, lt)
         | inr ge ↦ inr (let low : a < behind = between.1 in omega arith)
       ]) in
-      sweep_on m t v from behind next here.bare now w
+      sweep_on m t v from behind next here.paired now w
 
 -- from the first address on to the end, all are done
 pub sweep_last : (m : Marking) (t u : Table) (from : ℕ) (left : Option ℕ) → left ≡ None → IsSweep m t u from left

@@ -1,10 +1,11 @@
 -- The clearing of weak slots in the table, once marking is over.
 use Rattle.std.specs.Prelude.{◌≡◌, ◌≢◌, ℕ, ◌≤◌, ◌⊎◌, List, true, false, Option, Some, None, length, slice_get, IsSome}
+use Rattle.heap_model.specs.Graph.{held_by}
 use Rattle.heap_model.specs.Heap.{Heap, Stored}
 use Rattle.heap_model.specs.Clearing.{HasWeak, IsPassed}
 use Rattle.heap_model.specs.Marking.{Marking}
 use Rattle.heap_model.specs.Weak.{cleared_object}
-use Rattle.regions.specs.Table.{Table, object_at, tile_in, kind_of, top_of, HasNoForwarded}
+use Rattle.regions.specs.Table.{Table, object_at, tile_in, kind_of, top_of, used_of, HasNoForwarded}
 use Rattle.regions.specs.WeakStarts.{HasWeaks}
 
 -- the object at an address is kept once marking is over: it is marked or new
@@ -23,7 +24,19 @@ pub record ClearsSome (m : Marking) (t t' : Table) (done : ℕ → Type 0) : Typ
   pub done_is : (a : ℕ) → done a → IsStaying m a → object_at t' a ≡ cleared_object m (object_at t a)
   pub tiles : (a : ℕ) → object_at t a ≡ None → tile_in t' a ≡ tile_in t a
 
--- the weak slots of one object are cleared, and nothing else changed
+-- what the nil keys of one object held is nil now, and nothing else changed
+pub record DropsHeld (t t' : Table) (x : ℕ) : Type 0 where
+  pub object : Stored
+  pub was : object_at t x ≡ Some object
+  pub size : t'.words_per_region ≡ t.words_per_region
+  pub count : length t'.regions ≡ length t.regions
+  pub kinds : (k : ℕ) → kind_of t' k ≡ kind_of t k
+  pub used : (k : ℕ) → used_of t' k ≡ used_of t k
+  pub unmoved : HasNoForwarded t → HasNoForwarded t'
+  pub is : object_at t' x ≡ Some (record object { held = held_by object.weaks object.held })
+  pub others : (y : ℕ) → y ≢ x → tile_in t' y ≡ tile_in t y
+
+-- the weak slots of one object are cleared, with what they held, and nothing else changed
 pub record HasCleared (m : Marking) (t t' : Table) (x : ℕ) : Type 0 where
   pub object : Stored
   pub was : object_at t x ≡ Some object

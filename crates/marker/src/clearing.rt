@@ -21,11 +21,26 @@ ghost use Rattle.heap_model.specs.Weak.{cleared_word};
 ghost use Rattle.regions.specs.Table.{object_at};
 ghost use Rattle.mark_bitmap.specs.Kept.{MarksObjects};
 ghost use Rattle.marker.specs.Views.{ended_marking_of};
-ghost use Rattle.marker.specs.Clears.{IsStaying, ClearsSome, ClearsStaying, HasCleared, IsBetween, LooksAt};
+ghost use Rattle.marker.specs.Clears.{IsStaying, ClearsSome, ClearsStaying, HasCleared, DropsHeld, IsBetween, LooksAt};
 
 use crate::marker::Marker;
 use heap_words::addr::{Addr, Ptr};
 use regions::RegionTable;
+
+/// What an object's nil keys hold becomes nil: so what is held goes with its key. A plain object holds nothing.
+fn drop_held(table: &mut RegionTable, object: Addr)
+    requires { IsSome (object_at table.old object) }
+    ensures { DropsHeld table.old table.new object }
+{
+    table.law();
+    let count = table.held_count(object);
+    for slot in 0..count {
+        match table.get_weak(object, slot) {
+            None => table.set_held(object, slot, None),
+            Some(_) => {}
+        }
+    }
+}
 
 /// How far clearing came: at how many objects it looked, and from which address on there may be more, if any.
 #[derive(Drop)]
@@ -62,7 +77,7 @@ impl Marker {
         self.bitmaps.previous.get(at)
     }
 
-    /// Clears the weak slots of an object.
+    /// Clears the weak slots of an object, and what they held.
     fn clear_object(&self, table: &mut RegionTable, object: Addr)
         requires object { IsSome (object_at table.old object) }
         requires marks { MarksObjects table.old self.now.tams.previous self.now.bitmaps.previous }
@@ -74,6 +89,7 @@ impl Marker {
             let target = self.lasting(table, table.get_weak(object, slot));
             table.set_weak(object, slot, target);
         }
+        drop_held(table, object);
     }
 
     /// Clears the weak slots of an object, if it is one that stays.

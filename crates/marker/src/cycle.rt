@@ -11,7 +11,7 @@ ghost use Rattle.mark_bitmap.specs.Tops.{exchanged, is_in_region, with_bottom};
 ghost use Rattle.mark_bitmap.specs.Grey.{KeepsPlace};
 ghost use Rattle.satb_log.specs.Logs.{log_of};
 ghost use Rattle.marker.specs.Views.{heap_of, is_by_address, marking_of};
-ghost use Rattle.marker.specs.Stands.{MarkerStands, IsKept};
+ghost use Rattle.marker.specs.Stands.{MarkerStands, IsKept, KeepsBare};
 ghost use Rattle.marker.specs.Ends.{EndsExactly};
 ghost use Rattle.marker.specs.Steps.{KeepsSnapshots, SameRoles, MarksWanted, ScansMore, saved};
 ghost use Rattle.marker.specs.Roots.{AreNamedBelow, IsInFirst, NamesMarked, IsFirstUnmarked};
@@ -262,7 +262,7 @@ impl Marker {
         requires running { self.old.running ≡ true }
         ensures stands { MarkerStands table.now self.new }
         ensures over { self.new.running ≡ false }
-        ensures exact { EndsExactly table.now self.old self.new result }
+        ensures exact { KeepsBare table.now self.old → EndsExactly table.now self.old self.new result }
         ensures count { result ≡ marked_count self.new.bitmaps.previous }
         ensures scans { self.new.scans.since ≡ result }
         ensures scanned { (a : ℕ) → is_marked self.old.grey.scanned a ≡ true → is_marked self.new.grey.scanned a ≡ true }

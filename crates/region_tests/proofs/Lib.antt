@@ -1,5 +1,6 @@
 mod TableSamples
 mod WeakSamples
+mod PairSamples
 mod Ready
 mod Samples
 mod CopySamples

@@ -36,3 +36,18 @@ slotted = record {
   regions = Ordinary (Object (record { name = 7; pointers = None ∷ []; weaks = Some 0 ∷ Some 9 ∷ []; held = []; values = 9 ∷ [] }) ∷ [])
       ∷ Free ∷ Free ∷ Free ∷ [];
 }
+
+-- an object at 0 of a nil pointer, two pairs, of which the first is nil, and a zero, a filler of two words, and three free regions
+abbrev pub paired : Option ℕ → Option ℕ → Table
+paired key held = record {
+  words_per_region = 16;
+  regions =
+      Ordinary (Object (record {
+        name = 7;
+        pointers = None ∷ [];
+        weaks = None ∷ key ∷ [];
+        held = None ∷ held ∷ [];
+        values = 0 ∷ [];
+      }) ∷ Filler 2 ∷ [])
+      ∷ Free ∷ Free ∷ Free ∷ [];
+}

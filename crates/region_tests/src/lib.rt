@@ -1,7 +1,7 @@
 //! Tests of the table of regions, and of the layers that place, choose, remember and move what is in it. They go by public calls alone and
 //! are apart from the crates that they try, so that these are proved once. The crate has nothing else, and nothing depends on it.
 //!
-//! `tables` tries `regions`, `places` tries `alloc_buffers`, `choices` and `ages` try `region_choice`, `dirty_cards` tries `cards`,
+//! `tables` and `pairs` try `regions`, `places` tries `alloc_buffers`, `choices` and `ages` try `region_choice`, `dirty_cards` tries `cards`,
 //! `covered_cards` tries `remembered_sets` and how `evacuation` counts cards, `refining` tries `refinement`, `copies` tries `object_copy`,
 //! and `pauses` tries `evacuation`.
 #![tactic(auto)]
@@ -16,6 +16,8 @@ mod copies;
 mod covered_cards;
 #[cfg(test)]
 mod dirty_cards;
+#[cfg(test)]
+mod pairs;
 #[cfg(test)]
 mod pauses;
 #[cfg(test)]

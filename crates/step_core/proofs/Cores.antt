@@ -1,4 +1,5 @@
 pub mod Sizes
+pub mod Bare
 pub mod Slots
 pub mod Resting
 pub mod Remembering

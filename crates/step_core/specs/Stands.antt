@@ -27,7 +27,7 @@ use Rattle.remembered_sets.specs.Sets.{Sets, card_count, may_lead}
 use Rattle.refinement.specs.Remembering.{Remembers}
 use Rattle.evacuation.specs.Rooms.{RoomSizes}
 pub use Rattle.root_table.specs.Roots.{root_counts_of}
-use Rattle.graph_runs.specs.State.{State, IsSoundState, root_places, root_at}
+use Rattle.graph_runs.specs.State.{State, HaveNoPairs, IsSoundState, root_places, root_at}
 use Rattle.graph_runs.specs.Since.{IsSinceState}
 
 pub record CoreState : Type 0 where
@@ -100,12 +100,14 @@ pub record Footing : Type 0 where
   pub graph : Graph
   pub snapshot : Graph
 
--- the core shows the graph and keeps what the snapshot needs, and what the snapshot doesn't reach has the pointers that it had in it
+-- the core shows the graph and keeps what the snapshot needs, and what the snapshot doesn't reach has the pointers that it had in it. The
+-- graph has no pairs: no step makes them yet
 pub record RestsOn (f : Footing) (c : CoreState) : Type 0 where
   pub shows : ShowsGraph f.graph c
   pub keeps : KeepsFrom f.snapshot c
   pub sound : IsSound f.graph
   pub unreached : KeepsUnreached f.snapshot f.graph
+  pub pairs : HaveNoPairs f.graph
 
 -- each name that a root reaches is borne by one kept object, which has the graph's contents; and every word of
 -- a kept object lies in a region that isn't free

@@ -153,7 +153,7 @@ impl Core {
         let Some(at) = self.register(mutator, object) else {
             return Reply::Refused(Refusal::Nil);
         };
-        if field >= self.table.pointer_count(at) {
+        if field >= self.table.plain_pointer_count(at) {
             return Reply::Refused(Refusal::NoField);
         }
         self.load_word(mutator, to, object, at, field, word)

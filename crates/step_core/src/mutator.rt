@@ -219,7 +219,7 @@ impl Core {
         let Some(at) = self.register(mutator, object) else {
             return Reply::Refused(Refusal::Nil);
         };
-        if field >= self.table.pointer_count(at) {
+        if field >= self.table.plain_pointer_count(at) {
             return Reply::Refused(Refusal::NoField);
         }
         let value = self.table.get_ptr(at, field);
@@ -303,7 +303,7 @@ impl Core {
         requires target { HoldsValue self.old mutator value target }
         ensures { DoesAction mutator (actions.Put object field value) result self.old self.new }
     {
-        if field >= self.table.pointer_count(at) {
+        if field >= self.table.plain_pointer_count(at) {
             return Reply::Refused(Refusal::NoField);
         }
         self.store(mutator, at, field, target);
@@ -451,14 +451,13 @@ impl Core {
         self.marker.lasting(&self.table, word)
     }
 
-    /// How many weak slots an object has: its fields but its pointers, so that its header isn't asked which kind it is.
+    /// How many weak slots an object that a root names has: its fields but its pointers, so that its header isn't asked which kind it is.
     #[inline(always)]
     fn slot_count(&self, object: Addr) -> u32
-        requires { IsSome (object_at self.now.table object) }
+        requires { IsRoot (heap_of self.now) object }
         ensures { result ≡ length (weaks_at self.now.table object) }
     {
-        self.law_shaped();
-        self.table.field_count(object) - self.table.pointer_count(object)
+        self.table.field_count(object) - self.table.plain_pointer_count(object)
     }
 
     /// A register takes what was read from a weak slot, and its name is answered. What follows a test of the value is in both arms, so that

@@ -74,7 +74,7 @@ impl Core {
         let Some(at) = self.register(mutator, object) else {
             return Err(Refusal::Nil);
         };
-        if u64::from(self.table.pointer_count(at)) < u64::from(from) + u64::from(count) {
+        if u64::from(self.table.plain_pointer_count(at)) < u64::from(from) + u64::from(count) {
             return Err(Refusal::NoField);
         }
         Ok(at)

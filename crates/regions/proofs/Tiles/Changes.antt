@@ -7,7 +7,9 @@ use Rattle.regions.proofs.Common.{used_of, HasNoForwarded}
 use Rattle.heap_model.proofs.Fields.{field_set}
 use Rattle.regions.proofs.Tiles.Laws.{object_tile, known_region, object_at-put_same, tile_in-put_other}
 pub use Rattle.regions.proofs.Words.Fields.{field_size}
-use Rattle.regions.proofs.Words.Fields.{with_pointer, with_weak}
+use Rattle.regions.proofs.Words.Fields.{with_pointer, with_weak, with_held}
+use Rattle.regions.specs.Table.{set_held}
+use Rattle.regions.proofs.Words.HeldSlots.{set_held-is}
 use Rattle.regions.proofs.Words.Values.{with_value, set_value-is}
 use Rattle.regions.proofs.Words.Access.{set_pointer-is, set_weak-is}
 use Rattle.regions.proofs.Tiles.Kept.{put_object-moved}
@@ -76,6 +78,13 @@ weak_put t x i v s z h =
     subst (λ (u : Table). WritesObject t u x s (with_weak s i v)) (sym (set_weak-is t x i v s h))
     (object_put t x s (with_weak s i v) z h
     (ap (λ n. 2 + length s.pointers + (n + length s.held) + length s.values) (length-set s.weaks i v)))
+
+pub held_put : (t : Table) (x i : ℕ) (v : Option ℕ) (s : Stored) → 0 < t.words_per_region → object_at t x ≡ Some s
+    → WritesObject t (set_held t x i v) x s (with_held s i v)
+held_put t x i v s z h =
+    subst (λ (u : Table). WritesObject t u x s (with_held s i v)) (sym (set_held-is t x i v s h))
+    (object_put t x s (with_held s i v) z h
+    (ap (λ n. 2 + length s.pointers + (length s.weaks + n) + length s.values) (length-set s.held i v)))
 
 -- a field that is set leaves as many weak slots
 pub field_weaks : (s : Stored) (i : ℕ) (v : Option ℕ) → length (with_field s i v).weaks ≡ length s.weaks

@@ -33,6 +33,11 @@ has_parts t x h = go (object_at t x) refl h
       fields_are = ap object_fields e;
     }
 
+pub set_held-is : (t : Table) (x i : ℕ) (v : Option ℕ) (s : Stored) → object_at t x ≡ Some s
+    → set_held t x i v ≡ put_object t x (with_held s i v)
+unfolding set_held
+set_held-is t x i v s e = rw e refl
+
 -- where there is a held slot there is an object
 pub has_held : (t : Table) (x i : ℕ) → i < length (held_at t x) → IsSome (object_at t x)
 unfolding held_at
@@ -95,11 +100,10 @@ module _ (t : Table) (x i : ℕ) (h : i < length (held_at t x)) where
 
   -- and to set that one sets it
   pub held_set : (v : Option ℕ) → set_field t x place v ≡ set_held t x i v
-  unfolding set_held
   held_set v =
       let s : Stored = parts.object in
       let one : with_field s place v ≡ with_held s i v = ap (λ (n : ℕ). with_field s n v) place_is ∙ last s in
-      set_field-is t x place v s parts.is ∙ ap (put_object t x) one ∙ rw parts.is refl
+      set_field-is t x place v s parts.is ∙ ap (put_object t x) one ∙ sym (set_held-is t x i v s parts.is)
     where
       last : (s : Stored) → with_field s (length s.pointers + (length s.weaks + i)) v ≡ with_held s i v
       last s =

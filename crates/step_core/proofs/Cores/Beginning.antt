@@ -169,5 +169,6 @@ first_is g m d r stand suits to rows names idle logs spare stands =
         keeps = record { earlier = omega arith; marking = λ run. absurd cc };
         sound = first_graph_sound g;
         unreached = unreached_begins (first_graph g) (first_graph_sound g);
+        pairs = λ p x at. absurd cc;
       };
     }

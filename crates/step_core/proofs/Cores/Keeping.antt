@@ -27,6 +27,8 @@ use Rattle.step_core.specs.Mutators.{with_root_word}
 use Rattle.step_core.specs.Parts.{DoesAction, HoldsRegister, HoldsRoot, NamesAt}
 use Rattle.step_core.specs.Answers.{Acts}
 use Rattle.step_core.proofs.Cores.Sizes.{some_words}
+use Rattle.graph_runs.proofs.Sound.{no_pairs_changed}
+use Rattle.step_core.proofs.Cores.Bare.{object_bare}
 use Rattle.step_core.proofs.Cores.Slots.{slots_same, slots_set, object_stays}
 use Rattle.heap_model.specs.Clearing.{IsWeakShown, KeepsAt, kept_word, kept_held}
 use Rattle.step_core.specs.Stands.{IsClearing, marking_of}
@@ -145,6 +147,7 @@ module _ (k c : CoreState) (place : ℕ) (w : Option ℕ) (e : k ≡ c) where
           keeps = root_keeps core.footing.graph core.footing.snapshot k place w _ core.rests.shows held' refl core.rests.keeps;
           sound = root_rests core.footing.graph k place w word'.name core.rests.shows word'.shown core.rests.sound;
           unreached = unreached_root core.footing.snapshot core.footing.graph core.rests.unreached place word'.name;
+          pairs = core.rests.pairs;
         })
 
 pub named_object : (k c : CoreState) (a : ℕ) → k ≡ c → IsWordOf (heap_of c) (Some a) → IsSome (object_at k.table a)
@@ -199,11 +202,11 @@ pub written_kept : (k : CoreState) (core : IsCore k) (a : ℕ) (x y : Stored) (o
     (tiles.Object x) → object_named core.footing.graph x.name ≡ Some o → p.pointers ≡ o.pointers
     → AllZip (IsShown (heap_of k)) y.pointers p.pointers → AllZip (IsWeakShown (heap_of k)) y.weaks p.weaks
     → AllZip (IsShown (heap_of k)) (kept_held (kept_of k) y) p.held → PairsSet (heap_of k) (marking_of k) x y
-    → PairsChange core.footing.snapshot o p → ShowsGraph (with_changed core.footing.graph x.name p) (record k { table = t })
+    → PairsChange core.footing.snapshot o p → p.held ≡ [] → ShowsGraph (with_changed core.footing.graph x.name p) (record k { table = t })
     → RemembersFields (record k { table = t })
     → ((i b : ℕ) → slice_get y.weaks i ≡ Some (Some b) → (slice_get x.weaks i ≡ Some (Some b)) ⊎ KeepsAt (heap_of k) b)
     → IsCore (record k { table = t })
-written_kept k core a x y o p t at writes name same long named stay pointers weaks held pairs change shows remembers slots =
+written_kept k core a x y o p t at writes name same long named stay pointers weaks held pairs change bare shows remembers slots =
     let set = object_written k (record k { table = t }) a x y writes name at (record { tams = refl; previous = refl; roots = refl }) in
     let lead = slots_set k (record k { table = t }) a x y set core.slots refl slots
     (object_stays k (record k { table = t }) (λ b z e. still_there k.table t a b x y z writes e)) in
@@ -219,6 +222,7 @@ written_kept k core a x y o p t at writes name same long named stay pointers wea
       sound = object_rests core.footing.graph k x.name o p y.pointers y.weaks (kept_held (kept_of k) y) core.rests.shows named pointers
           weaks held core.rests.sound;
       unreached = unreached_written core.footing.snapshot core.footing.graph core.rests.unreached x.name o p named stay change;
+      pairs = no_pairs_changed core.footing.graph x.name p core.rests.pairs bare;
     })
 
 module _ (k c : CoreState) (e : k ≡ c) (core : IsCore k) (m : ℕ) (object : Register) (a i v : ℕ) (t : Table)
@@ -271,6 +275,7 @@ module _ (k c : CoreState) (e : k ≡ c) (core : IsCore k) (m : ℕ) (object : R
       h.named refl
       h.pointers h.weaks h.held (same_pairs (heap_of k) (marking_of k) h.stored (with_value h.stored i v) refl refl)
       (no_change core.footing.snapshot h.object p refl refl)
+      (object_bare core.footing.graph h.stored.name h.object core.rests.pairs h.named)
       (object_shows core.footing.graph k d a h.stored (with_value h.stored i v) h.object p core.rests.shows
       (record { config = refl; next = refl }) write_set h.named h.pointers h.weaks h.held h.keyed
       (ap (λ (vs : List ℕ). slice_set vs i v) h.values))

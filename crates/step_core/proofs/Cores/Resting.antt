@@ -52,6 +52,7 @@ module _ (k : CoreState) (core : IsCore k) (t : Table) (b : Buffers) (m : Marker
     keeps = keeps core.footing.snapshot core.rests.keeps;
     sound = core.rests.sound;
     unreached = core.rests.unreached;
+    pairs = core.rests.pairs;
   })
 
 -- the same where regions are as old as they were

@@ -130,6 +130,7 @@ module _ (k : CoreState) (core : IsCore k) (b : Buffers) (m : Marker) (retires :
         keeps = begun_keeps core.footing.graph core.rests.shows;
         sound = core.rests.sound;
         unreached = unreached_begins core.footing.graph core.rests.sound;
+        pairs = core.rests.pairs;
       })
 
 -- marking goes on

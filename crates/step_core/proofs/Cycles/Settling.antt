@@ -186,6 +186,7 @@ module _ (k : CoreState) (core : IsCore k) (t : Table) (to : Option â„•) (d : â„
         keeps = keeps;
         sound = core.rests.sound;
         unreached = core.rests.unreached;
+        pairs = core.rests.pairs;
       })
 
 -- where nothing is left, nothing changes

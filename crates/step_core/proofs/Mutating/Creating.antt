@@ -18,6 +18,7 @@ use Rattle.heap_model.proofs.Unreached.{object_sound, unreached_object}
 use Rattle.regions.specs.Table.{Table, new_object, object_at, object_words, pointers_at}
 use Rattle.graph_runs.specs.State.{register_place, root_counts_of}
 use Rattle.graph_runs.specs.Machine.{made}
+use Rattle.graph_runs.proofs.Sound.{no_pairs_added}
 use Rattle.heap_steps.specs.declared.step.Action.TheVariants as actions
 use Rattle.heap_steps.specs.declared.step.Reply.TheVariants as replies
 use Rattle.heap_steps.specs.declared.step.Register.{Register}
@@ -238,6 +239,7 @@ module _ (k : CoreState) (m : ℕ) (to : Register) (t2 : Table) (b1 : Buffers) (
               (register_place (root_counts_of k.config) m to.number)
               (let next = core.rests.shows.next in let early = core.rests.keeps.earlier in omega (arith, next, early))
               (λ i b e. cc);
+          pairs = no_pairs_added g (fresh p weak d) (register_place (root_counts_of k.config) m to.number) core.rests.pairs refl;
         };
       }
     where

@@ -7,7 +7,7 @@ use Rattle.heap_model.proofs.Lists.{get-append_cases}
 use Rattle.regions.proofs.Words.Fields.{with_pointer, with_weak}
 use Rattle.regions.specs.Table.{Table, new_object, object_at, pointers_at, weaks_at}
 use Rattle.regions.specs.Table.{fields_at, object_pointers, object_weaks, object_fields}
-use Rattle.regions.specs.Shaped.{IsShaped}
+use Rattle.regions.specs.Shaped.{IsBareAt}
 use Rattle.regions.proofs.Words.FieldAccess.{count_fields}
 use Rattle.std.proofs.lemmas.List.{length-append}
 
@@ -39,15 +39,15 @@ fields_count t a = go (object_at t a)
     go None = omega arith
     go (Some x) = let all = length-append x.pointers (x.weaks ++ x.held) in let behind = length-append x.weaks x.held in omega arith
 
--- and no others are
-pub fields_exact : (t : Table) (a : ℕ) → IsShaped t → length (fields_at t a) ≡ length (pointers_at t a) + length (weaks_at t a)
+-- and no others are, where there are no held slots
+pub fields_exact : (t : Table) (a : ℕ) → IsBareAt t a → length (fields_at t a) ≡ length (pointers_at t a) + length (weaks_at t a)
 unfolding fields_at pointers_at weaks_at
-fields_exact t a shape = go (object_at t a) refl
+fields_exact t a bare = go (object_at t a) refl
   where
     go : (o : Option Stored) → object_at t a ≡ o → length (object_fields o) ≡ length (object_pointers o) + length (object_weaks o)
     go None e = refl
     go (Some x) e =
-        let none = ap (λ (hs : List (Option ℕ)). length hs) (shape.bare a x e) in omega (arith, count_fields x, none)
+        let none = ap (λ (hs : List (Option ℕ)). length hs) (bare x e) in omega (arith, count_fields x, none)
 
 -- a pointer is a field
 pub pointer_within : (t : Table) (a i : ℕ) → i < length (pointers_at t a) → i < length (fields_at t a)

@@ -26,6 +26,9 @@ use Rattle.step_core.specs.Stands.{CoreState, kept_of, heap_of, marking_of, Reme
 use Rattle.step_core.specs.Cycle.{LeavesRegions}
 use Rattle.step_core.specs.Storing.{CanStore, HasNoted}
 use Rattle.step_core.proofs.Cores.Sizes.{some_words}
+use Rattle.graph_runs.specs.State.{HaveNoPairs}
+use Rattle.graph_runs.proofs.Sound.{no_pairs_changed}
+use Rattle.step_core.proofs.Cores.Bare.{object_bare}
 use Rattle.step_core.proofs.Cores.Slots.{slots_set, object_stays}
 use Rattle.step_core.proofs.Cores.Resting.{core_over, object_rests, rooted_known}
 use Rattle.step_core.proofs.Mutating.Fields.{pointer_fields}
@@ -170,6 +173,12 @@ module _ (k : CoreState) (core : IsCore k) (a i : ℕ) (w : Option ℕ) (t : Tab
       (slice_set x.pointers i w) x.weaks (kept_held (kept_of k) x) core.rests.shows o.named
       (AllZip-set (IsShown (heap_of k)) x.pointers o.object.pointers o.pointers i w held_name.0 held_name.1) o.weaks o.held core.rests.sound
 
+  pairs_after : HaveNoPairs graph_after
+  pairs_after =
+      let o = core.rests.shows.shows.objects a x at in
+      no_pairs_changed core.footing.graph x.name (record o.object { pointers = slice_set o.object.pointers i held_name.0 })
+      core.rests.pairs (object_bare core.footing.graph x.name o.object core.rests.pairs o.named)
+
   -- the core after a store while marking doesn't run
   pub idle_kept : k.marker.running ≡ false → IsCore (with_store k t k.marker)
   idle_kept idle = core_over k core t k.buffers k.marker k.cards k.sets k.roots refl
@@ -184,6 +193,7 @@ module _ (k : CoreState) (core : IsCore k) (a i : ℕ) (w : Option ℕ) (t : Tab
         keeps = record { earlier = omega (arith, next); marking = λ run. absurd cc };
         sound = sound_after;
         unreached = unreached_begins graph_after sound_after;
+        pairs = pairs_after;
       })
 
   pub store_leaves : (m : Marker) → LeavesRegions k (with_store k t m)
@@ -242,4 +252,5 @@ module _ (k : CoreState) (core : IsCore k) (a i : ℕ) (w : Option ℕ) (t : Tab
             keeps = keeps;
             sound = sound_after;
             unreached = unreached_after (sym same.running ∙ run);
+            pairs = pairs_after;
           })

@@ -72,6 +72,7 @@ module _ (k : CoreState) (core : IsCore k) (place : ℕ) (w : Option ℕ) (m : M
         sound = root_rests core.footing.graph k place w v core.rests.shows shown core.rests.sound;
         unreached = unreached_root (touched core.footing.snapshot v) core.footing.graph
             (unreached_touched core.footing.snapshot core.footing.graph core.rests.unreached v) place v;
+        pairs = core.rests.pairs;
       })
 
   earlier_by : (s : Graph) (v : Option ℕ) → KeepsFrom s k → next_name (touched s v) ≤ k.next

@@ -19,6 +19,7 @@ use Rattle.step_core.specs.Mutators.{weak_field}
 use Rattle.step_core.specs.Cycle.{LeavesRegions}
 use Rattle.step_core.specs.Storing.{HasNoted, StoresWeak}
 use Rattle.step_core.proofs.Cores.Sizes.{some_words}
+use Rattle.step_core.proofs.Cores.Bare.{kept_bare}
 use Rattle.step_core.proofs.Cores.Keeping.{written_kept, bare_pairs, bare_change}
 use Rattle.step_core.proofs.Cores.Remembering.{remembers_stored}
 use Rattle.step_core.proofs.Mutating.Fields.{weak_fields, fields_count}
@@ -52,7 +53,7 @@ module _ (k : CoreState) (core : IsCore k) (a i : ℕ) (w : Option ℕ) (t : Tab
 
   -- it has no held slots
   none : x.held ≡ []
-  none = shape.bare a x (object_kept k a x r.at)
+  none = kept_bare k core a x r.at
 
   none_shown : (ws vs : List (Option ℕ)) → AllZip (IsShown (heap_of k)) (held_by ws x.held) vs → vs ≡ []
   none_shown ws vs z = nothing vs (subst (λ hs. AllZip (IsShown (heap_of k)) (held_by ws hs) vs) none z)
@@ -120,6 +121,7 @@ module _ (k : CoreState) (core : IsCore k) (a i : ℕ) (w : Option ℕ) (t : Tab
       (held_by_slots o.object.held o.held) (bare_pairs (heap_of k) (marking_of k) x (with_weak x i w) none none)
       (let bare = none_shown (map (kept_word (kept_of k)) x.weaks) o.object.held o.held in
       bare_change core.footing.snapshot o.object (record o.object { weaks = slice_set o.object.weaks i word.name }) bare bare)
+      (none_shown (map (kept_word (kept_of k)) x.weaks) o.object.held o.held)
       (shows_by core.footing.graph x o.object word.name core.rests.shows r.at o.named word.shown) remembers_by slots_by
 
 -- the same by the core's value c: k is the core by its fields

@@ -9,6 +9,7 @@ use Rattle.heap_model.proofs.Lists.{get-append_cases}
 use Rattle.regions.specs.Shaped.{IsShaped}
 use Rattle.regions.specs.Table.{Table, object_at}
 use Rattle.step_core.proofs.Cores.Keeping.{nothing_there}
+use Rattle.step_core.proofs.Cores.Bare.{kept_bare}
 use Rattle.step_core.proofs.Mutating.Reading.{object_kept}
 use Rattle.step_core.proofs.Cores.Slots.{slots_same}
 use Rattle.mark_bitmap.specs.Kept.{kept_in}
@@ -38,7 +39,7 @@ field_leads k core shape a i b x at e = elim (get-append_cases x.pointers (x.wea
       (y, object_kept k b y here)
   | inr q ↦ elim (get-append_cases x.weaks x.held q.0 (Some b) q.1) [
     | inl r ↦ some_object k b (core.slots.lead a b (record { object = x; at = at; slot = q.0; is = r }))
-    | inr r ↦ absurd (nothing_there x.held r.0 b (shape.bare a x (object_kept k a x at)) r.1)
+    | inr r ↦ absurd (nothing_there x.held r.0 b (kept_bare k core a x at) r.1)
   ]
 ]
   where

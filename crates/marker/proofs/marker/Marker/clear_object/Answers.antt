@@ -27,5 +27,8 @@ loop-slot-preserved c =
     let value = c.lasting-target.ensures ∙ ap (λ m. cleared_word m c.get_weak.result) same in
     rw c.set_weak.ensures (partly_next _ _ _ _ _ _ _ _ refl c.law.ensures.positive p c.get_weak.ensures value)
 
+pub drop_held-requires : goal.drop_held-requires
+drop_held-requires c = rw c.loop-slot.invariant.writes.is refl
+
 pub returns : goal.returns
-returns c = partly_last _ _ _ _ _ c.law.ensures c.loop-slot.invariant (omega (arith, c.weak_count-count.ensures))
+returns c = partly_last _ _ _ _ _ _ c.loop-slot.invariant (omega (arith, c.weak_count-count.ensures)) c.drop_held.ensures

@@ -19,7 +19,7 @@ returns c =
     (snapshots_trans t m c.take_logs.new.self c.take_all_roots.new.self c.take_logs.ensures.same c.take_logs.ensures.snapshots r.snapshots)
     (subst (λ (ls : List (List ℕ)). (k : ℕ) → k < length ls → log_of ls k ≡ []) (sym r.logs) c.take_logs.ensures.emptied)
     s.stands s.same s.snapshots s.logs r.none_left s.waiting s.count s.none_left in
-    let count = done_count c.args.table.now c.scan_objects.new.self p.stands p.running (p.done []) in
+    let count = done_count c.args.table.now c.scan_objects.new.self p.stands p.running p.scanned in
     let last : Marker = record {
       bitmaps = c.swap_roles.new.self;
       tams = c.swap_roles-2.new.self;
@@ -41,10 +41,10 @@ returns c =
       off = refl;
     } in
     record {
-      stands = exchanged_stands c.args.table.now c.scan_objects.new.self last p.stands (p.done []) e;
+      stands = exchanged_stands c.args.table.now c.scan_objects.new.self last p.stands p.scanned e;
       over = refl;
-      exact = rw c.since-count.ensures
-          (ends_exactly c.args.table.now c.args.self.now c.scan_objects.new.self last _ p e count);
+      exact = λ bare. rw c.since-count.ensures
+          (ends_exactly c.args.table.now c.args.self.now c.scan_objects.new.self last _ p e count bare);
       count = c.since-count.ensures ∙ count ∙ ap marked_count (sym c.swap_roles.ensures.previous);
       scans = search rules;
       scanned = λ a k. s.grows.scanned a (ap (λ (b : List Bool). is_marked b a) (r.scanned ∙ c.take_logs.ensures.scanned) ∙ k);

@@ -3,16 +3,20 @@ use Rattle.regions.specs.Table.{pointers_at}
 use Rattle.step_core.specs.Stands.{CoreState}
 use Rattle.step_core.proofs.Mutating.Acting.{get_past, get_done, refused_does}
 use Rattle.step_core.proofs.Mutating.Done.{got}
+use Rattle.step_core.proofs.Cores.Bare.{fields_bare}
 use Rattle.step_core.proofs.Cores.Keeping.{object_led, field_of, field_can_be_stored}
 use Rattle.step_core.proofs.heap.Core.get.Goals as goal
 
-pub pointer_count-requires : goal.pointer_count-requires
-pointer_count-requires c = let l = c.in-Some.ensures.leads in object_led _ _ _ _ c.self.view_is c.self.invariant l
+pub plain_pointer_count-requires : goal.plain_pointer_count-requires
+plain_pointer_count-requires c = let l = c.in-Some.ensures.leads in record {
+  there = object_led _ _ _ _ c.self.view_is c.self.invariant l;
+  bare = fields_bare _ _ _ _ c.self.view_is c.self.invariant l;
+}
 
-pub returns-then-field-pointer_count : goal.returns-then-field-pointer_count
-returns-then-field-pointer_count c = let l = c.in-Some.ensures.leads in
+pub returns-then-field-plain_pointer_count : goal.returns-then-field-plain_pointer_count
+returns-then-field-plain_pointer_count c = let l = c.in-Some.ensures.leads in
     refused_does _ _ _ _ (λ g s. get_past g _ s c.args.mutator c.args.object _ l c.args.to c.args.field
-    (let count = c.pointer_count.ensures ∙ ap (λ (d : CoreState). length (pointers_at d.table c.in-Some.at)) c.self.view_is in omega arith))
+    (let count = c.plain_pointer_count.ensures ∙ ap (λ (d : CoreState). length (pointers_at d.table c.in-Some.at)) c.self.view_is in omega arith))
 
 pub take_named-name-requires-clause-word : goal.take_named-name-requires-clause-word
 take_named-name-requires-clause-word c =

@@ -1,11 +1,9 @@
 use Rattle.std.proofs.Common.{◌∙◌, arith, sym}
 use Rattle.step_core.proofs.Mutating.Acting.{get_weak_past, refused_gets}
-use Rattle.step_core.proofs.Mutating.Reading.{led_object}
-use Rattle.step_core.proofs.Cores.Keeping.{core_of}
 use Rattle.step_core.proofs.heap.Core.get_weak.Goals as goal
 
 pub slot_count-requires : goal.slot_count-requires
-slot_count-requires c = led_object _ _ _ (core_of _ _ c.self.view_is c.self.invariant) c.in-Some.ensures.leads
+slot_count-requires c = c.in-Some.ensures.rooted
 
 pub returns-then-slot-slot_count : goal.returns-then-slot-slot_count
 returns-then-slot-slot_count c = let l = c.in-Some.ensures.leads in

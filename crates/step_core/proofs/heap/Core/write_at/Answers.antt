@@ -1,5 +1,6 @@
 use Rattle.std.proofs.Common.{arith}
 use Rattle.step_core.proofs.Cores.Filling.{names_at}
+use Rattle.step_core.proofs.Cores.Bare.{led_bare}
 use Rattle.step_core.proofs.Mutating.Fields.{fields_exact}
 use Rattle.step_core.proofs.Mutating.Near.{write_fills}
 use Rattle.step_core.proofs.heap.Core.write_at.Goals as goal
@@ -10,7 +11,8 @@ write_known-requires-clause-names c =
 
 pub write_known-requires-clause-fields : goal.write_known-requires-clause-fields
 write_known-requires-clause-fields c =
-    let count = fields_exact c.args.self.now.table c.args.at c.law_shaped.ensures in omega (arith, count, c.requires.fields)
+    let count = fields_exact c.args.self.now.table c.args.at (led_bare _ _ _ c.law_remembers.ensures.core (names_at _ c.args.mutator c.args.object c.args.at c.law_remembers.ensures.core
+    c.requires.mutator c.requires.object c.requires.held).leads) in omega (arith, count, c.requires.fields)
 
 pub returns : goal.returns
 returns c = write_fills _ _ c.args.mutator c.args.object c.args.at c.args.field c.args.word c.law_remembers.ensures.core c.requires.field

@@ -3,6 +3,7 @@ use Rattle.regions.specs.Table.{fields_at}
 use Rattle.step_core.specs.Stands.{CoreState}
 use Rattle.step_core.proofs.Cores.Filling.{names_at}
 use Rattle.step_core.proofs.Cores.Keeping.{object_led}
+use Rattle.step_core.proofs.Cores.Bare.{led_bare}
 use Rattle.step_core.proofs.Mutating.Fields.{fields_exact}
 use Rattle.step_core.proofs.heap.Core.write_row.Goals as goal
 
@@ -15,6 +16,7 @@ field_count-fields-requires c =
 pub write_at-requires-clause-fields : goal.write_at-requires-clause-fields
 write_at-requires-clause-fields c =
     let kept = c.loop-number.invariant in
-    let count = fields_exact c.args.self.now.table c.args.at c.law_shaped.ensures in
+    let count = fields_exact c.args.self.now.table c.args.at (led_bare _ _ _ c.law_remembers.ensures.core (names_at _ c.args.mutator c.args.object c.args.at c.law_remembers.ensures.core
+    c.requires.mutator c.requires.object c.requires.has.held).leads) in
     let is = c.field_count-fields.ensures ∙ ap (λ (d : CoreState). length (fields_at d.table c.args.at)) c.self.view_is in
     omega (arith, kept.pointers, kept.weaks, count, is)
