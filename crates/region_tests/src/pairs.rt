@@ -7,9 +7,8 @@ ghost use Rattle.region_tests.specs.Filled.{paired};
 use crate::refining::free_regions;
 use heap_words::addr::{Addr, Ptr, RegionNo};
 use heap_words::header::{Count, FillerSize, PairCount, PairCounts};
-use regions::{RegionTable, Shape};
+use regions::RegionTable;
 use std::alloc::Global;
-use std::process::Abort;
 use std::test::Fail;
 
 /// Region 0 is taken, and has an object of one pointer, two pairs and one data word at its bottom, made in a filler of ten words.
@@ -53,39 +52,43 @@ fn empty_pair(table: &mut RegionTable)
     table.set_held(Addr::new(0), 1, None);
 }
 
-/// How many weak slots, held slots and fields an object has.
-fn counts(table: &RegionTable, object: Addr) -> (u32, u32, u32)
+/// How many pointers, weak slots, held slots, fields and words an object has.
+fn counts(table: &RegionTable, object: Addr) -> (u32, u32, u32, u32, u32)
     requires { IsSome (object_at table.now object) }
 {
     (
+        table.pointer_count(object),
         table.weak_count(object),
         table.held_count(object),
         table.field_count(object),
+        table.object_size(object),
     )
 }
 
 /// The two pairs of an object: each key with what it holds.
-fn pairs(table: &RegionTable, object: Addr) -> [(Ptr, Ptr); 2]
+fn pairs(table: &RegionTable, object: Addr) -> (Ptr, Ptr, Ptr, Ptr)
     requires weaks { length (weaks_at table.now object) ≡ 2 }
     requires held { length (held_at table.now object) ≡ 2 }
 {
-    [
-        (table.get_weak(object, 0), table.get_held(object, 0)),
-        (table.get_weak(object, 1), table.get_held(object, 1)),
-    ]
+    (
+        table.get_weak(object, 0),
+        table.get_held(object, 0),
+        table.get_weak(object, 1),
+        table.get_held(object, 1),
+    )
 }
 
 /// The five fields of an object, in address order.
-fn fields(table: &RegionTable, object: Addr) -> [Ptr; 5]
+fn fields(table: &RegionTable, object: Addr) -> (Ptr, Ptr, Ptr, Ptr, Ptr)
     requires { length (fields_at table.now object) ≡ 5 }
 {
-    [
+    (
         table.get_field(object, 0),
         table.get_field(object, 1),
         table.get_field(object, 2),
         table.get_field(object, 3),
         table.get_field(object, 4),
-    ]
+    )
 }
 
 /// An object of one pointer, two pairs and one data word: its counts, its size, and where it is found. What is written to a pair is read
@@ -95,16 +98,14 @@ fn holds_pairs(rt: HostRuntime) -> Result<(), Fail> {
     let object = Addr::new(0);
     let key = Addr::new(9);
     let mut table = one_of_pairs(rt.alloc())?;
-    assert_eq!(rt; counts(&table, object), (2, 2, 5));
-    assert_eq!(rt; table.pointer_count(object), 1);
-    assert_eq!(rt; table.object_size(object), 8);
+    assert_eq!(rt; counts(&table, object), (1, 2, 2, 5, 8));
     assert_eq!(rt; table.next_with_weaks(object), Some(object));
-    assert_eq!(rt; pairs(&table, object), [(None, None), (None, None)]);
+    assert_eq!(rt; pairs(&table, object), (None, None, None, None));
     fill_pair(&mut table);
-    assert_eq!(rt; pairs(&table, object), [(None, None), (Some(key), Some(object))]);
-    assert_eq!(rt; fields(&table, object), [None, None, Some(key), None, Some(object)]);
+    assert_eq!(rt; pairs(&table, object), (None, None, Some(key), Some(object)));
+    assert_eq!(rt; fields(&table, object), (None, None, Some(key), None, Some(object)));
     empty_pair(&mut table);
-    assert_eq!(rt; pairs(&table, object), [(None, None), (Some(key), None)]);
-    assert_eq!(rt; fields(&table, object), [None, None, Some(key), None, None]);
+    assert_eq!(rt; pairs(&table, object), (None, None, Some(key), None));
+    assert_eq!(rt; fields(&table, object), (None, None, Some(key), None, None));
     Ok(())
 }

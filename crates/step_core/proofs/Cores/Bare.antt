@@ -4,6 +4,8 @@ use Rattle.std.specs.List.{AllZip}
 use Rattle.heap_model.specs.Graph.{Graph, Object, object_named, held_by}
 use Rattle.heap_model.specs.Heap.{Stored, IsShown, IsRoot}
 use Rattle.heap_model.specs.Clearing.{kept_held, kept_word}
+use Rattle.heap_model.specs.Weak.{Clears, ClearsObject}
+use Rattle.heap_model.proofs.Lists.{AllZip-get_right}
 use Rattle.heap_model.proofs.Shown.{followed}
 use Rattle.regions.specs.Table.{object_at}
 use Rattle.regions.specs.Shaped.{IsBareAt}
@@ -16,6 +18,12 @@ use Rattle.step_core.proofs.Mutating.Reading.{object_kept}
 
 pub object_bare : (g : Graph) (n : ℕ) (o : Object) → HaveNoPairs g → object_named g n ≡ Some o → o.held ≡ []
 object_bare g n o none named = none (n - g.first_name) o (place_named g n o named)
+
+-- no pairs come where weak slots are cleared
+pub pairs_cleared : (s g g' : Graph) → Clears s g g' → HaveNoPairs g → HaveNoPairs g'
+pairs_cleared s g g' c none p y at =
+    let (x, is, z) = AllZip-get_right (ClearsObject s) g.objects g'.objects c.objects p y at in
+    z.held ∙ ap (λ (vs : List (Option ℕ)). held_by y.weaks vs) (none p x is)
 
 none_of : (hs : List (Option ℕ)) → length hs ≡ 0 → hs ≡ []
 none_of [] e = refl

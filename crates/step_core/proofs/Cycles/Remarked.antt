@@ -12,7 +12,7 @@ use Rattle.satb_log.specs.Logs.{log_of, logged}
 use Rattle.marker.specs.Stands.{MarkerStands}
 use Rattle.marker.specs.Steps.{ScansMore}
 use Rattle.marker.specs.Ends.{EndsMarking, EndsExactly}
-use Rattle.graph_runs.proofs.Sound.{clears_pairs}
+use Rattle.step_core.proofs.Cores.Bare.{pairs_cleared}
 use Rattle.marker.specs.declared.marker.Marker.{Marker}
 use Rattle.refinement.specs.Remembering.{IsCrossing}
 use Rattle.graph_runs.specs.State.{ForSnapshot}
@@ -134,5 +134,5 @@ module _ (k : CoreState) (core : IsCore k) (run : k.marker.running ≡ true) (m 
         keeps = record { earlier = (let next = mine.shows.next in omega (arith, next)); marking = λ on. absurd cc };
         sound = sound;
         unreached = unreached_begins mine.after sound;
-        pairs = clears_pairs (Some core.footing.snapshot) core.footing.graph mine.after mine.clears core.rests.pairs;
+        pairs = pairs_cleared core.footing.snapshot core.footing.graph mine.after mine.clears core.rests.pairs;
       })
