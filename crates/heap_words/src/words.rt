@@ -1,7 +1,7 @@
 //! The words of a heap, read and written as objects.
 //!
 //! An object is its header, its name, its pointers, its weak slots and its data, one word each. One of n pairs has its n keys as its weak
-//! slots, and what each holds after them; no other crate makes one yet:
+//! slots, and what each holds after them; no step makes one yet:
 //!
 //! ```text
 //!   object              + 1    + 2          + 2 + p        + 2 + p + w    + 2 + p + w + d

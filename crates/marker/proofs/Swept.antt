@@ -148,7 +148,8 @@ ArePaired t = (a : ℕ) (s : Stored) → object_at t a ≡ Some s → IsPaired s
 -- so what has no weak slots has no held slots
 none_held : (s : Stored) → IsPaired s → (0 < length s.weaks → ⊥) → s.held ≡ []
 none_held s (inl none) few = none
-none_held s (inr same) few = go s.held (elim (cases_lt 0 (length s.weaks)) [ inl some ↦ absurd (few some) | inr le ↦ omega (arith, same, le) ])
+none_held s (inr same) few =
+    go s.held (elim (cases_lt 0 (length s.weaks)) [ inl some ↦ absurd (few some) | inr le ↦ omega (arith, same, le) ])
   where
     go : (hs : List (Option ℕ)) → length hs ≡ 0 → hs ≡ []
     go [] e = refl
@@ -159,7 +160,8 @@ no_slots m [] none = refl
 no_slots m (w ∷ ws) none = absurd (none (omega arith))
 
 -- clearing doesn't change an object that has none
-module _ (m : Marking) (t u : Table) (d : ℕ → Type 0) (paired : ArePaired t) (c : ClearsSome m t u d) (a : ℕ) (none : HasWeaks u a → ⊥) where
+module _ (m : Marking) (t u : Table) (d : ℕ → Type 0) (paired : ArePaired t) (c : ClearsSome m t u d) (a : ℕ)
+    (none : HasWeaks u a → ⊥) where
   stored_passed : (s : Stored) → object_at t a ≡ Some s → object_at u a ≡ cleared_object m (object_at t a)
   stored_passed s is = elim (c.each a) [
     | inl same ↦

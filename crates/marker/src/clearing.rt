@@ -13,8 +13,8 @@
 //!   of a dead object                                  stays, and is reclaimed with it
 //! ```
 //!
-//! New is what was made since marking began. Only objects with weak slots are looked at, each once: the set of their starts
-//! is searched, and no region is walked.
+//! New is what was made since marking began. What a key of a pair held becomes nil where the key does. Only objects with weak
+//! slots are looked at, each once: the set of their starts is searched, and no region is walked.
 
 ghost use Rattle.std.specs.Prelude.{◌≡◌, ◌≤◌, ◌<◌, ◌↔◌, ℕ, None, IsSome, IsTrue};
 ghost use Rattle.heap_model.specs.Weak.{cleared_word};

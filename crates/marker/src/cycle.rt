@@ -256,7 +256,8 @@ impl Marker {
     }
 
     /// Marking ends: all logs and all roots that wait are taken, all grey objects scanned, and the next marks and tops become the previous
-    /// ones. No weak slot is cleared yet. The result is how many objects are marked, and as many were scanned.
+    /// ones. No weak slot is cleared yet. The result is how many objects are marked, and as many were scanned. What is held for a key isn't
+    /// followed yet: what is marked is exactly what was reachable if no kept object has held slots.
     pub fn finish(&mut self, table: &RegionTable) -> u32
         requires stands { MarkerStands table.now self.old }
         requires running { self.old.running ≡ true }

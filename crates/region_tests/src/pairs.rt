@@ -102,8 +102,14 @@ fn holds_pairs(rt: HostRuntime) -> Result<(), Fail> {
     assert_eq!(rt; table.next_with_weaks(object), Some(object));
     assert_eq!(rt; pairs(&table, object), (None, None, None, None));
     fill_pair(&mut table);
-    assert_eq!(rt; pairs(&table, object), (None, None, Some(key), Some(object)));
-    assert_eq!(rt; fields(&table, object), (None, None, Some(key), None, Some(object)));
+    assert_eq!(rt;
+        pairs(&table, object),
+        (None, None, Some(key), Some(object))
+    );
+    assert_eq!(rt;
+        fields(&table, object),
+        (None, None, Some(key), None, Some(object))
+    );
     empty_pair(&mut table);
     assert_eq!(rt; pairs(&table, object), (None, None, Some(key), None));
     assert_eq!(rt; fields(&table, object), (None, None, Some(key), None, None));

@@ -10,15 +10,16 @@
 //!   free       |                            |
 //!   taken      |............................|  `take_free`
 //!   cut        | filler       |.............|  `push_filler`, at the top
-//!   filled     | object | rest|.............|  `make_object`, at a filler's start
+//!   filled     | object | rest|.............|  `make_object` or `make_pairs`, at a filler's start
 //!   forwarded  | moved  | rest|.............|  `copy_object` into another region, then `forward`
 //!   released   |                            |  `release`
 //! ```
 //!
-//! A run is found by `free_run`, written with its object by `make_run`, and goes whole by `release`.
+//! A run is found by `free_run`, written with its object by `make_run` or `make_run_of_pairs`, and goes whole by `release`.
 //!
 //! A field is read or written by its address in constant time, and the first tile of a card is found from an entry of that card
-//! (`first_tiles`). Where objects with weak slots start is a set (`weak_starts`). Nothing but `RegionTable::new` takes memory.
+//! (`first_tiles`). Where objects with weak slots start is a set (`weak_starts`), and keys of pairs are weak slots. Nothing but
+//! `RegionTable::new` takes memory.
 #![tactic(auto)]
 
 mod first_tiles;

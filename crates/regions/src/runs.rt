@@ -2,8 +2,8 @@
 ghost use Rattle.std.specs.Prelude.{◌≡◌, ◌≢◌, ◌+◌, ◌*◌, ◌/◌, ◌<◌, ◌≤◌, ℕ, length, replicate, Some};
 ghost use Rattle.heap_words.specs.Sizes.{size_of};
 ghost use lib.Seq.{paste};
-ghost use Rattle.regions.specs.Table.{first_run, is_free as region_is_free, new_object, new_pairs, run_length, run_regions, with_regions, with_run};
-ghost use Rattle.regions.specs.Table.{kind_of, moved_run, EachForwardedIn};
+ghost use Rattle.regions.specs.Table.{first_run, is_free as region_is_free, new_object, new_pairs, run_length, run_regions};
+ghost use Rattle.regions.specs.Table.{with_regions, with_run, kind_of, moved_run, EachForwardedIn};
 ghost use Rattle.regions.specs.Rows.{free_row, kind_is_free, run_rows, AreUsedBelow};
 ghost use Rattle.regions.specs.declared.row.Kind.TheVariants as kinds;
 ghost use Rattle.heap_words.specs.Configs.{max_words};

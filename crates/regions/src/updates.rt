@@ -169,10 +169,10 @@ impl RegionTable {
             ∷ remainder (filler - size_of counts.pointers (counts.pairs + counts.pairs) counts.values)) }
     {
         let weaks = counts.pairs.get();
-        let size = counts.size();
+        let taken = counts.size();
         self.words.write_pairs(at, name, counts);
-        write_remainder(&mut self.words, at.word() + size, filler.get() - size);
-        self.first_tiles.cut_front(at.word(), size, filler.get());
+        write_remainder(&mut self.words, at.word() + taken, filler.get() - taken);
+        self.first_tiles.cut_front(at.word(), taken, filler.get());
         self.weak_starts.add(at.word(), weaks);
     }
 

@@ -295,4 +295,5 @@ run_paired size words rows t k m name p q d n long number new rows' g e h y some
     small_d n_is long_is number_is new_is rows_is =
     let is = header_of-word (headers.Pairs p q d) (small_p, small_q, small_d) in
     run_fresh size words rows t k m (header_word (headers.Pairs p q d)) name p q q d (p + (q + q) + d) n long number new rows' g e h y
-    (rw is some) (ap counts_of is) refl (omega (arith, covers)) (omega (arith, tight)) n_is (omega (arith, long_is)) number_is new_is rows_is
+    (rw is some) (ap counts_of is) refl (omega (arith, covers)) (omega (arith, tight)) n_is (omega (arith, long_is)) number_is new_is
+    rows_is

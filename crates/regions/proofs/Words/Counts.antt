@@ -1,5 +1,6 @@
 -- What a header counts is what its tile has.
-use Rattle.regions.proofs.Common.{◌≡◌, ◌+◌, ◌<◌, ◌∷◌, ◌∙◌, ℕ, Option, Some, List, [], length, refl, sym, subst, Header, Object, inl, inr, arith}
+use Rattle.regions.proofs.Common.{◌≡◌, ◌+◌, ◌<◌, ◌∷◌, ◌∙◌, ℕ, Option, Some, List, [], length, refl, sym, subst, Header, Object}
+use Rattle.regions.proofs.Common.{inl, inr, arith}
 use Rattle.regions.proofs.Common.{Stored, stored_of, tile_by, size_by, counts_of, stored_by, IsObjectHeader, ap}
 use Rattle.regions.specs.Shaped.{IsPaired}
 use Rattle.heap_words.specs.Contents.{IsPlainHeader}

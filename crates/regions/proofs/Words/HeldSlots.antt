@@ -1,5 +1,6 @@
 -- Held slots, as the last fields of their object.
-use Rattle.regions.proofs.Common.{◌≡◌, ◌+◌, ◌-◌, ◌^◌, ◌<◌, ◌++◌, ◌∙◌, ℕ, Option, Some, None, List, length, set, refl, sym, ap, arith, IsSome}
+use Rattle.regions.proofs.Common.{◌≡◌, ◌+◌, ◌-◌, ◌^◌, ◌<◌, ◌++◌, ◌∙◌, ℕ, Option, Some, None, List, length, refl, sym, ap, arith}
+use Rattle.regions.proofs.Common.{IsSome}
 use Rattle.regions.proofs.Common.{Stored, Object, IsShaped}
 use Rattle.regions.proofs.Common.{fields, with_field, Table, object_at, pointers_at, weaks_at, fields_at, put_object, set_field}
 use Rattle.std.specs.List.{slice_get}

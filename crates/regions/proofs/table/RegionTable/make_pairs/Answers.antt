@@ -14,13 +14,13 @@ write_pairs-requires c =
 pub overflow_add-word : goal.overflow_add-word
 overflow_add-word c =
     let f = filler_fits _ _ _ _ _ _ c.self.invariant.table c.self.view_is c.requires.there in
-    omega (arith, f, c.requires.room, c.self.invariant.table.small, c.word.ensures, c.size-size.ensures)
+    omega (arith, f, c.requires.room, c.self.invariant.table.small, c.word.ensures, c.size-taken.ensures)
 
 pub write_remainder-requires-clause-within : goal.write_remainder-requires-clause-within
 write_remainder-requires-clause-within c =
     let f = tile_within _ _ _ _ _ c.self.invariant.written c.self.view_is c.requires.there in
     rw c.write_pairs.ensures.written
-    (omega (arith, f, c.requires.room, c.word.ensures, c.size-size.ensures, c.get.ensures.value))
+    (omega (arith, f, c.requires.room, c.word.ensures, c.size-taken.ensures, c.get.ensures.value))
 
 pub cut_front-requires-clause-within : goal.cut_front-requires-clause-within
 cut_front-requires-clause-within c =
@@ -34,23 +34,29 @@ cut_front-requires-clause-small c =
 
 pub invariant_of-self : goal.invariant_of-self
 invariant_of-self c =
-    let size : c.word.result + c.size-size.result ≡ c.args.at + (2 + c.args.counts.pointers + (c.args.counts.pairs + c.args.counts.pairs) + c.args.counts.values) =
-    omega (arith, c.word.ensures, c.size-size.ensures) in
-    let rest : c.get.result - c.size-size.result
+    let size : c.word.result + c.size-taken.result
+    ≡ c.args.at + (2 + c.args.counts.pointers + (c.args.counts.pairs + c.args.counts.pairs) + c.args.counts.values) =
+    omega (arith, c.word.ensures, c.size-taken.ensures) in
+    let rest : c.get.result - c.size-taken.result
     ≡ c.args.filler - (2 + c.args.counts.pointers + (c.args.counts.pairs + c.args.counts.pairs) + c.args.counts.values) =
-    omega (arith, c.get.ensures.value, c.size-size.ensures) in
+    omega (arith, c.get.ensures.value, c.size-taken.ensures) in
     let w = pairs_filled _ _ _ _ c.args.at c.args.name c.args.counts.pointers c.args.counts.pairs c.args.counts.values c.args.filler _ _ _
-    _ _ c.self.invariant.table c.self.view_is c.requires.there (omega (arith, c.requires.room)) c.requires.some (omega arith) (omega arith) (omega arith)
+    _ _ c.self.invariant.table c.self.view_is c.requires.there (omega (arith, c.requires.room)) c.requires.some (omega arith) (omega arith)
+    (omega arith)
     c.write_pairs.ensures.all c.write_remainder.ensures.all size rest in
-    let long : c.size-size.result
+    let long : c.size-taken.result
     ≡ tile_size (Object (new_pairs c.args.name c.args.counts.pointers c.args.counts.pairs c.args.counts.values)) =
-    omega (arith, c.size-size.ensures, fresh_size c.args.name c.args.counts.pointers c.args.counts.pairs c.args.counts.pairs c.args.counts.values) in
+    omega (
+      arith,
+      c.size-taken.ensures,
+      fresh_size c.args.name c.args.counts.pointers c.args.counts.pairs c.args.counts.pairs c.args.counts.values,
+    ) in
     let flags = c.add.ensures ∙ ap (λ (k : ℕ). start_added c.self.inside.weak_starts k c.get-weaks.result) c.word-3.ensures
     ∙ ap (λ (n : ℕ). start_added c.self.inside.weak_starts c.args.at n) c.get-weaks.ensures.value in
     front_sound _ _ _ _ _ _ _ _ _ c.self.invariant c.self.view_is c.cut_front.new.self _ _ c.args.at c.args.filler
-    _ (c.args.at + c.size-size.result) (c.args.at + c.get-2.result) c.args.counts.pairs
+    _ (c.args.at + c.size-taken.result) (c.args.at + c.get-2.result) c.args.counts.pairs
     (Object (new_pairs c.args.name c.args.counts.pointers c.args.counts.pairs c.args.counts.values))
-    c.requires.there (omega (arith, long)) (omega (arith, c.requires.room, long, c.size-size.ensures)) tt
+    c.requires.there (omega (arith, long)) (omega (arith, c.requires.room, long, c.size-taken.ensures)) tt
     (omega (arith, c.word-2.ensures, long)) (omega (arith, c.word-2.ensures, c.get-2.ensures.value))
     (rw c.word-2.ensures at c.cut_front.ensures)
     (length-replicate {A = Option ℕ} c.args.counts.pairs None) flags
@@ -58,11 +64,12 @@ invariant_of-self c =
 
 pub returns : goal.returns
 returns c =
-    let size : c.word.result + c.size-size.result ≡ c.args.at + (2 + c.args.counts.pointers + (c.args.counts.pairs + c.args.counts.pairs) + c.args.counts.values) =
-    omega (arith, c.word.ensures, c.size-size.ensures) in
-    let rest : c.get.result - c.size-size.result
+    let size : c.word.result + c.size-taken.result
+    ≡ c.args.at + (2 + c.args.counts.pointers + (c.args.counts.pairs + c.args.counts.pairs) + c.args.counts.values) =
+    omega (arith, c.word.ensures, c.size-taken.ensures) in
+    let rest : c.get.result - c.size-taken.result
     ≡ c.args.filler - (2 + c.args.counts.pointers + (c.args.counts.pairs + c.args.counts.pairs) + c.args.counts.values) =
-    omega (arith, c.get.ensures.value, c.size-size.ensures) in
+    omega (arith, c.get.ensures.value, c.size-taken.ensures) in
     (pairs_filled _ _ _ _ c.args.at c.args.name c.args.counts.pointers c.args.counts.pairs c.args.counts.values c.args.filler _ _ _ _ _
     c.self.invariant.table c.self.view_is c.requires.there (omega (arith, c.requires.room)) c.requires.some (omega arith) (omega arith)
     (omega arith) c.write_pairs.ensures.all c.write_remainder.ensures.all size rest).table_is

@@ -16,14 +16,16 @@ overflow_mul-bottom c =
 pub overflow_add-end : goal.overflow_add-end
 overflow_add-end c =
     let (e, f) = run_there _ _ _ _ _ _ c.self.invariant.table c.self.view_is c.requires.lowest in
-    let covers : 2 + c.args.counts.pointers + (c.args.counts.pairs + c.args.counts.pairs) + c.args.counts.values ≤ c.args.count * c.self.inside.words_per_region =
+    let covers : 2 + c.args.counts.pointers + (c.args.counts.pairs + c.args.counts.pairs) + c.args.counts.values
+    ≤ c.args.count * c.self.inside.words_per_region =
     rw (size_is_of _ _ _ _ c.self.view_is) c.requires.covers in
     rw c.number-number.ensures (omega (arith, f.ends, covers, c.size-size.ensures, c.self.invariant.table.small))
 
 pub zero_below-requires : goal.zero_below-requires
 zero_below-requires c =
     let (e, f) = run_there _ _ _ _ _ _ c.self.invariant.table c.self.view_is c.requires.lowest in
-    let covers : 2 + c.args.counts.pointers + (c.args.counts.pairs + c.args.counts.pairs) + c.args.counts.values ≤ c.args.count * c.self.inside.words_per_region =
+    let covers : 2 + c.args.counts.pointers + (c.args.counts.pairs + c.args.counts.pairs) + c.args.counts.values
+    ≤ c.args.count * c.self.inside.words_per_region =
     rw (size_is_of _ _ _ _ c.self.view_is) c.requires.covers in
     rw c.number-number.ensures (omega (arith, f.ends, covers, c.size-size.ensures))
 
@@ -43,7 +45,8 @@ write_run-requires-clause-small c =
 pub put_tile-requires : goal.put_tile-requires
 put_tile-requires c =
     let (e, f) = run_there _ _ _ _ _ _ c.self.invariant.table c.self.view_is c.requires.lowest in
-    let covers : 2 + c.args.counts.pointers + (c.args.counts.pairs + c.args.counts.pairs) + c.args.counts.values ≤ c.args.count * c.self.inside.words_per_region =
+    let covers : 2 + c.args.counts.pointers + (c.args.counts.pairs + c.args.counts.pairs) + c.args.counts.values
+    ≤ c.args.count * c.self.inside.words_per_region =
     rw (size_is_of _ _ _ _ c.self.view_is) c.requires.covers in
     record {
       within = rw c.number-number.ensures (omega (arith, f.ends, covers, c.self.invariant.each_card, c.size-size.ensures));
@@ -60,7 +63,8 @@ invariant_of-self c =
     c.new.ensures ∙ ap (λ (k : ℕ). k * c.self.inside.words_per_region) c.number-number.ensures in
     let rows = rw (c.deref_mut.ensures.value, c.number-number.ensures) at c.write_run.ensures in
     let w = run_paired _ _ _ _ _ _ c.args.name c.args.counts.pointers c.args.counts.pairs c.args.counts.values _ _ _ _ _
-    c.self.invariant.table c.self.view_is e c.requires.positive c.requires.some c.requires.covers c.requires.tight (omega arith) (omega arith) (omega arith)
+    c.self.invariant.table c.self.view_is e c.requires.positive c.requires.some c.requires.covers c.requires.tight (omega arith)
+    (omega arith) (omega arith)
     bottom size number (rw c.zero_below.ensures.all at c.write_pairs.ensures.all) rows in
     let flags = c.add.ensures
     ∙ ap (λ (n : ℕ). start_added c.self.inside.weak_starts (c.number-number.result * c.self.inside.words_per_region) n)
@@ -95,7 +99,8 @@ returns c =
 pub add-requires : goal.add-requires
 add-requires c =
     let (e, f) = run_there _ _ _ _ _ _ c.self.invariant.table c.self.view_is c.requires.lowest in
-    let covers : 2 + c.args.counts.pointers + (c.args.counts.pairs + c.args.counts.pairs) + c.args.counts.values ≤ c.args.count * c.self.inside.words_per_region =
+    let covers : 2 + c.args.counts.pointers + (c.args.counts.pairs + c.args.counts.pairs) + c.args.counts.values
+    ≤ c.args.count * c.self.inside.words_per_region =
     rw (size_is_of _ _ _ _ c.self.view_is) c.requires.covers in
     let count = c.self.invariant.weak_count in
     rw c.number-number.ensures (omega (arith, f.ends, covers, count))

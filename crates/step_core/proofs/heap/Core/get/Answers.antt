@@ -16,7 +16,8 @@ plain_pointer_count-requires c = let l = c.in-Some.ensures.leads in record {
 pub returns-then-field-plain_pointer_count : goal.returns-then-field-plain_pointer_count
 returns-then-field-plain_pointer_count c = let l = c.in-Some.ensures.leads in
     refused_does _ _ _ _ (λ g s. get_past g _ s c.args.mutator c.args.object _ l c.args.to c.args.field
-    (let count = c.plain_pointer_count.ensures ∙ ap (λ (d : CoreState). length (pointers_at d.table c.in-Some.at)) c.self.view_is in omega arith))
+    (let count = c.plain_pointer_count.ensures ∙ ap (λ (d : CoreState). length (pointers_at d.table c.in-Some.at)) c.self.view_is in
+    omega arith))
 
 pub take_named-name-requires-clause-word : goal.take_named-name-requires-clause-word
 take_named-name-requires-clause-word c =

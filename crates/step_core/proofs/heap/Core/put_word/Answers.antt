@@ -16,9 +16,11 @@ plain_pointer_count-requires c = let l = c.requires.names.leads in record {
 pub returns-then-field-plain_pointer_count : goal.returns-then-field-plain_pointer_count
 returns-then-field-plain_pointer_count c = let l = c.requires.names.leads in
     refused_does _ _ _ _ (λ g s. put_past g _ s c.args.mutator c.args.object _ l c.args.field c.args.value
-    (let count = c.plain_pointer_count.ensures ∙ ap (λ (d : CoreState). length (pointers_at d.table c.args.at)) c.self.view_is in omega arith))
+    (let count = c.plain_pointer_count.ensures ∙ ap (λ (d : CoreState). length (pointers_at d.table c.args.at)) c.self.view_is in
+    omega arith))
 
 pub returns : goal.returns
 returns c = put_does _ _ c.args.mutator c.args.object c.args.at c.args.field c.args.value _ c.requires.names
-    (let count = c.plain_pointer_count.ensures ∙ ap (λ (d : CoreState). length (pointers_at d.table c.args.at)) c.self.view_is in omega arith)
+    (let count = c.plain_pointer_count.ensures ∙ ap (λ (d : CoreState). length (pointers_at d.table c.args.at)) c.self.view_is in
+    omega arith)
     c.requires.target c.store.ensures

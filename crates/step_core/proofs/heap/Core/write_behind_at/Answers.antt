@@ -11,8 +11,9 @@ write_known-requires-clause-names c =
 
 pub write_known-requires-clause-fields : goal.write_known-requires-clause-fields
 write_known-requires-clause-fields c =
-    let count = fields_exact c.args.self.now.table c.args.at (led_bare _ _ _ c.law_remembers.ensures.core (names_at _ c.args.mutator c.args.object c.args.at c.law_remembers.ensures.core
-    c.requires.mutator c.requires.object c.requires.held).leads) in
+    let core = c.law_remembers.ensures.core in
+    let names = names_at _ c.args.mutator c.args.object c.args.at core c.requires.mutator c.requires.object c.requires.held in
+    let count = fields_exact c.args.self.now.table c.args.at (led_bare _ _ _ core names.leads) in
     omega (arith, count, c.requires.pointers, c.requires.weaks)
 
 pub returns : goal.returns

@@ -16,7 +16,8 @@ field_count-fields-requires c =
 pub write_at-requires-clause-fields : goal.write_at-requires-clause-fields
 write_at-requires-clause-fields c =
     let kept = c.loop-number.invariant in
-    let count = fields_exact c.args.self.now.table c.args.at (led_bare _ _ _ c.law_remembers.ensures.core (names_at _ c.args.mutator c.args.object c.args.at c.law_remembers.ensures.core
-    c.requires.mutator c.requires.object c.requires.has.held).leads) in
+    let core = c.law_remembers.ensures.core in
+    let names = names_at _ c.args.mutator c.args.object c.args.at core c.requires.mutator c.requires.object c.requires.has.held in
+    let count = fields_exact c.args.self.now.table c.args.at (led_bare _ _ _ core names.leads) in
     let is = c.field_count-fields.ensures ∙ ap (λ (d : CoreState). length (fields_at d.table c.args.at)) c.self.view_is in
     omega (arith, kept.pointers, kept.weaks, count, is)
