@@ -78,7 +78,18 @@ fn write_fresh(words: &mut [u64], at: usize, header: u64, name: u64, fields: usi
     }
 }
 
-/// Copies words within a slice to a place apart from theirs: by the halves of the slice, so that it is one copy of memory.
+/// Copies words within a slice to a place below theirs and apart from them: by the parts of the slice, so that it is one copy of memory.
+#[inline(always)]
+fn copy_lower(words: &mut [u64], from: usize, to: usize, size: usize)
+    requires source { from + size ≤ length words.old }
+    requires apart { to + size ≤ from }
+    ensures { words.new ≡ put words.old to (take size (drop from words.old)) }
+{
+    let (low, high) = words.split_at_mut(from);
+    low[to..to + size].copy_from_slice(&high[..size]);
+}
+
+/// The same to any place apart from theirs.
 fn copy_within(words: &mut [u64], from: usize, to: usize, size: usize)
     requires source { from + size ≤ length words.old }
     requires target { to + size ≤ length words.old }
@@ -89,13 +100,22 @@ fn copy_within(words: &mut [u64], from: usize, to: usize, size: usize)
         let (low, high) = words.split_at_mut(to);
         high[..size].copy_from_slice(&low[from..from + size]);
     } else {
-        let (low, high) = words.split_at_mut(from);
-        low[to..to + size].copy_from_slice(&high[..size]);
+        copy_lower(words, from, to, size);
     }
 }
 
+/// The same by a call, so that who copies piece after piece has a short loop.
+#[inline(never)]
+fn copy_piece(words: &mut [u64], from: usize, to: usize, size: usize)
+    requires source { from + size ≤ length words.old }
+    requires apart { to + size ≤ from }
+    ensures { words.new ≡ put words.old to (take size (drop from words.old)) }
+{
+    copy_lower(words, from, to, size);
+}
+
 /// Copies words within a slice to a place below their own, which they may reach into: in pieces as long as the way, of which each lies
-/// apart from its new place, so that each is one copy of memory.
+/// apart from its new place, so that each is one copy of memory. The last piece is what is left.
 fn copy_down(words: &mut [u64], from: usize, to: usize, size: usize)
     requires below { to < from }
     requires source { from + size ≤ length words.old }
@@ -103,11 +123,11 @@ fn copy_down(words: &mut [u64], from: usize, to: usize, size: usize)
 {
     let way = from - to;
     let mut done = 0;
-    while done < size {
-        let more = way.min(size - done);
-        copy_within(words, from + done, to + done, more);
-        done += more;
+    while way < size - done {
+        copy_piece(words, from + done, to + done, way);
+        done += way;
     }
+    copy_piece(words, from + done, to + done, size - done);
 }
 
 /// Copies words into a slice, in place of those from one on.

@@ -136,8 +136,9 @@ fn fill_more(entries: &mut [u32], from: u32, to: u32, entry: u32)
     ensures entries { (c : ℕ) → slice_index entries.new c ≡ (if is_between from to c then entry else slice_index entries.old c) }
 {
     let end = to as usize;
+    let past = end.saturating_sub(BLOCK - 1);
     let mut next = from as usize;
-    'full: while next + BLOCK <= end {
+    'full: while next < past {
         fill_block(entries, next, entry);
         next += BLOCK;
     }

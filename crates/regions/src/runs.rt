@@ -4,7 +4,7 @@ ghost use Rattle.heap_words.specs.Sizes.{size_of};
 ghost use lib.Seq.{paste};
 ghost use Rattle.regions.specs.Table.{first_run, is_free as region_is_free, new_object, new_pairs, run_length, run_regions};
 ghost use Rattle.regions.specs.Table.{with_regions, with_run, kind_of, moved_run, EachForwardedIn};
-ghost use Rattle.regions.specs.Rows.{free_row, kind_is_free, run_rows, AreUsedBelow};
+ghost use Rattle.regions.specs.Rows.{free_row, kind_is_free, run_kind, run_rows, AreUsedBelow};
 ghost use Rattle.regions.specs.declared.row.Kind.TheVariants as kinds;
 ghost use Rattle.heap_words.specs.Configs.{max_words};
 
@@ -33,27 +33,43 @@ fn lowest_run(rows: &[Row], count: usize, from: usize) -> Option<usize>
     None
 }
 
-/// Writes the rows of a humongous object of `words` words, in regions of `size` words.
+/// What kind a run's `i`th region is.
+#[inline(always)]
+fn nth_kind(i: u32) -> Kind
+    ensures { result ≡ run_kind i }
+{
+    if i == 0 { Kind::First } else { Kind::Rest }
+}
+
+/// Writes the rows of a humongous object of `words` words, in regions of `size` words. All but the last one are full.
 fn write_run(rows: &mut [Row], at: usize, count: u32, size: u32, words: u32)
+    requires some { 0 < count }
     requires within { at + count ≤ length rows.old }
     requires small { count * size ≤ max_words }
+    requires tight { count * size < words + size }
     ensures { rows.new ≡ paste rows.old at (run_rows size words 0 count) count }
 {
-    for i in 0..count {
-        let kind = if i == 0 { Kind::First } else { Kind::Rest };
-        let before = i * size;
+    let last = count - 1;
+    for i in 0..last {
         rows[at + i as usize] = Row {
-            kind,
-            used: size.min(words.saturating_sub(before)),
+            kind: nth_kind(i),
+            used: size,
         };
     }
+    let left = words - last * size;
+    rows[at + last as usize] = Row {
+        kind: nth_kind(last),
+        used: size.min(left),
+    };
 }
 
 /// The rows of a run become free, and then those from `to` on are its rows.
 fn move_rows(rows: &mut [Row], from: usize, to: usize, count: u32, size: u32, words: u32)
+    requires some { 0 < count }
     requires source { from + count ≤ length rows.old }
     requires target { to + count ≤ length rows.old }
     requires small { count * size ≤ max_words }
+    requires tight { count * size < words + size }
     ensures { rows.new ≡ paste (paste rows.old from (replicate count free_row) count) to (run_rows size words 0 count) count }
 {
     write_free(rows, from, count as usize);
@@ -173,7 +189,7 @@ impl RegionTable {
         let at = Addr::new(place * self.words_per_region);
         let size = self.object_size(from);
         let weaks = self.weak_count(from);
-        let count = self.run_length(first);
+        let count = size.div_ceil(self.words_per_region);
         self.words.copy_down(from, at, size);
         move_rows(
             &mut self.rows,

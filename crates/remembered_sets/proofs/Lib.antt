@@ -6,3 +6,4 @@ pub mod Parts
 pub mod Kept
 pub mod Reading
 pub mod Flagging
+pub mod Runs

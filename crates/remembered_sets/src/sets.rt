@@ -16,11 +16,12 @@
 //! Each region has a filter of its own, and clauses see it as a part of the region's set. Four neighbours have theirs in one table, so that
 //! making them asks for memory once: what asks touches a page, and a heap may have thousands of regions.
 
-ghost use Rattle.std.specs.Prelude.{◌≡◌, ◌≢◌, ◌⊎◌, ◌||◌, ◌/◌, ◌%◌, ◌<◌};
+ghost use Rattle.std.specs.Prelude.{◌≡◌, ◌≢◌, ◌⊎◌, ◌||◌, ◌+◌, ◌*◌, ◌/◌, ◌%◌, ◌<◌, ◌≤◌, if◌then◌else◌};
 ghost use Rattle.std.specs.Prelude.{All, ℕ, false, true, IfOk, Some, length, slice_get, slice_index_or, List};
-ghost use Rattle.bit_sets.specs.Bits.{has};
+ghost use Rattle.bit_sets.specs.Bits.{has, is_between};
 ghost use Rattle.remembered_sets.specs.Sets.{added, after_all, card_count, cleared, covers, empty_sets, may_lead, set_of};
-ghost use Rattle.remembered_sets.specs.Sets.{Change, AreSets, LeavesSet, Sets};
+ghost use Rattle.remembered_sets.specs.Sets.{emptied, emptied_filter, no_set, Change, AreSets, LeavesSet, Sets};
+ghost use Rattle.remembered_sets.specs.Sharing.{filter_of};
 
 use crate::filter::{Filter, SHARERS, add_to_filter, clear_filter, new_filters};
 use crate::set::RememberedSet;
@@ -64,6 +65,25 @@ impl Drop for RememberedSets {
             cards_per_region: _,
             entered: _,
         } = self;
+    }
+}
+
+/// The sets of the regions from one up to another, which is not one of them, are empty, and so are their filters. The other sets stay, and
+/// so do their filters.
+fn clear_each(sets: &mut Vec<RememberedSet>, filters: &mut Vec<Filter>, first: u32, past: u32)
+    requires order { first ≤ past }
+    requires known { past ≤ length sets.old.items }
+    requires tables { length sets.old.items ≤ 4 * length filters.old.items }
+    ensures sets { (k : ℕ) → slice_index_or sets.new.items k no_set ≡ (if is_between first past k
+        then emptied (slice_index_or sets.old.items k no_set) else slice_index_or sets.old.items k no_set) }
+    ensures filters { (k : ℕ) → filter_of filters.new.items k ≡ (if is_between first past k
+        then emptied_filter (filter_of filters.old.items k) else filter_of filters.old.items k) }
+    ensures each { length sets.new.items ≡ length sets.old.items }
+    ensures each_table { length filters.new.items ≡ length filters.old.items }
+{
+    for number in first..past {
+        clear_filter(filters, number);
+        sets[number as usize].clear();
     }
 }
 
@@ -192,6 +212,21 @@ impl RememberedSets {
         ensures flags { (c : ℕ) → has flags.new c ≡ (has flags.old c || may_lead self.now region c) }
         ensures len { length flags.new ≡ length flags.old }
     {
+        let set = &self.sets[region.number() as usize];
+        if set.is_untouched() {
+            return;
+        }
+        self.mark_covered(region, flags);
+    }
+
+    /// The same where cards were added to the set.
+    #[inline(never)]
+    fn mark_covered(&self, region: RegionNo, flags: &mut BoundedBits)
+        requires region { region < length self.now.sets }
+        requires each { length flags.old ≡ card_count self.now }
+        ensures flags { (c : ℕ) → has flags.new c ≡ (has flags.old c || may_lead self.now region c) }
+        ensures len { length flags.new ≡ length flags.old }
+    {
         let number = region.number();
         let set = &self.sets[number as usize];
         let filter = &self.filters[(number / SHARERS) as usize];
@@ -217,6 +252,24 @@ impl RememberedSets {
         clear_filter(&mut self.filters, number);
         let set = &mut self.sets[number as usize];
         set.clear();
+    }
+
+    /// The same of so many regions from one on. Their own cards are looked at as one range.
+    pub fn clear_run(&mut self, first: RegionNo, count: u32)
+        requires { first + count ≤ length self.old.sets }
+        ensures sets { (k : ℕ) → set_of self.new k
+            ≡ (if is_between first (first + count) k then emptied (set_of self.old k) else set_of self.old k) }
+        ensures entered { (card : ℕ) → has self.new.entered card
+            ≡ (if is_between first (first + count) (card / self.old.cards_per_region) then false else has self.old.entered card) }
+        ensures each { length self.new.sets ≡ length self.old.sets }
+        ensures cards { self.new.cards_per_region ≡ self.old.cards_per_region }
+    {
+        self.entered.law();
+        let number = first.number();
+        let past = number + count;
+        let cards = self.cards_per_region;
+        self.entered.clear_range(number * cards, past * cards);
+        clear_each(&mut self.sets, &mut self.filters, number, past);
     }
 }
 

@@ -49,10 +49,10 @@ pub(crate) fn forget(
     ensures aged { AgesAfter (is_between first (first + count)) ages.old ages.new }
 {
     table.law();
+    sets.clear_run(first, count);
     for i in 0..count {
         let region = RegionNo::new(first.number() + i);
         marker.forget(table, region);
-        sets.clear(region);
         ages.forget(region);
     }
 }

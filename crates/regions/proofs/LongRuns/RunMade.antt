@@ -7,6 +7,7 @@ use Rattle.regions.proofs.Common.{Free, Table, region_at, tile_in, object_at, Ea
 use Rattle.regions.proofs.Common.{new_object, first_run, is_free, object_size, sizes_in, first_stored, regions_of}
 use Rattle.regions.proofs.Common.{IsObjectHeader, AreRows, free_row, kind_is_free, run_row, run_rows, table_of, table_by, IsTable, Row}
 use Rattle.regions.proofs.Common.{Kind, paste, paste_more, mul-le}
+use Rattle.std.proofs.Math.Nat.{mul-le-mul_right}
 use Rattle.std.proofs.lemmas.List.{drop_all, append-nil}
 use Rattle.heap_words.specs.declared.header.Header.TheVariants as headers
 use Rattle.heap_words.proofs.Codec.{header_of-word}
@@ -154,20 +155,27 @@ run_row_put rows now at size s m i row h l e is =
     let more = paste_more rows at (run_rows size s 0 m) i free_row (omega arith) (omega (arith, length-run_rows size s 0 m)) in
     rw (e, ← here) more
 
-run_kind_first : (i : ℕ) → i ≡ 0 → run_kind i ≡ kinds.First
+pub run_kind_first : (i : ℕ) → i ≡ 0 → kinds.First ≡ run_kind i
 run_kind_first i e = rw e refl
 
-run_kind_rest : (i : ℕ) → i ≢ 0 → run_kind i ≡ kinds.Rest
+pub run_kind_rest : (i : ℕ) → i ≢ 0 → kinds.Rest ≡ run_kind i
 run_kind_rest zero h = absurd (h refl)
 run_kind_rest (suc i) h = refl
 
-pub row_first : (size s i used : ℕ) (kind : Kind) → i ≡ 0 → kind ≡ kinds.First → used ≡ min size (s - i * size)
+pub nth_row : (size s i used : ℕ) (kind : Kind) → kind ≡ run_kind i → used ≡ min size (s - i * size)
     → (let r : Row = record { kind = kind; used = used } in r) ≡ run_row size s i
-row_first size s i used kind e f g = rw (f, g, ← run_kind_first i e) refl
+nth_row size s i used kind e f = rw (e, f) refl
 
-pub row_rest : (size s i used : ℕ) (kind : Kind) → i ≢ 0 → kind ≡ kinds.Rest → used ≡ min size (s - i * size)
-    → (let r : Row = record { kind = kind; used = used } in r) ≡ run_row size s i
-row_rest size s i used kind e f g = rw (f, g, ← run_kind_rest i e) refl
+-- all regions of a run but its last one are full
+pub full_row : (size s m i : ℕ) → m * size < s + size → i + 1 < m → size ≡ min size (s - i * size)
+full_row size s m i tight h =
+    let near : (i + 2) * size ≤ m * size = mul-le-mul_right size (omega arith) in
+    omega (arith, near, tight)
+
+-- where the last one begins
+pub last_begins : (size s m : ℕ) → 0 < m → m * size < s + size → (m - 1) * size < s
+last_begins size s zero some tight = absurd (omega arith)
+last_begins size s (suc m) some tight = let z : suc m - 1 ≡ m = omega arith in rw z (omega arith)
 
 -- where the run lies
 pub record IsRunFound (size : ℕ) (words : List ℕ) (rows : List Row) (k m : ℕ) : Type 0 where

@@ -2,7 +2,10 @@
 use Rattle.std.proofs.Common.{◌≡◌, ◌≢◌, ◌⊎◌, ◌+◌, ◌-◌, ◌*◌, ◌/◌, ◌%◌, ◌<◌, ◌≤◌, ◌∷◌, ◌++◌, ◌∙◌}
 use Rattle.std.proofs.Common.{ℕ, zero, suc, true, Some, None, List, length, take, drop, get_or, refl, sym, ap, subst, arith, inl, inr}
 use Rattle.std.proofs.Common.{replicate, drop-cons}
+use Rattle.std.specs.Int.{div_ceil}
+use Rattle.std.proofs.Math.Nat.{lt_of_mul-lt-mul_right}
 use Rattle.std.proofs.lemmas.Bool.{cases_lt, cases_eq}
+use Rattle.std.proofs.lemmas.Grind.{div_ceil_times}
 use Rattle.std.proofs.lemmas.Nat.{div-mul-add}
 use Rattle.std.proofs.lemmas.List.{length-append, length-take, length-drop, length-replicate, take_all, append_assoc, drop-drop}
 use Rattle.std.proofs.lemmas.List.{take-append-drop}
@@ -204,6 +207,21 @@ run_is_here size words rows t k j g e can =
     product : (m size : ℕ) → 0 < m → m * size ≡ (m - 1) * size + size
     product zero size h = absurd (omega arith)
     product (suc m) size h = let z : suc m - 1 ≡ m = omega arith in rw z (omega arith)
+
+-- how many regions the run has, by the size of its object
+pub counted : (size : ℕ) (words : List ℕ) (rows : List Row) (t : Table) (k n : ℕ) → IsTable size words rows → (r : IsRun size words rows t k)
+    → n ≡ tile_size (Object r.object) → div_ceil n size ≡ run_length t k
+counted size words rows t k n g r e =
+    let m : ℕ = run_length t k in
+    let c : ℕ = div_ceil n size in
+    let (reaches, near) = div_ceil_times n size g.region_size.0 in
+    let covers = r.covers in
+    let tight = r.tight in
+    let most : c * size < (m + 1) * size = omega (arith, near, covers, e) in
+    let least : m * size < (c + 1) * size = omega (arith, tight, reaches, e) in
+    let below : c < m + 1 = lt_of_mul-lt-mul_right size most in
+    let above : m < c + 1 = lt_of_mul-lt-mul_right size least in
+    omega (arith, below, above)
 
 -- the rows once the run's are free, and once it is made again
 abbrev pub freed_rows : List Row → ℕ → ℕ → List Row

@@ -4,14 +4,14 @@ use Rattle.std.proofs.Common.{if◌then◌else◌}
 use Rattle.std.proofs.lemmas.Bool.{cases_lt}
 use Rattle.std.proofs.lemmas.Bool.Decides.{eqb_tells}
 use Rattle.std.proofs.Math.Bool.{or-true, or-false}
-use Rattle.bit_sets.specs.Bits.{is_between}
+use Rattle.bit_sets.specs.Bits.{has, is_between}
 use Rattle.bit_sets.proofs.BitRanges.{between_yes, between_no_below, between_no_above, between_same}
 use Rattle.mark_bitmap.specs.Marks.{is_marked}
 use Rattle.mark_bitmap.specs.Tops.{Tops, is_in_region, with_bottom}
 use Rattle.marker.specs.declared.marker.Marker.{Marker}
-use Rattle.remembered_sets.specs.Sets.{Sets, cleared}
+use Rattle.remembered_sets.specs.Sets.{Sets, emptied, set_of}
 use Rattle.evacuation.specs.Evacuates.{MarksAfter}
-use Rattle.evacuation.proofs.WholePause.ChosenReleased.{step_cleared, step_marks}
+use Rattle.evacuation.proofs.WholePause.ChosenReleased.{step_marks}
 use Rattle.step_core.specs.Cleaning.{HasForgotten, HasEmptied}
 
 -- a marker is the one before with other tops and marks, if the rest is the same
@@ -50,13 +50,17 @@ none_forgotten words k m = record {
   next = none_marks words k m.tams.next m.bitmaps.next;
 }
 
-pub none_cleared : (k : ℕ) (s : Sets) → HasEmptied k 0 s s
-none_cleared k s = record {
-  cards = refl;
-  count = refl;
-  cleared = λ j e. absurd (let no = none_between k j in cc);
-  others = λ j e. refl;
-  entered = λ card. rw (none_between k (card / s.cards_per_region)) refl;
+-- the sets of a run of regions are emptied at once
+pub run_emptied : (k m : ℕ) (s s' : Sets) → s'.cards_per_region ≡ s.cards_per_region → length s'.sets ≡ length s.sets
+    → ((j : ℕ) → set_of s' j ≡ (if is_between k (k + m) j then emptied (set_of s j) else set_of s j))
+    → ((card : ℕ) → has s'.entered card
+    ≡ (if is_between k (k + m) (card / s.cards_per_region) then false else has s.entered card)) → HasEmptied k m s s'
+run_emptied k m s s' cards count sets entered = record {
+  cards = cards;
+  count = count;
+  cleared = λ j e. sets j ∙ ap (λ (b : Bool). if b then emptied (set_of s j) else set_of s j) e;
+  others = λ j e. sets j ∙ ap (λ (b : Bool). if b then emptied (set_of s j) else set_of s j) e;
+  entered = entered;
 }
 
 pub one_forgotten : (words k i q : ℕ) (m0 m m' : Marker) → 0 < words → HasForgotten words k i m0 m → q ≡ k + i
@@ -74,8 +78,3 @@ one_forgotten words k i q m0 m m' z f at known known' len len' previous next top
   next = step_marks (is_between k (k + i)) (is_between k (k + (i + 1))) q (one_between k i q at) words m0.tams.next m.tams.next
       m'.tams.next m0.bitmaps.next m.bitmaps.next m'.bitmaps.next z known' (ap (λ (t : Tops). t.next) tops) len' next f.next;
 }
-
-pub one_cleared : (k i q : ℕ) (s0 s s' : Sets) → HasEmptied k i s0 s → q ≡ k + i → q < length s.sets
-    → s' ≡ cleared s q → HasEmptied k (i + 1) s0 s'
-one_cleared k i q s0 s s' f at known e =
-    step_cleared (is_between k (k + i)) (is_between k (k + (i + 1))) q (one_between k i q at) s0 s s' known e f

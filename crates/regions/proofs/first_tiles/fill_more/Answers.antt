@@ -8,15 +8,16 @@ full-init c = record { low = omega arith; small = omega (arith, c.ranges.from.fi
 pub fill_block-requires : goal.fill_block-requires
 fill_block-requires c =
     let w = c.full.invariant in
-    omega (arith, c.full-test.true, c.requires, w.words.len)
+    omega (arith, c.full-test.true, c.saturating_sub-past.ensures, c.requires, w.words.len)
 
 pub full-preserved : goal.full-preserved
 full-preserved c =
     let w = c.full.invariant in
     record {
       low = omega (arith, w.low);
-      small = omega (arith, c.full-test.true, c.ranges.to.fits);
-      words = block_written _ _ _ _ _ _ _ _ w.low (omega arith) (omega (arith, c.full-test.true)) c.fill_block.ensures.len
+      small = omega (arith, c.full-test.true, c.saturating_sub-past.ensures, c.ranges.to.fits);
+      words = block_written _ _ _ _ _ _ _ _ w.low (omega arith)
+          (omega (arith, c.full-test.true, c.saturating_sub-past.ensures)) c.fill_block.ensures.len
           c.fill_block.ensures.entries w.words;
     }
 

@@ -1,7 +1,7 @@
 use Rattle.std.proofs.Common.{◌≡◌, ◌<◌, ◌+◌, length, sym, ◌∙◌, arith}
 use Rattle.bit_sets.specs.Bits.{is_between}
 use Rattle.region_choice.proofs.Aging.{none_aged, one_aged}
-use Rattle.step_core.proofs.Cycles.Forgetting.{marker_is, none_forgotten, none_cleared, one_forgotten, one_cleared}
+use Rattle.step_core.proofs.Cycles.Forgetting.{marker_is, none_forgotten, one_forgotten, run_emptied}
 use Rattle.step_core.proofs.Cycles.Forgetting.{none_between, one_between}
 use Rattle.step_core.proofs.cleanup.forget.Goals as goal
 
@@ -10,7 +10,6 @@ loop-i-init c = record {
   stands = c.requires.stands;
   idle = c.requires.idle;
   forgotten = none_forgotten _ c.args.first c.args.marker.now;
-  cleared = none_cleared c.args.first c.args.sets.now;
   aged = none_aged (is_between c.args.first (c.args.first + 0)) c.args.ages.now (none_between c.args.first);
 }
 
@@ -29,9 +28,12 @@ loop-i-preserved c =
           (f.stands.previous.each_word ∙ sym p.stands.previous.each_word) (f.stands.next.each_word ∙ sym p.stands.next.each_word)
           f.previous f.next f.tops
           (marker_is c.loop-i.marker c.forget.new.self f.grey f.logs (f.running ∙ sym p.idle) f.scans f.waiting);
-      cleared = one_cleared c.args.first c.loop-i.i c.new-region.result c.args.sets.now c.loop-i.sets c.clear.new.self p.cleared at
-          (omega (arith, inside, p.cleared.count, c.requires.each)) c.clear.ensures;
       aged = one_aged (is_between c.args.first (c.args.first + c.loop-i.i)) (is_between c.args.first (c.args.first + (c.loop-i.i + 1)))
           c.new-region.result (one_between c.args.first c.loop-i.i c.new-region.result at) c.args.ages.now c.loop-i.ages
           c.forget-in-loop-i.new.self (omega (arith, inside, p.aged.count, c.requires.each_age)) c.forget-in-loop-i.ensures p.aged;
     }
+
+pub returns-clause-cleared : goal.returns-clause-cleared
+returns-clause-cleared c =
+    let f = c.clear_run.ensures in
+    run_emptied c.args.first c.args.count c.args.sets.now c.clear_run.new.self f.cards f.each f.sets f.entered

@@ -1,4 +1,4 @@
-use Rattle.regions.proofs.Common.{arith, ◌≡◌, ◌+◌, ◌*◌, ◌≤◌, length, Option, None, ap, ◌∙◌, ℕ, length-replicate, start_added, new_object}
+use Rattle.regions.proofs.Common.{arith, ◌≡◌, ◌+◌, ◌*◌, ◌<◌, ◌≤◌, length, Option, None, ap, ◌∙◌, ℕ, length-replicate, start_added, new_object}
 use Rattle.regions.proofs.LongRuns.RunMade.{run_taken, run_there}
 use Rattle.regions.proofs.Tiles.Making.{size_is_of}
 use Rattle.regions.proofs.Rows.UsedBelow.{used_written, used_le, front_free}
@@ -37,6 +37,13 @@ pub write_run-requires-clause-small : goal.write_run-requires-clause-small
 write_run-requires-clause-small c =
     let (e, f) = run_there _ _ _ _ _ _ c.self.invariant.table c.self.view_is c.requires.lowest in
     omega (arith, f.whole, c.self.invariant.table.small)
+
+pub write_run-requires-clause-tight : goal.write_run-requires-clause-tight
+write_run-requires-clause-tight c =
+    let tight : c.args.count * c.self.inside.words_per_region
+    < 2 + c.args.counts.pointers + c.args.counts.weaks + c.args.counts.values + c.self.inside.words_per_region =
+    rw (size_is_of _ _ _ _ c.self.view_is) c.requires.tight in
+    omega (arith, tight, c.size-size.ensures)
 
 pub put_tile-requires : goal.put_tile-requires
 put_tile-requires c =

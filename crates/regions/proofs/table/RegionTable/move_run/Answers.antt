@@ -1,10 +1,10 @@
 use Rattle.std.proofs.Common.{arith, ◌≡◌, ◌*◌, ℕ, List, Option, length, refl, sym, ap, ◌∙◌}
 use Rattle.std.proofs.lemmas.Nat.{row_fits}
-use Rattle.regions.specs.Table.{object_words, weaks_at}
+use Rattle.regions.specs.Table.{object_words, run_length, weaks_at}
 use Rattle.regions.specs.Tiles.{Object, tile_size}
 use Rattle.regions.specs.WeakStarts.{start_added}
 use Rattle.regions.proofs.Cards.Entries.{flag_count, region_words}
-use Rattle.regions.proofs.LongRuns.RunMoved.{CanMove, run_is_here, moved_table, moved_is, moved_sound}
+use Rattle.regions.proofs.LongRuns.RunMoved.{CanMove, counted, run_is_here, moved_table, moved_is, moved_sound}
 use Rattle.regions.proofs.Words.FieldAccess.{weaks_are}
 use Rattle.regions.proofs.Tiles.WeakStarts.{clears}
 use Rattle.regions.proofs.Tiles.Within.{object_within}
@@ -109,7 +109,13 @@ move_rows-requires-clause-source c =
       untargeted = c.requires.untargeted;
     } in
     let r = run_is_here _ _ _ _ _ _ c.self.invariant.table c.self.view_is can in
-    rw (c.deref_mut.ensures.value, c.number-number.ensures, c.run_length-count.ensures) r.room
+    let from : c.new-from.result ≡ c.args.first * c.self.inside.words_per_region =
+    c.new-from.ensures ∙ ap (λ (n : ℕ). n * c.self.inside.words_per_region) c.number-number.ensures in
+    let size : c.object_size-size.result ≡ tile_size (Object r.object) =
+    c.object_size-size.ensures ∙ ap (object_words c.args.self.now) from ∙ r.stands.words_are in
+    let count : c.div_ceil-count.result ≡ run_length c.args.self.now c.args.first =
+    c.div_ceil-count.ensures ∙ counted _ _ _ _ _ _ c.self.invariant.table r size in
+    rw (c.deref_mut.ensures.value, c.number-number.ensures, count) r.room
 
 pub move_rows-requires-clause-target : goal.move_rows-requires-clause-target
 move_rows-requires-clause-target c =
@@ -121,8 +127,14 @@ move_rows-requires-clause-target c =
       untargeted = c.requires.untargeted;
     } in
     let r = run_is_here _ _ _ _ _ _ c.self.invariant.table c.self.view_is can in
+    let from : c.new-from.result ≡ c.args.first * c.self.inside.words_per_region =
+    c.new-from.ensures ∙ ap (λ (n : ℕ). n * c.self.inside.words_per_region) c.number-number.ensures in
+    let size : c.object_size-size.result ≡ tile_size (Object r.object) =
+    c.object_size-size.ensures ∙ ap (object_words c.args.self.now) from ∙ r.stands.words_are in
+    let count : c.div_ceil-count.result ≡ run_length c.args.self.now c.args.first =
+    c.div_ceil-count.ensures ∙ counted _ _ _ _ _ _ c.self.invariant.table r size in
     let room = r.room in
-    rw (c.deref_mut.ensures.value, c.number-place.ensures, c.run_length-count.ensures) (omega (arith, room, c.requires.below))
+    rw (c.deref_mut.ensures.value, c.number-place.ensures, count) (omega (arith, room, c.requires.below))
 
 pub move_rows-requires-clause-small : goal.move_rows-requires-clause-small
 move_rows-requires-clause-small c =
@@ -134,7 +146,49 @@ move_rows-requires-clause-small c =
       untargeted = c.requires.untargeted;
     } in
     let r = run_is_here _ _ _ _ _ _ c.self.invariant.table c.self.view_is can in
-    rw c.run_length-count.ensures (omega (arith, r.whole, c.self.invariant.table.small))
+    let from : c.new-from.result ≡ c.args.first * c.self.inside.words_per_region =
+    c.new-from.ensures ∙ ap (λ (n : ℕ). n * c.self.inside.words_per_region) c.number-number.ensures in
+    let size : c.object_size-size.result ≡ tile_size (Object r.object) =
+    c.object_size-size.ensures ∙ ap (object_words c.args.self.now) from ∙ r.stands.words_are in
+    let count : c.div_ceil-count.result ≡ run_length c.args.self.now c.args.first =
+    c.div_ceil-count.ensures ∙ counted _ _ _ _ _ _ c.self.invariant.table r size in
+    rw count (omega (arith, r.whole, c.self.invariant.table.small))
+
+pub move_rows-requires-clause-tight : goal.move_rows-requires-clause-tight
+move_rows-requires-clause-tight c =
+    let can : CanMove c.args.self.now c.args.first c.args.to = record {
+      known = c.requires.known;
+      run = c.requires.run;
+      below = c.requires.below;
+      free = c.requires.free;
+      untargeted = c.requires.untargeted;
+    } in
+    let r = run_is_here _ _ _ _ _ _ c.self.invariant.table c.self.view_is can in
+    let from : c.new-from.result ≡ c.args.first * c.self.inside.words_per_region =
+    c.new-from.ensures ∙ ap (λ (n : ℕ). n * c.self.inside.words_per_region) c.number-number.ensures in
+    let size : c.object_size-size.result ≡ tile_size (Object r.object) =
+    c.object_size-size.ensures ∙ ap (object_words c.args.self.now) from ∙ r.stands.words_are in
+    let count : c.div_ceil-count.result ≡ run_length c.args.self.now c.args.first =
+    c.div_ceil-count.ensures ∙ counted _ _ _ _ _ _ c.self.invariant.table r size in
+    rw (count, size) r.tight
+
+pub move_rows-requires-clause-some : goal.move_rows-requires-clause-some
+move_rows-requires-clause-some c =
+    let can : CanMove c.args.self.now c.args.first c.args.to = record {
+      known = c.requires.known;
+      run = c.requires.run;
+      below = c.requires.below;
+      free = c.requires.free;
+      untargeted = c.requires.untargeted;
+    } in
+    let r = run_is_here _ _ _ _ _ _ c.self.invariant.table c.self.view_is can in
+    let from : c.new-from.result ≡ c.args.first * c.self.inside.words_per_region =
+    c.new-from.ensures ∙ ap (λ (n : ℕ). n * c.self.inside.words_per_region) c.number-number.ensures in
+    let size : c.object_size-size.result ≡ tile_size (Object r.object) =
+    c.object_size-size.ensures ∙ ap (object_words c.args.self.now) from ∙ r.stands.words_are in
+    let count : c.div_ceil-count.result ≡ run_length c.args.self.now c.args.first =
+    c.div_ceil-count.ensures ∙ counted _ _ _ _ _ _ c.self.invariant.table r size in
+    rw count r.some
 
 pub put_tile-requires-clause-within : goal.put_tile-requires-clause-within
 put_tile-requires-clause-within c =
@@ -229,10 +283,12 @@ invariant_of-self c =
     c.new-from.ensures ∙ ap (λ (n : ℕ). n * c.self.inside.words_per_region) c.number-number.ensures in
     let size : c.object_size-size.result ≡ tile_size (Object r.object) =
     c.object_size-size.ensures ∙ ap (object_words c.args.self.now) from ∙ r.stands.words_are in
+    let count : c.div_ceil-count.result ≡ run_length c.args.self.now c.args.first =
+    c.div_ceil-count.ensures ∙ counted _ _ _ _ _ _ c.self.invariant.table r size in
     let at : c.new-at.result ≡ c.args.to * c.self.inside.words_per_region =
     c.new-at.ensures ∙ ap (λ (n : ℕ). n * c.self.inside.words_per_region) c.number-place.ensures in
     let words = rw (from, at) at c.copy_down.ensures.all in
-    let rows = rw (c.deref_mut.ensures.value, c.number-number.ensures, c.number-place.ensures, c.run_length-count.ensures)
+    let rows = rw (c.deref_mut.ensures.value, c.number-number.ensures, c.number-place.ensures, count)
     at c.move_rows.ensures in
     let number : c.self.inside.rows.len ≡ length c.self.inside.rows.items = omega arith in
     let slots : c.weak_count-weaks.result ≡ length r.object.weaks =
@@ -261,10 +317,12 @@ returns c =
     c.new-from.ensures ∙ ap (λ (n : ℕ). n * c.self.inside.words_per_region) c.number-number.ensures in
     let size : c.object_size-size.result ≡ tile_size (Object r.object) =
     c.object_size-size.ensures ∙ ap (object_words c.args.self.now) from ∙ r.stands.words_are in
+    let count : c.div_ceil-count.result ≡ run_length c.args.self.now c.args.first =
+    c.div_ceil-count.ensures ∙ counted _ _ _ _ _ _ c.self.invariant.table r size in
     let at : c.new-at.result ≡ c.args.to * c.self.inside.words_per_region =
     c.new-at.ensures ∙ ap (λ (n : ℕ). n * c.self.inside.words_per_region) c.number-place.ensures in
     let words = rw (from, at) at c.copy_down.ensures.all in
-    let rows = rw (c.deref_mut.ensures.value, c.number-number.ensures, c.number-place.ensures, c.run_length-count.ensures)
+    let rows = rw (c.deref_mut.ensures.value, c.number-number.ensures, c.number-place.ensures, count)
     at c.move_rows.ensures in
     let number : c.self.inside.rows.len ≡ length c.self.inside.rows.items = omega arith in
     (moved_table _ _ _ _ c.args.first c.args.to c.self.invariant.table c.self.view_is can r _ _ _ _ size number words rows).table_is
