@@ -50,9 +50,10 @@ extern "C" {
 typedef struct g1_heap {
     bool live;
     void *at;
+    uint64_t markings;
 } g1_heap;
 
-#define G1_HEAP_NONE {false, 0}
+#define G1_HEAP_NONE {false, 0, 0}
 
 /* The sizes of a heap. A word is 64 bits. */
 typedef struct g1_sizes {
@@ -286,6 +287,8 @@ g1_answer g1_clear(g1_heap *heap, uint32_t objects);
    g1_marking        1 while marking runs, else 0
    g1_grey           1 while marking runs and something is left to be marked, else 0
    g1_clearing       1 while weak slots that read nil wait to be cleared, else 0
+   g1_markings       how many markings of this heap ended, mod 2^64, by g1_remark and by what takes that step: while it is what it was, no
+                     weak slot became nil but by g1_put_weak
    g1_queued         how many cards wait for refinement
    g1_globals        how many globals there are
    g1_registers      how many registers each mutator has
@@ -299,6 +302,7 @@ g1_answer g1_live_words(const g1_heap *heap);
 g1_answer g1_marking(const g1_heap *heap);
 g1_answer g1_grey(const g1_heap *heap);
 g1_answer g1_clearing(const g1_heap *heap);
+g1_answer g1_markings(const g1_heap *heap);
 g1_answer g1_queued(const g1_heap *heap);
 g1_answer g1_globals(const g1_heap *heap);
 g1_answer g1_registers(const g1_heap *heap);

@@ -132,6 +132,10 @@ g1_answer g1_clearing(const g1_heap* heap) {
     return number(heap, [](Heap& plain) { return plain.clearing(); });
 }
 
+g1_answer g1_markings(const g1_heap* heap) {
+    return number(heap, [](Heap& plain) { return plain.markings(); });
+}
+
 g1_answer g1_queued(const g1_heap* heap) {
     return number(heap, [](Heap& plain) { return plain.queued(); });
 }

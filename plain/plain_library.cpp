@@ -35,6 +35,12 @@ public:
     bool marking() const { return marking_; }
     bool grey() const { return marking_ && (held_ != plain::nowhere || !waiting_.empty()); }
     bool clearing() const { return uncleared_ != plain::nowhere; }
+    Word markings() const { return markings_; }
+    plain::Reply remark() {
+        plain::Reply done = plain::Heap::remark();
+        markings_ += done.form == plain::Form::Marked;
+        return done;
+    }
     Number queued() const { return queue_count_; }
     plain::Reply name(Number mutator, Number number) const { return named(root(mutator, number)); }
     plain::Reply new_object(Number mutator, Number to, Number pointers, Number values) { return make(mutator, to, pointers, 0, values); }
@@ -143,6 +149,9 @@ public:
         while (end > 0 && regions_[end - 1].kind != plain::Kind::Ordinary) --end;
         return end;
     }
+
+private:
+    Word markings_ = 0;
 };
 
 Heap& in(const g1_heap* heap) { return *static_cast<Heap*>(heap->at); }

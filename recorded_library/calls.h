@@ -44,6 +44,7 @@ g1_answer g1raw_live_words(const g1_heap *heap);
 g1_answer g1raw_marking(const g1_heap *heap);
 g1_answer g1raw_grey(const g1_heap *heap);
 g1_answer g1raw_clearing(const g1_heap *heap);
+g1_answer g1raw_markings(const g1_heap *heap);
 g1_answer g1raw_queued(const g1_heap *heap);
 g1_answer g1raw_globals(const g1_heap *heap);
 g1_answer g1raw_registers(const g1_heap *heap);
@@ -262,6 +263,11 @@ g1_answer g1_grey(const g1_heap *heap)
 g1_answer g1_clearing(const g1_heap *heap)
 {
     return g1raw_clearing(&box_of(heap)->heap);
+}
+
+g1_answer g1_markings(const g1_heap *heap)
+{
+    return g1raw_markings(&box_of(heap)->heap);
 }
 
 g1_answer g1_queued(const g1_heap *heap)

@@ -48,6 +48,7 @@ static void refuse_sizes(void)
     is("no heap", g1_young(&heap, 0, 0), G1_NO_HEAP, 0, 0);
     is("no heap", g1_clear(&heap, 0), G1_NO_HEAP, 0, 0);
     is("no heap", g1_clearing(&heap), G1_NO_HEAP, 0, 0);
+    is("no heap", g1_markings(&heap), G1_NO_HEAP, 0, 0);
     is("no heap", g1_free_regions(&heap), G1_NO_HEAP, 0, 0);
     is("no heap", g1_free_run(&heap), G1_NO_HEAP, 0, 0);
     is("no heap", g1_name(&heap, 0, 0), G1_NO_HEAP, 0, 0);
@@ -284,6 +285,7 @@ static void collect(g1_heap *h, uint64_t name)
     is("live words", g1_live_words(h), G1_NUMBER, 16, 0);
     is("mark", g1_mark(h, 1), G1_NOT_MARKING, 0, 0);
     is("remark", g1_remark(h), G1_NOT_MARKING, 0, 0);
+    is("markings", g1_markings(h), G1_NUMBER, 0, 0);
     is("begin", g1_begin(h), G1_DONE, 0, 0);
     is("begin", g1_begin(h), G1_MARK_RUNNING, 0, 0);
     is("cleanup", g1_cleanup(h), G1_MARK_RUNNING, 0, 0);
@@ -296,7 +298,9 @@ static void collect(g1_heap *h, uint64_t name)
     is("grey", g1_grey(h), G1_NUMBER, 1, 0);
     is("mark", g1_mark(h, 99), G1_SCANNED, 1, 0);
     is("grey", g1_grey(h), G1_NUMBER, 0, 0);
+    is("markings", g1_markings(h), G1_NUMBER, 0, 0);
     is("remark", g1_remark(h), G1_MARKED, 2, 0);
+    is("markings", g1_markings(h), G1_NUMBER, 1, 0);
     is("marking", g1_marking(h), G1_NUMBER, 0, 0);
     is("live words", g1_live_words(h), G1_NUMBER, 9, 0);
     is("cleanup", g1_cleanup(h), G1_RECLAIMED, 0, 0);

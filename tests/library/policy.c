@@ -146,7 +146,8 @@ static void drop_refused(void)
     }
 }
 
-/* Weak slots become nil where the policy counts a marking more, or a g1_remark of the program's own answers MARKED, and never else. */
+/* Weak slots become nil where the heap counts a marking more, and never else; it counts those of the policy, and each g1_remark of the
+   program's own that answers MARKED. */
 static void count_markings(void)
 {
     enum { WEAKS = 8 };
@@ -155,10 +156,11 @@ static void count_markings(void)
     start(16, 64, 7, 1);
     g1_make(&heap, &policy, 0, 1, 0, WEAKS, 0);
     for (uint32_t i = 0; i < 20000; i++) {
-        uint64_t cycles = policy.cycles, sum = cycles + own;
+        uint64_t cycles = policy.cycles, ended = g1_markings(&heap).first;
         switch (draw(40)) {
         case 0: g1_begin(&heap); break;
-        case 1: g1_begin(&heap), own += g1_remark(&heap).code == G1_MARKED; break;     /* what is read meanwhile is kept */
+        case 1: own += g1_remark(&heap).code == G1_MARKED; break;                      /* what is read meanwhile is kept */
+        case 9: g1_begin(&heap), own += g1_remark(&heap).code == G1_MARKED; break;
         case 2: g1_collect_all(&heap, &policy); break;
         case 3: g1_collect(&heap, &policy); break;
         case 4: g1_pause(&heap, 64), g1_cleanup(&heap), g1_clear(&heap, 1); break;
@@ -167,10 +169,11 @@ static void count_markings(void)
         case 8: g1_move(&heap, 0, 2, 0); break;
         default: make(0, 0, 2 + draw(20));
         }
+        is(g1_markings(&heap).first == policy.cycles + own, "markings that are counted", i, (uint32_t)own);
         for (uint32_t slot = 0; slot < WEAKS; slot++) {
             uint32_t is_held = g1_get_weak(&heap, 0, 3, 1, slot).code == G1_NAME;
             if (!held[slot] || is_held) continue;
-            is(policy.cycles + own != sum, "a weak slot was cleared and no marking counted", i, slot);
+            is(g1_markings(&heap).first != ended, "a weak slot was cleared and no marking counted", i, slot);
             lost[policy.cycles == cycles]++;
         }
         g1_drop(&heap, 0, 3), g1_put_weak(&heap, 0, 1, i % WEAKS, 0);

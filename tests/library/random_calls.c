@@ -262,7 +262,7 @@ static g1_answer step_of_collector(g1_heap *h)
     case 6: return draw() % 2 == 0 ? g1_free_regions(h) : g1_free_run(h);
     case 7: return g1_used_words(h);
     case 8: return g1_live_words(h);
-    case 9: return draw() % 2 == 0 ? g1_marking(h) : g1_grey(h);
+    case 9: return draw() % 3 == 0 ? g1_markings(h) : draw() % 2 == 0 ? g1_marking(h) : g1_grey(h);
     case 10: return g1_queued(h);
     default: return draw() % 2 == 0 ? g1_globals(h) : g1_registers(h);
     }

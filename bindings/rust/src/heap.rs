@@ -410,6 +410,20 @@ impl Heap {
         Counts::of(&self.core)
     }
 
+    /// How many markings of the heap have ended, by the policy or by [`Steps::remark`](crate::Steps::remark), as
+    /// [`Frame::markings`](crate::Frame::markings) tells within a run.
+    ///
+    /// ```
+    /// # use g1heap::*;
+    /// let mut heap = Heap::new(&Sizes::default())?;
+    /// heap.run(|f| f.collect());
+    /// assert_eq!(heap.markings(), 1);
+    /// # Ok::<_, BadSizes>(())
+    /// ```
+    pub fn markings(&self) -> u64 {
+        self.core.raw.markings().first
+    }
+
     /// How much the policy does at once.
     ///
     /// ```

@@ -79,11 +79,7 @@ impl<'a> Steps<'a> {
     /// Brings marking to its end, and clears weak slots; answers how many objects were marked in this cycle. `None` where marking
     /// isn't running.
     pub fn remark(&self) -> Option<u64> {
-        let marked = taken(self.raw.remark());
-        if marked.is_some() {
-            self.raw.count_remark();
-        }
-        marked
+        taken(self.raw.remark())
     }
     /// Frees the regions with nothing live, and answers how many; `None` while marking runs.
     pub fn cleanup(&self) -> Option<u64> {
@@ -199,8 +195,8 @@ impl Frame<'_, '_> {
         self.ready();
         Steps::new(self.raw())
     }
-    /// How many markings have ended, by the policy or by [`Steps::remark`]. Weak slots are cleared then and never else: where this number
-    /// is what it was, none was.
+    /// How many markings of the heap have ended, by the policy or by [`Steps::remark`]. Weak slots are cleared then and never else: where
+    /// this number is what it was, none was.
     ///
     /// ```
     /// # use g1heap::*;
@@ -218,7 +214,7 @@ impl Frame<'_, '_> {
     /// ```
     #[inline]
     pub fn markings(&self) -> u64 {
-        self.raw().markings()
+        self.raw().markings().first
     }
     /// What the policy did so far.
     ///

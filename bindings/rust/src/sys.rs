@@ -24,8 +24,6 @@ pub fn bytes_of(sizes: &g1_sizes) -> u64 {
 pub struct Raw {
     heap: UnsafeCell<g1_heap>,
     policy: UnsafeCell<g1_policy>,
-    /// How many markings ended by a step of the program's own.
-    remarks: Cell<u64>,
     #[cfg(feature = "recorded")]
     writer: Cell<Option<std::ptr::NonNull<Writer>>>,
 }
@@ -56,7 +54,6 @@ impl Raw {
         Raw {
             heap: UnsafeCell::new(G1_HEAP_NONE),
             policy: UnsafeCell::default(),
-            remarks: Cell::new(0),
             #[cfg(feature = "recorded")]
             writer: Cell::new(None),
         }
@@ -110,16 +107,6 @@ impl Raw {
         let (heap, policy) = (self.heap.get(), self.policy.get());
         // SAFETY: as for `make`; there are so many of both, and nobody writes them meanwhile.
         unsafe { g1_make_filled(heap, policy, mutator, to, from.as_ptr(), from.len(), words.as_ptr(), words.len()) }
-    }
-    /// A marking ended by a step of the program's own.
-    pub fn count_remark(&self) {
-        self.remarks.set(self.remarks.get() + 1);
-    }
-    /// How many markings ended.
-    #[inline]
-    pub fn markings(&self) -> u64 {
-        // SAFETY: no call goes on, and the number is copied.
-        self.remarks.get() + unsafe { (*self.policy.get()).cycles }
     }
     /// Whether the policy will look at the heap before it makes an object of so many words; always before it made one.
     #[inline(always)]

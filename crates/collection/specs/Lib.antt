@@ -1,4 +1,5 @@
 pub mod Asked
+pub mod Markings
 pub mod Numbers
 pub mod Rooms
 pub mod Space

@@ -14,7 +14,8 @@
 //!
 //! `steps` takes the steps, and shows each to who watches, `whole` is the whole collection, which `density` ends, `compaction` what brings
 //! free regions side by side, above all that are in use, `cycle` what is due at a look, by the `numbers` of the policy, `room` whether
-//! there is room for an object, `making` all together. `laws` has what a pause that frees no region says.
+//! there is room for an object, `making` all together. `markings` counts markings that end. `laws` has what a pause that frees no region
+//! says.
 //!
 //! Examples of calls go on from this one, in which `rt` is a test's `HostRuntime` and `alloc` its allocator:
 //!
@@ -37,6 +38,7 @@ mod cycle;
 mod density;
 mod laws;
 mod making;
+mod markings;
 mod numbers;
 mod room;
 mod steps;

@@ -26,7 +26,8 @@ use Rattle.step_core.specs.Stands.{CoreState, Stands}
 use Rattle.step_core.specs.Words.{AreWritten, reading, writing}
 use Rattle.step_core.specs.Words as words
 use Rattle.step_core.proofs.Cores.Following.{passage_is_run}
-use Rattle.collection.specs.Steps.{HoldsBack, IsCollectors, TakesOwn}
+use Rattle.collection.specs.Markings.{CountsMarking}
+use Rattle.collection.specs.Steps.{CollectsWithin, HoldsBack, IsCollectors, TakesOwn}
 use Rattle.heap_calls.specs.Filled.{AreFields, FillsIt, StepsTo, Fills, making, pointing, wording}
 use Rattle.heap_calls.specs.Loads.{Loads, ReadsLoaded, loading}
 use Rattle.heap_calls.specs.Loads as loads
@@ -35,12 +36,12 @@ use Rattle.heap_calls.specs.Rows.{AreSteps, DoesAll, DoesNone, Many, count_of, l
 use Rattle.heap_calls.specs.Steps.{HasRegister, MakesHeap, StaysSame, Steps, given_back}
 use Rattle.heap_calls.specs.Words.{ReadsAll, ReadsNone, WritesAll, WritesNone}
 use Rattle.heap_calls.specs.declared.answer.Answer.{Answer}
-use Rattle.g1heap_c.specs.Calls.{AreCalls, Call, Called, IsCall, telling}
+use Rattle.g1heap_c.specs.Calls.{AreCalls, Call, Called, IsCallOn, telling}
 use Rattle.g1heap_c.specs.Calls.{NewCall, StepCall, NewFilledCall, MakeCall, MakeFilledCall, CollectCall, CollectAllCall, ReadWordsCall}
 use Rattle.g1heap_c.specs.Calls.{GetWordCall, ManyCall, WriteWordsCall, WalkCall, WhoCall, AskCall, GiveBackCall, ShrinkCall, NoStepCall}
-use Rattle.g1heap_c.specs.Calls.{FreeCall, PathCall}
+use Rattle.g1heap_c.specs.Calls.{FreeCall, MarkingsCall, PathCall}
 use Rattle.g1heap_c.specs.MadeFilled.{AsksToFill}
-use Rattle.g1heap_c.specs.Policies.{AnswersMake, AsksOrNils, CollectsIn, asked, nil_steps, nilling}
+use Rattle.g1heap_c.specs.Policies.{AnswersMake, AsksOrNils, asked, nil_steps, nilling}
 use Rattle.g1heap_c.specs.Runs.{AreEventsOf, AreRun, CallRuns, HasCollected, HasEvents, HasFilling, HasLoaded, HasMaking}
 use Rattle.g1heap_c.specs.Runs.{HasDone, HasMakingAndFilling, HasMany, IsReadLoaded}
 use Rattle.g1heap_c.specs.Runs.{HasNoEvent, HasNotRead, HasRead, HasRefused, HasStep, HasWritten, IfElse, KeepsIfRefused, event_of, filling}
@@ -136,16 +137,17 @@ step_done step s c c' answer st h =
     }
 
 -- ---- steps of the collector, and an object that is asked for
-collected_from : (most : ℕ) (s : State) (c d : CoreState) → Stands s c → (h : CollectsIn most c d) → From s h.events d
-collected_from most s c d st h =
+collected_from : {W : Type 0} (sees : W → Event → W → Type 0) (most : ℕ) (s : State) (c d : CoreState) (x y : W) → Stands s c
+    → (h : CollectsWithin sees most c x d y) → From s h.events d
+collected_from sees most s c d x y st h =
     let r = h.runs s st in
     record { last = r.last; run = passage_is_run s c h.events r.last d r.passage; stands = r.stands }
 
-collect_done : (most : ℕ) (s : State) (c d c' : CoreState) (code answer : Answer) → Stands s c → c' ≡ d → CollectsIn most c d
-    → answer ≡ code → Found s c' (λ es. HasCollected es code answer)
-collect_done most s c d c' code answer st same h tells = record {
+collect_done : {W : Type 0} (sees : W → Event → W → Type 0) (most : ℕ) (s : State) (c d c' : CoreState) (x y : W) (code answer : Answer)
+    → Stands s c → c' ≡ d → CollectsWithin sees most c x d y → answer ≡ code → Found s c' (λ es. HasCollected es code answer)
+collect_done sees most s c d c' x y code answer st same h tells = record {
   events = h.events;
-  from = subst (λ (e : CoreState). From s h.events e) (sym same) (collected_from most s c d st h);
+  from = subst (λ (e : CoreState). From s h.events e) (sym same) (collected_from sees most s c d x y st h);
   has = record { collectors = h.collectors; tells = tells };
 }
 
@@ -169,11 +171,11 @@ record Asked (s : State) (op : Op) (reply : Reply) (d : CoreState) : Type 0 wher
   first : From s before core
   own : From first.last (event_of (steps.Mutator op) reply ∷ []) d
 
-asks_from : (op : Op) (s : State) (c : CoreState) (answer : Answer) (after : Option CoreState) → Stands s c
-    → (h : AnswersMake c op answer after) → Asked s op h.reply h.core
-asks_from op s c answer after st h =
+asks_from : (op : Op) (s : State) (c : CoreState) (n n' : ℕ) (answer : Answer) (after : Option CoreState) → Stands s c
+    → (h : AnswersMake CountsMarking c n op answer after n') → Asked s op h.reply h.core
+asks_from op s c n n' answer after st h =
     let before = h.makes.collects in
-    let first = collected_from (5 * c.config.regions + 12) s c h.makes.core st before in
+    let first = collected_from CountsMarking (5 * c.config.regions + 12) s c h.makes.core n h.makes.watch st before in
     record {
       before = before.events;
       collectors = before.collectors;
@@ -207,12 +209,12 @@ leads step (suc n) s c d st h =
       are = join (first_steps step n) (step n ∷ []) before.events own before.are (record { steps = refl; actors = refl });
     }
 
-make_done : (number to : ℕ) (op : Op) (s : State) (c c' : CoreState) (answer : Answer) → Stands s c
-    → AsksOrNils number to c op answer (Some c') → Found s c' (λ es. HasMaking es number to op answer)
-make_done number to op s c c' answer st h =
+make_done : (number to : ℕ) (op : Op) (s : State) (c c' : CoreState) (n n' : ℕ) (answer : Answer) → Stands s c
+    → AsksOrNils CountsMarking number to c n op answer (Some c') n' → Found s c' (λ es. HasMaking es number to op answer)
+make_done number to op s c c' n n' answer st h =
     let same : c' ≡ h.last = held_is c' h.last h.held in
     let at : h.asks.core ≡ h.made = sym (held_is h.made h.asks.core h.asks.held) in
-    let a = asks_from op s c answer (Some h.made) st h.asks in
+    let a = asks_from op s c n n' answer (Some h.made) st h.asks in
     let own = event_of (steps.Mutator op) h.asks.reply in
     let made : Stands a.own.last h.made = subst (λ (d : CoreState). Stands a.own.last d) at a.own.stands in
     let rest = leads (nilling op.mutator to) (nil_steps number h.asks.reply) a.own.last h.made h.last made h.nils in
@@ -312,13 +314,14 @@ filled_done m to from words s c c' answer st h =
       };
     }
 
-make_filled_done : (number m to : ℕ) (from words : List ℕ) (s : State) (c c' : CoreState) (answer : Answer) → Stands s c
-    → AsksToFill number c m to from words answer (Some c') → Found s c' (λ es. HasMakingAndFilling es number m to from words answer)
-make_filled_done number m to from words s c c' answer st h =
+make_filled_done : (number m to : ℕ) (from words : List ℕ) (s : State) (c c' : CoreState) (n n' : ℕ) (answer : Answer) → Stands s c
+    → AsksToFill CountsMarking number c n m to from words answer (Some c') n'
+    → Found s c' (λ es. HasMakingAndFilling es number m to from words answer)
+make_filled_done number m to from words s c c' n n' answer st h =
     let op = asked m to (length from) 0 (length words) in
     let same : c' ≡ h.last = held_is c' h.last h.held in
     let at : h.made ≡ h.asks.core = held_is h.made h.asks.core h.asks.held in
-    let a = asks_from op s c answer (Some h.made) st h.asks in
+    let a = asks_from op s c n n' answer (Some h.made) st h.asks in
     let fills : FillsIt h.asks.reply h.asks.core m to from words h.filled =
     subst (λ (d : CoreState). FillsIt h.asks.reply d m to from words h.filled) at h.fills in
     let filled = fills_from m to from words a.own.last h.asks.core h.filled h.asks.reply a.own.stands fills in
@@ -473,77 +476,82 @@ write_done m object from ws s c c' answer st (inr n) =
     record { events = f.events; from = f.from; has = inr f.has }
 
 -- ---- calls
-live_done : (config : Config) (s : State) (c c' : CoreState) (answer : Answer) → Stands s c
-    → IsCall (Some c) (NewCall config) answer (Some c') → Found s c' (λ es. HasNoEvent c es (told 34 0 0) answer c')
-live_done config s c c' answer st h =
+live_done : (config : Config) (s : State) (c c' : CoreState) (n n' : ℕ) (answer : Answer) → Stands s c
+    → IsCallOn (Some c) n (NewCall config) answer (Some c') n' → Found s c' (λ es. HasNoEvent c es (told 34 0 0) answer c')
+live_done config s c c' n n' answer st (h, counted) =
     let is : answer ≡ told 34 0 0 = h.0 ∙ ap (λ (n : ℕ). told n 0 0) h.1.0 in
     none_done (told 34 0 0) s c c' answer st (record { answer_is = is; same = h.1.1 })
 
-call_done : (call : Call) (s : State) (c c' : CoreState) (answer : Answer) → Stands s c → IsCall (Some c) call answer (Some c')
-    → Done s c call answer c'
-call_done (NewCall config) s c c' answer st h = live_done config s c c' answer st h
-call_done (StepCall step) s c c' answer st h =
+call_done : (call : Call) (s : State) (c c' : CoreState) (n n' : ℕ) (answer : Answer) → Stands s c
+    → IsCallOn (Some c) n call answer (Some c') n' → Done s c call answer c'
+call_done (NewCall config) s c c' n n' answer st (h, counted) = live_done config s c c' n n' answer st (h, counted)
+call_done (StepCall step) s c c' n n' answer st (h, counted) =
     choose s c' (IsStep c.config step) (λ es. HasStep c es step answer c') (λ es. HasNoEvent c es no_step answer c') (is_step c.config step)
     (λ is. step_done step s c c' answer st (h.takes is)) (λ isnt. none_done no_step s c c' answer st (h.not isnt))
-call_done (NewFilledCall m to from words) s c c' answer st h =
+call_done (NewFilledCall m to from words) s c c' n n' answer st (h, counted) =
     choose s c' (AreFields c.config m to from words) (λ es. HasFilling c es m to from words answer c')
     (λ es. HasNoEvent c es no_step answer c') (are_fields c.config m to from words)
     (λ is. filled_done m to from words s c c' answer st (h.takes is)) (λ isnt. none_done no_step s c c' answer st (h.not isnt))
-call_done (MakeCall number m to pointers weaks values) s c c' answer st h =
+call_done (MakeCall number m to pointers weaks values) s c c' n n' answer st h =
     let op = asked m to pointers weaks values in
     choose s c' (IsOp c.config op) (λ es. HasMaking es number to op answer) (λ es. HasNoEvent c es no_step answer c') (is_op c.config op)
-    (λ is. make_done number to op s c c' answer st (h.asks is)) (λ isnt. none_done no_step s c c' answer st (h.not isnt))
-call_done (MakeFilledCall number m to from words) s c c' answer st h =
+    (λ is. make_done number to op s c c' n n' answer st (h.asks is)) (λ isnt. none_done no_step s c c' answer st (h.not isnt).0)
+call_done (MakeFilledCall number m to from words) s c c' n n' answer st h =
     choose s c' (AreFields c.config m to from words) (λ es. HasMakingAndFilling es number m to from words answer)
     (λ es. HasNoEvent c es no_step answer c') (are_fields c.config m to from words)
-    (λ is. make_filled_done number m to from words s c c' answer st (h.asks is)) (λ isnt. none_done no_step s c c' answer st (h.not isnt))
-call_done CollectCall s c c' answer st h =
-    collect_done (c.config.regions + 5) s c h.core c' _ answer st (held_is c' h.core h.held) h.collects h.tells
-call_done CollectAllCall s c c' answer st h = collect_done _ s c h.core c' _ answer st (held_is c' h.core h.held) h.collects h.tells
-call_done (GetWordCall m to object field word) s c c' answer st h =
+    (λ is. make_filled_done number m to from words s c c' n n' answer st (h.asks is))
+    (λ isnt. none_done no_step s c c' answer st (h.not isnt).0)
+call_done CollectCall s c c' n n' answer st h =
+    collect_done CountsMarking (c.config.regions + 5) s c h.core c' n n' _ answer st (held_is c' h.core h.held) h.collects h.tells
+call_done CollectAllCall s c c' n n' answer st h =
+    collect_done CountsMarking _ s c h.core c' n n' _ answer st (held_is c' h.core h.held) h.collects h.tells
+call_done (GetWordCall m to object field word) s c c' n n' answer st (h, counted) =
     choose s c' (IsStep c.config (loading m to object field)) (λ es. HasLoaded c es m to object field word answer c')
     (λ es. HasNoEvent c es no_step answer c') (is_step c.config (loading m to object field))
     (λ is. load_done m to object field word s c c' answer st (h.takes is)) (λ isnt. none_done no_step s c c' answer st (h.not isnt))
-call_done (ManyCall x) s c c' answer st h =
+call_done (ManyCall x) s c c' n n' answer st (h, counted) =
     choose s c' (AreSteps c.config x) (λ es. HasMany es x answer ⊎ HasRefused c es (last_step x) answer c')
     (λ es. HasNoEvent c es no_step answer c') (are_steps c.config x)
     (λ is. many_done x s c c' answer st (h.takes is)) (λ isnt. none_done no_step s c c' answer st (h.not isnt))
-call_done (ReadWordsCall m object from before after) s c c' answer st h =
+call_done (ReadWordsCall m object from before after) s c c' n n' answer st (h, counted) =
     let same : c' ≡ c = held_is c' c h.1 in
     choose s c' (HasRegister c m object)
     (λ es. HasRead c es m object from before after answer c' ⊎ HasNotRead c es m object from before after answer c')
     (λ es. HasNoEvent c es no_step answer c' × (after ≡ before)) (is_register c m object)
     (λ is. read_done m object from before after s c c' answer st same (h.0.takes is))
     (λ isnt. unread_done before after s c c' answer st same (h.0.not isnt))
-call_done (WriteWordsCall m object from ws) s c c' answer st h =
+call_done (WriteWordsCall m object from ws) s c c' n n' answer st (h, counted) =
     choose s c' (HasRegister c m object)
     (λ es. HasWritten es m object from ws answer ⊎ HasRefused c es (last_write m (register object) from ws) answer c')
     (λ es. HasNoEvent c es no_step answer c') (is_register c m object)
     (λ is. write_done m object from ws s c c' answer st (h.takes is)) (λ isnt. none_done no_step s c c' answer st (h.not isnt))
-call_done (WalkCall from to before after) s c c' answer st h =
+call_done (WalkCall from to before after) s c c' n n' answer st (h, counted) =
     let same : c' ≡ c = held_is c' c h.1 in
     record { events = []; from = same_from s c c' st same; has = record { events = refl; answers = h.0; same = same } }
-call_done (WhoCall name from to before after) s c c' answer st h =
+call_done (WhoCall name from to before after) s c c' n n' answer st (h, counted) =
     let same : c' ≡ c = held_is c' c h.1 in
     record { events = []; from = same_from s c c' st same; has = record { events = refl; answers = h.0; same = same } }
-call_done (PathCall name ended before after) s c c' answer st h =
+call_done (PathCall name ended before after) s c c' n n' answer st (h, counted) =
     let same : c' ≡ c = held_is c' c h.1 in
     record { events = []; from = same_from s c c' st same; has = record { events = refl; answers = h.0; same = same } }
-call_done (AskCall question) s c c' answer st h =
+call_done (AskCall question) s c c' n n' answer st (h, counted) =
     let same : c' ≡ c = held_is c' c h.1 in
     record { events = []; from = same_from s c c' st same; has = record { events = refl; answers = h.0; same = same } }
-call_done (GiveBackCall granted) s c c' answer st h =
+call_done (MarkingsCall count) s c c' n n' answer st (h, counted) =
+    let same : c' ≡ c = held_is c' c h.1 in
+    record { events = []; from = same_from s c c' st same; has = record { events = refl; answers = h.0; same = same } }
+call_done (GiveBackCall granted) s c c' n n' answer st (h, counted) =
     none_done (given_back granted) s c c' answer st (record { answer_is = h.0; same = h.1 })
-call_done (ShrinkCall granted) s c c' answer st h =
-    collect_done _ s c h.core c' (given_back granted) answer st (held_is c' h.core h.held) h.collects h.tells
-call_done NoStepCall s c c' answer st h = none_done no_step s c c' answer st h
-call_done FreeCall s c c' answer st h = let e : Some c' ≡ None = h.1 in cc
+call_done (ShrinkCall granted) s c c' n n' answer st h =
+    collect_done CountsMarking _ s c h.core c' n n' (given_back granted) answer st (held_is c' h.core h.held) h.collects h.tells
+call_done NoStepCall s c c' n n' answer st (h, counted) = none_done no_step s c c' answer st h
+call_done FreeCall s c c' n n' answer st (h, counted) = let e : Some c' ≡ None = h.1 in cc
 
-calls_from : (calls : List Called) (s : State) (c : CoreState) → Stands s c → AreCalls c calls → AreRun s c calls
-calls_from [] s c st h = record { events = []; last = s; run = refl; each = (refl, refl) }
-calls_from (x ∷ xs) s c st h =
-    let first = call_done x.call s c x.after x.answer st h.0 in
-    let rest = calls_from xs first.from.last x.after first.from.stands h.1 in
+calls_from : (calls : List Called) (s : State) (c : CoreState) (n : ℕ) → Stands s c → AreCalls c n calls → AreRun s c calls
+calls_from [] s c n st h = record { events = []; last = s; run = refl; each = (refl, refl) }
+calls_from (x ∷ xs) s c n st h =
+    let first = call_done x.call s c x.after n x.markings x.answer st h.0 in
+    let rest = calls_from xs first.from.last x.after x.markings first.from.stands h.1 in
     let runs : CallRuns s c first.events x first.from.last =
     record { before = st; run = first.from.run; after = first.from.stands; has = first.has } in
     record {
@@ -559,6 +567,7 @@ made_stands config code c (inl made) =
     subst (λ (x : CoreState). Stands (first_state config) x) (sym (held_is c (fresh_core config) made.held)) made.stands
 made_stands config code c (inr failed) = let e : Some c ≡ None = failed.none in cc
 
-pub calls_run : (config : Config) (answer : Answer) (c : CoreState) (calls : List Called) → IsCall None (NewCall config) answer (Some c)
-    → AreCalls c calls → AreRun (first_state config) c calls
-calls_run config answer c calls made h = calls_from calls (first_state config) c (made_stands config answer.code c made.1) h
+pub calls_run : (config : Config) (answer : Answer) (c : CoreState) (calls : List Called) (n : ℕ)
+    → IsCallOn None n (NewCall config) answer (Some c) 0 → AreCalls c 0 calls → AreRun (first_state config) c calls
+calls_run config answer c calls n made h =
+    calls_from calls (first_state config) c 0 (made_stands config answer.code c made.0.1) h

@@ -21,7 +21,7 @@ use Rattle.heap_calls.specs.declared.answer.Answer.{Answer}
 use Rattle.g1heap_c.specs.Calls.{Call, Called, IsAnswerTo, Question, telling}
 use Rattle.g1heap_c.specs.Calls.{NewCall, StepCall, NewFilledCall, MakeCall, MakeFilledCall, CollectCall, CollectAllCall, ReadWordsCall}
 use Rattle.g1heap_c.specs.Calls.{GetWordCall, ManyCall, WriteWordsCall, WalkCall, WhoCall, AskCall, GiveBackCall, ShrinkCall, NoStepCall}
-use Rattle.g1heap_c.specs.Calls.{FreeCall, PathCall}
+use Rattle.g1heap_c.specs.Calls.{FreeCall, MarkingsCall, PathCall}
 use Rattle.g1heap_c.specs.Calls.{FreeRun, Marking, Grey, Clearing, Name}
 use Rattle.g1heap_c.specs.Runs.{AreRun, CallsRun, HasCode, HasEvents, IsCode, IsReadLoaded}
 use Rattle.g1heap_c.proofs.Named.{is_register}
@@ -112,6 +112,7 @@ of_call c es (WalkCall from to before after) y d h = alike y _ h.answers.is (inl
 of_call c es (WhoCall name from to before after) y d h = alike y _ h.answers.is (inl (omega arith))
 of_call c es (PathCall name ended before after) y d h = alike y _ h.answers.is (of_way h.answers.count)
 of_call c es (AskCall question) y d h = of_question question c y h.answers
+of_call c es (MarkingsCall count) y d h = alike y _ h.answers (inl (omega arith))
 of_call c es (GiveBackCall granted) y d h = alike y _ h.tells (of_given granted)
 of_call c es (ShrinkCall granted) y d h = alike y _ h.tells (of_given granted)
 of_call c es NoStepCall y d h = alike y _ h.tells none

@@ -24,7 +24,7 @@ use Rattle.heap_calls.specs.declared.answer.Answer.{Answer}
 use Rattle.g1heap_c.specs.Calls.{Call, IsAnswerTo, Question, telling}
 use Rattle.g1heap_c.specs.Calls.{NewCall, StepCall, NewFilledCall, MakeCall, MakeFilledCall, CollectCall, CollectAllCall, ReadWordsCall}
 use Rattle.g1heap_c.specs.Calls.{GetWordCall, ManyCall, WriteWordsCall, WalkCall, WhoCall, AskCall, GiveBackCall, ShrinkCall, NoStepCall}
-use Rattle.g1heap_c.specs.Calls.{FreeCall, PathCall}
+use Rattle.g1heap_c.specs.Calls.{FreeCall, MarkingsCall, PathCall}
 use Rattle.g1heap_c.specs.Calls.{FreeRun, Marking, Grey, Clearing, Name}
 use Rattle.g1heap_c.specs.Policies.{asked}
 use Rattle.g1heap_c.specs.Runs.{HasEvents, HasFilling, HasLoaded, HasMaking, HasMakingAndFilling, HasNoEvent, HasNotRead, HasRead}
@@ -219,6 +219,7 @@ module _ (c : CoreState) (es : List Event) (y z : Answer) (d : CoreState) where
       (h.answers.ended_is ∙ sym k.answers.ended_is)
       h.answers.tells k.answers.tells) ∙ sym k.answers.is
   one_answer (AskCall q) h k = ask_one q h.answers k.answers
+  one_answer (MarkingsCall count) h k = h.answers ∙ sym k.answers
   one_answer (GiveBackCall granted) h k = none_one (given_back granted) h k
   one_answer (ShrinkCall granted) h k = h.tells ∙ sym k.tells
   one_answer NoStepCall h k = none_else h k

@@ -4,6 +4,7 @@ use Rattle.heap_steps.specs.Forms.{collection_numbers, collection_place, collect
 use Rattle.heap_steps.specs.declared.step.Event.{Event}
 use Rattle.heap_steps.specs.declared.step.Step.{Step}
 use Rattle.heap_steps.specs.declared.step.Step.TheVariants as steps
+use Rattle.collection.specs.Markings.{CountsMarking}
 use Rattle.heap_calls.specs.Numbers.{numbers}
 use Rattle.g1heap_c.specs.declared.noted.Entry.{Entry}
 use Rattle.g1heap_c.specs.declared.noted.Notes.{Notes}
@@ -27,7 +28,9 @@ entry_of e = record {
   answer = numbers e.reply;
 }
 
--- an event is noted: its entry is the next one, if there is room for it, no other changes, and one step more is counted
+-- an event is noted: its entry is the next one, if there is room for it, no other changes, one step more is counted, and so is a marking
+-- that it ended
 pub record IsEntered (x : Notes) (e : Event) (y : Notes) : Type 0 where
   pub entries : y.entries.now ≡ slice_set x.entries.now x.count (entry_of e)
   pub count : y.count ≡ min (x.count + 1) (2 ^ 32 - 1)
+  pub markings : CountsMarking x.markings e y.markings

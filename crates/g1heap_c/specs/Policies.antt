@@ -4,6 +4,7 @@ use Rattle.heap_words.specs.declared.config.Config.{Config}
 use Rattle.regions.specs.Table.{free_count}
 use Rattle.heap_steps.specs.Actors.{IsOp, IsThird}
 use Rattle.heap_steps.specs.declared.step.Action.TheVariants as actions
+use Rattle.heap_steps.specs.declared.step.Event.{Event}
 use Rattle.heap_steps.specs.declared.step.Op.{Op}
 use Rattle.heap_steps.specs.declared.step.Step.{Step}
 use Rattle.heap_steps.specs.declared.step.Reply.{Reply}
@@ -38,23 +39,19 @@ asked m to pointers weaks values = record {
 abbrev nobody : Unit {0}
 nobody = tt
 
--- steps that nobody is said to watch: of the collector, and for an object
-abbrev pub CollectsIn : ℕ → CoreState → CoreState → Type 0
-CollectsIn most c c' = CollectsWithin {W = Unit {0}} (λ x e y. Unit {0}) most c nobody c' nobody
-
+-- steps of the collector, at least one, that nobody is said to watch
 abbrev pub CollectsSomeIn : ℕ → CoreState → CoreState → Type 0
 CollectsSomeIn most c c' = CollectsSome {W = Unit {0}} (λ x e y. Unit {0}) most c nobody c' nobody
 
-abbrev pub MakesIn : ℕ → Op → Reply → CoreState → CoreState → Type 0
-MakesIn most op reply c c' = Makes {W = Unit {0}} (λ x e y. Unit {0}) most op reply c nobody c' nobody
-
--- an object is asked for, and the answer tells the reply: all that the policy promises. Then the heap is the core after it
-pub record AnswersMake (c : CoreState) (op : Op) (answer : Answer) (after : Option CoreState) : Type 0 where
+-- an object is asked for, and the answer tells the reply: all that the policy promises, and a watch sees its steps. Then the heap is the
+-- core after it
+pub record AnswersMake {W : Type 0} (sees : W → Event → W → Type 0) (c : CoreState) (x : W) (op : Op) (answer : Answer)
+    (after : Option CoreState) (x' : W) : Type 0 where
   pub reply : Reply
   pub core : CoreState
   pub tells : answer ≡ numbers reply
   pub held : after ≡ Some core
-  pub makes : MakesIn (5 * c.config.regions + 12) op reply c core
+  pub makes : Makes sees (5 * c.config.regions + 12) op reply c x core x'
   pub full : reply ≡ replies.Refused refusals.Full → (s : State) → Stands s c → IsFilled s.graph c op.action core
   pub two : LeavesTwo c.config op.action → 2 ≤ free_count c.table → 2 ≤ free_count core.table
 
@@ -68,32 +65,36 @@ abbrev pub nilling : ℕ → ℕ → ℕ → Step
 nilling m to i = by m (actions.Drop (register to))
 
 -- an object is asked for, and where it is refused as Full and the number is set, a step more makes the register nil that was to take it
-pub record AsksOrNils (number to : ℕ) (c : CoreState) (op : Op) (answer : Answer) (after : Option CoreState) : Type 0 where
+pub record AsksOrNils {W : Type 0} (sees : W → Event → W → Type 0) (number to : ℕ) (c : CoreState) (x : W) (op : Op) (answer : Answer)
+    (after : Option CoreState) (x' : W) : Type 0 where
   pub made : CoreState
-  pub asks : AnswersMake c op answer (Some made)
+  pub asks : AnswersMake sees c x op answer (Some made) x'
   pub last : CoreState
   pub nils : StepsTo made (nilling op.mutator to) (nil_steps number asks.reply) last
   pub held : after ≡ Some last
 
--- if the heap's sizes have the step; else it is as it was
-pub record AsksOrNot (number to : ℕ) (c : CoreState) (op : Op) (answer : Answer) (after : Option CoreState) : Type 0 where
-  pub asks : IsOp c.config op → AsksOrNils number to c op answer after
-  pub not : (IsOp c.config op → ⊥) → StaysSame (Some c) no_step answer after
+-- if the heap's sizes have the step; else it is as it was, and the watch sees nothing
+pub record AsksOrNot {W : Type 0} (sees : W → Event → W → Type 0) (number to : ℕ) (c : CoreState) (x : W) (op : Op) (answer : Answer)
+    (after : Option CoreState) (x' : W) : Type 0 where
+  pub asks : IsOp c.config op → AsksOrNils sees number to c x op answer after x'
+  pub not : (IsOp c.config op → ⊥) → StaysSame (Some c) no_step answer after × (x' ≡ x)
 
-abbrev pub AsksFor : ℕ → ℕ → Option CoreState → Op → Answer → Option CoreState → Type 0
-AsksFor number to None op answer after = StaysSame None no_heap answer after
-AsksFor number to (Some c) op answer after = AsksOrNot number to c op answer after
+abbrev pub AsksFor : {W : Type 0} (sees : W → Event → W → Type 0) → ℕ → ℕ → Option CoreState → W → Op → Answer → Option CoreState → W
+    → Type 0
+AsksFor sees number to None x op answer after x' = StaysSame None no_heap answer after × (x' ≡ x)
+AsksFor sees number to (Some c) x op answer after x' = AsksOrNot sees number to c x op answer after x'
 
 -- the steps that are due
-pub record CollectsDueIn (c : CoreState) (answer : Answer) (after : Option CoreState) : Type 0 where
+pub record CollectsDueIn {W : Type 0} (sees : W → Event → W → Type 0) (c : CoreState) (x : W) (answer : Answer) (after : Option CoreState)
+    (x' : W) : Type 0 where
   pub core : CoreState
   pub tells : answer ≡ told 0 0 0
   pub held : after ≡ Some core
-  pub collects : CollectsIn (c.config.regions + 5) c core
+  pub collects : CollectsWithin sees (c.config.regions + 5) c x core x'
 
-abbrev pub CollectsDue : Option CoreState → Answer → Option CoreState → Type 0
-CollectsDue None answer after = StaysSame None no_heap answer after
-CollectsDue (Some c) answer after = CollectsDueIn c answer after
+abbrev pub CollectsDue : {W : Type 0} (sees : W → Event → W → Type 0) → Option CoreState → W → Answer → Option CoreState → W → Type 0
+CollectsDue sees None x answer after x' = StaysSame None no_heap answer after × (x' ≡ x)
+CollectsDue sees (Some c) x answer after x' = CollectsDueIn sees c x answer after x'
 
 -- if a step is due, by the number of free regions at which a cycle begins, at least one is taken
 abbrev pub TakesDue : Option CoreState → ℕ → Option CoreState → Type 0
@@ -102,29 +103,31 @@ TakesDue (Some c) begin_at after =
     IsDue c begin_at → (core : CoreState) × (after ≡ Some core) × CollectsSomeIn (c.config.regions + 5) c core
 
 -- a whole collection: what is kept is reachable then, and fills more than half of the ordinary regions
-pub record CollectsAllIn (c : CoreState) (answer : Answer) (after : Option CoreState) : Type 0 where
+pub record CollectsAllIn {W : Type 0} (sees : W → Event → W → Type 0) (c : CoreState) (x : W) (answer : Answer) (after : Option CoreState)
+    (x' : W) : Type 0 where
   pub core : CoreState
   pub tells : answer ≡ told 0 0 0
   pub held : after ≡ Some core
-  pub collects : CollectsIn (4 + (c.config.regions - free_count c.table)) c core
+  pub collects : CollectsWithin sees (4 + (c.config.regions - free_count c.table)) c x core x'
   pub collected : (s : State) → Stands s c → IsCollected s.graph core
   pub packed : (s : State) → Stands s c → 2 ≤ free_count c.table → IsPacked s.graph core
 
-abbrev pub CollectsAll : Option CoreState → Answer → Option CoreState → Type 0
-CollectsAll None answer after = StaysSame None no_heap answer after
-CollectsAll (Some c) answer after = CollectsAllIn c answer after
+abbrev pub CollectsAll : {W : Type 0} (sees : W → Event → W → Type 0) → Option CoreState → W → Answer → Option CoreState → W → Type 0
+CollectsAll sees None x answer after x' = StaysSame None no_heap answer after × (x' ≡ x)
+CollectsAll sees (Some c) x answer after x' = CollectsAllIn sees c x answer after x'
 
 -- The same, and more pauses and compactions after it: no region in use is above a free one then, if two were free and the format has
 -- compactions. Memory goes back, if what that asks for meanwhile is granted
-pub record ShrinksIn (granted : Bool) (c : CoreState) (answer : Answer) (after : Option CoreState) : Type 0 where
+pub record ShrinksIn {W : Type 0} (sees : W → Event → W → Type 0) (granted : Bool) (c : CoreState) (x : W) (answer : Answer)
+    (after : Option CoreState) (x' : W) : Type 0 where
   pub core : CoreState
   pub tells : answer ≡ given_back granted
   pub held : after ≡ Some core
-  pub collects : CollectsIn (13 + 4 * c.config.regions) c core
+  pub collects : CollectsWithin sees (13 + 4 * c.config.regions) c x core x'
   pub collected : (s : State) → Stands s c → IsCollected s.graph core
   pub packed : (s : State) → Stands s c → 2 ≤ free_count c.table → IsPacked s.graph core
   pub compact : IsThird c.config.format → 2 ≤ free_count c.table → (s : State) → Stands s c → IsCompact core.table
 
-abbrev pub Shrinks : Bool → Option CoreState → Answer → Option CoreState → Type 0
-Shrinks granted None answer after = StaysSame None no_heap answer after
-Shrinks granted (Some c) answer after = ShrinksIn granted c answer after
+abbrev pub Shrinks : {W : Type 0} (sees : W → Event → W → Type 0) → Bool → Option CoreState → W → Answer → Option CoreState → W → Type 0
+Shrinks sees granted None x answer after x' = StaysSame None no_heap answer after × (x' ≡ x)
+Shrinks sees granted (Some c) x answer after x' = ShrinksIn sees granted c x answer after x'

@@ -22,14 +22,14 @@ use Rattle.heap_calls.specs.Loads.{loading, word_or_name}
 use Rattle.heap_calls.specs.Loads as loads
 use Rattle.heap_calls.specs.Rows.{AreSteps, Many, count_of, last_step, step_of}
 use Rattle.heap_calls.specs.Numbers.{no_step, numbers, refused, register, told}
-use Rattle.heap_calls.specs.Steps.{HasRegister, given_back}
+use Rattle.heap_calls.specs.Steps.{HasRegister, IsNumber, given_back}
 use Rattle.heap_calls.specs.Walks.{Finds, Walks}
 use Rattle.heap_calls.specs.Ways.{FindsWay}
 use Rattle.heap_calls.specs.declared.answer.Answer.{Answer}
-use Rattle.g1heap_c.specs.Calls.{Call, Called, AreCalls, IsAnswerTo, IsCall, telling}
+use Rattle.g1heap_c.specs.Calls.{Call, Called, AreCalls, IsAnswerTo, IsCallOn, telling}
 use Rattle.g1heap_c.specs.Calls.{NewCall, StepCall, NewFilledCall, MakeCall, MakeFilledCall, CollectCall, CollectAllCall, ReadWordsCall}
 use Rattle.g1heap_c.specs.Calls.{GetWordCall, ManyCall, WriteWordsCall, WalkCall, WhoCall, AskCall, GiveBackCall, ShrinkCall, NoStepCall}
-use Rattle.g1heap_c.specs.Calls.{FreeCall, PathCall}
+use Rattle.g1heap_c.specs.Calls.{FreeCall, MarkingsCall, PathCall}
 use Rattle.g1heap_c.specs.Policies.{asked, nil_steps, nilling}
 
 -- the event of a step with a reply, taken by whose step it is
@@ -217,6 +217,7 @@ HasEvents c es (WalkCall from to before after) answer c' = HasAsked c es (Walks 
 HasEvents c es (WhoCall name from to before after) answer c' = HasAsked c es (Finds name from to before after) answer c'
 HasEvents c es (PathCall name ended before after) answer c' = HasAsked c es (FindsWay name ended before after) answer c'
 HasEvents c es (AskCall question) answer c' = HasAsked c es (IsAnswerTo question) answer c'
+HasEvents c es (MarkingsCall count) answer c' = HasAsked c es (IsNumber (λ d. count)) answer c'
 HasEvents c es (GiveBackCall granted) answer c' = HasNoEvent c es (given_back granted) answer c'
 HasEvents c es (ShrinkCall granted) answer c' = HasCollected es (given_back granted) answer
 HasEvents c es NoStepCall answer c' = HasNoEvent c es no_step answer c'
@@ -244,7 +245,8 @@ pub record AreRun (s : State) (c : CoreState) (calls : List Called) : Type 0 whe
 
 -- a heap is made, and calls on it, one after another, are a run from the state with no objects on
 abbrev pub NewHeapRuns : Config → Answer → CoreState → List Called → Type 0
-NewHeapRuns config answer c calls = IsCall None (NewCall config) answer (Some c) → AreCalls c calls → AreRun (first_state config) c calls
+NewHeapRuns config answer c calls = (n : ℕ) → IsCallOn None n (NewCall config) answer (Some c) 0 → AreCalls c 0 calls
+    → AreRun (first_state config) c calls
 
 -- a call's answer is fixed by its events, and by the heap before and after it
 abbrev pub HasOneAnswer : CoreState → List Event → Call → CoreState → Type 0

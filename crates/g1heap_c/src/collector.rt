@@ -11,7 +11,7 @@ use heap_steps::{CollectorStep, Limits, Step};
 /// Marking begins.
 #[unsafe(no_mangle)]
 pub extern "C" fn g1_begin(heap: &mut Heap) -> Answer
-    ensures { IsCall heap.old.handle.core (StepCall (steps.Collector collector.Begin)) result heap.new.handle.core }
+    ensures { IsCall heap.old (StepCall (steps.Collector collector.Begin)) result heap.new }
 {
     take(heap, Step::Collector(CollectorStep::Begin))
 }
@@ -19,23 +19,27 @@ pub extern "C" fn g1_begin(heap: &mut Heap) -> Answer
 /// At most so many objects are scanned; the answer tells how many.
 #[unsafe(no_mangle)]
 pub extern "C" fn g1_mark(heap: &mut Heap, objects: u32) -> Answer
-    ensures { IsCall heap.old.handle.core (StepCall (steps.Collector (collector.Mark objects))) result heap.new.handle.core }
+    ensures { IsCall heap.old (StepCall (steps.Collector (collector.Mark objects))) result heap.new }
 {
     mark(heap, objects)
 }
 
-/// Marking is brought to its end.
+/// Marking is brought to its end, which is counted.
 #[unsafe(no_mangle)]
 pub extern "C" fn g1_remark(heap: &mut Heap) -> Answer
-    ensures { IsCall heap.old.handle.core (StepCall (steps.Collector collector.Remark)) result heap.new.handle.core }
+    ensures { IsCall heap.old (StepCall (steps.Collector collector.Remark)) result heap.new }
 {
-    take(heap, Step::Collector(CollectorStep::Remark))
+    let answer = take(heap, Step::Collector(CollectorStep::Remark));
+    if answer.code == 5 {
+        heap.markings = heap.markings.wrapping_add(1);
+    }
+    answer
 }
 
 /// Regions with nothing live are free again.
 #[unsafe(no_mangle)]
 pub extern "C" fn g1_cleanup(heap: &mut Heap) -> Answer
-    ensures { IsCall heap.old.handle.core (StepCall (steps.Collector collector.Cleanup)) result heap.new.handle.core }
+    ensures { IsCall heap.old (StepCall (steps.Collector collector.Cleanup)) result heap.new }
 {
     take(heap, Step::Collector(CollectorStep::Cleanup))
 }
@@ -43,7 +47,7 @@ pub extern "C" fn g1_cleanup(heap: &mut Heap) -> Answer
 /// At most so many queued cards are refined.
 #[unsafe(no_mangle)]
 pub extern "C" fn g1_refine(heap: &mut Heap, cards: u32) -> Answer
-    ensures { IsCall heap.old.handle.core (StepCall (steps.Collector (collector.Refine cards))) result heap.new.handle.core }
+    ensures { IsCall heap.old (StepCall (steps.Collector (collector.Refine cards))) result heap.new }
 {
     take(heap, Step::Collector(CollectorStep::Refine(cards)))
 }
@@ -51,7 +55,7 @@ pub extern "C" fn g1_refine(heap: &mut Heap, cards: u32) -> Answer
 /// Live objects are copied out of some regions, at most so many words, and these regions are free again.
 #[unsafe(no_mangle)]
 pub extern "C" fn g1_pause(heap: &mut Heap, words: u32) -> Answer
-    ensures { IsCall heap.old.handle.core (StepCall (steps.Collector (collector.Pause words))) result heap.new.handle.core }
+    ensures { IsCall heap.old (StepCall (steps.Collector (collector.Pause words))) result heap.new }
 {
     take(heap, Step::Collector(CollectorStep::Pause(words)))
 }
@@ -59,7 +63,7 @@ pub extern "C" fn g1_pause(heap: &mut Heap, words: u32) -> Answer
 /// Live objects of the highest regions are copied down, at most so many words, and these regions are free again.
 #[unsafe(no_mangle)]
 pub extern "C" fn g1_compact(heap: &mut Heap, words: u32) -> Answer
-    ensures { IsCall heap.old.handle.core (StepCall (steps.Collector (collector.Compact words))) result heap.new.handle.core }
+    ensures { IsCall heap.old (StepCall (steps.Collector (collector.Compact words))) result heap.new }
 {
     take(heap, Step::Collector(CollectorStep::Compact(words)))
 }
@@ -67,8 +71,8 @@ pub extern "C" fn g1_compact(heap: &mut Heap, words: u32) -> Answer
 /// The same as a pause, of those of its regions that few cards lead into, as long as these are at most `cards` together.
 #[unsafe(no_mangle)]
 pub extern "C" fn g1_pause_within(heap: &mut Heap, words: u32, cards: u32) -> Answer
-    ensures { IsCall heap.old.handle.core (StepCall (steps.Collector (collector.PauseWithin (record { words = words; cards = cards }))))
-        result heap.new.handle.core }
+    ensures { IsCall heap.old (StepCall (steps.Collector (collector.PauseWithin (record { words = words; cards = cards }))))
+        result heap.new }
 {
     take(
         heap,
@@ -79,8 +83,7 @@ pub extern "C" fn g1_pause_within(heap: &mut Heap, words: u32, cards: u32) -> An
 /// The same of the regions that objects were made in last, the oldest of these first.
 #[unsafe(no_mangle)]
 pub extern "C" fn g1_young(heap: &mut Heap, words: u32, cards: u32) -> Answer
-    ensures { IsCall heap.old.handle.core (StepCall (steps.Collector (collector.Young (record { words = words; cards = cards }))))
-        result heap.new.handle.core }
+    ensures { IsCall heap.old (StepCall (steps.Collector (collector.Young (record { words = words; cards = cards })))) result heap.new }
 {
     take(
         heap,
@@ -91,7 +94,7 @@ pub extern "C" fn g1_young(heap: &mut Heap, words: u32, cards: u32) -> Answer
 /// What the last marking found dead leaves the weak slots of at most so many objects.
 #[unsafe(no_mangle)]
 pub extern "C" fn g1_clear(heap: &mut Heap, objects: u32) -> Answer
-    ensures { IsCall heap.old.handle.core (StepCall (steps.Collector (collector.Clear objects))) result heap.new.handle.core }
+    ensures { IsCall heap.old (StepCall (steps.Collector (collector.Clear objects))) result heap.new }
 {
     take(heap, Step::Collector(CollectorStep::Clear(objects)))
 }

@@ -15,7 +15,7 @@ pub extern "C" fn g1_new_filled(
     from: &[u32],
     words: &[u64],
 ) -> Answer
-    ensures { IsCall heap.old.handle.core (NewFilledCall mutator to from.now words.now) result heap.new.handle.core }
+    ensures { IsCall heap.old (NewFilledCall mutator to from.now words.now) result heap.new }
 {
     if !heap.live {
         return no_heap();

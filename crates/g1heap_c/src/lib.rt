@@ -2,7 +2,8 @@
 //!
 //! ```text
 //!   C                                    Rattle
-//!   struct g1_heap { live, at }    --->  Heap: nothing, or a core in a box
+//!   struct g1_heap { live, at,     --->  Heap: nothing, or a core in a box,
+//!                    markings }          and how many of its markings ended
 //!   g1_get(&heap, m, to, obj, i)   --->  Step -> Core::step -> Reply -> Answer
 //! ```
 //!
@@ -24,6 +25,7 @@ pub mod mutator;
 mod noted;
 pub mod paths;
 pub mod policy;
+pub mod policy_noted;
 pub mod readers;
 pub mod rows;
 pub mod version;

@@ -16,7 +16,7 @@ pub extern "C" fn g1_get_word(
     field: u32,
     word: u32,
 ) -> Answer
-    ensures { IsCall heap.old.handle.core (GetWordCall mutator to object field word) result heap.new.handle.core }
+    ensures { IsCall heap.old (GetWordCall mutator to object field word) result heap.new }
 {
     if !heap.live {
         return no_heap();

@@ -1,14 +1,15 @@
 //! Objects that are asked for by the policy, and filled in the same call.
 
 ghost use Rattle.std.specs.Prelude.{◌≡◌, Some};
+ghost use Rattle.collection.specs.Markings.{CountsMarking};
 ghost use Rattle.heap_calls.specs.Filled.{AreFields};
 ghost use Rattle.g1heap_c.specs.Calls.{IsCall, MakeFilledCall};
-ghost use Rattle.g1heap_c.specs.MadeFilled.{AsksFilled, AsksToFill, AsksToFillOrNot};
+ghost use Rattle.g1heap_c.specs.MadeFilled.{AsksToFill, AsksToFillOrNot};
 
 use crate::caller::{CallerPolicy, nil_where_full};
 use crate::noted::{Entry, Notes};
 use crate::policy::plain;
-use collection::{Unwatched, Watch, make};
+use collection::{Watch, make};
 use heap_calls::answer::{Answer, answer_of, no_heap};
 use heap_calls::filled::{fill_made, has_fields};
 use heap_calls::heap::{Heap, no_step_of};
@@ -26,7 +27,7 @@ fn make_and_fill<W: Watch>(
     watch: &mut W,
 ) -> Answer
     requires { AreFields core.old.config mutator to from.now words.now }
-    ensures { AsksToFill policy.old.nil_on_full core.old mutator to from.now words.now result (Some core.new) }
+    ensures { AsksToFill W.sees policy.old.nil_on_full core.old watch.old mutator to from.now words.now result (Some core.new) watch.new }
 {
     let op = plain(mutator, to, from.len() as u32, words.len() as u32);
     let reply = make(core, &mut policy.numbers, op, watch);
@@ -46,7 +47,8 @@ fn make_in<W: Watch>(
     words: &[u64],
     watch: &mut W,
 ) -> Answer
-    ensures { AsksToFillOrNot policy.old.nil_on_full core.old mutator to from.now words.now result (Some core.new) }
+    ensures { AsksToFillOrNot W.sees policy.old.nil_on_full core.old watch.old mutator to from.now words.now result (Some core.new)
+        watch.new }
 {
     if !has_fields(core, mutator, to, from, words) {
         return no_step_of(core, true);
@@ -54,31 +56,30 @@ fn make_in<W: Watch>(
     make_and_fill(core, policy, mutator, to, from, words, watch)
 }
 
-/// The same, if there is a heap.
-#[inline(always)]
-fn ask<W: Watch>(
-    heap: &mut Heap,
+/// The same, and the steps up to the object's own are noted.
+fn make_noted(
+    core: &mut Core,
     policy: &mut CallerPolicy,
     mutator: u32,
     to: u32,
     from: &[u32],
     words: &[u64],
-    watch: &mut W,
+    markings: &mut u64,
+    entries: &mut [Entry],
+    count: &mut u32,
 ) -> Answer
-    ensures { AsksFilled policy.old.nil_on_full heap.old.handle.core mutator to from.now words.now result heap.new.handle.core }
+    ensures { AsksToFillOrNot CountsMarking policy.old.nil_on_full core.old markings.old mutator to from.now words.now result
+        (Some core.new) markings.new }
 {
-    if !heap.live {
-        return no_heap();
-    }
-    make_in(
-        heap.handle.core_mut(),
-        policy,
-        mutator,
-        to,
-        from,
-        words,
-        watch,
-    )
+    let mut notes = Notes {
+        entries,
+        count: 0,
+        markings: *markings,
+    };
+    let answer = make_in(core, policy, mutator, to, from, words, &mut notes);
+    *markings = notes.markings;
+    *count = notes.count;
+    answer
 }
 
 /// `to` takes a new object, after the steps of the collector that are due. Its pointers are what registers hold, or nil, and its data words
@@ -92,10 +93,14 @@ pub extern "C" fn g1_make_filled(
     from: &[u32],
     words: &[u64],
 ) -> Answer
-    ensures { IsCall heap.old.handle.core (MakeFilledCall policy.old.nil_on_full mutator to from.now words.now) result
-        heap.new.handle.core }
+    ensures { IsCall heap.old (MakeFilledCall policy.old.nil_on_full mutator to from.now words.now) result heap.new }
 {
-    ask(heap, policy, mutator, to, from, words, &mut Unwatched)
+    if !heap.live {
+        return no_heap();
+    }
+    let core = heap.handle.core_mut();
+    let markings = &mut heap.markings;
+    make_in(core, policy, mutator, to, from, words, markings)
 }
 
 /// The same as `g1_make_filled`, and the steps up to the object's own are noted.
@@ -110,11 +115,21 @@ pub extern "C" fn g1_make_filled_noted(
     entries: &mut [Entry],
     count: &mut u32,
 ) -> Answer
-    ensures { IsCall heap.old.handle.core (MakeFilledCall policy.old.nil_on_full mutator to from.now words.now) result
-        heap.new.handle.core }
+    ensures { IsCall heap.old (MakeFilledCall policy.old.nil_on_full mutator to from.now words.now) result heap.new }
 {
-    let mut notes = Notes { entries, count: 0 };
-    let answer = ask(heap, policy, mutator, to, from, words, &mut notes);
-    *count = notes.count;
-    answer
+    *count = 0;
+    if !heap.live {
+        return no_heap();
+    }
+    make_noted(
+        heap.handle.core_mut(),
+        policy,
+        mutator,
+        to,
+        from,
+        words,
+        &mut heap.markings,
+        entries,
+        count,
+    )
 }

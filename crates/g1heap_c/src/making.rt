@@ -22,7 +22,7 @@ fn sendable<T: Send>(value: T) -> T
 /// Makes a heap of these sizes, in the place of none. The answer is 0, or why none was made.
 #[unsafe(no_mangle)]
 pub extern "C" fn g1_new(alloc: Global, heap: &mut Heap, sizes: &Sizes) -> u32
-    ensures { IsCall heap.old.handle.core (NewCall (config_of sizes.now)) (told result 0 0) heap.new.handle.core }
+    ensures { IsCall heap.old (NewCall (config_of sizes.now)) (told result 0 0) heap.new }
 {
     if heap.live {
         return 34;
@@ -32,6 +32,7 @@ pub extern "C" fn g1_new(alloc: Global, heap: &mut Heap, sizes: &Sizes) -> u32
             *heap = sendable(Heap {
                 live: true,
                 handle: handle_of(core),
+                markings: 0,
             });
             0
         }
@@ -42,7 +43,7 @@ pub extern "C" fn g1_new(alloc: Global, heap: &mut Heap, sizes: &Sizes) -> u32
 /// Frees a heap, if it is one. There is none from then on.
 #[unsafe(no_mangle)]
 pub extern "C" fn g1_free(alloc: Global, heap: &mut Heap)
-    ensures { IsCall heap.old.handle.core FreeCall (told 0 0 0) heap.new.handle.core }
+    ensures { IsCall heap.old FreeCall (told 0 0 0) heap.new }
 {
     if !heap.live {
         return;
@@ -50,7 +51,12 @@ pub extern "C" fn g1_free(alloc: Global, heap: &mut Heap)
     let none = Heap {
         live: false,
         handle: Handle::empty(alloc),
+        markings: 0,
     };
-    let Heap { live: _, handle } = replace(heap, none);
+    let Heap {
+        live: _,
+        handle,
+        markings: _,
+    } = replace(heap, none);
     drop(handle.into_loose().into_box());
 }

@@ -21,8 +21,7 @@ pub extern "C" fn g1_new_object(
     pointers: u32,
     values: u32,
 ) -> Answer
-    ensures { IsCall heap.old.handle.core
-        (StepCall (by mutator (actions.New (spec.register to) (spec.counts pointers values)))) result heap.new.handle.core }
+    ensures { IsCall heap.old (StepCall (by mutator (actions.New (spec.register to) (spec.counts pointers values)))) result heap.new }
 {
     let op = Op {
         mutator,
@@ -44,9 +43,9 @@ pub extern "C" fn g1_new_weak(
     weaks: u32,
     values: u32,
 ) -> Answer
-    ensures few { weaks ≤ 255 → IsCall heap.old.handle.core
-        (StepCall (by mutator (actions.NewWeak (spec.register to) (spec.counts pointers values) weaks))) result heap.new.handle.core }
-    ensures many { 255 < weaks → IsCall heap.old.handle.core NoStepCall result heap.new.handle.core }
+    ensures few { weaks ≤ 255 → IsCall heap.old
+        (StepCall (by mutator (actions.NewWeak (spec.register to) (spec.counts pointers values) weaks))) result heap.new }
+    ensures many { 255 < weaks → IsCall heap.old NoStepCall result heap.new }
 {
     if 255 < weaks {
         return take_none(heap);
@@ -67,8 +66,7 @@ pub extern "C" fn g1_new_weak(
 /// `to` takes a pointer of the object that `object` names.
 #[unsafe(no_mangle)]
 pub extern "C" fn g1_get(heap: &mut Heap, mutator: u32, to: u32, object: u32, field: u32) -> Answer
-    ensures { IsCall heap.old.handle.core
-        (StepCall (by mutator (actions.Get (spec.register to) (spec.register object) field))) result heap.new.handle.core }
+    ensures { IsCall heap.old (StepCall (by mutator (actions.Get (spec.register to) (spec.register object) field))) result heap.new }
 {
     let op = Op {
         mutator,
@@ -90,7 +88,8 @@ fn put(
     field: u32,
     value: Option<Register>,
 ) -> Answer
-    ensures { TakesStep plain heap.old.handle.core (by mutator (actions.Put object field value)) result heap.new.handle.core }
+    ensures takes { TakesStep plain heap.old.handle.core (by mutator (actions.Put object field value)) result heap.new.handle.core }
+    ensures same { heap.new.markings ≡ heap.old.markings }
 {
     match value {
         None => {
@@ -127,8 +126,7 @@ pub extern "C" fn g1_put(
     field: u32,
     from: u32,
 ) -> Answer
-    ensures { IsCall heap.old.handle.core
-        (StepCall (by mutator (actions.Put (spec.register object) field (spec.value from)))) result heap.new.handle.core }
+    ensures { IsCall heap.old (StepCall (by mutator (actions.Put (spec.register object) field (spec.value from)))) result heap.new }
 {
     put(heap, mutator, register(object), field, value(from))
 }
@@ -136,7 +134,7 @@ pub extern "C" fn g1_put(
 /// Tells a data word of the object that `object` names.
 #[unsafe(no_mangle)]
 pub extern "C" fn g1_read(heap: &mut Heap, mutator: u32, object: u32, field: u32) -> Answer
-    ensures { IsCall heap.old.handle.core (StepCall (by mutator (actions.Read (spec.register object) field))) result heap.new.handle.core }
+    ensures { IsCall heap.old (StepCall (by mutator (actions.Read (spec.register object) field))) result heap.new }
 {
     let op = Op {
         mutator,
@@ -157,8 +155,7 @@ pub extern "C" fn g1_write(
     field: u32,
     value: u64,
 ) -> Answer
-    ensures { IsCall heap.old.handle.core
-        (StepCall (by mutator (actions.Write (spec.register object) field value))) result heap.new.handle.core }
+    ensures { IsCall heap.old (StepCall (by mutator (actions.Write (spec.register object) field value))) result heap.new }
 {
     let op = Op {
         mutator,
@@ -174,8 +171,7 @@ pub extern "C" fn g1_write(
 /// `to` takes what `from` holds.
 #[unsafe(no_mangle)]
 pub extern "C" fn g1_move(heap: &mut Heap, mutator: u32, to: u32, from: u32) -> Answer
-    ensures { IsCall heap.old.handle.core
-        (StepCall (by mutator (actions.Move (spec.register to) (spec.register from)))) result heap.new.handle.core }
+    ensures { IsCall heap.old (StepCall (by mutator (actions.Move (spec.register to) (spec.register from)))) result heap.new }
 {
     let op = Op {
         mutator,
@@ -190,7 +186,7 @@ pub extern "C" fn g1_move(heap: &mut Heap, mutator: u32, to: u32, from: u32) -> 
 /// `to` becomes nil.
 #[unsafe(no_mangle)]
 pub extern "C" fn g1_drop(heap: &mut Heap, mutator: u32, to: u32) -> Answer
-    ensures { IsCall heap.old.handle.core (StepCall (by mutator (actions.Drop (spec.register to)))) result heap.new.handle.core }
+    ensures { IsCall heap.old (StepCall (by mutator (actions.Drop (spec.register to)))) result heap.new }
 {
     let op = Op {
         mutator,
@@ -204,8 +200,7 @@ pub extern "C" fn g1_drop(heap: &mut Heap, mutator: u32, to: u32) -> Answer
 /// `to` takes what a global holds.
 #[unsafe(no_mangle)]
 pub extern "C" fn g1_load(heap: &mut Heap, mutator: u32, to: u32, from: u32) -> Answer
-    ensures { IsCall heap.old.handle.core
-        (StepCall (by mutator (actions.Load (spec.register to) (spec.global from)))) result heap.new.handle.core }
+    ensures { IsCall heap.old (StepCall (by mutator (actions.Load (spec.register to) (spec.global from)))) result heap.new }
 {
     take(
         heap,
@@ -222,8 +217,7 @@ pub extern "C" fn g1_load(heap: &mut Heap, mutator: u32, to: u32, from: u32) -> 
 /// A global takes what `from` holds.
 #[unsafe(no_mangle)]
 pub extern "C" fn g1_save(heap: &mut Heap, mutator: u32, to: u32, from: u32) -> Answer
-    ensures { IsCall heap.old.handle.core
-        (StepCall (by mutator (actions.Save (spec.global to) (spec.register from)))) result heap.new.handle.core }
+    ensures { IsCall heap.old (StepCall (by mutator (actions.Save (spec.global to) (spec.register from)))) result heap.new }
 {
     take(
         heap,
@@ -240,7 +234,7 @@ pub extern "C" fn g1_save(heap: &mut Heap, mutator: u32, to: u32, from: u32) -> 
 /// Tells how many pointers and data words the object has that `object` names.
 #[unsafe(no_mangle)]
 pub extern "C" fn g1_shape(heap: &mut Heap, mutator: u32, object: u32) -> Answer
-    ensures { IsCall heap.old.handle.core (StepCall (by mutator (actions.Shape (spec.register object)))) result heap.new.handle.core }
+    ensures { IsCall heap.old (StepCall (by mutator (actions.Shape (spec.register object)))) result heap.new }
 {
     let op = Op {
         mutator,
@@ -260,8 +254,7 @@ pub extern "C" fn g1_get_weak(
     object: u32,
     slot: u32,
 ) -> Answer
-    ensures { IsCall heap.old.handle.core
-        (StepCall (by mutator (actions.GetWeak (spec.register to) (spec.register object) slot))) result heap.new.handle.core }
+    ensures { IsCall heap.old (StepCall (by mutator (actions.GetWeak (spec.register to) (spec.register object) slot))) result heap.new }
 {
     let op = Op {
         mutator,
@@ -283,8 +276,7 @@ pub extern "C" fn g1_put_weak(
     slot: u32,
     from: u32,
 ) -> Answer
-    ensures { IsCall heap.old.handle.core
-        (StepCall (by mutator (actions.PutWeak (spec.register object) slot (spec.value from)))) result heap.new.handle.core }
+    ensures { IsCall heap.old (StepCall (by mutator (actions.PutWeak (spec.register object) slot (spec.value from)))) result heap.new }
 {
     take(
         heap,
@@ -302,7 +294,7 @@ pub extern "C" fn g1_put_weak(
 /// Tells how many weak slots the object has that `object` names.
 #[unsafe(no_mangle)]
 pub extern "C" fn g1_weaks(heap: &mut Heap, mutator: u32, object: u32) -> Answer
-    ensures { IsCall heap.old.handle.core (StepCall (by mutator (actions.Weaks (spec.register object)))) result heap.new.handle.core }
+    ensures { IsCall heap.old (StepCall (by mutator (actions.Weaks (spec.register object)))) result heap.new }
 {
     let op = Op {
         mutator,
@@ -316,7 +308,7 @@ pub extern "C" fn g1_weaks(heap: &mut Heap, mutator: u32, object: u32) -> Answer
 /// A frame is left: each register from one on becomes nil.
 #[unsafe(no_mangle)]
 pub extern "C" fn g1_scope(heap: &mut Heap, mutator: u32, first: u32) -> Answer
-    ensures { IsCall heap.old.handle.core (StepCall (by mutator (actions.Scope (spec.register first)))) result heap.new.handle.core }
+    ensures { IsCall heap.old (StepCall (by mutator (actions.Scope (spec.register first)))) result heap.new }
 {
     take_scope(heap, mutator, first)
 }

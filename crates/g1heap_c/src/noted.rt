@@ -18,11 +18,12 @@ pub struct Entry {
     pub answer: Answer,
 }
 
-/// As many entries as there are, and how many steps were taken.
+/// As many entries as there are, how many steps were taken, and how many markings of the heap ended.
 #[derive(Drop)]
 pub(crate) struct Notes<'a> {
     pub(crate) entries: &'a mut [Entry],
     pub(crate) count: u32,
+    pub(crate) markings: u64,
 }
 
 /// Which step it is.
@@ -71,5 +72,6 @@ impl Watch for Notes<'_> {
     fn took(&mut self, event: &Event) {
         note(self.entries, self.count, event);
         self.count = self.count.saturating_add(1);
+        self.markings.took(event);
     }
 }

@@ -11,8 +11,8 @@ use heap_walk::Holder;
 /// A buffer takes a shortest way from a root to the object of a name.
 #[unsafe(no_mangle)]
 pub extern "C" fn g1_path(heap: &mut Heap, name: u64, way: &mut [Holder]) -> Answer
-    ensures { IsCall heap.old.handle.core (PathCall name true way.old way.new) result heap.new.handle.core
-        ⊎ IsCall heap.old.handle.core (PathCall name false way.old way.new) result heap.new.handle.core }
+    ensures { IsCall heap.old (PathCall name true way.old way.new) result heap.new
+        ⊎ IsCall heap.old (PathCall name false way.old way.new) result heap.new }
 {
     if !heap.live {
         return no_heap();

@@ -4,16 +4,16 @@
 ghost use Rattle.std.specs.Prelude.{◌≡◌, ◌↔◌, ◌+◌, ◌<◌, ◌≤◌, Some, IsTrue};
 ghost use Rattle.heap_steps.specs.Actors.{IsOp};
 ghost use Rattle.graph_runs.specs.Run.{IsNew};
+ghost use Rattle.collection.specs.Markings.{CountsMarking};
 ghost use Rattle.collection.specs.Steps.{IsDue};
 ghost use Rattle.heap_calls.specs.Numbers.{config_of};
 ghost use Rattle.heap_calls.specs.Steps.{HasRegister, IsUpTo};
 ghost use Rattle.g1heap_c.specs.Calls.{CollectCall, IsCall, MakeCall, NoStepCall, CollectAllCall};
-ghost use Rattle.g1heap_c.specs.Policies.{AsksFor, AsksOrNils, CollectsAll, CollectsAllIn, CollectsDue, CollectsDueIn, CollectsSomeIn};
-ghost use Rattle.g1heap_c.specs.Policies.{Starts, TakesDue, asked};
+ghost use Rattle.g1heap_c.specs.Policies.{AsksFor, AsksOrNils, AsksOrNot, CollectsAllIn, CollectsDueIn, CollectsSomeIn, Starts, TakesDue};
+ghost use Rattle.g1heap_c.specs.Policies.{asked};
 
 use crate::caller::{CallerPolicy, nil_where_full};
-use crate::noted::{Entry, Notes};
-use collection::{Policy, Unwatched, Watch, collect, collect_due, make};
+use collection::{Policy, Watch, collect, collect_due, make};
 use heap_calls::answer::{Answer, answer_of, done, no_heap, no_step};
 use heap_calls::heap::{Heap, is_known, take_none};
 use heap_calls::making::{Sizes, config_of};
@@ -37,7 +37,7 @@ pub(crate) fn plain(mutator: u32, to: u32, pointers: u32, values: u32) -> Op
 
 /// The step that makes the object that is asked for, one with weak slots.
 #[inline(always)]
-fn with_weaks(mutator: u32, to: u32, pointers: u32, weaks: u8, values: u32) -> Op
+pub(crate) fn with_weaks(mutator: u32, to: u32, pointers: u32, weaks: u8, values: u32) -> Op
     requires { 0 < weaks }
     ensures op { result ≡ asked mutator to pointers weaks values }
     ensures new { IsNew result.action }
@@ -62,7 +62,7 @@ fn make_in<W: Watch>(
     requires op { IsOp core.old.config op }
     requires new { IsNew op.action }
     requires to { HasRegister core.old op.mutator to }
-    ensures { AsksOrNils policy.old.nil_on_full to core.old op result (Some core.new) }
+    ensures { AsksOrNils W.sees policy.old.nil_on_full to core.old watch.old op result (Some core.new) watch.new }
 {
     let reply = make(core, &mut policy.numbers, op, watch);
     nil_where_full(core, policy.nil_on_full, op.mutator, to, reply);
@@ -71,8 +71,8 @@ fn make_in<W: Watch>(
 
 /// Makes the object, if the heap's sizes have the step: the mutator, and the register that takes the object.
 #[inline(always)]
-fn ask<W: Watch>(
-    heap: &mut Heap,
+pub(crate) fn ask_in<W: Watch>(
+    core: &mut Core,
     policy: &mut CallerPolicy,
     op: Op,
     to: u32,
@@ -80,16 +80,27 @@ fn ask<W: Watch>(
 ) -> Answer
     requires new { IsNew op.action }
     requires known { IsUpTo to op }
-    ensures { AsksFor policy.old.nil_on_full to heap.old.handle.core op result heap.new.handle.core }
+    ensures { AsksOrNot W.sees policy.old.nil_on_full to core.old watch.old op result (Some core.new) watch.new }
+{
+    if !is_known(core, op.mutator, to) {
+        return no_step();
+    }
+    make_in(core, policy, op, to, watch)
+}
+
+/// The same, if there is a heap, which counts the markings that end.
+#[inline(always)]
+fn ask(heap: &mut Heap, policy: &mut CallerPolicy, op: Op, to: u32) -> Answer
+    requires new { IsNew op.action }
+    requires known { IsUpTo to op }
+    ensures { AsksFor CountsMarking policy.old.nil_on_full to heap.old.handle.core heap.old.markings op result
+        heap.new.handle.core heap.new.markings }
 {
     if !heap.live {
         return no_heap();
     }
     let core = heap.handle.core_mut();
-    if !is_known(core, op.mutator, to) {
-        return no_step();
-    }
-    make_in(core, policy, op, to, watch)
+    ask_in(core, policy, op, to, &mut heap.markings)
 }
 
 /// A policy for a new heap of these sizes.
@@ -115,136 +126,61 @@ pub extern "C" fn g1_make(
     weaks: u32,
     values: u32,
 ) -> Answer
-    ensures few { weaks ≤ 255 → IsCall heap.old.handle.core
-        (MakeCall policy.old.nil_on_full mutator to pointers weaks values) result heap.new.handle.core }
-    ensures many { 255 < weaks → IsCall heap.old.handle.core NoStepCall result heap.new.handle.core }
+    ensures few { weaks ≤ 255 → IsCall heap.old (MakeCall policy.old.nil_on_full mutator to pointers weaks values) result heap.new }
+    ensures many { 255 < weaks → IsCall heap.old NoStepCall result heap.new }
 {
     // Each call of `ask` is written out here with the kind of its action known.
     if weaks == 0 {
         let op = plain(mutator, to, pointers, values);
-        return ask(heap, policy, op, to, &mut Unwatched);
+        return ask(heap, policy, op, to);
     }
     if 255 < weaks {
         return take_none(heap);
     }
     let op = with_weaks(mutator, to, pointers, weaks as u8, values);
-    ask(heap, policy, op, to, &mut Unwatched)
+    ask(heap, policy, op, to)
 }
 
-fn collect_in<W: Watch>(core: &mut Core, policy: &mut Policy, watch: &mut W) -> Answer
-    ensures collects { CollectsDueIn core.old result (Some core.new) }
+pub(crate) fn collect_in<W: Watch>(core: &mut Core, policy: &mut Policy, watch: &mut W) -> Answer
+    ensures collects { CollectsDueIn W.sees core.old watch.old result (Some core.new) watch.new }
     ensures due { IsDue core.old policy.old.begin_at → CollectsSomeIn (core.old.config.regions + 5) core.old core.new }
 {
     collect_due(core, policy, watch);
     done()
 }
 
-fn collect_all_in<W: Watch>(core: &mut Core, policy: &mut Policy, watch: &mut W) -> Answer
-    ensures { CollectsAllIn core.old result (Some core.new) }
+pub(crate) fn collect_all_in<W: Watch>(
+    core: &mut Core,
+    policy: &mut Policy,
+    watch: &mut W,
+) -> Answer
+    ensures { CollectsAllIn W.sees core.old watch.old result (Some core.new) watch.new }
 {
     collect(core, policy, watch);
     done()
 }
 
-fn collect_now<W: Watch>(heap: &mut Heap, policy: &mut Policy, watch: &mut W) -> Answer
-    ensures collects { CollectsDue heap.old.handle.core result heap.new.handle.core }
-    ensures due { TakesDue heap.old.handle.core policy.old.begin_at heap.new.handle.core }
-{
-    if !heap.live {
-        return no_heap();
-    }
-    let core = heap.handle.core_mut();
-    collect_in(core, policy, watch)
-}
-
-fn collect_all_now<W: Watch>(heap: &mut Heap, policy: &mut Policy, watch: &mut W) -> Answer
-    ensures { CollectsAll heap.old.handle.core result heap.new.handle.core }
-{
-    if !heap.live {
-        return no_heap();
-    }
-    let core = heap.handle.core_mut();
-    collect_all_in(core, policy, watch)
-}
-
 /// Takes the steps of the collector that are due at a look.
 #[unsafe(no_mangle)]
 pub extern "C" fn g1_collect(heap: &mut Heap, policy: &mut CallerPolicy) -> Answer
-    ensures call { IsCall heap.old.handle.core CollectCall result heap.new.handle.core }
+    ensures call { IsCall heap.old CollectCall result heap.new }
     ensures due { TakesDue heap.old.handle.core policy.old.numbers.begin_at heap.new.handle.core }
 {
-    collect_now(heap, &mut policy.numbers, &mut Unwatched)
+    if !heap.live {
+        return no_heap();
+    }
+    let core = heap.handle.core_mut();
+    collect_in(core, &mut policy.numbers, &mut heap.markings)
 }
 
 /// A whole collection.
 #[unsafe(no_mangle)]
 pub extern "C" fn g1_collect_all(heap: &mut Heap, policy: &mut CallerPolicy) -> Answer
-    ensures { IsCall heap.old.handle.core CollectAllCall result heap.new.handle.core }
+    ensures { IsCall heap.old CollectAllCall result heap.new }
 {
-    collect_all_now(heap, &mut policy.numbers, &mut Unwatched)
-}
-
-/// The same as `g1_make`, and the steps that were taken are noted: their number, and as many of the first ones as there are entries.
-#[unsafe(no_mangle)]
-pub extern "C" fn g1_make_noted(
-    heap: &mut Heap,
-    policy: &mut CallerPolicy,
-    mutator: u32,
-    to: u32,
-    pointers: u32,
-    weaks: u32,
-    values: u32,
-    entries: &mut [Entry],
-    count: &mut u32,
-) -> Answer
-    ensures few { weaks ≤ 255 → IsCall heap.old.handle.core
-        (MakeCall policy.old.nil_on_full mutator to pointers weaks values) result heap.new.handle.core }
-    ensures many { 255 < weaks → IsCall heap.old.handle.core NoStepCall result heap.new.handle.core }
-{
-    *count = 0;
-    if 255 < weaks {
-        return take_none(heap);
+    if !heap.live {
+        return no_heap();
     }
-    let op = if weaks == 0 {
-        plain(mutator, to, pointers, values)
-    } else {
-        with_weaks(mutator, to, pointers, weaks as u8, values)
-    };
-    let mut notes = Notes { entries, count: 0 };
-    let answer = ask(heap, policy, op, to, &mut notes);
-    *count = notes.count;
-    answer
-}
-
-/// The same as `g1_collect`, with notes.
-#[unsafe(no_mangle)]
-pub extern "C" fn g1_collect_noted(
-    heap: &mut Heap,
-    policy: &mut CallerPolicy,
-    entries: &mut [Entry],
-    count: &mut u32,
-) -> Answer
-    ensures call { IsCall heap.old.handle.core CollectCall result heap.new.handle.core }
-    ensures due { TakesDue heap.old.handle.core policy.old.numbers.begin_at heap.new.handle.core }
-{
-    let mut notes = Notes { entries, count: 0 };
-    let answer = collect_now(heap, &mut policy.numbers, &mut notes);
-    *count = notes.count;
-    answer
-}
-
-/// The same as `g1_collect_all`, with notes.
-#[unsafe(no_mangle)]
-pub extern "C" fn g1_collect_all_noted(
-    heap: &mut Heap,
-    policy: &mut CallerPolicy,
-    entries: &mut [Entry],
-    count: &mut u32,
-) -> Answer
-    ensures { IsCall heap.old.handle.core CollectAllCall result heap.new.handle.core }
-{
-    let mut notes = Notes { entries, count: 0 };
-    let answer = collect_all_now(heap, &mut policy.numbers, &mut notes);
-    *count = notes.count;
-    answer
+    let core = heap.handle.core_mut();
+    collect_all_in(core, &mut policy.numbers, &mut heap.markings)
 }

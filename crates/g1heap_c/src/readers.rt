@@ -1,7 +1,7 @@
 //! What a policy of collection steers by, a call for each. C declares these with a heap that doesn't change: what it points to is the same
 //! after the call as before.
 
-ghost use Rattle.g1heap_c.specs.Calls.{AskCall, IsCall};
+ghost use Rattle.g1heap_c.specs.Calls.{AskCall, IsCall, MarkingsCall};
 ghost use Rattle.g1heap_c.specs.Calls.{FreeRegions, FreeRun, UsedWords, LiveWords, Marking, Grey, Clearing, Queued, Globals};
 ghost use Rattle.g1heap_c.specs.Calls.{Registers, Name};
 
@@ -12,7 +12,7 @@ use heap_calls::readers::{longest_run, name_at};
 /// How many regions are free.
 #[unsafe(no_mangle)]
 pub extern "C" fn g1_free_regions(heap: &mut Heap) -> Answer
-    ensures { IsCall heap.old.handle.core (AskCall FreeRegions) result heap.new.handle.core }
+    ensures { IsCall heap.old (AskCall FreeRegions) result heap.new }
 {
     if !heap.live {
         return no_heap();
@@ -24,7 +24,7 @@ pub extern "C" fn g1_free_regions(heap: &mut Heap) -> Answer
 /// How many free regions lie side by side, at most.
 #[unsafe(no_mangle)]
 pub extern "C" fn g1_free_run(heap: &mut Heap) -> Answer
-    ensures { IsCall heap.old.handle.core (AskCall FreeRun) result heap.new.handle.core }
+    ensures { IsCall heap.old (AskCall FreeRun) result heap.new }
 {
     if !heap.live {
         return no_heap();
@@ -36,7 +36,7 @@ pub extern "C" fn g1_free_run(heap: &mut Heap) -> Answer
 /// How many words are handed out.
 #[unsafe(no_mangle)]
 pub extern "C" fn g1_used_words(heap: &mut Heap) -> Answer
-    ensures { IsCall heap.old.handle.core (AskCall UsedWords) result heap.new.handle.core }
+    ensures { IsCall heap.old (AskCall UsedWords) result heap.new }
 {
     if !heap.live {
         return no_heap();
@@ -48,7 +48,7 @@ pub extern "C" fn g1_used_words(heap: &mut Heap) -> Answer
 /// How many words are live.
 #[unsafe(no_mangle)]
 pub extern "C" fn g1_live_words(heap: &mut Heap) -> Answer
-    ensures { IsCall heap.old.handle.core (AskCall LiveWords) result heap.new.handle.core }
+    ensures { IsCall heap.old (AskCall LiveWords) result heap.new }
 {
     if !heap.live {
         return no_heap();
@@ -60,7 +60,7 @@ pub extern "C" fn g1_live_words(heap: &mut Heap) -> Answer
 /// 1 while marking runs, else 0.
 #[unsafe(no_mangle)]
 pub extern "C" fn g1_marking(heap: &mut Heap) -> Answer
-    ensures { IsCall heap.old.handle.core (AskCall Marking) result heap.new.handle.core }
+    ensures { IsCall heap.old (AskCall Marking) result heap.new }
 {
     if !heap.live {
         return no_heap();
@@ -72,7 +72,7 @@ pub extern "C" fn g1_marking(heap: &mut Heap) -> Answer
 /// 1 while marking runs and something is left to be marked, else 0.
 #[unsafe(no_mangle)]
 pub extern "C" fn g1_grey(heap: &mut Heap) -> Answer
-    ensures { IsCall heap.old.handle.core (AskCall Grey) result heap.new.handle.core }
+    ensures { IsCall heap.old (AskCall Grey) result heap.new }
 {
     if !heap.live {
         return no_heap();
@@ -84,7 +84,7 @@ pub extern "C" fn g1_grey(heap: &mut Heap) -> Answer
 /// 1 while weak slots that read nil wait to be cleared, else 0.
 #[unsafe(no_mangle)]
 pub extern "C" fn g1_clearing(heap: &mut Heap) -> Answer
-    ensures { IsCall heap.old.handle.core (AskCall Clearing) result heap.new.handle.core }
+    ensures { IsCall heap.old (AskCall Clearing) result heap.new }
 {
     if !heap.live {
         return no_heap();
@@ -93,10 +93,21 @@ pub extern "C" fn g1_clearing(heap: &mut Heap) -> Answer
     number(u64::from(core.clearing()))
 }
 
+/// How many markings of the heap ended, whoever ended them.
+#[unsafe(no_mangle)]
+pub extern "C" fn g1_markings(heap: &mut Heap) -> Answer
+    ensures { IsCall heap.old (MarkingsCall heap.old.markings) result heap.new }
+{
+    if !heap.live {
+        return no_heap();
+    }
+    number(heap.markings)
+}
+
 /// How many cards wait for refinement.
 #[unsafe(no_mangle)]
 pub extern "C" fn g1_queued(heap: &mut Heap) -> Answer
-    ensures { IsCall heap.old.handle.core (AskCall Queued) result heap.new.handle.core }
+    ensures { IsCall heap.old (AskCall Queued) result heap.new }
 {
     if !heap.live {
         return no_heap();
@@ -108,7 +119,7 @@ pub extern "C" fn g1_queued(heap: &mut Heap) -> Answer
 /// How many globals there are.
 #[unsafe(no_mangle)]
 pub extern "C" fn g1_globals(heap: &mut Heap) -> Answer
-    ensures { IsCall heap.old.handle.core (AskCall Globals) result heap.new.handle.core }
+    ensures { IsCall heap.old (AskCall Globals) result heap.new }
 {
     if !heap.live {
         return no_heap();
@@ -120,7 +131,7 @@ pub extern "C" fn g1_globals(heap: &mut Heap) -> Answer
 /// How many registers each mutator has.
 #[unsafe(no_mangle)]
 pub extern "C" fn g1_registers(heap: &mut Heap) -> Answer
-    ensures { IsCall heap.old.handle.core (AskCall Registers) result heap.new.handle.core }
+    ensures { IsCall heap.old (AskCall Registers) result heap.new }
 {
     if !heap.live {
         return no_heap();
@@ -132,7 +143,7 @@ pub extern "C" fn g1_registers(heap: &mut Heap) -> Answer
 /// The name that a register holds.
 #[unsafe(no_mangle)]
 pub extern "C" fn g1_name(heap: &mut Heap, mutator: u32, which: u32) -> Answer
-    ensures { IsCall heap.old.handle.core (AskCall (Name mutator which)) result heap.new.handle.core }
+    ensures { IsCall heap.old (AskCall (Name mutator which)) result heap.new }
 {
     if !heap.live {
         return no_heap();

@@ -17,7 +17,7 @@ pub extern "C" fn g1_get_many(
     field: u32,
     count: u32,
 ) -> Answer
-    ensures { IsCall heap.old.handle.core (ManyCall (GetMany mutator to object field count)) result heap.new.handle.core }
+    ensures { IsCall heap.old (ManyCall (GetMany mutator to object field count)) result heap.new }
 {
     if !heap.live {
         return no_heap();
@@ -35,7 +35,7 @@ pub extern "C" fn g1_put_many(
     from: u32,
     count: u32,
 ) -> Answer
-    ensures { IsCall heap.old.handle.core (ManyCall (PutMany mutator object field from count)) result heap.new.handle.core }
+    ensures { IsCall heap.old (ManyCall (PutMany mutator object field from count)) result heap.new }
 {
     if !heap.live {
         return no_heap();
@@ -53,7 +53,7 @@ pub extern "C" fn g1_fill(
     from: u32,
     count: u32,
 ) -> Answer
-    ensures { IsCall heap.old.handle.core (ManyCall (Fill mutator object field from count)) result heap.new.handle.core }
+    ensures { IsCall heap.old (ManyCall (Fill mutator object field from count)) result heap.new }
 {
     if !heap.live {
         return no_heap();
@@ -71,7 +71,7 @@ pub extern "C" fn g1_fill_words(
     value: u64,
     count: u32,
 ) -> Answer
-    ensures { IsCall heap.old.handle.core (ManyCall (FillWords mutator object field value count)) result heap.new.handle.core }
+    ensures { IsCall heap.old (ManyCall (FillWords mutator object field value count)) result heap.new }
 {
     if !heap.live {
         return no_heap();

@@ -10,7 +10,7 @@ use heap_walk::{Entry, Holder};
 /// A buffer takes what is told of the objects that the heap keeps, from a cursor on, which goes on.
 #[unsafe(no_mangle)]
 pub extern "C" fn g1_walk(heap: &mut Heap, cursor: &mut u64, objects: &mut [Entry]) -> Answer
-    ensures { IsCall heap.old.handle.core (WalkCall cursor.old cursor.new objects.old objects.new) result heap.new.handle.core }
+    ensures { IsCall heap.old (WalkCall cursor.old cursor.new objects.old objects.new) result heap.new }
 {
     if !heap.live {
         return no_heap();
@@ -27,7 +27,7 @@ pub extern "C" fn g1_who(
     cursor: &mut u64,
     holders: &mut [Holder],
 ) -> Answer
-    ensures { IsCall heap.old.handle.core (WhoCall name cursor.old cursor.new holders.old holders.new) result heap.new.handle.core }
+    ensures { IsCall heap.old (WhoCall name cursor.old cursor.new holders.old holders.new) result heap.new }
 {
     if !heap.live {
         return no_heap();

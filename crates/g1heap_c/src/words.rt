@@ -15,7 +15,7 @@ pub extern "C" fn g1_read_words(
     from: u32,
     out: &mut [u64],
 ) -> Answer
-    ensures { IsCall heap.old.handle.core (ReadWordsCall mutator object from out.old out.new) result heap.new.handle.core }
+    ensures { IsCall heap.old (ReadWordsCall mutator object from out.old out.new) result heap.new }
 {
     if !heap.live {
         return no_heap();
@@ -33,7 +33,7 @@ pub extern "C" fn g1_write_words(
     from: u32,
     words: &[u64],
 ) -> Answer
-    ensures { IsCall heap.old.handle.core (WriteWordsCall mutator object from words.now) result heap.new.handle.core }
+    ensures { IsCall heap.old (WriteWordsCall mutator object from words.now) result heap.new }
 {
     if !heap.live {
         return no_heap();

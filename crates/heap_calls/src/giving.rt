@@ -11,8 +11,9 @@ use step_core::Core;
 /// The memory above the highest region in use goes back to the system, unless what that asks for meanwhile is refused. The heap stays as it
 /// is.
 pub fn give_back(heap: &mut Heap, alloc: Global) -> Answer
-    ensures { GivesBack true heap.old.handle.core result heap.new.handle.core
+    ensures gives { GivesBack true heap.old.handle.core result heap.new.handle.core
         ⊎ GivesBack false heap.old.handle.core result heap.new.handle.core }
+    ensures same { heap.new.markings ≡ heap.old.markings }
 {
     if !heap.live {
         return no_heap();

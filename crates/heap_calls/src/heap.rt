@@ -18,12 +18,13 @@ use crate::named::{by, register};
 use heap_steps::{Action, CollectorStep, Op, Step, is_third};
 use step_core::Core;
 
-/// A heap, or none.
+/// A heap, or none, and how many of its markings ended.
 #[repr(C)]
 #[derive(Drop)]
 pub struct Heap {
     pub live: bool,
     pub handle: Handle,
+    pub markings: u64,
     ghost says: { live ≡ is_held handle.core },
 }
 
@@ -69,7 +70,8 @@ fn perform(core: &mut Core, step: Step) -> Answer
 /// Does a step, if the heap's sizes have it. The core stays in its handle.
 #[inline(always)]
 pub fn take(heap: &mut Heap, step: Step) -> Answer
-    ensures { TakesStep plain heap.old.handle.core step result heap.new.handle.core }
+    ensures takes { TakesStep plain heap.old.handle.core step result heap.new.handle.core }
+    ensures same { heap.new.markings ≡ heap.old.markings }
 {
     if !heap.live {
         return no_heap();
@@ -132,7 +134,8 @@ fn take_known(core: &mut Core, op: Op, highest: u32, apart: bool) -> Answer
 #[inline(always)]
 pub fn take_up_to(heap: &mut Heap, op: Op, highest: u32, apart: bool) -> Answer
     requires { IsUpTo highest op }
-    ensures { TakesStep plain heap.old.handle.core (steps.Mutator op) result heap.new.handle.core }
+    ensures takes { TakesStep plain heap.old.handle.core (steps.Mutator op) result heap.new.handle.core }
+    ensures same { heap.new.markings ≡ heap.old.markings }
 {
     if !heap.live {
         return no_heap();
@@ -163,7 +166,8 @@ fn leave_frame(core: &mut Core, mutator: u32, first: u32) -> Answer
 /// The same in a heap.
 #[inline(always)]
 pub fn take_scope(heap: &mut Heap, mutator: u32, first: u32) -> Answer
-    ensures { TakesStep plain heap.old.handle.core (by mutator (actions.Scope (spec.register first))) result heap.new.handle.core }
+    ensures takes { TakesStep plain heap.old.handle.core (by mutator (actions.Scope (spec.register first))) result heap.new.handle.core }
+    ensures same { heap.new.markings ≡ heap.old.markings }
 {
     if !heap.live {
         return no_heap();
@@ -173,7 +177,8 @@ pub fn take_scope(heap: &mut Heap, mutator: u32, first: u32) -> Answer
 
 /// The numbers name no step.
 pub fn take_none(heap: &mut Heap) -> Answer
-    ensures { TakesNone heap.old.handle.core result heap.new.handle.core }
+    ensures none { TakesNone heap.old.handle.core result heap.new.handle.core }
+    ensures same { heap.new.markings ≡ heap.old.markings }
 {
     if heap.live { no_step() } else { no_heap() }
 }
@@ -188,7 +193,8 @@ fn scan(core: &mut Core, units: u32) -> Answer
 
 /// Marks for so many units, words in the third format, and counts the objects that were scanned.
 pub fn mark(heap: &mut Heap, units: u32) -> Answer
-    ensures { TakesStep scanned heap.old.handle.core (steps.Collector (collector.Mark units)) result heap.new.handle.core }
+    ensures takes { TakesStep scanned heap.old.handle.core (steps.Collector (collector.Mark units)) result heap.new.handle.core }
+    ensures same { heap.new.markings ≡ heap.old.markings }
 {
     if !heap.live {
         return no_heap();

@@ -7,6 +7,7 @@ use std::os::raw::c_void;
 pub struct g1_heap {
     pub live: bool,
     pub at: *mut c_void,
+    pub markings: u64,
 }
 
 #[repr(C)]
@@ -96,7 +97,7 @@ pub struct g1_policy {
     pub reserved: [u32; 11],
 }
 
-pub const G1_HEAP_NONE: g1_heap = g1_heap { live: false, at: std::ptr::null_mut() };
+pub const G1_HEAP_NONE: g1_heap = g1_heap { live: false, at: std::ptr::null_mut(), markings: 0 };
 pub const G1_MAX_REGIONS: u32 = 4096;
 pub const G1_MAX_REGION_WORDS: u32 = 4194304;
 pub const G1_MAX_WORDS: u32 = 2147483648;
@@ -200,6 +201,7 @@ extern "C" {
     pub fn g1_marking(heap: *const g1_heap) -> g1_answer;
     pub fn g1_grey(heap: *const g1_heap) -> g1_answer;
     pub fn g1_clearing(heap: *const g1_heap) -> g1_answer;
+    pub fn g1_markings(heap: *const g1_heap) -> g1_answer;
     pub fn g1_queued(heap: *const g1_heap) -> g1_answer;
     pub fn g1_globals(heap: *const g1_heap) -> g1_answer;
     pub fn g1_registers(heap: *const g1_heap) -> g1_answer;
@@ -268,6 +270,7 @@ macro_rules! each_call_of_numbers {
             marking = g1_marking();
             grey = g1_grey();
             clearing = g1_clearing();
+            markings = g1_markings();
             queued = g1_queued();
             globals = g1_globals();
             registers = g1_registers();

@@ -1,7 +1,6 @@
 use Rattle.std.proofs.Common.{◌≡◌, ap, inl, inr, true, false}
 use Rattle.std.specs.Prelude.{Bool, Some}
 use Rattle.step_core.specs.Stands.{CoreState}
-use Rattle.collection.proofs.Took.{unseen}
 use Rattle.heap_calls.specs.Steps.{given_back}
 use Rattle.g1heap_c.specs.Policies.{ShrinksIn}
 use Rattle.g1heap_c.proofs.giving.shrink_in.Goals as goal
@@ -13,13 +12,13 @@ returns g c = elim c.give_back_of.ensures.given [
 ]
   where
     given : (granted : Bool) → c.give_back_of.result ≡ given_back granted
-        → ShrinksIn granted c.args.core.now c.give_back_of.result (Some c.give_back_of.new.core)
+        → ShrinksIn g.W.Watch.sees granted c.args.core.now c.args.watch.now c.give_back_of.result (Some c.give_back_of.new.core)
+        c.collect_down.new.watch
     given granted tells = record {
       core = c.collect_down.new.core;
       tells = tells;
       held = ap (λ (x : CoreState). Some x) c.give_back_of.ensures.same;
-      collects = unseen g.W.Watch.sees _ c.args.core.now c.collect_down.new.core c.args.watch.now c.collect_down.new.watch
-          c.collect_down.ensures.collects;
+      collects = c.collect_down.ensures.collects;
       collected = c.collect_down.ensures.quiet;
       packed = c.collect_down.ensures.packed;
       compact = c.collect_down.ensures.compact;

@@ -5,7 +5,6 @@ use Rattle.heap_steps.specs.declared.step.Reply.{Reply}
 use Rattle.heap_steps.specs.declared.step.Reply.TheVariants as replies
 use Rattle.step_core.specs.Making.{HasMade}
 use Rattle.step_core.specs.Stands.{CoreState}
-use Rattle.collection.proofs.Took.{unseen_made}
 use Rattle.heap_calls.specs.Filled.{FillsIt}
 use Rattle.heap_calls.specs.Steps.{IsUpTo}
 use Rattle.g1heap_c.specs.Policies.{AnswersMake}
@@ -35,14 +34,14 @@ nil_where_full-requires g c full =
 pub returns : goal.returns
 returns g c = record {
   made = c.make-reply.new.core;
-  asks = subst (λ (op : Op). AnswersMake c.args.core.now op (c.answer_of.result) (Some c.make-reply.new.core)) c.plain-op.ensures.op
+  asks = subst (λ (op : Op). AnswersMake g.W.Watch.sees c.args.core.now c.args.watch.now op (c.answer_of.result)
+      (Some c.make-reply.new.core) c.make-reply.new.watch) c.plain-op.ensures.op
       (record {
         reply = c.make-reply.result;
         core = c.make-reply.new.core;
         tells = c.answer_of.ensures;
         held = refl;
-        makes = unseen_made g.W.Watch.sees _ c.plain-op.result c.make-reply.result c.args.core.now c.make-reply.new.core c.args.watch.now
-            c.make-reply.new.watch c.make-reply.ensures.makes;
+        makes = c.make-reply.ensures.makes;
         full = c.make-reply.ensures.full;
         two = c.make-reply.ensures.two;
       });

@@ -1,5 +1,4 @@
 use Rattle.std.proofs.Common.{refl}
-use Rattle.collection.proofs.Took.{unseen_made}
 use Rattle.g1heap_c.proofs.Named.{has_register}
 use Rattle.g1heap_c.proofs.policy.make_in.Goals as goal
 
@@ -16,8 +15,7 @@ returns g c = record {
     core = c.make-reply.new.core;
     tells = c.answer_of.ensures;
     held = refl;
-    makes = unseen_made g.W.Watch.sees _ c.args.op c.make-reply.result c.args.core.now c.make-reply.new.core c.args.watch.now
-        c.make-reply.new.watch c.make-reply.ensures.makes;
+    makes = c.make-reply.ensures.makes;
     full = c.make-reply.ensures.full;
     two = c.make-reply.ensures.two;
   };
