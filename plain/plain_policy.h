@@ -119,13 +119,15 @@ static inline void policy_plan_young(policy_of *of, uint32_t free, uint32_t span
     of->policy->span = policy_least(way, policy_most(span, policy_regions(of->sizes, of->policy->young_words)));
     of->policy->young_at = way <= policy_in_play(of->policy, of->sizes) / 64 ? 0 : free - of->policy->span;
 }
-/* Sets how many regions are in play: where 40 to 55 percent of them live they stay, else so many that 40 percent do. */
+/* Sets how many regions are in play: where 40 to 45 percent of them live they stay, and up to 65 they become more by a third of what is
+   missing to so many that 40 percent do, at least so many that 55 do; else so many that 40 percent do. */
 static inline void policy_plan_size(policy_of *of, uint64_t live)
 {
     g1_policy *policy = of->policy;
     uint64_t all = live / of->sizes->words, full = (all < of->sizes->regions ? all : of->sizes->regions) + 1;
-    uint64_t apt = policy_in_play(policy, of->sizes);
-    if (apt * 2 > full * 5 || apt * 11 < full * 20) apt = full * 5 / 2;
+    uint64_t now = policy_in_play(policy, of->sizes), aim = full * 5 / 2, apt = now;
+    if (now * 2 > full * 5 || now * 13 < full * 20) apt = aim;
+    else if (now * 9 < full * 20) apt = now + (aim - now) / 3 > full * 20 / 11 ? now + (aim - now) / 3 : full * 20 / 11;
     apt = policy_least(of->sizes->regions, policy_most(policy->least, (uint32_t)apt));
     policy->held = of->sizes->regions - (uint32_t)apt;
     policy->most = policy_most(policy->most, (uint32_t)apt), policy->idle = apt <= policy->most / 2;
@@ -280,15 +282,16 @@ static inline int policy_clears_on(policy_of *of)
     policy->clears = policy_within((uint64_t)policy->clears + 16);
     return 1;
 }
-/* Words that marking looks at: more where few regions are free above the reserve. */
+/* Words that marking looks at: more where those in play are used up, or few regions are free above the reserve. */
 static inline uint32_t policy_spend_marks(policy_of *of)
 {
     g1_policy *policy = of->policy;
-    uint32_t room = policy_most(1, policy_above(policy_free(of->heap), policy->reserve)), words;
+    uint32_t free = policy_free(of->heap), room = policy_most(1, policy_above(free, policy->reserve)), words, pace = policy->mark_words;
     uint64_t left = policy->marked > policy->looked ? policy->marked - policy->looked : 0;
     uint64_t due = policy_within(left > policy->marked / 16 ? left : policy->marked / 16) * 5ull / 4 / room;
     words = policy_least(policy_within(due), policy_within((uint64_t)16 * policy->mark_words));
-    words = policy_most(policy_least(policy->pace, policy->mark_words), words);
+    if (free > policy_kept(policy, of->sizes)) pace = policy_least(pace, policy->pace);
+    words = policy_most(pace, words);
     policy->looked += words;
     return words;
 }

@@ -101,7 +101,7 @@ fn end_marking<W: Watch>(core: &mut Core, policy: &mut Policy, watch: &mut W)
 fn mark_on<W: Watch>(core: &mut Core, policy: &mut Policy, watch: &mut W)
     ensures { CollectsSome W.sees 3 core.old watch.old core.new watch.new }
 {
-    let words = policy.spend_marks(core.free_regions());
+    let words = policy.spend_marks(&core.config(), core.free_regions());
     take(core, policy, CollectorStep::Mark(words), watch);
     if core.free_regions() <= policy.reserve {
         end_cycle(core, policy, watch);

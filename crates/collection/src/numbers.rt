@@ -117,6 +117,21 @@ fn least_regions(config: &Config) -> u32
     (16777216 / config.words.max(1)).max(64).min(config.regions)
 }
 
+/// Regions: so many are to be in play, where so many are, and what lives fills so many. Where it fills less than 40 percent of them, or more
+/// than 65, so many that it fills 40. Where it fills more than 45, a third of the way to that, since less may live at the next cycle, and what
+/// was touched stays taken; but so many that it fills 55 at most.
+fn apt_regions(full: u64, now: u64) -> u64 {
+    let aim = full.saturating_mul(5) / 2;
+    let share = full.saturating_mul(20);
+    if now > aim || share > now.saturating_mul(13) {
+        aim
+    } else if share > now.saturating_mul(9) {
+        now.saturating_add((aim - now) / 3).max(share / 11)
+    } else {
+        now
+    }
+}
+
 /// How many cards the heap has.
 fn cards_of(config: &Config) -> u32 {
     let words = u64::from(config.regions) * u64::from(config.words);
@@ -231,17 +246,10 @@ impl Policy {
             / u64::from(config.regions.max(1))
     }
 
-    /// Sets how many regions are in play, where so many words live: if these fill less than 40 percent of them, or more than 55, so many
-    /// that they fill 40; but `least` at least.
+    /// Sets how many regions are in play, where so many words live: as many as `apt_regions` says, but `least` at least.
     pub(crate) fn plan_size(&mut self, config: &Config, live: u64) {
         let full = (live / u64::from(config.words.max(1))).min(u64::from(config.regions)) + 1;
-        let now = u64::from(self.in_play(config));
-        let apt = if full * 5 < now * 2 || full * 20 > now * 11 {
-            full * 5 / 2
-        } else {
-            now
-        };
-        let in_play = apt
+        let in_play = apt_regions(full, u64::from(self.in_play(config)))
             .max(u64::from(self.least))
             .min(u64::from(config.regions)) as u32;
         self.held = config.regions.saturating_sub(in_play);
@@ -339,10 +347,11 @@ impl Policy {
         self.marked = words;
     }
 
-    /// Words that marking looks at, at the next look. They are as many as `plan_marking` set, but more where few regions are free above
+    /// Words that marking looks at, at the next look. They are as many as `plan_marking` set, and `mark_words` where those in play are used
+    /// up, which the estimate may not tell: less may have lived at the last marking. They are more where few regions are free above
     /// the reserve, so that it ends before that is reached; 16 times `mark_words` at most. What is left is by what the last marking
     /// looked at, and a 16th of that at least.
-    pub(crate) fn spend_marks(&mut self, free: u32) -> u32 {
+    pub(crate) fn spend_marks(&mut self, config: &Config, free: u32) -> u32 {
         let room = u64::from(free.saturating_sub(self.reserve).max(1));
         let left = self
             .marked
@@ -351,7 +360,12 @@ impl Policy {
         let due = left.min(u64::from(u32::MAX)) * 5 / 4 / room;
         let most = self.mark_words.saturating_mul(16);
         let hurried = due.min(u64::from(most)) as u32;
-        let words = self.pace.min(self.mark_words).max(hurried);
+        let pace = if free <= self.kept(config) {
+            self.mark_words
+        } else {
+            self.pace.min(self.mark_words)
+        };
+        let words = pace.max(hurried);
         self.looked = self.looked.saturating_add(u64::from(words));
         words
     }
