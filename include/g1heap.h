@@ -57,7 +57,7 @@ typedef struct g1_heap {
 
 /* The sizes of a heap. A word is 64 bits. */
 typedef struct g1_sizes {
-    uint32_t regions;    /* 2 to 4,096 */
+    uint32_t regions;    /* 2 to 16,384 */
     uint32_t words;      /* of a region: a power of two, 16 to 4,194,304; regions * words is at most 2,147,483,648 */
     uint32_t buffer;     /* words of a mutator's allocation buffer: 4 to words / 2; words / 8 - 1 is a good one */
     uint32_t mutators;   /* 1 to 64 */
@@ -68,7 +68,7 @@ typedef struct g1_sizes {
 } g1_sizes;
 
 /* The largest sizes, and how much an object may have. */
-#define G1_MAX_REGIONS 4096
+#define G1_MAX_REGIONS 16384
 #define G1_MAX_REGION_WORDS 4194304
 #define G1_MAX_WORDS 2147483648u
 #define G1_MAX_MUTATORS 64

@@ -25,7 +25,7 @@ using namespace plain;
 // The first fault of the sizes, none if they suit.
 const char* size_fault(const Sizes& sizes) {
     bool is_first = sizes.format == 1, is_third = sizes.format == 3;
-    if (sizes.regions < 2 || sizes.regions > (is_third ? 4096 : 1024)) return "1 BadRegions";
+    if (sizes.regions < 2 || sizes.regions > (is_third ? 16384 : 1024)) return "1 BadRegions";
     Number most_words = is_first ? 4096 : is_third ? 4194304 : 16384, most = is_first ? 1048576 : is_third ? 2147483648 : 16777216;
     if (sizes.words < 16 || sizes.words > most_words || (sizes.words & (sizes.words - 1)) != 0 ||
         Word(sizes.regions) * sizes.words > most)

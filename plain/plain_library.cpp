@@ -188,7 +188,7 @@ g1_answer number(const g1_heap* heap, Reader reader) {
 
 // The first size that doesn't suit, G1_DONE where all do.
 std::uint32_t size_fault(const g1_sizes& sizes) {
-    if (sizes.regions < 2 || sizes.regions > 4096) return G1_BAD_REGIONS;
+    if (sizes.regions < 2 || sizes.regions > 16384) return G1_BAD_REGIONS;
     if (sizes.words < 16 || sizes.words > 4194304 || (sizes.words & (sizes.words - 1)) != 0) return G1_BAD_WORDS;
     if (Word(sizes.regions) * sizes.words > 2147483648) return G1_BAD_WORDS;
     if (sizes.buffer < 4 || sizes.buffer > sizes.words / 2) return G1_BAD_BUFFER;

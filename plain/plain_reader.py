@@ -79,7 +79,7 @@ def sizes_fault(sizes):
     """The first fault of a heap line's numbers."""
     most_words, most = (4096, 1048576) if sizes.card is None else (4194304, 2147483648) if sizes.third else (16384, 16777216)
     words, card = sizes.words, sizes.card
-    if not 2 <= sizes.regions <= (4096 if sizes.third else 1024):
+    if not 2 <= sizes.regions <= (16384 if sizes.third else 1024):
         return "1 BadRegions"
     if words & (words - 1) or not 16 <= words <= most_words or sizes.regions * words > most:
         return "2 BadWords"

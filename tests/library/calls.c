@@ -21,7 +21,7 @@ static void is_code(const char *call, uint32_t got, uint32_t code)
 static void refuse_sizes(void)
 {
     static const struct { g1_sizes sizes; uint32_t code; } cases[] = {
-        {{1, 16, 4, 1, 0, 8, 0, 1}, G1_BAD_REGIONS}, {{4097, 15, 3, 0, 0, 7, 0, 0}, G1_BAD_REGIONS},
+        {{1, 16, 4, 1, 0, 8, 0, 1}, G1_BAD_REGIONS}, {{16385, 15, 3, 0, 0, 7, 0, 0}, G1_BAD_REGIONS},
         {{2, 15, 4, 1, 0, 8, 0, 1}, G1_BAD_WORDS}, {{2, 48, 4, 1, 0, 8, 0, 1}, G1_BAD_WORDS},
         {{2, 8388608, 4, 1, 0, 8, 0, 1}, G1_BAD_WORDS}, {{513, 4194304, 4, 1, 0, 512, 0, 1}, G1_BAD_WORDS},
         {{4096, 4194304, 4, 1, 0, 512, 0, 1}, G1_BAD_WORDS}, {{2, 1024, 4, 1, 0, 1024, 0, 1}, G1_BAD_CARD},

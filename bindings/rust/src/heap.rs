@@ -54,7 +54,7 @@ impl std::error::Error for Error {}
 #[derive(Clone, Copy, Debug, PartialEq, Eq)]
 #[non_exhaustive]
 pub enum BadSizes {
-    /// The number of regions, 2 to 4,096.
+    /// The number of regions, 2 to 16,384.
     Regions,
     /// The words of a region, a power of two of 16 to 4,194,304; or those of all regions, at most 2,147,483,648, which are 16 GiB.
     Words,
@@ -95,7 +95,7 @@ impl fmt::Display for BadSizes {
     fn fmt(&self, f: &mut fmt::Formatter<'_>) -> fmt::Result {
         f.write_str("no heap has these sizes: ")?;
         f.write_str(match self {
-            BadSizes::Regions => "regions, 2 to 4,096",
+            BadSizes::Regions => "regions, 2 to 16,384",
             BadSizes::Words => "words of a region, a power of two up to 4,194,304, or of all, up to 2,147,483,648 (16 GiB)",
             BadSizes::Buffer => "words of a buffer, 4 to half of a region's",
             BadSizes::Mutators => "mutators, 1 to 64",
@@ -140,7 +140,7 @@ macro_rules! with {
 #[derive(Clone, Copy, Debug, PartialEq, Eq)]
 #[non_exhaustive]
 pub struct Sizes {
-    /// Regions: 4 or more, better 64, at most 4,096.
+    /// Regions: 4 or more, better 64, at most 16,384.
     pub regions: u32,
     /// Words of a region: a power of two, 16 to 4,194,304, and at most 2,147,483,648 in all regions, which are 16 GiB.
     pub words: u32,

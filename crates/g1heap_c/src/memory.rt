@@ -62,7 +62,7 @@ fn rows_of(config: &Config, cards: u64) -> u64
 
 /// Of the filters of so many regions.
 fn filter_bytes(regions: u64, rows: u64, cards: u64) -> u64
-    requires regions { regions ≤ 4096 }
+    requires regions { regions ≤ 16384 }
     requires rows { rows ≤ 336 }
     requires cards { cards ≤ 2 ^ 19 }
     ensures bytes { result ≡ filter_bytes regions rows cards }
@@ -73,7 +73,7 @@ fn filter_bytes(regions: u64, rows: u64, cards: u64) -> u64
 
 /// Of so many regions.
 fn region_bytes(count: u64) -> u64
-    requires few { count ≤ 4096 }
+    requires few { count ≤ 16384 }
     ensures bytes { result ≡ region_bytes count }
     ensures small { result ≤ 2 ^ 36 }
 {

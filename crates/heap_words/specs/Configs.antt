@@ -10,7 +10,7 @@ use Rattle.heap_words.specs.declared.config.NewFault.TheVariants.{NoMemory, BadC
 
 -- the most regions of any format, the most words of a region, and of a heap
 abbrev pub max_regions : ℕ
-max_regions = 2 ^ 12
+max_regions = 2 ^ 14
 
 abbrev pub max_region_words : ℕ
 max_region_words = 2 ^ 22

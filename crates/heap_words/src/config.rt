@@ -31,7 +31,7 @@ pub enum Format {
         /// How many words a card has.
         card: u32,
     },
-    /// The line `heap3`: up to 4,096 regions, 4,194,304 words a region and 2,147,483,648 in all; up to 64 mutators, and as many globals and
+    /// The line `heap3`: up to 16,384 regions, 4,194,304 words a region and 2,147,483,648 in all; up to 64 mutators, and as many globals and
     /// registers as it says.
     V3 {
         /// How many words a card has.
@@ -72,7 +72,7 @@ impl Format {
     {
         match self {
             Format::V1 | Format::V2 { .. } => 1024,
-            Format::V3 { .. } => 4096,
+            Format::V3 { .. } => 16_384,
         }
     }
 
@@ -148,7 +148,7 @@ pub struct Config {
 /// Why a heap could not be made.
 #[derive(Clone, Copy, Debug, PartialEq, Eq, Error)]
 pub enum NewFault {
-    /// There are 2 to 1,024 regions, or to 4,096 in the third format.
+    /// There are 2 to 1,024 regions, or to 16,384 in the third format.
     #[error("1 BadRegions")]
     BadRegions,
     /// A region has a power of two of words, 16 or more, and the heap at most the words of its format.

@@ -25,7 +25,7 @@ use Rattle.jobs.specs.declared.causes.Counts.{Counts}
 abbrev pub sizes_hint : Format → NewFault → List ℕ
 sizes_hint V1 sizes.BadRegions = codes "word 2: 2 to 1024"
 sizes_hint (V2 card) sizes.BadRegions = codes "word 2: 2 to 1024"
-sizes_hint (V3 card globals registers) sizes.BadRegions = codes "word 2: 2 to 4096"
+sizes_hint (V3 card globals registers) sizes.BadRegions = codes "word 2: 2 to 16384"
 sizes_hint V1 sizes.BadWords = codes "word 3: a power of two, 16 to 4096, and at most 1048576 words in all regions"
 sizes_hint (V2 card) sizes.BadWords = codes "word 3: a power of two, 16 to 16384, and at most 16777216 words in all regions"
 sizes_hint (V3 card globals registers) sizes.BadWords =

@@ -42,7 +42,7 @@ fn sizes_hint(format: Format, fault: NewFault) -> &'static [u8]
     match fault {
         NewFault::BadRegions => match format {
             Format::V1 | Format::V2 { .. } => b"word 2: 2 to 1024",
-            Format::V3 { .. } => b"word 2: 2 to 4096",
+            Format::V3 { .. } => b"word 2: 2 to 16384",
         },
         NewFault::BadWords => match format {
             Format::V1 =>

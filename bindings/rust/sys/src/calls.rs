@@ -98,7 +98,7 @@ pub struct g1_policy {
 }
 
 pub const G1_HEAP_NONE: g1_heap = g1_heap { live: false, at: std::ptr::null_mut(), markings: 0 };
-pub const G1_MAX_REGIONS: u32 = 4096;
+pub const G1_MAX_REGIONS: u32 = 16384;
 pub const G1_MAX_REGION_WORDS: u32 = 4194304;
 pub const G1_MAX_WORDS: u32 = 2147483648;
 pub const G1_MAX_MUTATORS: u32 = 64;
