@@ -1,11 +1,11 @@
 -- What is done so far of the fields of a region or of a card, while its tiles change.
-use Rattle.std.specs.Prelude.{◌≡◌, ℕ, ◌/◌, ◌<◌, Option, Some, List, Bool, slice_get}
+use Rattle.std.specs.Prelude.{◌≡◌, ℕ, ◌/◌, ◌<◌, Option, Some, List, Bool, false, slice_get}
 use Rattle.heap_model.specs.Heap.{Stored, fields}
-use Rattle.regions.specs.Table.{Table}
+use Rattle.regions.specs.Table.{Table, fields_at}
 use Rattle.refinement.specs.Remembering.{field_word}
 use Rattle.evacuation.specs.Space.{IsFieldClean, IsObjectSettled, IsVisited, IsSettled}
 use Rattle.evacuation.specs.declared.room.Notes.{Notes}
-use Rattle.evacuation.specs.Turns.{Pause, layout, plan, space, kept_now}
+use Rattle.evacuation.specs.Turns.{Pause, in_set, layout, plan, space, kept_now}
 
 -- the objects of region k below an address are settled
 abbrev pub AreSettledBelow : Pause → Notes → Table → ℕ → ℕ → Type 0
@@ -20,6 +20,11 @@ AreFieldsSettled p noted t at n = (i : ℕ) → i < n → (y : Stored) (w : Opti
 -- the fields of the object at an address that lie in a card are clean
 abbrev pub AreCardsFieldsClean : Pause → Table → ℕ → ℕ → Type 0
 AreCardsFieldsClean p t card at = (i : ℕ) → field_word at i / p.card_words ≡ card → IsFieldClean (layout p) (space p t) at i
+
+-- the fields of the object at an address that lie in a card name nothing of the set
+abbrev pub AreCardsFieldsOutside : Pause → Table → ℕ → ℕ → Type 0
+AreCardsFieldsOutside p t card at =
+    (i a : ℕ) → field_word at i / p.card_words ≡ card → slice_get (fields_at t at) i ≡ Some (Some a) → in_set p a ≡ false
 
 -- the fields of a card that are to be visited, and belong to objects below an address, are clean
 abbrev pub AreCleanBelow : Pause → List Bool → Table → ℕ → ℕ → Type 0

@@ -5,12 +5,12 @@
 //! iterator.
 
 ghost use Rattle.std.specs.Prelude.{◌≡◌, ◌<◌, ◌+◌, ◌*◌, ◌/◌, ℕ, Bool, List, IsSome, false, length};
-ghost use Rattle.regions.specs.Table.{tile_in};
+ghost use Rattle.regions.specs.Table.{object_at, tile_in};
 ghost use Rattle.regions.specs.Walks.{IsHolder, IsPlacedTile};
 ghost use Rattle.refinement.specs.Remembering.{field_word};
 ghost use Rattle.evacuation.specs.Space.{IsFieldClean, IsSpaceObject, IsVisited, AreClean};
 ghost use Rattle.evacuation.specs.Turns.{Pause, PauseStands, PauseGoesOn, AreKept, EachCard, IsCardPlace, in_set, layout, plan, space};
-ghost use Rattle.evacuation.specs.Cursors.{AreCardsFieldsClean, IsCardClean};
+ghost use Rattle.evacuation.specs.Cursors.{AreCardsFieldsClean, AreCardsFieldsOutside, IsCardClean};
 
 use crate::fields::{CardPlace, is_inside, update_field};
 use crate::room::Context;
@@ -77,6 +77,67 @@ fn update_tile(
     }
 }
 
+/// Whether a field that lies in a card, of an object kept or not, names an object of the set.
+#[inline(always)]
+fn names_set(table: &RegionTable, context: &Context, card: u32, at: Addr) -> bool
+    ghost pause: { Pause }
+    requires stands { PauseStands pause table.now context.now }
+    requires card { card < length pause.start.regions * pause.cards_per_region }
+    requires object { IsSome (object_at table.now at) }
+    ensures { result ≡ false → AreCardsFieldsOutside pause table.now card at }
+{
+    table.law();
+    let first = at.word() + 2;
+    let from = card * context.card_words;
+    let to = from + context.card_words;
+    let count = table.field_count(at);
+    let start = from.saturating_sub(first);
+    let end = to.saturating_sub(first).min(count);
+    let mut field = start;
+    'fields: while field < end {
+        if let Some(target) = table.get_field(at, field) {
+            if is_inside(table, &context.chosen, target) {
+                return true;
+            }
+        }
+        field += 1;
+    }
+    false
+}
+
+/// The same. Most objects that are no longer than a card name nothing of the set there: whether such a one is kept isn't asked, since the
+/// processor would wait for the marks.
+#[inline(always)]
+fn update_small(
+    table: &mut RegionTable,
+    context: &mut Context,
+    kept: Kept,
+    place: CardPlace,
+    at: Addr,
+    shape: Shape,
+)
+    ghost pause: { Pause }
+    requires stands { PauseStands pause table.old context.old }
+    requires kept { AreKept pause kept }
+    requires place { IsCardPlace pause place }
+    requires outside { in_set pause at ≡ false }
+    requires tile { IsPlacedTile table.old at shape }
+    ensures goes_on { PauseGoesOn pause table.old table.new context.old context.new }
+    ensures tile { IsSome (tile_in table.new at) }
+    ensures clean { (visited : List Bool) (i : ℕ) → IsVisited (layout pause) (plan pause) visited at i
+        → field_word at i / pause.card_words ≡ place.card → IsFieldClean (layout pause) (space pause table.new) at i }
+{
+    match shape {
+        Shape::Object { .. } => {
+            if shape.size() <= context.card_words && !names_set(table, context, place.card, at) {
+                return;
+            }
+        }
+        Shape::Filler { .. } | Shape::Forwarded { .. } => {}
+    }
+    update_tile(table, context, kept, place, at, shape);
+}
+
 /// The fields of one card, which ends at the word `end`, from the tile on that holds its first word and starts in a region outside
 /// the set.
 fn update_tiles(
@@ -103,7 +164,7 @@ fn update_tiles(
         table.law();
         let shape = table.tile(at);
         let past = at.word() + shape.size();
-        update_tile(table, context, kept, place, at, shape);
+        update_small(table, context, kept, place, at, shape);
         if past >= end {
             break 'tiles;
         }

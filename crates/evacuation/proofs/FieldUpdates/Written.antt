@@ -1,9 +1,8 @@
 -- A field is written, as copying sees it.
-use Rattle.std.proofs.Common.{◌≡◌, ℕ, ◌*◌, ◌/◌, ◌<◌, ◌≤◌, ◌≢◌, ◌++◌, false, None, List, Option, Some, length, sym, ap, ◌∙◌, subst, inl, inr}
+use Rattle.std.proofs.Common.{◌≡◌, ℕ, ◌*◌, ◌/◌, ◌<◌, ◌≤◌, ◌≢◌, false, None, Option, Some, length, sym, ap, ◌∙◌, subst, inl, inr}
 use Rattle.std.proofs.Common.{arith}
 use Rattle.std.proofs.lemmas.Bool.{cases_eq}
-use Rattle.std.proofs.lemmas.List.{length-append, length-set}
-use Rattle.heap_model.specs.Heap.{Stored, fields, with_field}
+use Rattle.heap_model.specs.Heap.{Stored, with_field}
 use Rattle.heap_model.proofs.Fields.{field_set}
 use Rattle.regions.specs.Tiles.{Object, tile_size}
 use Rattle.regions.specs.Table.{Table, kind_of, moved_to, object_at, set_field, tile_in, EachForwardedIn}

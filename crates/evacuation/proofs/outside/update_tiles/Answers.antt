@@ -30,8 +30,8 @@ overflow_add-past g c =
     let size = tile_words c.tile-shape.result tile.tile c.size.result tile.shape_is c.size.ensures in
     omega (arith, within, size, c.word.ensures, c.law-in-tiles.ensures.in_all)
 
-pub update_tile-requires : goal.update_tile-requires
-update_tile-requires g c =
+pub update_small-requires : goal.update_small-requires
+update_small-requires g c =
     let (stands, (kept, (place, (outside, (holder, last))))) = c.requires in
     let v = c.tiles.invariant in
     let tile = placed_tile c.tiles.table c.tiles.at c.tile-shape.result v.tile c.tile-shape.ensures in
@@ -42,8 +42,8 @@ tiles-smaller g c =
     let (stands, (kept, (place, (outside, (holder, last))))) = c.requires in
     let v = c.tiles.invariant in
     let n = c.in-Some.ensures.next in
-    let r = region_by c.in-Some.next c.tiles.at g.pause.start.words_per_region c.update_tile.new.table.words_per_region
-    (sym c.update_tile.ensures.goes_on.stands.turn.table.size) n.region in
+    let r = region_by c.in-Some.next c.tiles.at g.pause.start.words_per_region c.update_small.new.table.words_per_region
+    (sym c.update_small.ensures.goes_on.stands.turn.table.size) n.region in
     let high = div_high c.in-Some.next g.pause.start.words_per_region (c.args.first / g.pause.start.words_per_region)
     stands.premises.shaped.positive (r ∙ v.region) in
     let up = n.above in
@@ -54,16 +54,16 @@ pub tiles-preserved : goal.tiles-preserved
 tiles-preserved g c =
     let (stands, (kept, (place, (outside, (holder, last))))) = c.requires in
     let v = c.tiles.invariant in
-    let on = c.update_tile.ensures.goes_on in
+    let on = c.update_small.ensures.goes_on in
     let n = c.in-Some.ensures.next in
-    let r = region_by c.in-Some.next c.tiles.at g.pause.start.words_per_region c.update_tile.new.table.words_per_region
+    let r = region_by c.in-Some.next c.tiles.at g.pause.start.words_per_region c.update_small.new.table.words_per_region
     (sym on.stands.turn.table.size) n.region in
     record {
       on = goes_further v.on on;
       tile = n.tile;
       region = r ∙ v.region;
-      clean = λ visited. clean_next g.pause stands.premises c.args.place.card c.tiles.table c.update_tile.new.table c.tiles.context
-          c.update_tile.new.context v.on.stands on visited c.tiles.at (v.clean visited) (c.update_tile.ensures.clean visited)
+      clean = λ visited. clean_next g.pause stands.premises c.args.place.card c.tiles.table c.update_small.new.table c.tiles.context
+          c.update_small.new.context v.on.stands on visited c.tiles.at (v.clean visited) (c.update_small.ensures.clean visited)
           c.in-Some.next n;
     }
 
@@ -71,13 +71,13 @@ pub returns-then-past-end : goal.returns-then-past-end
 returns-then-past-end g c =
     let (stands, (kept, (place, (outside, (holder, last))))) = c.requires in
     let v = c.tiles.invariant in
-    let on = c.update_tile.ensures.goes_on in
+    let on = c.update_small.ensures.goes_on in
     let tile = placed_tile c.tiles.table c.tiles.at c.tile-shape.result v.tile c.tile-shape.ensures in
     let size = tile_words c.tile-shape.result tile.tile c.size.result tile.shape_is c.size.ensures in
     record {
       goes_on = goes_further v.on on;
-      clean = λ visited. clean_over g.pause stands.premises c.args.place.card c.tiles.table c.update_tile.new.table c.tiles.context
-          c.update_tile.new.context v.on.stands on visited c.tiles.at (v.clean visited) (c.update_tile.ensures.clean visited)
+      clean = λ visited. clean_over g.pause stands.premises c.args.place.card c.tiles.table c.update_small.new.table c.tiles.context
+          c.update_small.new.context v.on.stands on visited c.tiles.at (v.clean visited) (c.update_small.ensures.clean visited)
           c.law-in-tiles.ensures tile.tile tile.tile_is
           (let t = c.if-past-end.true in let w = c.word.ensures in omega (arith, last, t, w, size));
     }
@@ -86,17 +86,17 @@ pub returns-in_default : goal.returns-in_default
 returns-in_default g c =
     let (stands, (kept, (place, (outside, (holder, last))))) = c.requires in
     let v = c.tiles.invariant in
-    let on = c.update_tile.ensures.goes_on in
+    let on = c.update_small.ensures.goes_on in
     record {
       goes_on = goes_further v.on on;
-      clean = λ visited. clean_last g.pause stands.premises c.args.place.card c.tiles.table c.update_tile.new.table c.tiles.context
-          c.update_tile.new.context v.on.stands on visited c.tiles.at (v.clean visited) (c.update_tile.ensures.clean visited)
+      clean = λ visited. clean_last g.pause stands.premises c.args.place.card c.tiles.table c.update_small.new.table c.tiles.context
+          c.update_small.new.context v.on.stands on visited c.tiles.at (v.clean visited) (c.update_small.ensures.clean visited)
           c.in_default.ensures.last
           (λ b i w e.
           let o = (onward g.pause stands.premises c.args.place.card c.args.table.now c.args.context.now.destinations stands.turn
           c.law.ensures c.args.first holder visited b i w e).1 in
           let s = region_by b c.args.first g.pause.start.words_per_region c.args.table.now.words_per_region
           (sym stands.turn.table.size) o in
-          region_by b c.tiles.at c.update_tile.new.table.words_per_region g.pause.start.words_per_region
+          region_by b c.tiles.at c.update_small.new.table.words_per_region g.pause.start.words_per_region
           on.stands.turn.table.size (s ∙ sym v.region));
     }

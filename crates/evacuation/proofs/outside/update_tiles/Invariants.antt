@@ -5,8 +5,8 @@ use Rattle.evacuation.specs.Turns.{PauseGoesOn}
 use Rattle.evacuation.specs.Cursors.{AreCleanBelow}
 use Rattle.evacuation.proofs.outside.update_tiles.Given as goal
 
-abbrev pub ghost-update_tile : goal.ghost-update_tile
-ghost-update_tile g a = g.pause
+abbrev pub ghost-update_small : goal.ghost-update_small
+ghost-update_small g a = g.pause
 
 abbrev pub invariant-tiles : goal.invariant-tiles
 invariant-tiles g l = record {
