@@ -483,7 +483,7 @@ impl Core {
         }
     }
 
-    /// `to` takes what a weak slot shows that the object at an address has, which the register holds.
+    /// `to` takes what a weak slot shows that the object at an address has, which the register holds. Answers its name.
     #[inline(always)]
     fn get_weak_at(
         &mut self,
@@ -492,22 +492,22 @@ impl Core {
         object: Register,
         at: Addr,
         slot: u32,
-    ) -> Reply
+    ) -> Option<u64>
         requires mutator { mutator < self.old.config.mutators }
         requires to { IsRegister (root_counts_of self.old.config) to }
         requires names { NamesAt self.old mutator object at }
         requires slot { slot < length (weaks_at self.old.table at) }
-        ensures { GetsWeak mutator to object slot result self.old self.new }
+        ensures { GetsWeak mutator to object slot (replies.Named result) self.old self.new }
     {
         self.law_remembers();
         let value = self.weak_word(at, slot);
-        let name = self.touch_named(mutator, to, value);
-        Reply::Named(name)
+        self.touch_named(mutator, to, value)
     }
 
-    /// The same by a call, which writes its answer into memory. That memory is cleared here, so that who neither marks nor clears doesn't
-    /// clear any.
-    #[inline(always)]
+    /// The same by a call. A name comes back in two registers of the machine, where a reply would be written into memory: so who neither
+    /// marks nor clears has no room on the stack.
+    #[cold]
+    #[inline(never)]
     fn get_weak_apart(
         &mut self,
         mutator: u32,
@@ -515,32 +515,12 @@ impl Core {
         object: Register,
         at: Addr,
         slot: u32,
-    ) -> Reply
+    ) -> Option<u64>
         requires mutator { mutator < self.old.config.mutators }
         requires to { IsRegister (root_counts_of self.old.config) to }
         requires names { NamesAt self.old mutator object at }
         requires slot { slot < length (weaks_at self.old.table at) }
-        ensures { GetsWeak mutator to object slot result self.old self.new }
-    {
-        self.get_weak_called(mutator, to, object, at, slot)
-    }
-
-    /// The same as a call.
-    #[cold]
-    #[inline(never)]
-    fn get_weak_called(
-        &mut self,
-        mutator: u32,
-        to: Register,
-        object: Register,
-        at: Addr,
-        slot: u32,
-    ) -> Reply
-        requires mutator { mutator < self.old.config.mutators }
-        requires to { IsRegister (root_counts_of self.old.config) to }
-        requires names { NamesAt self.old mutator object at }
-        requires slot { slot < length (weaks_at self.old.table at) }
-        ensures { GetsWeak mutator to object slot result self.old self.new }
+        ensures { GetsWeak mutator to object slot (replies.Named result) self.old self.new }
     {
         self.get_weak_at(mutator, to, object, at, slot)
     }
@@ -560,9 +540,9 @@ impl Core {
             return Reply::Refused(Refusal::NoField);
         }
         if self.marker.running || self.clearing.is_some() {
-            return self.get_weak_apart(mutator, to, object, at, slot);
+            return Reply::Named(self.get_weak_apart(mutator, to, object, at, slot));
         }
-        self.get_weak_at(mutator, to, object, at, slot)
+        Reply::Named(self.get_weak_at(mutator, to, object, at, slot))
     }
 
     fn put_weak(

@@ -25,22 +25,22 @@ word c =
     subst (λ (v : Option ℕ). IsWordOf (heap_of c.args.self.now) v) (sym is)
     (slot_word c.args.self.now _ c.args.at c.args.slot w c.law_remembers.ensures.core l there)
 
-pub touch_named-name-requires-clause-word : goal.touch_named-name-requires-clause-word
-touch_named-name-requires-clause-word c = word (goal.at.touch_named-name-requires-clause-word c).After-weak_word-value
+pub touch_named-requires-clause-word : goal.touch_named-requires-clause-word
+touch_named-requires-clause-word c = word (goal.at.touch_named-requires-clause-word c).After-weak_word-value
 
 pub returns : goal.returns
 returns c =
     let l = c.requires.names.leads in
     let (w, there, is) = held (goal.at.returns c).After-weak_word-value in
-    let touches = c.touch_named-name.ensures.touches in
-    let name = c.touch_named-name.ensures.name ∙ ap (name_in c.args.self.now.table) is in
+    let touches = c.touch_named.ensures.touches in
+    let name = c.touch_named.ensures.name ∙ ap (name_in c.args.self.now.table) is in
     record {
-      acts = λ g s. get_weak_done g _ s c.args.mutator c.args.object _ l c.args.to c.args.slot w c.touch_named-name.result _ there
+      acts = λ g s. get_weak_done g _ s c.args.mutator c.args.object _ l c.args.to c.args.slot w c.touch_named.result _ there
           name (λ h v shows shown.
           touches.shows h v shows (subst (λ (u : Option ℕ). IsShown (heap_of c.args.self.now) u v) (sym is) shown));
-      keeps = λ s g shows u f. touches.keeps s g c.touch_named-name.result shows u
-          (subst (λ (v : Option ℕ). IsShown (heap_of c.args.self.now) v c.touch_named-name.result) (sym is)
-          (slot_named g _ shows c.args.mutator c.args.object _ l c.args.slot w c.touch_named-name.result c.touch_named-name.result there
+      keeps = λ s g shows u f. touches.keeps s g c.touch_named.result shows u
+          (subst (λ (v : Option ℕ). IsShown (heap_of c.args.self.now) v c.touch_named.result) (sym is)
+          (slot_named g _ shows c.args.mutator c.args.object _ l c.args.slot w c.touch_named.result c.touch_named.result there
           name refl)) f;
       after = got_weak _ _ c.args.mutator c.args.to c.args.object c.args.slot c.args.at c.weak_word-value.result
           c.requires.names.held c.weak_word-value.ensures touches.core touches.marker;
