@@ -7,7 +7,7 @@ use Rattle.clap.specs.Words.{Text}
 use Rattle.command_line.specs.Asked.{Asks, asked_in, is_path, names_in, names_of}
 use Rattle.command_line.specs.Program.{drawn}
 use Rattle.command_line.specs.declared.Task.TheVariants.{Draw, View}
-use Rattle.command_line.specs.declared.Viewed.TheVariants.{Census, Object, Regions, Snapshot}
+use Rattle.command_line.specs.declared.Viewed.TheVariants.{Census, Object, Path, Regions, Snapshot}
 use Rattle.command_line.proofs.Levels.{asks, asks_names, end_fault, from_path, is_value, leaf, takes_value, to_draw, to_view}
 use Rattle.command_line.proofs.Levels.{value_is_taken}
 
@@ -53,6 +53,11 @@ pub object : (program path : Text) → is_path path ≡ true
     → Asks (program ∷ codes "view" ∷ path ∷ codes "--object" ∷ codes "7" ∷ []) (path, View false None (Object 7), false)
 unfolding clap_on_literals
 object program path h = asks _ _ to_view program path (codes "--object" ∷ codes "7" ∷ []) _ h refl refl
+
+pub way : (program path : Text) → is_path path ≡ true
+    → Asks (program ∷ codes "view" ∷ path ∷ codes "--path" ∷ codes "7" ∷ []) (path, View false None (Path 7), false)
+unfolding clap_on_literals
+way program path h = asks _ _ to_view program path (codes "--path" ∷ codes "7" ∷ []) _ h refl refl
 
 pub census : (program path : Text) → is_path path ≡ true
     → Asks (program ∷ codes "view" ∷ path ∷ codes "--census" ∷ []) (path, View false None Census, false)

@@ -16,7 +16,7 @@ use Rattle.command_line.specs.declared.Order.TheVariants.{File, Drawn, Concurren
 use Rattle.command_line.specs.declared.Task.{Task}
 use Rattle.command_line.specs.declared.Task.TheVariants.{Script, Check, View, Draw}
 use Rattle.command_line.specs.declared.Viewed.{Viewed}
-use Rattle.command_line.specs.declared.Viewed.TheVariants.{Census, Object, Regions, Snapshot}
+use Rattle.command_line.specs.declared.Viewed.TheVariants.{Census, Object, Path, Regions, Snapshot}
 
 -- the number of so many bits that a text spells
 abbrev pub number_of : ℕ → Text → Option ℕ
@@ -44,14 +44,18 @@ threads_in rows =
 abbrev pub flag_in : Text → List Row → Bool
 flag_in name rows = option_map_or (λ text. bytes_eq text (codes "true")) (first_of name rows) false
 
--- what of a heap is viewed where no object's name was given: its census or its snapshot, where that was asked for; else its regions
+-- what of a heap is viewed where no object was named: its census or its snapshot, where that was asked for; else its regions
 abbrev pub wide_in : List Row → Viewed
 wide_in rows = if flag_in (codes "census") rows then Census else if flag_in (codes "heapsnapshot") rows then Snapshot
     else Regions (number_in 32 (codes "region") rows) (flag_in (codes "summary") rows)
 
--- what of a heap is viewed: an object, where its name was given; else something of all objects
+-- what of a heap is viewed where no object is viewed by itself: a way to one, where that was asked for; else something of all objects
+abbrev pub pathed_in : List Row → Viewed
+pathed_in rows = option_map_or Path (number_in 64 (codes "path") rows) (wide_in rows)
+
+-- what of a heap is viewed: an object, where its name was given; else a way to one, or something of all objects
 abbrev pub viewed_in : List Row → Viewed
-viewed_in rows = option_map_or Object (number_in 64 (codes "object") rows) (wide_in rows)
+viewed_in rows = option_map_or Object (number_in 64 (codes "object") rows) (pathed_in rows)
 
 -- what a subcommand does with the file
 abbrev pub task_in : Text → List Row → Option Task

@@ -65,11 +65,12 @@ names = record (new_rule (codes "names")) { long = Some (codes "names"); action 
 -- the subcommand that views a heap
 abbrev pub viewed : App
 viewed =
-    with_rule (with_rule (with_rule (with_rule (with_rule (with_rule (with_rule (plain (codes "view")) (flag (codes "record")))
+    with_rule (with_rule (with_rule (with_rule (with_rule (with_rule (with_rule (with_rule (plain (codes "view")) (flag (codes "record")))
     (count (codes "at")))
     (count (codes "region")))
     (flag (codes "summary")))
     (large (codes "object")))
+    (large (codes "path")))
     (flag (codes "census")))
     (flag (codes "heapsnapshot"))
 

@@ -8,6 +8,7 @@
 //!   g1heap check FILE --follow        Task::Check { followed: true }
 //!   g1heap view FILE --at 9           Task::View { recorded: false, at: Some(9), viewed: Regions { region: None, summary: false } }
 //!   g1heap view FILE --object 7       Task::View { recorded: false, at: None, viewed: Object(7) }
+//!   g1heap view FILE --path 7         Task::View { recorded: false, at: None, viewed: Path(7) }
 //!   g1heap view FILE --census         Task::View { recorded: false, at: None, viewed: Census }
 //!   g1heap view FILE --heapsnapshot   Task::View { recorded: false, at: None, viewed: Snapshot }
 //!   g1heap draw FILE --every 10       Task::Draw { every: 10, recorded: false }
@@ -25,10 +26,10 @@ ghost use Rattle.clap.specs.Words.{App, FailsBy, HasKind, first_of, found_of, ki
 ghost use Rattle.clap.specs.Words.{subcommand_rows_of, with_rule, with_subcommand};
 ghost use Rattle.clap.specs.declared.error.kind.ErrorKind.TheVariants.{InvalidValue};
 ghost use Rattle.command_line.specs.Asked.{Asks, asked_by, asked_in, asked_of, drawn_in, faults_of, flag_in, is_path, number_in, task_in};
-ghost use Rattle.command_line.specs.Asked.{names_by, names_in, names_of, threads_in, viewed_in, wide_in};
+ghost use Rattle.command_line.specs.Asked.{names_by, names_in, names_of, pathed_in, threads_in, viewed_in, wide_in};
 ghost use Rattle.command_line.specs.declared.Order.TheVariants.{Concurrent, Drawn, File};
 ghost use Rattle.command_line.specs.declared.Task.TheVariants.{Check, Draw, Script, View};
-ghost use Rattle.command_line.specs.declared.Viewed.TheVariants.{Census, Object, Regions, Snapshot};
+ghost use Rattle.command_line.specs.declared.Viewed.TheVariants.{Census, Object, Path, Regions, Snapshot};
 ghost use Rattle.command_line.specs.Program.{IsReadAs, background, bare, by_actors, checked, count, drawn, every, file, flag, g1heap};
 ghost use Rattle.command_line.specs.Program.{large, names, number, plain, schedule, viewed, with_path, workers};
 
@@ -63,6 +64,8 @@ pub enum Viewed {
     Regions { region: Option<u32>, summary: bool },
     /// The object of a name alone.
     Object(u64),
+    /// A shortest way from a root to the object of a name.
+    Path(u64),
     /// Its kept objects, by classes.
     Census,
     /// Its kept objects and who names whom, for other tools.
@@ -423,6 +426,8 @@ fn view_command<'a>(alloc: Global) -> Result<Command<'a>, AllocError>
     let command = with_arg(command, flag(alloc, "summary", help));
     let help = "Views object #N alone: all its fields, and who names it";
     let command = with_arg(command, large(alloc, "object", help));
+    let help = "Prints a shortest way from a root to object #N, by pointers";
+    let command = with_arg(command, large(alloc, "path", help));
     let help = "Counts objects and words by shape and first data word, most words first";
     let command = with_arg(command, flag(alloc, "census", help));
     let help = "Prints a snapshot for the tools of Chrome and Node: a .heapsnapshot file";
@@ -509,7 +514,7 @@ fn flag_in(found: &ArgMatches, name: &str) -> bool
     }
 }
 
-/// What of a heap is viewed where no object's name was given: its census or its snapshot, where that was asked for.
+/// What of a heap is viewed where no object was named: its census or its snapshot, where that was asked for.
 fn wide_in(found: &ArgMatches) -> Viewed
     ensures { result ≡ wide_in (rows_of (found_of found.now)) }
 {
@@ -525,13 +530,23 @@ fn wide_in(found: &ArgMatches) -> Viewed
     }
 }
 
+/// What of a heap is viewed where no object is viewed by itself: a way to one where that was asked for.
+fn pathed_in(found: &ArgMatches) -> Viewed
+    ensures { result ≡ pathed_in (rows_of (found_of found.now)) }
+{
+    match large_in(found, "path") {
+        Some(name) => Viewed::Path(name),
+        None => wide_in(found),
+    }
+}
+
 /// What of a heap is viewed: an object where its name was given.
 fn viewed_in(found: &ArgMatches) -> Viewed
     ensures { result ≡ viewed_in (rows_of (found_of found.now)) }
 {
     match large_in(found, "object") {
         Some(name) => Viewed::Object(name),
-        None => wide_in(found),
+        None => pathed_in(found),
     }
 }
 
@@ -649,6 +664,8 @@ pub fn words_law()
         (path, View false (Some 9) (Regions None false), false) }
     ensures object { (program path : List ℕ) → is_path path ≡ true
         → Asks (program ∷ codes "view" ∷ path ∷ codes "--object" ∷ codes "7" ∷ []) (path, View false None (Object 7), false) }
+    ensures way { (program path : List ℕ) → is_path path ≡ true
+        → Asks (program ∷ codes "view" ∷ path ∷ codes "--path" ∷ codes "7" ∷ []) (path, View false None (Path 7), false) }
     ensures census { (program path : List ℕ) → is_path path ≡ true
         → Asks (program ∷ codes "view" ∷ path ∷ codes "--census" ∷ []) (path, View false None Census, false) }
     ensures heapsnapshot { (program path : List ℕ) → is_path path ≡ true

@@ -28,7 +28,7 @@ use Rattle.command_line.specs.declared.Order.TheVariants.{Concurrent, Drawn, Fil
 use Rattle.command_line.specs.declared.Task.{Task}
 use Rattle.command_line.specs.declared.Task.TheVariants.{Script, Check, View, Draw}
 use Rattle.command_line.specs.declared.Viewed.{Viewed}
-use Rattle.command_line.specs.declared.Viewed.TheVariants.{Census, Object, Regions, Snapshot}
+use Rattle.command_line.specs.declared.Viewed.TheVariants.{Census, Object, Path, Regions, Snapshot}
 
 -- a record in a file of this name was judged, and the verdict explained, or the record read as it is written, where that was asked for
 abbrev pub DoesCheck : List ℕ → Bool → Bool → Reader → Reader → Writer → Writer → Writer → Writer → ℕ → Type 0
@@ -50,6 +50,7 @@ DoesDraw name names true every given left old new err err' status = PerformsRedr
 abbrev pub viewed_of : Viewed → view.Viewed
 viewed_of (Regions region summary) = views.Regions region summary
 viewed_of (Object name) = views.Object name
+viewed_of (Path name) = views.Path name
 viewed_of Census = views.Census
 viewed_of Snapshot = views.Snapshot
 

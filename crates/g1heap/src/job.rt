@@ -79,6 +79,10 @@ pub(crate) fn glance_of(at: Option<u32>, viewed: Viewed) -> Glance
             at,
             viewed: heap_view::Viewed::Object(name),
         },
+        Viewed::Path(name) => Glance {
+            at,
+            viewed: heap_view::Viewed::Path(name),
+        },
         Viewed::Census => Glance {
             at,
             viewed: heap_view::Viewed::Census,

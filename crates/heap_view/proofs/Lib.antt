@@ -9,3 +9,7 @@ pub mod Rows
 pub mod Holding
 pub mod Nexts
 pub mod Titles
+pub mod Finding
+pub mod Searched
+pub mod Shortest
+pub mod WayBack

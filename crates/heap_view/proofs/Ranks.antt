@@ -1,18 +1,17 @@
 -- The place of an item in a list in order.
-use Rattle.std.proofs.Common.{◌≡◌, ◌∙◌, ◌<◌, ◌≤◌, ℕ, Bool, true, false, List, [], ◌∷◌, Some, Less, Equal, Greater, Ordering}
-use Rattle.std.proofs.Common.{All, Contains, IsSorted, get_or, is_eq, is_lt, length, map, max, drop, drop-cons}
+use Rattle.std.proofs.Common.{◌≡◌, ◌∙◌, ◌<◌, ◌≤◌, ℕ, true, false, List, [], ◌∷◌, Some, Less, Equal, Greater, Ordering}
+use Rattle.std.proofs.Common.{Contains, IsSorted, get_or, is_lt, length}
 use Rattle.std.proofs.Common.{ap, arith, refl, sym, inl, inr, suc, zero, subst}
 use Rattle.std.specs.Prelude.{slice_get}
-use Rattle.std.specs.Cmp.{IsStrictWeakOrder, IsTotalOrder, Equal-is}
-use Rattle.std.specs.List.{prefix_len, dedup}
+use Rattle.std.specs.Cmp.{IsTotalOrder, Equal-is}
+use Rattle.std.specs.List.{dedup}
 use Rattle.std.specs.List.Sorted.{IsPartitionedBy, IsPartitionPoint, IsPermutation, IsStrictlySortedBy}
-use Rattle.std.specs.Ordering.{MatchOrdering, nat_cmp, eq_by_cmp, ordering_reverse, ordering_then}
+use Rattle.std.specs.Ordering.{MatchOrdering, nat_cmp, ordering_reverse, ordering_then}
 use Rattle.std.proofs.lemmas.Bool.{cases_lt}
-use Rattle.std.proofs.lemmas.Cmp.{eq_by_cmp_equiv, nat_cmp_total, on_total, ranked, then_total}
-use Rattle.std.proofs.lemmas.List.{get_or_default}
+use Rattle.std.proofs.lemmas.Cmp.{eq_by_cmp_equiv, ranked}
 use Rattle.std.proofs.lemmas.List.Elements.{All-contains_itself, All-weaker}
 use Rattle.std.proofs.lemmas.List.Kept.{Contains-dedup, Contains-from_dedup, IsStrictlySortedBy-dedup}
-use Rattle.std.proofs.lemmas.List.Sorted.{All-permutation, Contains-permutation, IsPermutation-sym, ranks_by}
+use Rattle.std.proofs.lemmas.List.Sorted.{Contains-permutation, IsPermutation-sym}
 use Rattle.std.proofs.lemmas.List.Sums.{prefix_len_is}
 use Rattle.std.proofs.lemmas.Map.Keys.{Less-from_sorted}
 use Rattle.heap_view.specs.Census.{class_cmp, is_same}

@@ -9,10 +9,11 @@ use Rattle.step_core.specs.Stands.{CoreState}
 use Rattle.step_core.specs.Measures.{used_words, live_words}
 use Rattle.heap_view.specs.declared.glance.Glance.{Glance}
 use Rattle.heap_view.specs.declared.glance.Viewed.{Viewed}
-use Rattle.heap_view.specs.declared.glance.Viewed.TheVariants.{Census, Object, Regions, Snapshot}
+use Rattle.heap_view.specs.declared.glance.Viewed.TheVariants.{Census, Object, Path, Regions, Snapshot}
 use Rattle.heap_view.specs.Objects.{AreObjectLines}
 use Rattle.heap_view.specs.Census.{AreCensusLines}
 use Rattle.heap_view.specs.SnapshotTexts.{IsSnapshot}
+use Rattle.heap_view.specs.Ways.{AreWayLines}
 use Rattle.heap_dump.specs.Lists.{text_below}
 use Rattle.heap_view.specs.Areas.{region_line, region_lines}
 use Rattle.heap_view.specs.Folds.{folded_line}
@@ -69,6 +70,7 @@ viewed_regions None summary c =
 abbrev pub AreViewed : Viewed → CoreState → List ℕ → Type 0
 AreViewed (Regions region summary) c lines = lines ≡ viewed_regions region summary c
 AreViewed (Object name) c lines = AreObjectLines c name lines
+AreViewed (Path name) c lines = AreWayLines c name lines
 AreViewed Census c lines = AreCensusLines c lines
 AreViewed Snapshot c lines = IsSnapshot c lines
 

@@ -5,8 +5,10 @@ pub mod Folds
 pub mod Nexts
 pub mod Objects
 pub mod Census
+pub mod Search
 pub mod Snapshot
 pub mod SnapshotTexts
+pub mod Ways
 pub mod Actors
 pub mod Glances
 pub mod Views

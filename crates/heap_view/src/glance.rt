@@ -15,6 +15,7 @@ use crate::object_lines::put_object;
 use crate::region_lines::{put_region, put_region_line};
 use crate::root_lines::put_actors;
 use crate::snapshot_lines::put_snapshot;
+use crate::way_lines::put_path;
 use heap_steps::is_third;
 use heap_words::addr::RegionNo;
 use script_text::Text;
@@ -34,6 +35,8 @@ pub enum Viewed {
     },
     /// The kept object of a name: all its fields, and who names it.
     Object(u64),
+    /// A shortest way from a root to the kept object of a name, by pointers.
+    Path(u64),
     /// How many kept objects there are of each class, and how many words they have.
     Census,
     /// The kept objects and who names whom, in JSON that other tools read, and nothing before it.
@@ -167,6 +170,7 @@ fn put_viewed(alloc: Global, core: &Core, text: &mut Text, viewed: Viewed) -> Re
             put_object(core, text, name);
             Ok(())
         }
+        Viewed::Path(name) => put_path(alloc, core, text, name),
         Viewed::Census => put_census(alloc, core, text),
         Viewed::Snapshot => put_snapshot(alloc, core, text),
     }

@@ -25,14 +25,15 @@
 //! that it has found and hasn't scanned, `scanned` one whose pointers it has followed.
 //!
 //! A summary has a line for each region in place of all this. In the third format free regions side by side are one line there, such as
-//! `regions 17 to 4095: free`. One object has a line for each of its fields, and one for each root and each object that names it. A census
-//! has a line for each class of kept objects: how many there are, and how many words they have, most words first. A snapshot is all kept
-//! objects, and who names whom, in JSON that other tools read.
+//! `regions 17 to 4095: free`. One object has a line for each of its fields, and one for each root and each object that names it. A path is
+//! a shortest way from a root to an object, by pointers: a line for the root, and one for each object on the way. A census has a line for
+//! each class of kept objects: how many there are, and how many words they have, most words first. A snapshot is all kept objects, and who
+//! names whom, in JSON that other tools read.
 //!
 //! A view reads the heap and changes nothing of it, and its cost grows with the heap. It is put together in memory, so that nothing is
 //! written before it is whole: `view_text` gives the text of a heap's view, as `specs` says what that is. `view_script` reads a script,
 //! does its steps in a new heap, and writes the view of that; `view_record` does the same of a record, whose replies have to be the heap's.
-//! A `Glance` says when, and what of the heap: all regions or one, one object, the census, or a snapshot.
+//! A `Glance` says when, and what of the heap: all regions or one, one object, a path to it, the census, or a snapshot.
 #![tactic(auto)]
 
 mod card_lines;
@@ -46,10 +47,13 @@ mod object_lines;
 mod region_lines;
 mod review;
 mod root_lines;
+mod search;
 mod snapshot;
 mod snapshot_lines;
 mod tile_lines;
 mod view;
+mod way_lines;
+mod ways;
 
 pub use glance::{Glance, Viewed, view_text};
 pub use review::view_record;

@@ -164,7 +164,7 @@ fn put_either(text: &mut Text, holder: &Holder)
 }
 
 /// Puts the line of what names an object.
-fn put_holder(text: &mut Text, holder: &Holder)
+pub(crate) fn put_holder(text: &mut Text, holder: &Holder)
     ensures { Adds text.old (holder_line holder.now) text.new }
 {
     text.put("  ");
@@ -173,7 +173,7 @@ fn put_holder(text: &mut Text, holder: &Holder)
 }
 
 /// What names the object of a name, from a place on, which goes on.
-fn next_holder(core: &Core, name: u64, place: &mut u64) -> Option<Holder>
+pub(crate) fn next_holder(core: &Core, name: u64, place: &mut u64) -> Option<Holder>
     ensures { IsNext (holders_at core.now name) (place_count core.now) place.old place.new result }
 {
     core.law_shaped();

@@ -1,5 +1,5 @@
 use Rattle.command_line.proofs.Explained.{check_explained, draw_explained, run_explained, view_explained}
-use Rattle.command_line.proofs.Options.{at, census, every, heapsnapshot, names, no_names, object, redraw}
+use Rattle.command_line.proofs.Options.{at, census, every, heapsnapshot, names, no_names, object, redraw, way}
 use Rattle.command_line.proofs.Paths.{check, draw, follow, run, sim, threads, view}
 use Rattle.command_line.proofs.words_law.Goals as goal
 
@@ -18,6 +18,7 @@ returns c = record {
   no_names = no_names;
   at = at;
   object = object;
+  way = way;
   census = census;
   heapsnapshot = heapsnapshot;
   run_explained = run_explained;

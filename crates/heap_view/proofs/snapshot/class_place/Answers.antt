@@ -1,4 +1,4 @@
-use Rattle.std.proofs.Common.{is_lt, rules, ◌≡◌}
+use Rattle.std.proofs.Common.{is_lt, rules}
 use Rattle.std.proofs.lemmas.List.Sorted.{IsPartitionPoint-from_clause}
 use Rattle.heap_view.specs.Census.{class_cmp}
 use Rattle.heap_view.proofs.Counting.{classes_total}

@@ -1,4 +1,4 @@
-use Rattle.std.proofs.Common.{is_lt, rules, ◌≡◌}
+use Rattle.std.proofs.Common.{is_lt, rules}
 use Rattle.std.proofs.lemmas.List.Sorted.{IsPartitionPoint-from_clause}
 use Rattle.std.specs.Ordering.{nat_cmp}
 use Rattle.std.proofs.lemmas.Cmp.{nat_cmp_total}
