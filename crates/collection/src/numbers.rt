@@ -117,9 +117,9 @@ fn least_regions(config: &Config) -> u32
     (16777216 / config.words.max(1)).max(64).min(config.regions)
 }
 
-/// Regions: so many are to be in play, where so many are, and what lives fills so many. Where it fills less than 40 percent of them, or more
-/// than 65, so many that it fills 40. Where it fills more than 45, a third of the way to that, since less may live at the next cycle, and what
-/// was touched stays taken; but so many that it fills 55 at most.
+/// Regions: so many are to be in play, where so many are, and what lives fills so many. Where it fills less than 40 percent of them, or
+/// more than 65, so many that it fills 40. Where it fills more than 45, a third of the way to that, since less may live at the next
+/// cycle, and what was touched stays taken; but so many that it fills 55 at most.
 fn apt_regions(full: u64, now: u64) -> u64 {
     let aim = full.saturating_mul(5) / 2;
     let share = full.saturating_mul(20);
