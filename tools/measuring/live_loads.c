@@ -42,7 +42,7 @@
 #include <unistd.h>
 
 enum { TABLE, ROW, ELEMENT, PART, KEY, BEFORE, OTHER }; /* registers */
-enum { LEAVES = 8, CELLS = 16, ARRAYS = 16, SLOTS = 4, MOST_LOOKS = 1 << 23, LEAST_WORDS = 8388608 };
+enum { LEAVES = 8, CELLS = 16, ARRAYS = 16, SLOTS = 4, MOST_LOOKS = 1 << 23, LEAST_WORDS = 8388608, LARGEST = 65536 };
 
 typedef struct load {
     const char *name;
@@ -319,7 +319,7 @@ static void set_sizes(uint32_t mebibytes, uint32_t percent)
     if (like > mebibytes) shrunk = like / mebibytes;
     mebibytes *= shrunk, all = (uint64_t)mebibytes * 131072;
     m_sizes.words = mebibytes > 16 ? 16384 : 4096;
-    while (m_sizes.words * (uint64_t)2048 < all) m_sizes.words *= 2;
+    while (m_sizes.words < LARGEST && m_sizes.words * (uint64_t)2048 < all) m_sizes.words *= 2;
     m_sizes.regions = (uint32_t)(all / m_sizes.words), m_sizes.words /= shrunk;
     m_sizes.buffer = m_sizes.words / 8 - 1 < 1023 ? m_sizes.words / 8 - 1 : 1023;
     m_sizes.card = card;
