@@ -26,7 +26,7 @@ returns c =
     let end : c.loop-i.i ≡ c.args.count - 1 = omega (arith, c.loop-i-test.false, c.loop-i.auto.i-end) in
     let next : c.args.count - 1 + 1 ≡ c.args.count = omega (arith, c.requires.some) in
     let rows = c.loop-i.invariant
-        ∙ ap (λ (i : ℕ). paste c.args.rows.now c.args.at (run_rows c.args.size c.args.words 0 c.args.count) i) end in
+    ∙ ap (λ (i : ℕ). paste c.args.rows.now c.args.at (run_rows c.args.size c.args.words 0 c.args.count) i) end in
     run_row_put _ _ c.args.at c.args.size c.args.words c.args.count (c.args.count - 1) _ c.requires.within
     (omega (arith, c.requires.some)) rows (nth_row _ _ _ _ _ c.nth_kind-2.ensures c.min.ensures)
     ∙ ap (λ (i : ℕ). paste c.args.rows.now c.args.at (run_rows c.args.size c.args.words 0 c.args.count) i) next

@@ -41,7 +41,7 @@ write_run-requires-clause-small c =
 pub write_run-requires-clause-tight : goal.write_run-requires-clause-tight
 write_run-requires-clause-tight c =
     let tight : c.args.count * c.self.inside.words_per_region
-        < 2 + c.args.counts.pointers + c.args.counts.weaks + c.args.counts.values + c.self.inside.words_per_region =
+    < 2 + c.args.counts.pointers + c.args.counts.weaks + c.args.counts.values + c.self.inside.words_per_region =
     rw (size_is_of _ _ _ _ c.self.view_is) c.requires.tight in
     omega (arith, tight, c.size-size.ensures)
 
