@@ -104,6 +104,16 @@ fn copy_within(words: &mut [u64], from: usize, to: usize, size: usize)
     }
 }
 
+/// The same by a call, so that who copies piece after piece has a short loop.
+#[inline(never)]
+fn copy_piece(words: &mut [u64], from: usize, to: usize, size: usize)
+    requires source { from + size ≤ length words.old }
+    requires apart { to + size ≤ from }
+    ensures { words.new ≡ put words.old to (take size (drop from words.old)) }
+{
+    copy_lower(words, from, to, size);
+}
+
 /// Copies words within a slice to a place below their own, which they may reach into: in pieces as long as the way, of which each lies
 /// apart from its new place, so that each is one copy of memory. The last piece is what is left.
 fn copy_down(words: &mut [u64], from: usize, to: usize, size: usize)
@@ -114,10 +124,10 @@ fn copy_down(words: &mut [u64], from: usize, to: usize, size: usize)
     let way = from - to;
     let mut done = 0;
     while way < size - done {
-        copy_lower(words, from + done, to + done, way);
+        copy_piece(words, from + done, to + done, way);
         done += way;
     }
-    copy_lower(words, from + done, to + done, size - done);
+    copy_piece(words, from + done, to + done, size - done);
 }
 
 /// Copies words into a slice, in place of those from one on.

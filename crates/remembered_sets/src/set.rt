@@ -1,6 +1,6 @@
 //! One remembered set, that of one region, without its filter: `RememberedSet`. `sets` has all of them.
 
-ghost use Rattle.std.specs.Prelude.{◌≡◌, ◌||◌, ◌&&◌, ◌<◌, ◌*◌, ◌/◌, ℕ, false, All, IfOk, Some, length, slice_get, slice_index_or};
+ghost use Rattle.std.specs.Prelude.{◌≡◌, ◌||◌, ◌&&◌, ◌<◌, ◌*◌, ◌/◌, ℕ, false, true, All, IfOk, Some, length, slice_get, slice_index_or};
 ghost use Rattle.bit_sets.specs.Bits.{has};
 ghost use Rattle.remembered_sets.specs.Sets.{IsFilter, empty_set, emptied, lets_through, set_covers, set_with};
 ghost use Rattle.remembered_sets.specs.Sharing.{filter_at};
@@ -115,6 +115,17 @@ impl RememberedSet {
         } else {
             self.sources.set(source);
         }
+    }
+
+    /// Whether nothing was added to the set since it was made or emptied: then it covers no card. It costs two looks.
+    #[inline(always)]
+    pub(crate) fn is_untouched(&self) -> bool
+        ensures { result ≡ true → (card source : ℕ) → set_covers self.now card source ≡ false }
+    {
+        if self.inline.len() != 0 {
+            return false;
+        }
+        self.sources.is_untouched()
     }
 
     /// Flags the cards that the set covers, that are in `entered` and that the set's filter, one of four, lets through, and leaves the

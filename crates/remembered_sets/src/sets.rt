@@ -212,6 +212,21 @@ impl RememberedSets {
         ensures flags { (c : ℕ) → has flags.new c ≡ (has flags.old c || may_lead self.now region c) }
         ensures len { length flags.new ≡ length flags.old }
     {
+        let set = &self.sets[region.number() as usize];
+        if set.is_untouched() {
+            return;
+        }
+        self.mark_covered(region, flags);
+    }
+
+    /// The same where cards were added to the set.
+    #[inline(never)]
+    fn mark_covered(&self, region: RegionNo, flags: &mut BoundedBits)
+        requires region { region < length self.now.sets }
+        requires each { length flags.old ≡ card_count self.now }
+        ensures flags { (c : ℕ) → has flags.new c ≡ (has flags.old c || may_lead self.now region c) }
+        ensures len { length flags.new ≡ length flags.old }
+    {
         let number = region.number();
         let set = &self.sets[number as usize];
         let filter = &self.filters[(number / SHARERS) as usize];

@@ -9,11 +9,11 @@ pub loop-done-preserved : goal.loop-done-preserved
 loop-done-preserved c =
     let more = c.loop-done-test.true in
     more_moved _ _ _ _ _ _ _ (c.args.from - c.args.to) _ c.requires.below c.requires.source (omega (arith, more))
-    refl c.loop-done.invariant c.copy_lower.ensures
+    refl c.loop-done.invariant c.copy_piece.ensures
 
 pub returns : goal.returns
 returns c =
     let within = c.loop-done.invariant.within in
     all_moved _ _ c.args.from c.args.to c.args.size c.args.size (omega arith)
     (more_moved _ _ _ _ _ c.args.size c.loop-done.done (c.args.size - c.loop-done.done) c.args.size c.requires.below c.requires.source
-    (omega (arith, within)) (omega (arith, within)) c.loop-done.invariant c.copy_lower-2.ensures)
+    (omega (arith, within)) (omega (arith, within)) c.loop-done.invariant c.copy_piece-2.ensures)
