@@ -209,8 +209,8 @@ run_is_here size words rows t k j g e can =
     product (suc m) size h = let z : suc m - 1 ≡ m = omega arith in rw z (omega arith)
 
 -- how many regions the run has, by the size of its object
-pub counted : (size : ℕ) (words : List ℕ) (rows : List Row) (t : Table) (k n : ℕ) → IsTable size words rows → (r : IsRun size words rows t k)
-    → n ≡ tile_size (Object r.object) → div_ceil n size ≡ run_length t k
+pub counted : (size : ℕ) (words : List ℕ) (rows : List Row) (t : Table) (k n : ℕ) → IsTable size words rows
+    → (r : IsRun size words rows t k) → n ≡ tile_size (Object r.object) → div_ceil n size ≡ run_length t k
 counted size words rows t k n g r e =
     let m : ℕ = run_length t k in
     let c : ℕ = div_ceil n size in

@@ -1,4 +1,5 @@
-use Rattle.regions.proofs.Common.{arith, ◌≡◌, ◌+◌, ◌*◌, ◌<◌, ◌≤◌, length, Option, None, ap, ◌∙◌, ℕ, length-replicate, start_added, new_object}
+use Rattle.regions.proofs.Common.{arith, ◌≡◌, ◌+◌, ◌*◌, ◌<◌, ◌≤◌, length, Option, None, ap, ◌∙◌, ℕ, length-replicate, start_added}
+use Rattle.regions.proofs.Common.{new_object}
 use Rattle.regions.proofs.LongRuns.RunMade.{run_taken, run_there}
 use Rattle.regions.proofs.Tiles.Making.{size_is_of}
 use Rattle.regions.proofs.Rows.UsedBelow.{used_written, used_le, front_free}
