@@ -13,7 +13,7 @@ use Rattle.heap_steps.specs.declared.step.Reply.{Reply}
 use Rattle.heap_steps.specs.declared.step.Reply.TheVariants as replies
 use Rattle.graph_runs.specs.State.{State}
 use Rattle.graph_runs.specs.Run.{Happens}
-use Rattle.step_core.specs.Stands.{CoreState, IsCore, Stands, kept_of}
+use Rattle.step_core.specs.Stands.{CoreState, Stands, kept_of}
 use Rattle.step_core.specs.Answers.{Follows}
 use Rattle.step_core.specs.Cycle.{Collects, HasBegun, HasRemarked, HasCleaned, HasSettled, Settles, ClearsAtOnce}
 use Rattle.heap_model.specs.Graph.{IsReachable}

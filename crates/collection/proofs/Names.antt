@@ -3,7 +3,7 @@ use Rattle.std.proofs.Common.{◌≡◌, ◌≢◌, ◌+◌, ◌*◌, ◌/◌, �
 use Rattle.std.proofs.Common.{refl, sym, ap, subst, arith, slice_get}
 use Rattle.std.proofs.Math.Nat.{suc-mul}
 use Rattle.heap_model.specs.Graph.{Graph, IsReachable, object_named}
-use Rattle.heap_model.specs.Clearing.{WillShow, IsWeakShown}
+use Rattle.heap_model.specs.Clearing.{WillShow}
 use Rattle.heap_model.specs.Heap.{Stored}
 use Rattle.regions.specs.Tiles.{Object, tile_size}
 use Rattle.regions.specs.Table.{Table, Region, Free, Ordinary, First, Rest, AreHalves, kind_of, nth_region, stored_size}

@@ -1,18 +1,17 @@
 -- What is said of a heap whose weak slots are still to be cleared holds of it once they are.
-use Rattle.std.proofs.Common.{◌≡◌, ◌≢◌, ◌+◌, ◌-◌, ◌*◌, ◌<◌, ◌≤◌, ◌⊎◌, ◌∙◌, ℕ, zero, suc, Bool, true, false}
+use Rattle.std.proofs.Common.{◌≡◌, ◌+◌, ◌-◌, ◌*◌, ◌⊎◌, ◌∙◌, ℕ, zero, suc, Bool, true, false}
 use Rattle.std.proofs.Common.{List, Option, Some, None, length, inl, inr, refl, sym, ap, subst, arith, if◌then◌else◌, slice_index}
 use Rattle.heap_model.specs.Graph.{Graph, IsReachable}
 use Rattle.heap_model.specs.Heap.{Stored}
 use Rattle.heap_model.specs.Weak.{cleared, cleared_object}
 use Rattle.regions.specs.Table.{Table, kind_of, free_count, object_at, object_words, stored_size, top_of}
-use Rattle.regions.specs.declared.row.Kind.TheVariants as kinds
 use Rattle.mark_bitmap.specs.Marks.{is_marked}
-use Rattle.mark_bitmap.specs.Tops.{Tops, is_below}
-use Rattle.mark_bitmap.specs.Live.{live_bound_of, kept_words, marked_words}
+use Rattle.mark_bitmap.specs.Tops.{is_below}
+use Rattle.mark_bitmap.specs.Live.{live_bound_of, marked_words}
 use Rattle.marker.specs.Views as views
 use Rattle.marker.specs.declared.marker.Marker.{Marker}
 use Rattle.graph_runs.specs.State.{State}
-use Rattle.step_core.specs.Stands.{CoreState, Stands, IsCore, kept_of}
+use Rattle.step_core.specs.Stands.{CoreState, Stands, kept_of}
 use Rattle.step_core.specs.Cycle.{HasLooked, HasSettled, IsAhead, ClearsAtOnce}
 use Rattle.heap_words.specs.declared.config.Format.{Format}
 use Rattle.heap_words.specs.declared.config.Format.TheVariants.{V1, V2, V3}

@@ -21,9 +21,9 @@ use Rattle.step_core.specs.declared.candidates.Choice.TheVariants as choices
 use Rattle.step_core.specs.Measures.{sum_below}
 use Rattle.step_core.specs.Pause.{HasMoved}
 use Rattle.step_core.specs.Stands.{CoreState, Stands, IsCore, kept_of}
-use Rattle.step_core.specs.Sliding.{HasCompacted, IsLeft, MovesRun, RunKinds, Slides}
+use Rattle.step_core.specs.Sliding.{HasCompacted, MovesRun, RunKinds, Slides}
 use Rattle.graph_runs.specs.State.{State}
-use Rattle.collection.specs.Space.{IsExact, IsPacked, IsQuiet, LieBelowFree, kept_by_kind, ordinary_count, ordinary_end, ordinary_one}
+use Rattle.collection.specs.Space.{IsExact, IsPacked, IsQuiet, LieBelowFree, ordinary_count, ordinary_end, ordinary_one}
 use Rattle.collection.specs.Space.{run_count, run_one}
 use Rattle.collection.proofs.Counts.{count_all}
 use Rattle.collection.proofs.Exact.{ordinary_known}

@@ -27,7 +27,7 @@ use Rattle.mark_bitmap.proofs.KeptLaws.{newer_below}
 use Rattle.mark_bitmap.proofs.Listed.{marked_from, listed, length-marked_from}
 use Rattle.satb_log.specs.Logs.{logged, log_of}
 use Rattle.satb_log.proofs.Logged.{none_logged}
-use Rattle.marker.specs.Views.{heap_of, marking_of, untaken, with_roles_exchanged, ended_marking_of}
+use Rattle.marker.specs.Views.{heap_of, marking_of, with_roles_exchanged, ended_marking_of}
 use Rattle.marker.specs.Waiting.{Waiting}
 use Rattle.marker.specs.Stands.{MarkerStands, CanFollow, KeepsBare}
 use Rattle.marker.specs.Live.{LiveCounts, CountsWords, counts_exchanged}

@@ -1,5 +1,5 @@
 -- Held slots of an object, which go one after another where their keys are nil.
-use Rattle.std.proofs.Common.{◌≡◌, ◌+◌, ◌<◌, ◌≤◌, ◌∷◌, ◌∙◌, ℕ, zero, suc, Option, Some, None, List, [], length, set, refl, sym, ap, arith}
+use Rattle.std.proofs.Common.{◌≡◌, ◌<◌, ◌≤◌, ◌∷◌, ◌∙◌, ℕ, zero, suc, Option, Some, None, List, [], length, set, refl, sym, ap, arith}
 use Rattle.std.proofs.Common.{slice_get, IsSome, inl, inr}
 use Rattle.heap_model.specs.Graph.{held_by}
 use Rattle.heap_model.specs.Heap.{Stored}

@@ -1,5 +1,5 @@
 -- A humongous object is made in a run of free regions, or goes with its run.
-use Rattle.regions.proofs.Common.{◌≡◌, ◌≢◌, ◌+◌, ◌-◌, ◌*◌, ◌/◌, ◌^◌, ◌<◌, ◌≤◌, ◌∷◌, ◌++◌, ◌∙◌, ℕ, zero, suc, min, true, Option, Some, None}
+use Rattle.regions.proofs.Common.{◌≡◌, ◌≢◌, ◌+◌, ◌-◌, ◌*◌, ◌/◌, ◌^◌, ◌<◌, ◌≤◌, ◌∷◌, ◌++◌, ◌∙◌, ℕ, zero, suc, min, true, Some, None}
 use Rattle.regions.proofs.Common.{List, [], length, take, drop, get_or, set, refl, sym, ap, subst, arith, inl, inr, zero-add, replicate}
 use Rattle.regions.proofs.Common.{length-append, length-take, length-drop, append_assoc, drop-drop, get_or-drop, length-replicate, take_all}
 use Rattle.regions.proofs.Common.{take-append-drop, cases_lt, header_of, header_word, Stored, Object, tile_size, stored_of, put, Region}

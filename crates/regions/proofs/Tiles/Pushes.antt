@@ -1,14 +1,13 @@
 -- One more tile at a region's top.
 -- the change of words that a push makes
-use Rattle.regions.proofs.Common.{pointer_of, HasObject, Ordinary, Table, nth_region, used_of, kind_of, EachForwarded, push_tile}
-use Rattle.regions.proofs.Common.{region_with_tile, new_object, sizes_in, region_of, IsRow, table_of, IsTable, free_row, Tile, stored_of}
-use Rattle.regions.proofs.Common.{tiles, Kind, Row, ◌≡◌, ◌+◌, ◌-◌, ◌*◌, ◌<◌, ◌≤◌, ◌∷◌, ◌++◌, ◌∙◌, ℕ, zero, suc, None, List, [], length}
-use Rattle.regions.proofs.Common.{take, drop, map, get_or, set, refl, sym, ap, subst, arith, replicate, take-take, drop-drop, drop-take}
+use Rattle.regions.proofs.Common.{HasObject, Ordinary, Table, nth_region, used_of, kind_of, EachForwarded, push_tile}
+use Rattle.regions.proofs.Common.{region_with_tile, sizes_in, region_of, IsRow, table_of, IsTable, free_row, Tile}
+use Rattle.regions.proofs.Common.{tiles, Kind, Row, ◌≡◌, ◌+◌, ◌-◌, ◌*◌, ◌<◌, ◌≤◌, ◌∷◌, ◌++◌, ◌∙◌, ℕ, List, [], length}
+use Rattle.regions.proofs.Common.{take, drop, get_or, set, refl, sym, ap, subst, arith, take-take, drop-drop, drop-take}
 use Rattle.regions.proofs.Rows.RowLemmas.{start_at}
 use Rattle.regions.proofs.Tiles.Targets.{IsWrittenTable}
 use Rattle.regions.proofs.Tiles.Kept.{push_kept}
 use Rattle.regions.proofs.Words.Written.{region_changed, IsChange}
-use Rattle.std.proofs.lemmas.List.{take-replicate, drop-replicate}
 use Rattle.regions.proofs.Words.Fields.{IsOne}
 use Rattle.regions.proofs.Words.Parse.{tiles-append, IsTiled-append}
 use Rattle.regions.proofs.Tiles.Making.{targets_of, known, kind_is, top_is, plain_from}

@@ -1,5 +1,5 @@
 -- An object just made, with so many of each: plain, or of pairs.
-use Rattle.regions.proofs.Common.{◌≡◌, ◌+◌, ◌-◌, ◌∷◌, ◌∙◌, ℕ, zero, suc, None, Option, length, take, drop, map, refl, ap, arith, replicate}
+use Rattle.regions.proofs.Common.{◌≡◌, ◌+◌, ◌-◌, ◌∷◌, ◌∙◌, ℕ, zero, suc, None, Option, take, drop, map, refl, ap, arith, replicate}
 use Rattle.regions.proofs.Common.{length-replicate, pointer_of, Stored, Object, stored_of, tile_size}
 use Rattle.std.proofs.lemmas.List.{take-replicate, drop-replicate}
 

@@ -7,7 +7,6 @@ use Rattle.heap_model.specs.Clearing.{kept_held, kept_word}
 use Rattle.heap_model.specs.Weak.{Clears, ClearsObject}
 use Rattle.heap_model.proofs.Lists.{AllZip-get_right}
 use Rattle.heap_model.proofs.Shown.{followed}
-use Rattle.regions.specs.Table.{object_at}
 use Rattle.regions.specs.Shaped.{IsBareAt}
 use Rattle.regions.proofs.Words.Fields.{held_by_long}
 use Rattle.marker.specs.Stands.{KeepsBare}

@@ -1,5 +1,5 @@
 -- Weak slots are cleared in a core: k is the core by its fields before that.
-use Rattle.std.proofs.Common.{◌≡◌, ◌+◌, ◌<◌, ◌≤◌, ◌⊎◌, ◌∷◌, ◌++◌, ◌∙◌, ℕ, zero, suc, List, [], Option, Some, None, length}
+use Rattle.std.proofs.Common.{◌≡◌, ◌<◌, ◌≤◌, ◌⊎◌, ◌∷◌, ◌++◌, ◌∙◌, ℕ, zero, suc, List, [], Option, Some, None}
 use Rattle.std.proofs.Common.{map, refl, sym, ap, subst, arith, inl, inr, slice_get, slice_index}
 use Rattle.std.proofs.lemmas.List.{length-map}
 use Rattle.heap_model.specs.Graph.{Graph, IsReachable, next_name, held_by}

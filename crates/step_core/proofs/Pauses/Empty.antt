@@ -1,11 +1,11 @@
 -- Where the set is empty, a pause or a compaction leaves no card dirty.
-use Rattle.std.proofs.Common.{◌≡◌, ◌≢◌, ◌≤◌, ◌∷◌, ◌++◌, ◌∙◌, ℕ, true, false, Bool, List, [], Option, Some, None, length, refl, sym, ap}
+use Rattle.std.proofs.Common.{◌≡◌, ◌≢◌, ◌≤◌, ◌∷◌, ◌++◌, ◌∙◌, ℕ, false, Bool, List, [], Option, Some, None, length, refl, sym, ap}
 use Rattle.std.proofs.Common.{ap₂, subst, arith, inl, inr}
 use Rattle.std.proofs.Common.{slice_get}
 use Rattle.std.specs.List.{AllZip}
 use Rattle.std.proofs.lemmas.Bool.{cases_Bool}
-use Rattle.heap_model.specs.Heap.{Heap, Stored, fields}
-use Rattle.heap_model.specs.Relocation.{IsMoved, Relocates}
+use Rattle.heap_model.specs.Heap.{Stored, fields}
+use Rattle.heap_model.specs.Relocation.{IsMoved}
 use Rattle.heap_model.specs.Evacuation.{place_after}
 use Rattle.alloc_buffers.specs.Placement.{Buffers}
 use Rattle.alloc_buffers.specs.declared.buffers.Buffer.{Buffer}

@@ -3,24 +3,24 @@ use Rattle.std.proofs.Common.{◌≡◌, ◌≢◌, ◌⊎◌, ◌↔◌, ◌+�
 use Rattle.std.proofs.Common.{Option, Some, None}
 use Rattle.std.proofs.Common.{length, map, refl, sym, ap, ap₂, subst, arith, inl, inr, slice_get, slice_index, nat_lt, if◌then◌else◌}
 use Rattle.std.proofs.Common.{IsSome, IsTrue}
-use Rattle.std.proofs.lemmas.Bool.{cases_eq, cases_lt, cases_Bool, eq-eqb, ne_eqb, le-ltb, ltb-true}
+use Rattle.std.proofs.lemmas.Bool.{cases_eq, cases_lt, eq-eqb, ne_eqb, le-ltb}
 use Rattle.std.proofs.lemmas.List.{length-map}
 use Rattle.bit_sets.specs.Bits.{has, is_between}
 use Rattle.bit_sets.proofs.BitRanges.{between_yes, between_no_below, between_no_above}
 use Rattle.heap_words.specs.Configs.{card_words}
 use Rattle.heap_model.specs.Graph.{Graph}
 use Rattle.heap_model.specs.Heap.{Heap, Stored, Shows, fields}
-use Rattle.heap_model.specs.Redirection.{place_moved, redirected, IsRedirected, ObjectMoved, Redirects}
+use Rattle.heap_model.specs.Redirection.{place_moved, redirected, ObjectMoved, Redirects}
 use Rattle.heap_model.specs.Relocation.{Relocates}
 use Rattle.heap_model.proofs.Redirected.{moved_relocates}
 use Rattle.heap_model.proofs.Relocated.{relocated_shows}
 use Rattle.heap_model.proofs.Shown.{will_show}
 use Rattle.regions.specs.Tiles.{Object, tile_size}
-use Rattle.regions.specs.Table.{Table, First, nth_region, kind_of, object_at, object_words, tile_in, top_of, used_of, run_length}
-use Rattle.regions.specs.Table.{moved_run, AreHalves, HasNoForwarded, stored_size}
+use Rattle.regions.specs.Table.{Table, First, nth_region, kind_of, object_at, object_words, tile_in, top_of, run_length}
+use Rattle.regions.specs.Table.{moved_run, AreHalves, stored_size}
 use Rattle.regions.specs.Shaped.{IsShaped}
 use Rattle.regions.specs.declared.row.Kind.TheVariants as kinds
-use Rattle.regions.proofs.LongRuns.Blocks.{block_within, block_cases, first_number, first_void, later_rest, rest_void, void_object}
+use Rattle.regions.proofs.LongRuns.Blocks.{block_cases, first_number, first_void, later_rest, rest_void, void_object}
 use Rattle.regions.proofs.LongRuns.Blocks.{reached, reaches, top_near}
 use Rattle.regions.proofs.LongRuns.RunMoved as moving
 use Rattle.regions.proofs.Tiles.Changes.{object_same}
@@ -28,12 +28,12 @@ use Rattle.regions.proofs.Tiles.Released.{untargeted}
 use Rattle.regions.proofs.Tiles.ShapedMade.{first_object, kind_at as kind_first_at}
 use Rattle.regions.proofs.Tiles.WeakStarts.{free_void}
 use Rattle.satb_log.specs.Logs.{log_of}
-use Rattle.regions.proofs.Words.Divides.{div_is, div_low, div_high}
+use Rattle.regions.proofs.Words.Divides.{div_is}
 use Rattle.alloc_buffers.specs.Placement as placement
 use Rattle.alloc_buffers.specs.Placement.{Buffers, BuffersStand}
 use Rattle.alloc_buffers.proofs.Placed.{closed_stand, retired_above}
 use Rattle.mark_bitmap.specs.Marks.{is_marked}
-use Rattle.mark_bitmap.specs.Tops.{Tops, is_below}
+use Rattle.mark_bitmap.specs.Tops.{is_below}
 use Rattle.mark_bitmap.specs.Kept.{heap_in, kept_in}
 use Rattle.mark_bitmap.proofs.KeptLaws.{object_moved}
 use Rattle.marker.specs.Stands.{MarkerStands}
@@ -47,7 +47,7 @@ use Rattle.cards.specs.Cards.{Cards, is_dirty}
 use Rattle.remembered_sets.specs.Sets.{Sets, may_lead}
 use Rattle.remembered_sets.proofs.Laws.{leads_alike}
 use Rattle.region_choice.specs.Ages.{Ages, AgesAfter}
-use Rattle.refinement.specs.Remembering.{Remembers, IsCrossing, field_card, field_word}
+use Rattle.refinement.specs.Remembering.{Remembers, field_card, field_word}
 use Rattle.refinement.proofs.Fields.{region_of_card}
 use Rattle.refinement.proofs.Holders.{object_known, kept_object as object_of}
 use Rattle.evacuation.specs.Evacuates.{IsSameBut, MarksAfter}

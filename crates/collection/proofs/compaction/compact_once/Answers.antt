@@ -1,7 +1,6 @@
-use Rattle.std.proofs.Common.{◌≡◌, ◌<◌, ◌≤◌, ℕ, ap, arith, true, false, inl, inr, nat_lt, ltb-true}
+use Rattle.std.proofs.Common.{◌≡◌, ◌≤◌, ℕ, ap, arith, false, inl, inr, nat_lt, ltb-true}
 use Rattle.std.proofs.lemmas.Bool.{cases_lt, lt-ltb}
 use Rattle.heap_words.specs.declared.config.Config.{Config}
-use Rattle.collection.specs.Space.{ordinary_end}
 use Rattle.collection.proofs.Cycles.{compacted_stands}
 use Rattle.collection.proofs.Settled.{quiet_settled, free_settled, end_settled, packed_settled, exact_settled}
 use Rattle.collection.proofs.Slides.{compacted_packed, compacted_quiet, compacted_below}

@@ -1,4 +1,4 @@
-use Rattle.std.proofs.Common.{◌+◌, ap, arith}
+use Rattle.std.proofs.Common.{ap, arith}
 use Rattle.heap_words.specs.declared.config.Config.{Config}
 use Rattle.collection.proofs.Sinking.{all_sunk, one_sunk}
 use Rattle.collection.proofs.Took.{chain}

@@ -1,7 +1,6 @@
 use Rattle.std.proofs.Common.{◌≡◌, ◌-◌, ◌<◌, ◌^◌, ℕ, zero, suc, Bool, true, false, refl, arith}
-use Rattle.collection.specs.Space.{LieBelowFree, RunsRestBelow}
 use Rattle.collection.proofs.Cycles.{compacted_stands}
-use Rattle.collection.proofs.Settled.{kinds_are, exact_settled, packed_settled, quiet_settled}
+use Rattle.collection.proofs.Settled.{kinds_are, packed_settled, quiet_settled}
 use Rattle.collection.proofs.Sinking.{below_same, rests_same, sunk_below, sunk_compact, sunk_rests}
 use Rattle.collection.proofs.Slides.{compacted_quiet, low_packed}
 use Rattle.collection.proofs.compaction.slide_once.Goals as goal

@@ -1,4 +1,4 @@
-use Rattle.std.proofs.Common.{◌≡◌, ◌∙◌, ℕ, inl, inr, sym, ap, subst, arith}
+use Rattle.std.proofs.Common.{◌≡◌, ℕ, inl, inr, sym, ap, subst, arith}
 use Rattle.step_core.specs.Stands.{CoreState}
 use Rattle.collection.specs.declared.numbers.Policy.{Policy}
 use Rattle.collection.specs.Steps.{IsDue}

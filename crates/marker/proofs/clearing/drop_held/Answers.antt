@@ -1,6 +1,6 @@
 use Rattle.std.proofs.Common.{arith, ◌≡◌, ◌+◌, ◌<◌, suc, length, ◌∙◌}
-use Rattle.regions.specs.Table.{Table, held_at}
-use Rattle.marker.proofs.HeldSlots.{IsDropping, drop_first, drop_slot, drop_key, drop_nil, drop_none, drop_last}
+use Rattle.regions.specs.Table.{held_at}
+use Rattle.marker.proofs.HeldSlots.{drop_first, drop_slot, drop_key, drop_nil, drop_none, drop_last}
 use Rattle.marker.proofs.clearing.drop_held.Goals as goal
 use Rattle.marker.proofs.clearing.drop_held.Goals.{in-None, in-Some}
 

@@ -1,4 +1,4 @@
-use Rattle.std.proofs.Common.{◌-◌, arith}
+use Rattle.std.proofs.Common.{arith}
 use Rattle.marker.proofs.Marking.{none_scanned, snapshots_trans}
 use Rattle.marker.proofs.Looked.{one_looked}
 use Rattle.marker.proofs.marker.Marker.scan_words.Goals as goal

@@ -1,6 +1,6 @@
-use Rattle.regions.proofs.Common.{arith, refl, ap, sym, Some, ◌∙◌, ◌≡◌, ◌+◌, length, ℕ, slice_get}
+use Rattle.regions.proofs.Common.{arith, refl, ap, sym, ◌∙◌, ◌≡◌, ◌+◌, length, ℕ, slice_get}
 use Rattle.regions.proofs.Words.HeldSlots.{has_held, held_field, held_small, held_read}
-use Rattle.regions.specs.Table.{pointers_at, weaks_at, fields_at, set_field}
+use Rattle.regions.specs.Table.{pointers_at, weaks_at, fields_at}
 use Rattle.regions.proofs.table.RegionTable.get_held.Goals as goal
 
 pub pointer_count-requires : goal.pointer_count-requires

@@ -1,7 +1,7 @@
-use Rattle.std.proofs.Common.{◌≡◌, ◌/◌, ◌∙◌, arith, ap, sym, Bool, ℕ, false, ◌||◌, ◌&&◌}
+use Rattle.std.proofs.Common.{◌≡◌, ◌/◌, ◌∙◌, arith, ap, sym, Bool, false, ◌||◌, ◌&&◌}
 use Rattle.std.proofs.Math.Bool.{or-false}
 use Rattle.bit_sets.specs.Bits.{has}
-use Rattle.remembered_sets.specs.Sets.{CardSet, Sets, lets_through, may_lead, set_covers, set_of}
+use Rattle.remembered_sets.specs.Sets.{CardSet, lets_through, set_covers, set_of}
 use Rattle.remembered_sets.proofs.Reading.{known_set, reading, set_is}
 use Rattle.remembered_sets.proofs.sets.RememberedSets.mark_cards.Goals as goal
 

@@ -1,9 +1,6 @@
-use Rattle.std.proofs.Common.{◌≡◌, ◌∙◌, ◌*◌, ◌<◌, ◌≤◌, ℕ, Bool, true, false, Option, Some, None, IsTrue, IsSome, refl, sym, ap, subst}
+use Rattle.std.proofs.Common.{◌≡◌, ◌∙◌, ◌*◌, ℕ, Some, IsSome, sym, ap, subst}
 use Rattle.std.proofs.Common.{arith}
-use Rattle.heap_model.specs.Heap.{Stored}
-use Rattle.regions.specs.Tiles.{Object, tile_size}
 use Rattle.regions.specs.Table.{object_at}
-use Rattle.step_core.specs.Stands.{CoreState, kept_of}
 use Rattle.step_core.proofs.Cycles.Cycling.{to_fields}
 use Rattle.step_core.proofs.Mutating.Small.{words_are}
 use Rattle.step_core.proofs.Pauses.Slid.{is_kept, kept_there, some_there}

@@ -1,4 +1,4 @@
-use Rattle.std.proofs.Common.{◌≡◌, ◌≤◌, ℕ, arith, inl, inr, subst}
+use Rattle.std.proofs.Common.{◌≤◌, ℕ, arith, inl, inr}
 use Rattle.step_core.specs.declared.candidates.Choice.TheVariants as choices
 use Rattle.step_core.specs.Pause.{HasMoved}
 use Rattle.step_core.specs.Stands.{CoreState}

@@ -1,4 +1,4 @@
-use Rattle.std.proofs.Common.{◌∙◌, arith, sym}
+use Rattle.std.proofs.Common.{arith}
 use Rattle.step_core.proofs.Mutating.Acting.{get_weak_past, refused_gets}
 use Rattle.step_core.proofs.heap.Core.get_weak.Goals as goal
 

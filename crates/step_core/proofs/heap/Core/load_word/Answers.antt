@@ -1,4 +1,4 @@
-use Rattle.std.proofs.Common.{◌≡◌, ◌<◌, ◌∙◌, Option, ℕ, Some, None, ap, refl, slice_get, subst, sym}
+use Rattle.std.proofs.Common.{◌<◌, ◌∙◌, Option, ℕ, Some, None, ap, refl, slice_get, subst, sym}
 use Rattle.heap_words.specs.declared.config.Config.{Config}
 use Rattle.heap_steps.specs.Roots.{IsRegister}
 use Rattle.heap_steps.specs.declared.step.Reply.TheVariants as replies

@@ -1,13 +1,11 @@
-use Rattle.std.proofs.Common.{◌≡◌, ◌∙◌, ◌+◌, ◌*◌, ◌^◌, ◌<◌, ◌≤◌, ℕ, None, false, length, refl, sym, ap, subst, arith}
+use Rattle.std.proofs.Common.{◌≡◌, ◌^◌, ◌<◌, ◌≤◌, ℕ, None, false, length, arith}
 use Rattle.alloc_buffers.specs.Placement.{closed}
 use Rattle.cards.specs.Cards.{is_dirty}
-use Rattle.evacuation.specs.Rooms.{RoomSizes}
-use Rattle.regions.specs.Tiles.{Object, tile_size}
 use Rattle.std.proofs.lemmas.Nat.{mul-le}
 use Rattle.regions.specs.Table.{Table}
 use Rattle.regions.specs.Shaped.{IsShaped}
 use Rattle.regions.proofs.LongRuns.Blocks.{block_within}
-use Rattle.step_core.specs.Stands.{CoreState, ShowsGraph, KeepsFrom}
+use Rattle.step_core.specs.Stands.{ShowsGraph, KeepsFrom}
 use Rattle.step_core.specs.Sliding.{IsMovable}
 use Rattle.step_core.proofs.Cycles.Cycling.{to_fields}
 use Rattle.step_core.proofs.Pauses.Pausing.{cards_room}
