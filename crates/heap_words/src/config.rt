@@ -31,8 +31,8 @@ pub enum Format {
         /// How many words a card has.
         card: u32,
     },
-    /// The line `heap3`: up to 16,384 regions, 4,194,304 words a region and 2,147,483,648 in all; up to 64 mutators, and as many globals and
-    /// registers as it says.
+    /// The line `heap3`: up to 16,384 regions, 4,194,304 words a region and 2,147,483,648 in all; up to 64 mutators, and as many globals
+    /// and registers as it says.
     V3 {
         /// How many words a card has.
         card: u32,
