@@ -8,6 +8,8 @@ pub use g1heap_sys::{
     G1_NIL as NIL, G1_NIL_REGISTER as NIL_REGISTER, G1_NIL_VALUE as NIL_VALUE, G1_NO_FIELD as NO_FIELD, G1_NO_MEMORY as NO_MEMORY,
     G1_NO_STEP as NO_STEP, G1_POINTER as POINTER, G1_REGISTER as REGISTER, G1_TOO_BIG as TOO_BIG, G1_WORD as WORD,
 };
+#[cfg(feature = "recorded")]
+use std::cell::Cell;
 use std::cell::UnsafeCell;
 
 const _: () = assert!(is_version(env!("CARGO_PKG_VERSION")), "g1heap-sys is of another version than the crate");
