@@ -268,7 +268,7 @@ static inline uint32_t policy_spend_clears(policy_of *of, uint32_t free)
 {
     g1_policy *policy = of->policy;
     uint32_t room = policy_above(free, policy_kept(policy, of->sizes));
-    uint32_t looks = room == 0 ? 6 : 1 + policy_least(3, policy_above(policy->cleared, policy->clears) / room);
+    uint32_t looks = room == 0 ? 8 : 1 + policy_least(3, policy_above(policy->cleared, policy->clears) / room);
     policy->clears = policy_within((uint64_t)policy->clears + looks);
     return policy_within((uint64_t)policy->clear_objects * looks);
 }

@@ -445,11 +445,11 @@ impl Policy {
 
     /// Objects with weak slots: so many are cleared at the next look. It is `clear_objects`; but where fewer regions are free above the
     /// reserve than clearing has looks left, by those after the last marking, two, three or four times as many, so that it ends before the
-    /// reserve is reached; and six times as many where those in play are used up. It counts as so many looks.
+    /// reserve is reached; and eight times as many where those in play are used up. It counts as so many looks.
     pub(crate) fn spend_clears(&mut self, config: &Config, free: u32) -> u32 {
         let room = free.saturating_sub(self.kept(config));
         let looks = if room == 0 {
-            6
+            8
         } else {
             1 + (self.cleared.saturating_sub(self.clears) / room).min(3)
         };
