@@ -42,6 +42,7 @@ mod cycle;
 pub mod laws;
 pub mod live;
 pub mod marker;
+mod pairs;
 mod scan;
 pub mod waiting;
 

@@ -6,6 +6,7 @@ use Rattle.regions.proofs.Common.{get_or_from_slice_get, Stored, fields, with_fi
 use Rattle.regions.proofs.Common.{region_at, tile_in, tile_object, object_at, stored_size, object_words, free_table, taken, first_free}
 use Rattle.regions.proofs.Common.{set_field, push_tile, replace_tile, new_object, remainder, used_of, top_of, kind_of, HasObject, IsShaped}
 use Rattle.regions.specs.Table.{object_pointers, pointers_at}
+use Rattle.heap_model.specs.Heap.{Holds}
 use Rattle.heap_model.specs.Clearing.{CanBeFollowed}
 use Rattle.heap_model.proofs.Fields.{field_set}
 use Rattle.heap_model.proofs.Lists.{get-set_cases, get_kept-append}
@@ -164,6 +165,20 @@ set_leads t words k a l h i b e =
           (sym (sym (get_or-set_other words k i (Some a) (Some b) other) ∙ read)))
     ]
 
+in_back : (xs ys : List (Option ℕ)) (i : ℕ) (v : Option ℕ) → slice_get ys i ≡ Some v → slice_get (xs ++ ys) (length xs + i) ≡ Some v
+in_back [] ys i v e = e
+in_back (x ∷ xs) ys i v e = in_back xs ys i v e
+
+held_there : (t : Table) (roots : List (Option ℕ)) (m : Marker) → IsLinked t
+    → ((a : ℕ) → (heap_of t roots m).kept a ≡ object_at t a) → (a k b : ℕ) → Holds (heap_of t roots m) a k b
+    → (x : Stored) × ((heap_of t roots m).kept b ≡ Some x)
+held_there t roots m linked kept a k b p =
+    let o = p.object in
+    let place = in_back o.pointers (o.weaks ++ o.held) (length o.weaks + p.slot) (Some b)
+    (in_back o.weaks o.held p.slot (Some b) p.is.1) in
+    let h = linked a (length o.pointers + (length o.weaks + p.slot)) b o (sym (kept a) ∙ p.at) place in
+    (h.object, kept b ∙ h.is)
+
 -- a marker just made keeps every object
 pub linked_closed : (t : Table) (roots : List (Option ℕ)) (m : Marker) → IsLinked t → LeadToObjects t roots
     → ((a : ℕ) → below_previous t m.tams a ≡ false) → CanBeFollowed (heap_of t roots m)
@@ -174,6 +189,7 @@ linked_closed t roots m linked leads none =
       pointer = λ b i a y e f.
           let h = linked b i a y (sym (kept b) ∙ e) (get_kept-append y.pointers (y.weaks ++ y.held) (Some a) i f) in
           (h.object, kept a ∙ h.is);
+      held = λ b k a p. held_there t roots m linked kept b k a p;
     }
 
 -- an object with nil fields is made where a filler was pushed
