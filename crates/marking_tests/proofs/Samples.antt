@@ -10,6 +10,7 @@ use Rattle.heap_model.specs.Heap.{Holds}
 use Rattle.heap_model.specs.Clearing.{CanBeFollowed}
 use Rattle.heap_model.proofs.Fields.{field_set}
 use Rattle.heap_model.proofs.Lists.{get-set_cases, get_kept-append}
+use Rattle.regions.proofs.Words.FieldAccess.{get-back}
 use Rattle.regions.proofs.Tiles.Changes.{WritesObject, field_put, field_size, object_same}
 use Rattle.regions.proofs.Tiles.Placing.{region_taken}
 use Rattle.mark_bitmap.specs.Tops.{is_below, below_previous}
@@ -56,16 +57,16 @@ keeps_trans t u v p q = record {
 }
 
 -- where a region's words handed out are as many as before, or more, its top doesn't fall
-top_stays : (t t' : Table) (k : ℕ) → t'.words_per_region ≡ t.words_per_region → used_of t k ≤ used_of t' k → top_of t k ≤ top_of t' k
+pub top_stays : (t t' : Table) (k : ℕ) → t'.words_per_region ≡ t.words_per_region → used_of t k ≤ used_of t' k → top_of t k ≤ top_of t' k
 top_stays t t' k size used =
     let same : k * t'.words_per_region ≡ k * t.words_per_region = ap (λ (n : ℕ). k * n) size in
     omega (arith, same, used)
 
-same_size : (t t' : Table) (a b : ℕ) → object_at t' b ≡ object_at t a → object_words t' b ≡ object_words t a
+pub same_size : (t t' : Table) (a b : ℕ) → object_at t' b ≡ object_at t a → object_words t' b ≡ object_words t a
 unfolding object_words
 same_size t t' a b e = ap stored_size e
 
-same_shape : (t t' : Table) (a b : ℕ) → object_at t' b ≡ object_at t a → length (pointers_at t' b) ≡ length (pointers_at t a)
+pub same_shape : (t t' : Table) (a b : ℕ) → object_at t' b ≡ object_at t a → length (pointers_at t' b) ≡ length (pointers_at t a)
 unfolding pointers_at
 same_shape t t' a b e = ap (λ (o : Option Stored). length (object_pointers o)) e
 
@@ -165,18 +166,15 @@ set_leads t words k a l h i b e =
           (sym (sym (get_or-set_other words k i (Some a) (Some b) other) ∙ read)))
     ]
 
-in_back : (xs ys : List (Option ℕ)) (i : ℕ) (v : Option ℕ) → slice_get ys i ≡ Some v → slice_get (xs ++ ys) (length xs + i) ≡ Some v
-in_back [] ys i v e = e
-in_back (x ∷ xs) ys i v e = in_back xs ys i v e
-
 held_there : (t : Table) (roots : List (Option ℕ)) (m : Marker) → IsLinked t
     → ((a : ℕ) → (heap_of t roots m).kept a ≡ object_at t a) → (a k b : ℕ) → Holds (heap_of t roots m) a k b
     → (x : Stored) × ((heap_of t roots m).kept b ≡ Some x)
 held_there t roots m linked kept a k b p =
     let o = p.object in
-    let place = in_back o.pointers (o.weaks ++ o.held) (length o.weaks + p.slot) (Some b)
-    (in_back o.weaks o.held p.slot (Some b) p.is.1) in
-    let h = linked a (length o.pointers + (length o.weaks + p.slot)) b o (sym (kept a) ∙ p.at) place in
+    let behind : ℕ = length o.weaks + p.slot in
+    let place : ℕ = length o.pointers + behind in
+    let is = get-back o.pointers (o.weaks ++ o.held) place behind refl ∙ get-back o.weaks o.held behind p.slot refl ∙ p.is.1 in
+    let h = linked a place b o (sym (kept a) ∙ p.at) is in
     (h.object, kept b ∙ h.is)
 
 -- a marker just made keeps every object
