@@ -1,5 +1,6 @@
 -- Pairs are followed: what is held for marked keys is marked, pass after pass, until a pass marks nothing.
-use Rattle.std.proofs.Common.{◌≡◌, ◌+◌, ◌-◌, ◌^◌, ◌<◌, ◌≤◌, ◌==◌, ◌∷◌, ◌∙◌, not, ℕ, zero, suc, Bool, true, false, List, [], Option, Some, None, length}
+use Rattle.std.proofs.Common.{◌≡◌, ◌+◌, ◌-◌, ◌^◌, ◌<◌, ◌≤◌, ◌==◌, ◌∷◌, ◌∙◌, not, ℕ, zero, suc, Bool, true, false, List, [], length}
+use Rattle.std.proofs.Common.{Option, Some, None}
 use Rattle.std.proofs.Common.{inl, inr, refl, sym, ap, subst, arith, slice_get, IsSome, if◌then◌else◌, Contains}
 use Rattle.std.specs.Prelude.{IfSome}
 use Rattle.std.proofs.lemmas.Bool.{cases_eq, cases_lt}
@@ -314,7 +315,8 @@ module _ (t : Table) (m m' : Marker) (left : Option ℕ) (p : IsPass t m m' left
   pass_work = record { count = p.count; scanned = p.scans.count; scans = p.scans.scans }
 
   -- as many objects were scanned as the count of scans tells
-  module _ (st : MarkerStands t m) (run : m.running ≡ true) (before after : ℕ) (was : before ≡ m.scans.since) (is : after ≡ m'.scans.since) where
+  module _ (st : MarkerStands t m) (run : m.running ≡ true) (before after : ℕ) (was : before ≡ m.scans.since)
+      (is : after ≡ m'.scans.since) where
     pub pass_more : not (after == before) ≡ true → marked_count m.grey.scanned < marked_count m'.grey.scanned
     pass_more other =
         let since = p.scans.scans.since in

@@ -255,11 +255,13 @@ impl Marker {
         }
     }
 
-    /// Marking ends: all logs and all roots that wait are taken, all grey objects scanned, all that is held for marked keys is marked, and the
-    /// next marks and tops become the previous ones. No weak slot is cleared yet. The result is how many objects are marked, and as many were
-    /// scanned. Pairs are followed in passes over the objects that have weak slots, until a pass marks nothing: two for pairs that lead to
-    /// each other by rising address, and n + 1 for n of them by falling address, which is quadratic in n. If no object of pairs was made,
-    /// there is no pass.
+    /// Marking ends: all logs and all roots that wait are taken, all grey objects scanned, what is held for marked keys is marked, and the
+    /// next marks and tops become the previous ones. No weak slot is cleared yet. The result is how many objects are marked, and as many
+    /// were scanned.
+    ///
+    /// Pairs are followed in passes over the objects that have weak slots, until a pass marks nothing: two passes where pairs lead to each
+    /// other by rising address, and n + 1 for n of them by falling address, which is quadratic in n. If no object of pairs was made in the
+    /// table, there is no pass.
     pub fn finish(&mut self, table: &RegionTable) -> u32
         requires stands { MarkerStands table.now self.old }
         requires running { self.old.running ≡ true }

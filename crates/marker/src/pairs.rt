@@ -10,9 +10,9 @@
 //!
 //! A key can be marked long after the object that has it was scanned. So `finish` goes over the objects of pairs in passes, until one finds
 //! nothing more to mark. A pass looks at each object with weak slots once, by rising address, and what it marks is scanned at once, so that
-//! further keys are marked within the same pass. Pairs that lead to each other by rising address take two passes; by falling address each
-//! pass finds one pair more, and n of them take n + 1 passes, which is quadratic in n. A pass that is repeated has marked an object, so there
-//! are at most as many as objects are marked, and one.
+//! further keys are marked within the same pass. Pairs that lead to each other by rising address take two passes. By falling address each
+//! pass finds one pair more, and n of them take n + 1 passes, which is quadratic in n. A pass that is repeated has marked an object, so
+//! there are at most as many as objects are marked, and one.
 //!
 //! In a table in which no object of pairs was made, nothing is looked at.
 

@@ -1,8 +1,8 @@
 -- Objects of pairs in the tables that tests build.
-use Rattle.regions.proofs.Common.{◌≡◌, ◌≢◌, ◌+◌, ◌-◌, ◌<◌, ◌≤◌, ◌∷◌, ◌++◌, ◌∙◌, inl, inr, ℕ, [], Option, Some, None, length, get_or, refl, sym}
-use Rattle.regions.proofs.Common.{ap, subst, arith, slice_get, cases_eq, cases_lt, replicate, length-replicate, slice_get_within}
-use Rattle.regions.proofs.Common.{get_or_from_slice_get, get_or-replicate, fields, tile_size, tile_in, tile_object, object_at, Object, Filler}
-use Rattle.regions.proofs.Common.{Table, push_tile, replace_tile, remainder, used_of, top_of, kind_of, HasObject, IsShaped}
+use Rattle.regions.proofs.Common.{◌≡◌, ◌≢◌, ◌+◌, ◌-◌, ◌<◌, ◌≤◌, ◌∷◌, ◌++◌, ◌∙◌, inl, inr, ℕ, [], Option, Some, None, length, get_or}
+use Rattle.regions.proofs.Common.{refl, sym, ap, subst, arith, slice_get, cases_eq, cases_lt, replicate, length-replicate, slice_get_within}
+use Rattle.regions.proofs.Common.{get_or_from_slice_get, get_or-replicate, fields, tile_size, tile_in, tile_object, object_at}
+use Rattle.regions.proofs.Common.{Object, Filler, Table, push_tile, replace_tile, remainder, used_of, top_of, kind_of, HasObject, IsShaped}
 use Rattle.regions.specs.Table.{new_pairs}
 use Rattle.heap_model.specs.Heap.{Stored}
 use Rattle.heap_model.proofs.Lists.{get-append_cases}

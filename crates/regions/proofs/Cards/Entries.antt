@@ -153,7 +153,8 @@ module _ (size shift lowest free : ℕ) (entries : Entries) (starts : Starts) (m
       let p = has_weak t x i h in
       let o = p.object in
       written_sound memory' (set_weak t x i v) x o _ (weak_put t x i v o shaped.positive p.object_is)
-      (ap (λ n. 2 + length o.pointers + (n + length o.held) + length o.values) (length-set o.weaks i v)) (length-set o.weaks i v) refl more w
+      (ap (λ n. 2 + length o.pointers + (n + length o.held) + length o.values) (length-set o.weaks i v)) (length-set o.weaks i v) refl
+      more w
 
   pub field_sound : (memory' : Memory) (x i : ℕ) (v : Option ℕ) → i < length (fields_at t x)
       → memory.written ≤ memory'.written → IsWrittenTable size memory'.all rows (set_field t x i v)
@@ -278,7 +279,8 @@ module _ (size shift lowest free : ℕ) (entries : Entries) (starts : Starts) (m
       → k < length t.regions → kind_of t k ≡ kinds.Ordinary → 0 < tile_size tile
       → used_of t k + tile_size tile ≤ t.words_per_region → EachForwarded (λ _. ⊥) (tile ∷ [])
       → at ≡ top_of t k → n ≡ tile_size tile → AreEntriesPut (IsPut at (at + n)) entries new
-      → tile_weaks tile ≡ weaks → starts' ≡ start_added starts at weaks → (starts.pairs ≡ false → tile_held tile ≡ []) → AreUsedBelow low rows' → free' ≡ free_row_count rows'
+      → tile_weaks tile ≡ weaks → starts' ≡ start_added starts at weaks → (starts.pairs ≡ false → tile_held tile ≡ [])
+      → AreUsedBelow low rows' → free' ≡ free_row_count rows'
       → memory.written ≤ memory'.written → at + n ≤ memory'.written → IsWrittenTable size memory'.all rows' (push_tile t k tile)
       → IsRegionTable size shift low free' new starts' memory' rows'
   push_sound new starts' memory' rows' low free' k at n weaks tile known ordinary some room unmoved there long
@@ -294,7 +296,8 @@ module _ (size shift lowest free : ℕ) (entries : Entries) (starts : Starts) (m
   pub run_sound_at : (new : Entries) (starts' : Starts) (memory' : Memory) (rows' : List Row) (low free' k m at n weaks : ℕ) (o : Stored)
       → 0 < m → TakesRun t (with_regions t k m (run_regions t.words_per_region o m)) k m o → at ≡ k * t.words_per_region
       → n ≡ tile_size (Object o) → AreEntriesPut (IsPut at (at + n)) entries new
-      → length o.weaks ≡ weaks → starts' ≡ start_added starts at weaks → (starts.pairs ≡ false → o.held ≡ []) → AreUsedBelow low rows' → free' ≡ free_row_count rows'
+      → length o.weaks ≡ weaks → starts' ≡ start_added starts at weaks → (starts.pairs ≡ false → o.held ≡ [])
+      → AreUsedBelow low rows' → free' ≡ free_row_count rows'
       → memory.written ≤ memory'.written → at + n ≤ memory'.written
       → IsWrittenTable size memory'.all rows' (with_regions t k m (run_regions t.words_per_region o m))
       → IsRegionTable size shift low free' new starts' memory' rows'
@@ -316,7 +319,8 @@ module _ (size shift lowest free : ℕ) (entries : Entries) (starts : Starts) (m
   pub run_sound : (new : Entries) (starts' : Starts) (memory' : Memory) (rows' : List Row) (low free' k m at n weaks : ℕ) (o : Stored)
       → 0 < m → first_run is_free m t.regions ≡ Some k → at ≡ k * t.words_per_region → n ≡ tile_size (Object o)
       → AreEntriesPut (IsPut at (at + n)) entries new
-      → length o.weaks ≡ weaks → starts' ≡ start_added starts at weaks → (starts.pairs ≡ false → o.held ≡ []) → AreUsedBelow low rows' → free' ≡ free_row_count rows'
+      → length o.weaks ≡ weaks → starts' ≡ start_added starts at weaks → (starts.pairs ≡ false → o.held ≡ [])
+      → AreUsedBelow low rows' → free' ≡ free_row_count rows'
       → memory.written ≤ memory'.written → at + n ≤ memory'.written
       → IsWrittenTable size memory'.all rows' (with_regions t k m (run_regions t.words_per_region o m))
       → IsRegionTable size shift low free' new starts' memory' rows'

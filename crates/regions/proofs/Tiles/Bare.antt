@@ -1,7 +1,7 @@
 -- Objects without held slots, over each change of the table.
-use Rattle.regions.proofs.Common.{◌≡◌, ◌≢◌, ◌+◌, ◌-◌, ◌/◌, ◌%◌, ◌<◌, ◌≤◌, ◌⊎◌, ◌∷◌, ◌∙◌, ℕ, List, [], Option, Some, length, inl, inr, sym, ap, arith, refl}
+use Rattle.regions.proofs.Common.{◌≡◌, ◌≢◌, ◌+◌, ◌-◌, ◌/◌, ◌%◌, ◌<◌, ◌≤◌, ◌⊎◌, ◌∷◌, ◌∙◌, ℕ, List, [], Option, Some, length, inl, inr}
 use Rattle.regions.proofs.Common.{cases_eq, cases_lt, Tile, Object, Forwarded, Stored, Table, Free, Region, replicate, tile_in, object_at}
-use Rattle.regions.proofs.Common.{tile_at, remainder, free_table, region_tile, region_at, AreBare, subst}
+use Rattle.regions.proofs.Common.{tile_at, remainder, free_table, region_tile, region_at, AreBare, sym, ap, arith, refl}
 use Rattle.regions.proofs.Tiles.Laws.{tile_of}
 use Rattle.regions.proofs.Tiles.Changes.{WritesObject, object_same}
 use Rattle.regions.proofs.Tiles.Placing.{Replaces}

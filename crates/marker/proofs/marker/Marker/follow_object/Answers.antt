@@ -8,7 +8,8 @@ get-requires c = object_within c.args.table.now c.args.self.now c.args.object c.
 pub returns-then-get-clause-none_left : goal.returns-then-get-clause-none_left
 returns-then-get-clause-none_left c =
     let q = c.scan_objects.ensures in
-    none_grey c.args.table.now c.reach_held.new.self c.scan_objects.new.self c.scan_objects.result c.law.ensures q.stands q.count q.none_left
+    none_grey c.args.table.now c.reach_held.new.self c.scan_objects.new.self c.scan_objects.result c.law.ensures q.stands q.count
+    q.none_left
 
 pub returns-then-get-clause-held : goal.returns-then-get-clause-held
 returns-then-get-clause-held c = λ _.

@@ -1,4 +1,5 @@
-use Rattle.regions.proofs.Common.{arith, length, ◌≡◌, ◌+◌, ◌-◌, ℕ, Option, None, ap, ◌∙◌, length-replicate, start_added, with_pairs, Starts, Object, tile_size}
+use Rattle.regions.proofs.Common.{arith, length, ◌≡◌, ◌+◌, ◌-◌, ℕ, Option, None, ap, ◌∙◌, length-replicate, Object, tile_size}
+use Rattle.regions.proofs.Common.{start_added, with_pairs, Starts}
 use Rattle.regions.specs.Table.{new_pairs}
 use Rattle.regions.proofs.Tiles.Replaced.{filler_fits, pairs_filled}
 use Rattle.regions.proofs.Tiles.Within.{tile_within}
@@ -55,8 +56,8 @@ invariant_of-self c =
     let flags = c.add.ensures ∙ ap (λ (s : Starts). start_added s c.word-3.result c.get-weaks.result) c.note_pairs.ensures
     ∙ ap (λ (k : ℕ). start_added (with_pairs before) k c.get-weaks.result) c.word-3.ensures
     ∙ ap (λ (n : ℕ). start_added (with_pairs before) c.args.at n) c.get-weaks.ensures.value in
-    front_sound _ _ _ _ _ _ _ _ _ (noted_sound _ _ _ _ _ _ _ _ c.self.invariant) c.self.view_is c.cut_front.new.self _ _ c.args.at c.args.filler
-    _ (c.args.at + c.size-taken.result) (c.args.at + c.get-2.result) c.args.counts.pairs
+    front_sound _ _ _ _ _ _ _ _ _ (noted_sound _ _ _ _ _ _ _ _ c.self.invariant) c.self.view_is c.cut_front.new.self _ _ c.args.at
+    c.args.filler _ (c.args.at + c.size-taken.result) (c.args.at + c.get-2.result) c.args.counts.pairs
     (Object (new_pairs c.args.name c.args.counts.pointers c.args.counts.pairs c.args.counts.values))
     c.requires.there (omega (arith, long)) (omega (arith, c.requires.room, long, c.size-taken.ensures)) tt
     (omega (arith, c.word-2.ensures, long)) (omega (arith, c.word-2.ensures, c.get-2.ensures.value))

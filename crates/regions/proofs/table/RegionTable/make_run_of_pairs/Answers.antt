@@ -1,4 +1,5 @@
-use Rattle.regions.proofs.Common.{arith, ◌≡◌, ◌+◌, ◌*◌, ◌≤◌, length, Option, None, ap, ◌∙◌, ℕ, length-replicate, start_added, with_pairs, Starts}
+use Rattle.regions.proofs.Common.{arith, ◌≡◌, ◌+◌, ◌*◌, ◌≤◌, length, Option, None, ap, ◌∙◌, ℕ, length-replicate}
+use Rattle.regions.proofs.Common.{start_added, with_pairs, Starts}
 use Rattle.regions.proofs.LongRuns.RunMade.{run_paired, run_there}
 use Rattle.regions.proofs.Tiles.Making.{size_is_of}
 use Rattle.regions.proofs.Rows.UsedBelow.{used_written, used_le, front_free}
@@ -69,8 +70,9 @@ invariant_of-self c =
     let place : ℕ = c.number-number.result * c.self.inside.words_per_region in
     let flags = c.add.ensures ∙ ap (λ (s : Starts). start_added s place c.get-weaks.result) c.note_pairs.ensures
     ∙ ap (λ (n : ℕ). start_added (with_pairs c.self.inside.weak_starts) place n) c.get-weaks.ensures.value in
-    run_sound _ _ _ _ _ _ _ _ _ (noted_sound _ _ _ _ _ _ _ _ c.self.invariant) c.self.view_is _ _ _ _ _ _ c.args.first c.args.count _ _ c.args.counts.pairs
-    (new_pairs c.args.name c.args.counts.pointers c.args.counts.pairs c.args.counts.values) c.requires.positive c.requires.lowest
+    run_sound _ _ _ _ _ _ _ _ _ (noted_sound _ _ _ _ _ _ _ _ c.self.invariant) c.self.view_is _ _ _ _ _ _ c.args.first c.args.count _ _
+    c.args.counts.pairs (new_pairs c.args.name c.args.counts.pointers c.args.counts.pairs c.args.counts.values) c.requires.positive
+    c.requires.lowest
     (ap (λ (k : ℕ). k * c.self.inside.words_per_region) c.number-number.ensures
     ∙ ap (λ (m : ℕ). c.args.first * m) (size_is_of _ _ _ _ c.self.view_is))
     (omega (arith, size, fresh_size c.args.name c.args.counts.pointers c.args.counts.pairs c.args.counts.pairs c.args.counts.values))

@@ -1,5 +1,6 @@
 use Rattle.regions.proofs.Common.{arith, sym, subst, ◌≡◌, ◌*◌, ◌/◌, replicate, length, ℕ, Bool, false, List, refl, ap, ◌∙◌}
-use Rattle.regions.proofs.Common.{length-replicate, Memory, AreTilesWritten, Table, HasNoForwarded, Entries, AreEntries, Starts, AreStarts, AreBare}
+use Rattle.regions.proofs.Common.{length-replicate, Memory, AreTilesWritten, Table, HasNoForwarded, Entries, AreEntries, Starts, AreStarts}
+use Rattle.regions.proofs.Common.{AreBare}
 use Rattle.heap_words.specs.Configs.{card_words}
 use Rattle.heap_words.proofs.Limits.{small_region, small_heap, card_power, region_cards, card_between}
 use Rattle.regions.proofs.Cards.Entries.{free_entries}
