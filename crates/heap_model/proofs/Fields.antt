@@ -27,6 +27,7 @@ pub record IsFieldSet (x y : Stored) (i : ℕ) (v : Option ℕ) : Type 0 where
   pub fields_are : fields y ≡ slice_set (fields x) i v
   pub shape : length y.pointers ≡ length x.pointers
   pub slots : length y.weaks ≡ length x.weaks
+  pub held : length y.held ≡ length x.held
   pub values : y.values ≡ x.values
 
 pub field_set : (x : Stored) (i : ℕ) (v : Option ℕ) → IsFieldSet x (with_field x i v) i v
@@ -38,6 +39,7 @@ field_set x i v = elim (cases_lt i (length x.pointers)) [
         fields_are = set-append_front x.pointers (x.weaks ++ x.held) i v k;
         shape = length-set x.pointers i v;
         slots = refl;
+        held = refl;
         values = refl;
       })
   | inr k ↦
@@ -51,6 +53,7 @@ field_set x i v = elim (cases_lt i (length x.pointers)) [
               fields_are = ap (λ r. x.pointers ++ r) (set-append_front x.weaks x.held (i - length x.pointers) v l) ∙ behind;
               shape = refl;
               slots = length-set x.weaks (i - length x.pointers) v;
+              held = refl;
               values = refl;
             })
         | inr l ↦
@@ -61,6 +64,7 @@ field_set x i v = elim (cases_lt i (length x.pointers)) [
                   (i - length x.pointers - length x.weaks) v (omega arith)) ∙ behind;
               shape = refl;
               slots = refl;
+              held = length-set x.held (i - length x.pointers - length x.weaks) v;
               values = refl;
             })
       ]

@@ -200,6 +200,7 @@ module _ (g : Graph) (h : Heap) (shows : WillShow g h) where
         let (v, is, s) = AllZip-get (IsShown h) y.pointers shown.object.pointers shown.pointers i (Some a) e in
         let (n, is', z, here, called) = shown_name h a v s in
         (z, here);
+    held = λ a k b p. let t = held_shown a k b p in (t.object, t.at);
   }
 
   -- an object of this name is kept

@@ -3,7 +3,7 @@
 use Rattle.std.specs.Prelude.{◌≡◌, ℕ, ◌<◌, ◌⊎◌, ⊤, List, Option, Some, None, map, slice_get}
 use Rattle.std.specs.List.{AllZip}
 use Rattle.heap_model.specs.Graph.{Graph, Object, object_named, held_by}
-use Rattle.heap_model.specs.Heap.{Heap, Stored, IsShown}
+use Rattle.heap_model.specs.Heap.{Heap, Stored, Holds, IsShown}
 
 -- the word of a weak slot: nil, or where nothing is kept, if the value is nil; else it is where a kept object of that name is
 abbrev pub IsWeakShown : Heap → Option ℕ → Option ℕ → Type 0
@@ -52,10 +52,11 @@ pub record StandsOnce (g : Graph) (h : Heap) (n : ℕ) : Type 0 where
   pub only : (b : ℕ) (y : Stored) → h.kept b ≡ Some y → y.name ≡ n → b ≡ address
   pub contents : WillShowObject g h object
 
--- each root word and each pointer of a kept object is nil or where a kept object starts
+-- each root word and each pointer of a kept object is nil or where a kept object starts, and so is what it holds for a key that is kept
 pub record CanBeFollowed (h : Heap) : Type 0 where
   pub root : (j a : ℕ) → slice_get h.roots j ≡ Some (Some a) → (x : Stored) × (h.kept a ≡ Some x)
   pub pointer : (b i a : ℕ) (y : Stored) → h.kept b ≡ Some y → slice_get y.pointers i ≡ Some (Some a) → (x : Stored) × (h.kept a ≡ Some x)
+  pub held : (a k b : ℕ) → Holds h a k b → (x : Stored) × (h.kept b ≡ Some x)
 
 -- a weak slot of the object at a holds b
 pub record HasWeak (h : Heap) (a b : ℕ) : Type 0 where

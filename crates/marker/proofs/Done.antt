@@ -23,10 +23,10 @@ done_zero (Some b) a = either (a == b)
 pub done_whole : (g : Scans) (a : ℕ) → g.looked ≡ 0 → done_in g a ≡ 0
 done_whole g a e = ap (λ (k : ℕ). done_of g.held k a) e ∙ done_zero g.held a
 
-is_same : (a b : ℕ) → a ≡ b → (a == b) ≡ true
+pub is_same : (a b : ℕ) → a ≡ b → (a == b) ≡ true
 is_same a b e = grind arith
 
-is_other : (a b : ℕ) → a ≢ b → (a == b) ≡ false
+pub is_other : (a b : ℕ) → a ≢ b → (a == b) ≡ false
 is_other a b e = grind arith
 
 pub done_held : (g : Scans) (b a : ℕ) → g.held ≡ Some b → a ≡ b → done_in g a ≡ g.looked - 1

@@ -29,13 +29,15 @@ use Rattle.satb_log.specs.Logs.{logged, log_of}
 use Rattle.satb_log.proofs.Logged.{none_logged}
 use Rattle.marker.specs.Views.{heap_of, marking_of, with_roles_exchanged, ended_marking_of}
 use Rattle.marker.specs.Waiting.{Waiting}
-use Rattle.marker.specs.Stands.{MarkerStands, CanFollow, KeepsBare}
+use Rattle.marker.specs.Stands.{MarkerStands, CanFollow}
+use Rattle.marker.specs.Pairs.{HasFollowedPairs}
 use Rattle.marker.specs.Live.{LiveCounts, CountsWords, counts_exchanged}
 use Rattle.marker.specs.Steps.{KeepsSnapshots, SameRoles}
 use Rattle.marker.specs.Clears.{ClearsSome, IsStaying, LeadIntoTable}
 use Rattle.marker.specs.Ends.{EndsMarking, EndsExactly, WasKept}
 use Rattle.marker.specs.declared.marker.Marker.{Marker}
 use Rattle.marker.proofs.Views.{same_heap, kept_object}
+use Rattle.marker.proofs.HeldSlots.{weaks_are, held_are}
 use Rattle.marker.proofs.Forgotten.{role_stays}
 use Rattle.marker.proofs.LiveCounts.{counts_same}
 use Rattle.marker.proofs.Reached.{same_trans}
@@ -48,7 +50,7 @@ pub few_scans : (t : Table) (m m' : Marker) (n : ℕ) → IsShaped t → MarkerS
 few_scans t m m' n shape st count =
     omega (arith, count, count_by-le-length (λ b. b) m'.grey.scanned, st.scanned, st.next.each_word, shape.in_all)
 
-all_scanned : (marked scanned : Bool) → (marked && not scanned) ≡ false → marked ≡ true → scanned ≡ true
+pub all_scanned : (marked scanned : Bool) → (marked && not scanned) ≡ false → marked ≡ true → scanned ≡ true
 all_scanned true true e k = refl
 all_scanned true false e k = cc
 all_scanned false scanned e k = cc
@@ -65,18 +67,19 @@ is_scanned t m none waiting empty = record {
   logged = ap (λ (xs : List ℕ). xs ++ logged m.logs) waiting ∙ none_logged m.logs empty;
 }
 
--- so nothing is left to mark where nothing is held
-pub is_done : (t : Table) (m : Marker) → IsScanned (marking_of t m) → KeepsBare t m → (roots : List (Option ℕ))
+-- so nothing is left to mark, where pairs were followed
+pub is_done : (t : Table) (m : Marker) → IsScanned (marking_of t m) → HasFollowedPairs t m → (roots : List (Option ℕ))
     → IsDone (heap_of t roots m) (marking_of t m)
-is_done t m scanned bare roots = record {
+is_done t m scanned pairs roots = record {
   grey = scanned.grey;
   logged = scanned.logged;
-  held = λ a k b _ _ p _. absurd (nowhere p.object.held p.slot b (bare a p.object p.at) p.is.1);
+  held = λ a k b marked key p below.
+      let at = kept_object t m.tams m.bitmaps.previous a p.object p.at in
+      pairs a marked p.slot k b (
+        ap (λ (l : List (Option ℕ)). slice_get l p.slot) (weaks_are t a p.object at) ∙ p.is.0,
+        ap (λ (l : List (Option ℕ)). slice_get l p.slot) (held_are t a p.object at) ∙ p.is.1,
+      ) key below;
 }
-  where
-    nowhere : (vs : List (Option ℕ)) (i b : ℕ) → vs ≡ [] → slice_get vs i ≡ Some (Some b) → ⊥
-    nowhere [] i b e at = cc
-    nowhere (v ∷ vs) i b e at = cc
 
 -- lists that are empty together are empty
 both_empty : (xs ys : List ℕ) → xs ++ ys ≡ [] → (xs ≡ []) × (ys ≡ [])
@@ -112,19 +115,20 @@ pub record IsOver (t : Table) (m m' : Marker) : Type 0 where
   pub same : SameRoles m m'
   pub snapshots : KeepsSnapshots t m m'
   pub scanned : IsScanned (marking_of t m')
+  pub pairs : HasFollowedPairs t m'
 
-pub over : (t : Table) (m m' m'' : Marker) (n : ℕ) → IsShaped t → m.running ≡ true → SameRoles m m' → KeepsSnapshots t m m'
+pub over : (t : Table) (m m' m'' : Marker) → m.running ≡ true → SameRoles m m' → KeepsSnapshots t m m'
     → ((k : ℕ) → k < length m'.logs → log_of m'.logs k ≡ []) → MarkerStands t m'' → SameRoles m' m'' → KeepsSnapshots t m' m''
     → m''.logs ≡ m'.logs → m'.waiting.addresses ≡ [] → m''.waiting ≡ m'.waiting
-    → marked_count m''.grey.scanned ≡ marked_count m'.grey.scanned + n
-    → (n < 2 ^ 32 - 1 → HasNone (is_grey m''.bitmaps.next m''.grey) 0) → IsOver t m m''
-over t m m' m'' n shape run same keeps empty st same' keeps' logs taken waiting count none = record {
+    → HasNone (is_grey m''.bitmaps.next m''.grey) 0 → HasFollowedPairs t m'' → IsOver t m m''
+over t m m' m'' run same keeps empty st same' keeps' logs taken waiting none pairs = record {
   stands = st;
   running = same'.running ∙ same.running ∙ run;
   same = same_trans m m' m'' same same';
   snapshots = snapshots_trans t m m' m'' same keeps keeps';
-  scanned = is_scanned t m'' (none (few_scans t m' m'' n shape st count)) (ap (λ (w : Waiting). w.addresses) waiting ∙ taken)
+  scanned = is_scanned t m'' none (ap (λ (w : Waiting). w.addresses) waiting ∙ taken)
       (subst (λ (x : List (List ℕ)). (k : ℕ) → k < length x → log_of x k ≡ []) (sym logs) empty);
+  pairs = pairs;
 }
 
 -- the roles were exchanged
@@ -352,7 +356,7 @@ swapped t m roots s newer i a = elim (bool_cases (is_marked m.bitmaps.next a)) [
 ]
 
 module _ (t : Table) (m m' m'' : Marker) (count : ℕ) (p : IsOver t m m') (e : IsExchanged m' m'')
-    (counts : count ≡ marked_count m'.bitmaps.next) (bare : KeepsBare t m) where
+    (counts : count ≡ marked_count m'.bitmaps.next) where
   same_kept_after : (s g : Graph) (roots : List (Option ℕ)) → WillShow g (heap_of t roots m)
       → KeepsSnapshot s (heap_of t roots m) (marking_of t m) → (a : ℕ)
       → (heap_of t roots m'').kept a ≡ kept_after (heap_of t roots m) (marking_of t m') a
@@ -376,7 +380,7 @@ module _ (t : Table) (m m' m'' : Marker) (count : ℕ) (p : IsOver t m m') (e : 
     done =
         let same = same_heap t roots m m' p.same in
         subst (λ (x : Heap). IsDone x (marking_of t m')) same
-        (is_done t m' p.scanned (λ a x k. bare a x (sym (ap (λ (x : Heap). x.kept a) same) ∙ k)) roots)
+        (is_done t m' p.scanned p.pairs roots)
 
     was_kept : (a : ℕ) (x : Stored) → kept_after h (marking_of t m') a ≡ Some x → WasKept t roots m a x
     was_kept a x k = record {

@@ -63,11 +63,11 @@ some_object : (o : Option Stored) → IsSome o → (s : Stored) × (o ≡ Some s
 some_object None h = cc
 some_object (Some s) h = (s, refl)
 
-weaks_are : (t : Table) (x : ℕ) (s : Stored) → object_at t x ≡ Some s → weaks_at t x ≡ s.weaks
+pub weaks_are : (t : Table) (x : ℕ) (s : Stored) → object_at t x ≡ Some s → weaks_at t x ≡ s.weaks
 unfolding weaks_at
 weaks_are t x s e = ap object_weaks e
 
-held_are : (t : Table) (x : ℕ) (s : Stored) → object_at t x ≡ Some s → held_at t x ≡ s.held
+pub held_are : (t : Table) (x : ℕ) (s : Stored) → object_at t x ≡ Some s → held_at t x ≡ s.held
 unfolding held_at
 held_are t x s e = ap object_held e
 

@@ -12,8 +12,9 @@ pub mod Made
 pub mod Begun
 pub mod Waits
 pub mod Logs
+pub mod HeldSlots
 pub mod Ended
+pub mod FollowedPairs
 pub mod Forgotten
 pub mod Slots
-pub mod HeldSlots
 pub mod Swept

@@ -8,3 +8,4 @@ pub mod Looks
 pub mod Roots
 pub mod Clears
 pub mod Ends
+pub mod Pairs

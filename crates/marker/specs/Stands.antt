@@ -17,11 +17,7 @@ pub record IsKept (t : Table) (m : Marker) (a : ℕ) : Type 0 where
   pub object : Stored
   pub is : kept_in t m.tams m.bitmaps.previous a ≡ Some object
 
--- no kept object has held slots: marking doesn't follow these yet
-abbrev pub KeepsBare : Table → Marker → Type 0
-KeepsBare t m = (a : ℕ) (x : Stored) → kept_in t m.tams m.bitmaps.previous a ≡ Some x → x.held ≡ []
-
--- marking can follow every pointer: those of kept objects lead to kept objects, what is marked is kept, and what is
+-- marking can follow every pointer and every pair: those of kept objects lead to kept objects, what is marked is kept, and what is
 -- logged or waits is kept and lies below the next tops. This holds wherever the heap shows a graph and marking keeps a snapshot
 pub record CanFollow (t : Table) (m : Marker) : Type 0 where
   pub closed : CanBeFollowed (heap_of t [] m)

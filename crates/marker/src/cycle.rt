@@ -11,7 +11,7 @@ ghost use Rattle.mark_bitmap.specs.Tops.{exchanged, is_in_region, with_bottom};
 ghost use Rattle.mark_bitmap.specs.Grey.{KeepsPlace};
 ghost use Rattle.satb_log.specs.Logs.{log_of};
 ghost use Rattle.marker.specs.Views.{heap_of, is_by_address, marking_of};
-ghost use Rattle.marker.specs.Stands.{MarkerStands, IsKept, KeepsBare};
+ghost use Rattle.marker.specs.Stands.{MarkerStands, IsKept};
 ghost use Rattle.marker.specs.Ends.{EndsExactly};
 ghost use Rattle.marker.specs.Steps.{KeepsSnapshots, SameRoles, MarksWanted, ScansMore, saved};
 ghost use Rattle.marker.specs.Roots.{AreNamedBelow, IsInFirst, NamesMarked, IsFirstUnmarked};
@@ -255,15 +255,19 @@ impl Marker {
         }
     }
 
-    /// Marking ends: all logs and all roots that wait are taken, all grey objects scanned, and the next marks and tops become the previous
-    /// ones. No weak slot is cleared yet. The result is how many objects are marked, and as many were scanned. What is held for a key isn't
-    /// followed yet: what is marked is exactly what was reachable if no kept object has held slots.
+    /// Marking ends: all logs and all roots that wait are taken, all grey objects scanned, what is held for marked keys is marked, and the
+    /// next marks and tops become the previous ones. No weak slot is cleared yet. The result is how many objects are marked, and as many
+    /// were scanned.
+    ///
+    /// Pairs are followed in passes over the objects that have weak slots, until a pass marks nothing: two passes where pairs lead to each
+    /// other by rising address, and n + 1 for n of them by falling address, which is quadratic in n. If no object of pairs was made in the
+    /// table, there is no pass.
     pub fn finish(&mut self, table: &RegionTable) -> u32
         requires stands { MarkerStands table.now self.old }
         requires running { self.old.running ≡ true }
         ensures stands { MarkerStands table.now self.new }
         ensures over { self.new.running ≡ false }
-        ensures exact { KeepsBare table.now self.old → EndsExactly table.now self.old self.new result }
+        ensures exact { EndsExactly table.now self.old self.new result }
         ensures count { result ≡ marked_count self.new.bitmaps.previous }
         ensures scans { self.new.scans.since ≡ result }
         ensures scanned { (a : ℕ) → is_marked self.old.grey.scanned a ≡ true → is_marked self.new.grey.scanned a ≡ true }
@@ -277,7 +281,7 @@ impl Marker {
         table.law();
         self.take_logs(table);
         self.take_all_roots(table);
-        self.scan_objects(table, u32::MAX);
+        self.mark_rest(table);
         let count = self.scans.since();
         self.bitmaps.swap_roles();
         self.tams.swap_roles();

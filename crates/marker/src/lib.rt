@@ -9,8 +9,8 @@
 //!   idle ---------------> running ---------------------+ ------------------> idle, and the next marks and tops
 //!             next marks cleared;       a grey object's |      all logs and     are the previous ones
 //!             what roots name is        old targets are |      roots are taken, |
-//!             marked and grey, or       marked and grey |      all grey scanned | clear   weak slots that lead to what isn't kept
-//!             waits for `mark`                          |                       |         become nil, so many objects a call
+//!             marked and grey, or       marked and grey |      all grey scanned,| clear   weak slots that lead to what isn't kept
+//!             waits for `mark`                          |      pairs followed   |         become nil, so many objects a call
 //!                              ^-----------------------+
 //!                              | save     a store's overwritten pointer enters its mutator's log
 //!                              | take_log what a log names is marked
@@ -27,6 +27,8 @@
 //! Each object is scanned once in a cycle: a scan takes a grey object, and leaves it scanned. The scans are counted from
 //! `begin` on, only marked objects are scanned, and at the end the count is the number of marked objects.
 //!
+//! What a marked object holds for a marked key is marked by `finish` alone (`pairs`), if an object of pairs was made in the table.
+//!
 //! Where an object is marked, its words are added to its region's count. So how many words of a region are marked is known by a look
 //! (`live`), and a pause walks no marks.
 //!
@@ -42,6 +44,7 @@ mod cycle;
 pub mod laws;
 pub mod live;
 pub mod marker;
+mod pairs;
 mod scan;
 pub mod waiting;
 

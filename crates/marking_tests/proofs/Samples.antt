@@ -6,9 +6,11 @@ use Rattle.regions.proofs.Common.{get_or_from_slice_get, Stored, fields, with_fi
 use Rattle.regions.proofs.Common.{region_at, tile_in, tile_object, object_at, stored_size, object_words, free_table, taken, first_free}
 use Rattle.regions.proofs.Common.{set_field, push_tile, replace_tile, new_object, remainder, used_of, top_of, kind_of, HasObject, IsShaped}
 use Rattle.regions.specs.Table.{object_pointers, pointers_at}
+use Rattle.heap_model.specs.Heap.{Holds}
 use Rattle.heap_model.specs.Clearing.{CanBeFollowed}
 use Rattle.heap_model.proofs.Fields.{field_set}
 use Rattle.heap_model.proofs.Lists.{get-set_cases, get_kept-append}
+use Rattle.regions.proofs.Words.FieldAccess.{get-back}
 use Rattle.regions.proofs.Tiles.Changes.{WritesObject, field_put, field_size, object_same}
 use Rattle.regions.proofs.Tiles.Placing.{region_taken}
 use Rattle.mark_bitmap.specs.Tops.{is_below, below_previous}
@@ -55,16 +57,16 @@ keeps_trans t u v p q = record {
 }
 
 -- where a region's words handed out are as many as before, or more, its top doesn't fall
-top_stays : (t t' : Table) (k : ℕ) → t'.words_per_region ≡ t.words_per_region → used_of t k ≤ used_of t' k → top_of t k ≤ top_of t' k
+pub top_stays : (t t' : Table) (k : ℕ) → t'.words_per_region ≡ t.words_per_region → used_of t k ≤ used_of t' k → top_of t k ≤ top_of t' k
 top_stays t t' k size used =
     let same : k * t'.words_per_region ≡ k * t.words_per_region = ap (λ (n : ℕ). k * n) size in
     omega (arith, same, used)
 
-same_size : (t t' : Table) (a b : ℕ) → object_at t' b ≡ object_at t a → object_words t' b ≡ object_words t a
+pub same_size : (t t' : Table) (a b : ℕ) → object_at t' b ≡ object_at t a → object_words t' b ≡ object_words t a
 unfolding object_words
 same_size t t' a b e = ap stored_size e
 
-same_shape : (t t' : Table) (a b : ℕ) → object_at t' b ≡ object_at t a → length (pointers_at t' b) ≡ length (pointers_at t a)
+pub same_shape : (t t' : Table) (a b : ℕ) → object_at t' b ≡ object_at t a → length (pointers_at t' b) ≡ length (pointers_at t a)
 unfolding pointers_at
 same_shape t t' a b e = ap (λ (o : Option Stored). length (object_pointers o)) e
 
@@ -164,6 +166,17 @@ set_leads t words k a l h i b e =
           (sym (sym (get_or-set_other words k i (Some a) (Some b) other) ∙ read)))
     ]
 
+held_there : (t : Table) (roots : List (Option ℕ)) (m : Marker) → IsLinked t
+    → ((a : ℕ) → (heap_of t roots m).kept a ≡ object_at t a) → (a k b : ℕ) → Holds (heap_of t roots m) a k b
+    → (x : Stored) × ((heap_of t roots m).kept b ≡ Some x)
+held_there t roots m linked kept a k b p =
+    let o = p.object in
+    let behind : ℕ = length o.weaks + p.slot in
+    let place : ℕ = length o.pointers + behind in
+    let is = get-back o.pointers (o.weaks ++ o.held) place behind refl ∙ get-back o.weaks o.held behind p.slot refl ∙ p.is.1 in
+    let h = linked a place b o (sym (kept a) ∙ p.at) is in
+    (h.object, kept b ∙ h.is)
+
 -- a marker just made keeps every object
 pub linked_closed : (t : Table) (roots : List (Option ℕ)) (m : Marker) → IsLinked t → LeadToObjects t roots
     → ((a : ℕ) → below_previous t m.tams a ≡ false) → CanBeFollowed (heap_of t roots m)
@@ -174,6 +187,7 @@ linked_closed t roots m linked leads none =
       pointer = λ b i a y e f.
           let h = linked b i a y (sym (kept b) ∙ e) (get_kept-append y.pointers (y.weaks ++ y.held) (Some a) i f) in
           (h.object, kept a ∙ h.is);
+      held = λ b k a p. held_there t roots m linked kept b k a p;
     }
 
 -- an object with nil fields is made where a filler was pushed

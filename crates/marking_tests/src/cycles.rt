@@ -72,9 +72,9 @@ fn take_free(table: &mut RegionTable) -> Option<RegionNo>
 }
 
 /// A table of four regions of 16 words, and its objects.
-struct Made {
-    table: RegionTable,
-    objects: Vec<Addr>,
+pub(crate) struct Made {
+    pub(crate) table: RegionTable,
+    pub(crate) objects: Vec<Addr>,
 }
 
 /// Its drop is one call, and not one for each of its parts.
@@ -125,7 +125,13 @@ fn third_sizes() -> Config
 }
 
 /// Stores an object's address in a field of another one, both by their place in the list, if all are there.
-fn link_listed(table: &mut RegionTable, objects: &[Addr], from: usize, field: u32, to: usize)
+pub(crate) fn link_listed(
+    table: &mut RegionTable,
+    objects: &[Addr],
+    from: usize,
+    field: u32,
+    to: usize,
+)
     requires objects { (i a : ℕ) → slice_get objects.now i ≡ Some a → HasObject table.old a }
     ensures keeps { KeepsTable table.old table.new }
 {
@@ -138,7 +144,11 @@ fn link_listed(table: &mut RegionTable, objects: &[Addr], from: usize, field: u3
 }
 
 /// Objects of so many pointers and weak slots, the i-th in region i % 3, with links from a field of one to another.
-fn build(alloc: Global, shapes: &[(u8, u8)], links: &[(usize, u32, usize)]) -> Result<Made, Fail>
+pub(crate) fn build(
+    alloc: Global,
+    shapes: &[(u8, u8)],
+    links: &[(usize, u32, usize)],
+) -> Result<Made, Fail>
     ensures count { IfOk result (λ made. length made.table.regions ≡ 4) }
     ensures words { IfOk result (λ made. made.table.words_per_region ≡ 16) }
     ensures linked { IfOk result (λ made. IsLinked made.table) }
@@ -166,7 +176,7 @@ fn build(alloc: Global, shapes: &[(u8, u8)], links: &[(usize, u32, usize)]) -> R
 }
 
 /// Roots of 32 globals. A pair says which object a place holds.
-fn roots_of(alloc: Global, made: &Made, held: &[(u32, usize)]) -> Result<Roots, Fail>
+pub(crate) fn roots_of(alloc: Global, made: &Made, held: &[(u32, usize)]) -> Result<Roots, Fail>
     requires { (i a : ℕ) → slice_get made.now.objects.items i ≡ Some a → HasObject made.now.table a }
     ensures { IfOk result (λ roots. LeadToObjects made.now.table roots.words) }
 {
@@ -180,7 +190,7 @@ fn roots_of(alloc: Global, made: &Made, held: &[(u32, usize)]) -> Result<Roots, 
 }
 
 /// A marker that has begun.
-fn begun(alloc: Global, table: &RegionTable, roots: &Roots) -> Result<Marker, Fail>
+pub(crate) fn begun(alloc: Global, table: &RegionTable, roots: &Roots) -> Result<Marker, Fail>
     requires count { length table.now.regions ≡ 4 }
     requires words { table.now.words_per_region ≡ 16 }
     requires linked { IsLinked table.now }
@@ -198,7 +208,7 @@ fn begun(alloc: Global, table: &RegionTable, roots: &Roots) -> Result<Marker, Fa
 }
 
 /// The same in the third format, where the roots wait.
-fn begun_third(alloc: Global, table: &RegionTable, roots: &Roots) -> Result<Marker, Fail>
+pub(crate) fn begun_third(alloc: Global, table: &RegionTable, roots: &Roots) -> Result<Marker, Fail>
     requires count { length table.now.regions ≡ 4 }
     requires words { table.now.words_per_region ≡ 16 }
     requires linked { IsLinked table.now }
@@ -273,7 +283,7 @@ fn marks_a_ring(rt: HostRuntime) -> Result<(), Fail> {
 }
 
 /// Goes on with marking in the third format, and answers how many words were looked at.
-fn mark_third(marker: &mut Marker, table: &RegionTable, words: u32) -> (u32, u32)
+pub(crate) fn mark_third(marker: &mut Marker, table: &RegionTable, words: u32) -> (u32, u32)
     requires stands { MarkerStands table.now marker.old }
     requires running { marker.old.running ≡ true }
     ensures stands { MarkerStands table.now marker.new }
@@ -540,7 +550,7 @@ fn read(table: &RegionTable, word: u32, field: u32) -> Option<u32> {
 }
 
 /// Whether fields of the object at a word lead to these words.
-fn lead(table: &RegionTable, word: u32, fields: &[(u32, Option<u32>)]) -> bool {
+pub(crate) fn lead(table: &RegionTable, word: u32, fields: &[(u32, Option<u32>)]) -> bool {
     for (field, target) in fields {
         if read(table, word, *field) != *target {
             return false;

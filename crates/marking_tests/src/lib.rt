@@ -1,7 +1,8 @@
 //! Tests of marking, and of what it rests on. They go by public calls alone and are apart from the crates that they try, so that these are
 //! proved once. The crate has nothing else, and nothing depends on it.
 //!
-//! `marks` tries `mark_bitmap`, `logs` tries `satb_log`, and `cycles` the `marker`, over tables made by hand.
+//! `marks` tries `mark_bitmap`, `logs` tries `satb_log`, and `cycles` the `marker`, over tables made by hand, and `pairs` the same
+//! with objects of pairs.
 #![tactic(auto)]
 
 #[cfg(test)]
@@ -10,3 +11,5 @@ mod cycles;
 mod logs;
 #[cfg(test)]
 mod marks;
+#[cfg(test)]
+mod pairs;

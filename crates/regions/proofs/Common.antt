@@ -35,7 +35,7 @@ pub use Rattle.regions.specs.Rows.{table_of, IsTable, IsRegionTable, sizes_in, A
 pub use Rattle.regions.specs.Rows.{region_by, regions_of, IsRow, IsRestRow, AreRows, free_row, table_by, first_stored}
 pub use Rattle.regions.specs.Rows.{IsObjectHeader, kind_is_free, run_row, run_rows, region_of, stored_by, IsTableBy, put_remainder}
 pub use Rattle.regions.specs.Rows.{header_target}
-pub use Rattle.regions.specs.Shaped.{IsShaped, IsLater}
+pub use Rattle.regions.specs.Shaped.{IsShaped, IsLater, AreBare}
 pub use Rattle.regions.specs.Shapes.{tile_shape, size_of_shape, shape_by}
 unfoldable pub use Rattle.regions.specs.Table.{nth_region, tile_in, object_at, pointers_at, weaks_at, fields_at, values_at, set_pointer}
 unfoldable pub use Rattle.regions.specs.Table.{set_weak, set_field, set_value, replace_tile, push_tile, region_at, released, kind_of}
@@ -51,7 +51,7 @@ pub use Rattle.regions.specs.Tiles.{replace, tile_by}
 unfoldable pub use Rattle.regions.specs.Walks.{tiles_of}
 pub use Rattle.regions.specs.Walks.{IsHolder, placed, walk_rest, IsCut, IsRunStart, AllPositive, IsWalk, region_tiles, tiles_from}
 pub use Rattle.regions.specs.Walks.{AreFitting, IsNextTile}
-pub use Rattle.regions.specs.WeakStarts.{Starts, AreStarts, HasWeaks, start_added, forgotten, AreRegions}
+pub use Rattle.regions.specs.WeakStarts.{Starts, AreStarts, HasWeaks, start_added, forgotten, with_pairs, AreRegions}
 pub use Rattle.regions.specs.declared.row.Kind.{Kind}
 pub use Rattle.regions.specs.declared.row.Row.{Row}
 pub use Rattle.regions.specs.declared.row.Shape.{Shape}

@@ -21,6 +21,7 @@ pub mod Steps
 pub mod Lowest
 pub mod Holders
 pub mod WeakStarts
+pub mod Bare
 pub mod Within
 pub mod Apart
 pub mod Twice

@@ -11,6 +11,7 @@ use Rattle.heap_model.specs.Heap.{Stored}
 use Rattle.regions.specs.Tiles.{Tile, tile_size, stored_of, tiles, IsTiled}
 use Rattle.regions.specs.Table.{Region, Free, Ordinary, First, Rest, Table, HasTargets, tile_in}
 use Rattle.regions.specs.FirstTiles.{Entries, AreEntries}
+use Rattle.regions.specs.Shaped.{AreBare}
 use Rattle.regions.specs.WeakStarts.{Starts, AreStarts}
 use Rattle.regions.specs.declared.row.Row.{Row}
 use Rattle.regions.specs.declared.row.Kind.{Kind}
@@ -137,7 +138,7 @@ pub record AreTilesWritten (t : Table) (n : ℕ) : Type 0 where
 
 -- words and rows are a table's, with 2 ^ shift words a region, which are whole cards; each tile stands in the words that are
 -- written; no row below `lowest` is free; `free` rows are; each card's entry leads to its tile; and `weaks` tells where objects with weak
--- slots start
+-- slots start, and whether there may be objects of pairs among them
 pub record IsRegionTable (size shift lowest free : ℕ) (entries : Entries) (weaks : Starts) (memory : Memory) (rows : List Row)
     : Type 0 where
   pub table : IsTable size memory.all rows
@@ -152,6 +153,7 @@ pub record IsRegionTable (size shift lowest free : ℕ) (entries : Entries) (wea
   pub weak_regions : weaks.region_words ≡ size
   pub weak_count : length weaks.flags ≡ length memory.all
   pub weak_starts : AreStarts (table_of size memory.all rows) weaks.flags
+  pub bare : weaks.pairs ≡ false → AreBare (table_of size memory.all rows)
 
 -- the kind of a run's i-th region
 abbrev pub run_kind : ℕ → Kind

@@ -15,10 +15,11 @@ abbrev pub IsNextWithWeaks : Table → ℕ → Option ℕ → Type 0
 IsNextWithWeaks t from None = (a : ℕ) → from ≤ a → HasWeaks t a → ⊥
 IsNextWithWeaks t from (Some x) = (from ≤ x) × HasWeaks t x × ((a : ℕ) → from ≤ a → a < x → HasWeaks t a → ⊥)
 
--- a flag for each address, and how many words a region has
+-- a flag for each address, how many words a region has, and whether an object of pairs was made
 pub record Starts : Type 0 where
   pub region_words : ℕ
   pub flags : List Bool
+  pub pairs : Bool
 
 -- the flags tell where such an object starts
 pub record AreStarts (t : Table) (flags : List Bool) : Type 0 where
@@ -28,12 +29,16 @@ pub record AreStarts (t : Table) (flags : List Bool) : Type 0 where
 -- the starts once an object with so many weak slots starts at a
 abbrev pub start_added : Starts → ℕ → ℕ → Starts
 start_added starts a zero = starts
-start_added starts a (suc n) = record { region_words = starts.region_words; flags = slice_set starts.flags a true }
+start_added starts a (suc n) = record starts { flags = slice_set starts.flags a true }
 
 -- the starts once an object with so many weak slots is gone from a
 abbrev pub forgotten : Starts → ℕ → ℕ → Starts
 forgotten starts a zero = starts
-forgotten starts a (suc n) = record { region_words = starts.region_words; flags = slice_set starts.flags a false }
+forgotten starts a (suc n) = record starts { flags = slice_set starts.flags a false }
+
+-- the starts once an object of pairs is made
+abbrev pub with_pairs : Starts → Starts
+with_pairs starts = record starts { pairs = true }
 
 -- whole regions have flags, and each region in which an address is flagged is one of these
 pub record AreRegions (region_words : ℕ) (regions flags : List Bool) : Type 0 where

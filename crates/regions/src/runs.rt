@@ -154,6 +154,7 @@ impl RegionTable {
             size,
         );
         self.free -= count;
+        self.weak_starts.note_pairs();
         self.weak_starts.add(bottom, weaks);
     }
 

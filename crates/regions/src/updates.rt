@@ -173,6 +173,7 @@ impl RegionTable {
         self.words.write_pairs(at, name, counts);
         write_remainder(&mut self.words, at.word() + taken, filler.get() - taken);
         self.first_tiles.cut_front(at.word(), taken, filler.get());
+        self.weak_starts.note_pairs();
         self.weak_starts.add(at.word(), weaks);
     }
 

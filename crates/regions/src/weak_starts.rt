@@ -14,7 +14,8 @@
 
 ghost use Rattle.std.specs.Prelude.{◌≡◌, ◌+◌, ◌*◌, ◌^◌, ◌<◌, ◌≤◌, if◌then◌else◌, ℕ, IfOk, MatchOption, false, length, replicate};
 ghost use Rattle.bit_sets.specs.Bits.{has, is_between, HasNone, IsLowest};
-ghost use Rattle.regions.specs.WeakStarts.{start_added, forgotten, IsNextWithWeaks};
+ghost use Rattle.regions.specs.WeakStarts.{start_added, forgotten, with_pairs, IsNextWithWeaks};
+ghost use Rattle.regions.specs.Shaped.{AreBare};
 
 use crate::table::RegionTable;
 use bit_sets::bits::Bits;
@@ -27,6 +28,8 @@ pub(crate) struct WeakStarts {
     region_words: u32,
     regions: Bits,
     addresses: Bits,
+    /// Whether an object of pairs was made.
+    pairs: bool,
 }
 
 impl Model for WeakStarts {
@@ -34,7 +37,7 @@ impl Model for WeakStarts {
 
     ghost Value = { Starts };
 
-    ghost view = { λ s. record { region_words = s.region_words; flags = s.addresses } };
+    ghost view = { λ s. record { region_words = s.region_words; flags = s.addresses; pairs = s.pairs } };
 
     ghost invariant = { λ s. AreRegions s.region_words s.regions s.addresses };
 }
@@ -46,6 +49,7 @@ impl Drop for WeakStarts {
             region_words: _,
             regions: _,
             addresses: _,
+            pairs: _,
         } = self;
     }
 }
@@ -55,12 +59,14 @@ impl WeakStarts {
     pub(crate) fn new(alloc: Global, regions: u32, words: u32) -> Result<WeakStarts, AllocError>
         requires positive { 0 < words }
         requires small { regions * words < 2 ^ 32 }
-        ensures { IfOk result (λ starts. starts ≡ record { region_words = words; flags = replicate (regions * words) false }) }
+        ensures { IfOk result (λ starts. starts
+            ≡ record { region_words = words; flags = replicate (regions * words) false; pairs = false }) }
     {
         Ok(WeakStarts {
             region_words: words,
             regions: Bits::new(alloc, regions)?,
             addresses: Bits::new(alloc, regions * words)?,
+            pairs: false,
         })
     }
 
@@ -74,6 +80,13 @@ impl WeakStarts {
             self.addresses.set(at);
             self.regions.set(at / self.region_words);
         }
+    }
+
+    /// An object of pairs is made.
+    pub(crate) fn note_pairs(&mut self)
+        ensures { self.new ≡ with_pairs self.old }
+    {
+        self.pairs = true;
     }
 
     /// An object with so many weak slots is gone from an address.
@@ -90,6 +103,7 @@ impl WeakStarts {
     pub(crate) fn release(&mut self, region: u32)
         requires { region * self.old.region_words + self.old.region_words ≤ length self.old.flags }
         ensures region_words { self.new.region_words ≡ self.old.region_words }
+        ensures pairs { self.new.pairs ≡ self.old.pairs }
         ensures len { length self.new.flags ≡ length self.old.flags }
         ensures flags { (a : ℕ) → has self.new.flags a
             ≡ (if is_between (region * self.old.region_words) (region * self.old.region_words + self.old.region_words) a then false
@@ -140,5 +154,13 @@ impl RegionTable {
             Some(found) => Some(Addr::new(found)),
             None => None,
         }
+    }
+
+    /// Whether there may be objects of pairs: one was made since the table was. As long as none was, no object has held slots, and nobody
+    /// need look for any.
+    pub fn may_have_pairs(&self) -> bool
+        ensures { result ≡ false → AreBare self.now }
+    {
+        self.weak_starts.pairs
     }
 }

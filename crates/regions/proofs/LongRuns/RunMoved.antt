@@ -20,7 +20,7 @@ use Rattle.regions.proofs.Words.Counts.{counts_in, counted_stored, object_header
 use Rattle.regions.specs.Rows.{table_of, IsTable, IsRegionTable, AreUsedBelow, IsObjectHeader, first_stored, free_row}
 use Rattle.regions.specs.Rows.{free_row_count}
 use Rattle.regions.specs.Rows.{kind_is_free, run_rows, sizes_in}
-use Rattle.regions.specs.Shaped.{IsShaped}
+use Rattle.regions.specs.Shaped.{AreBare, IsShaped}
 use Rattle.regions.specs.Table.{Table, Region, Free, Ordinary, First, Rest, nth_region, region_kind, kind_of, object_at, IsReleasable}
 use Rattle.regions.specs.Table.{released, run_length, with_regions, run_regions, moved_as, moved_run, EachForwardedIn, HasNoForwarded}
 use Rattle.regions.specs.Table.{front_count, region_tile, tile_in, tile_object, AreHalves}
@@ -381,7 +381,8 @@ module _ (size shift lowest free : ℕ) (entries : Entries) (starts : Starts) (m
       subst (λ (rs : List Row). IsRegionTable size shift lowest free new starts' memory' rs) (sym last)
       (run_sound_at size shift lowest (free + m) entries mid memory mids (released t k) sound w1.table_is new starts' memory' rows' lowest
       free j m at n weaks r.object r.some (makes size memory.all rows t k j s.table e can r)
-      (at_is ∙ ap (λ (x : ℕ). j * x) (sym narrow)) n_is put_entries (sym weaks_is) flags used2 count2
+      (at_is ∙ ap (λ (x : ℕ). j * x) (sym narrow)) n_is put_entries (sym weaks_is) flags
+      (λ off. subst (λ (u : Table). AreBare u) e (s.bare (sym clear.pairs ∙ off)) (k * size) r.object r.stands.is) used2 count2
       (omega (arith, written)) (omega (arith, stands, less, at_is, n_is, written)) w2')
     where
       less_times : (a b w : ℕ) → a ≤ b → a * w ≤ b * w

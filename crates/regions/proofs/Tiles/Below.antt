@@ -95,7 +95,7 @@ cut_sound size shift lowest free entries starts memory memory' rows t m s e h f 
     let empty : (k : ℕ) → m ≤ k → get_or t.regions k Free ≡ Free =
     λ k b. ap (λ (u : Table). get_or u.regions k Free) (sym e) ∙ free_from (sizes_in memory.all) size rows m k memory.all f b in (
       sound_changed size shift lowest lowest free free entries entries starts starts memory memory' rows rows t t s e w refl refl refl
-          s.used_below s.free_is refl refl (λ g. g) (λ g. g)
+          s.used_below s.free_is refl refl refl (λ g. g) (λ _ g. g) (λ g. g)
           (λ g. record {
             each = λ b u q.
                 let ends = tile_below t m shaped empty b u q in
@@ -137,7 +137,7 @@ entries_cut size shift lowest free entries new starts memory rows t m s e f len 
     let empty : (k : ℕ) → m ≤ k → get_or t.regions k Free ≡ Free =
     λ k b. ap (λ (u : Table). get_or u.regions k Free) (sym e) ∙ free_from (sizes_in memory.all) size rows m k memory.all f b in
     sound_changed size shift lowest lowest free free entries new starts starts memory memory rows rows t t s e
-    (record { is_table = s.table; table_is = e }) refl len each s.used_below s.free_is refl refl (λ g. g)
+    (record { is_table = s.table; table_is = e }) refl len each s.used_below s.free_is refl refl refl (λ g. g) (λ _ g. g)
     (λ g a c h.
     let holder : IsHolder t a (c * entries.card_words) = subst (λ (n : ℕ). IsHolder t a (c * n)) len h in
     let ends = tile_below t m shaped empty a holder.tile holder.tile_is in

@@ -90,6 +90,10 @@ held_put t x i v s z h =
 pub field_weaks : (s : Stored) (i : ℕ) (v : Option ℕ) → length (with_field s i v).weaks ≡ length s.weaks
 field_weaks s i v = (field_set s i v).slots
 
+-- and as many held slots
+pub field_held : (s : Stored) (i : ℕ) (v : Option ℕ) → length (with_field s i v).held ≡ length s.held
+field_held s i v = (field_set s i v).held
+
 pub field_put : (t : Table) (x i : ℕ) (v : Option ℕ) (s : Stored) → 0 < t.words_per_region → object_at t x ≡ Some s
     → WritesObject t (set_field t x i v) x s (with_field s i v)
 unfolding set_field

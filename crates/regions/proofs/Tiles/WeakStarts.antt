@@ -23,7 +23,7 @@ abbrev pub tile_weaks : Tile → ℕ
 tile_weaks (Object s) = length s.weaks
 tile_weaks _ = 0
 
-object_is : (t : Table) (a : ℕ) (s : Stored) → tile_in t a ≡ Some (Object s) → object_at t a ≡ Some s
+pub object_is : (t : Table) (a : ℕ) (s : Stored) → tile_in t a ≡ Some (Object s) → object_at t a ≡ Some s
 unfolding object_at
 object_is t a s h = ap tile_object h
 
@@ -51,6 +51,7 @@ moved t t' a e h = record { object = h.object; is = sym (object_same t t' a e) �
 -- a is in the set now if the tile has weak slots
 pub record Notes (old new : Starts) (a : ℕ) (tile : Tile) : Type 0 where
   pub region_words : new.region_words ≡ old.region_words
+  pub pairs : new.pairs ≡ old.pairs
   pub len : length new.flags ≡ length old.flags
   pub others : (j : ℕ) → j ≢ a → has new.flags j ≡ has old.flags j
   pub each : 0 < tile_weaks tile → has new.flags a ≡ true
@@ -60,6 +61,7 @@ pub notes : (old new : Starts) (a weaks : ℕ) (tile : Tile) → a < length old.
     → new ≡ start_added old a weaks → Notes old new a tile
 notes old new a zero tile known count is = record {
   region_words = ap (λ (s : Starts). s.region_words) is;
+  pairs = ap (λ (s : Starts). s.pairs) is;
   len = ap (λ (s : Starts). length s.flags) is;
   others = λ j n. ap (λ (s : Starts). has s.flags j) is;
   each = λ some. absurd (omega arith);
@@ -67,6 +69,7 @@ notes old new a zero tile known count is = record {
 }
 notes old new a (suc n) tile known count is = record {
   region_words = ap (λ (s : Starts). s.region_words) is;
+  pairs = ap (λ (s : Starts). s.pairs) is;
   len = ap (λ (s : Starts). length s.flags) is ∙ length-set old.flags a true;
   others = λ j n. ap (λ (s : Starts). has s.flags j) is ∙ get_or-set_other old.flags a j true false n;
   each = λ some. ap (λ (s : Starts). has s.flags a) is ∙ get_or-set_same old.flags a true false known;
@@ -76,6 +79,7 @@ notes old new a (suc n) tile known count is = record {
 -- a is not in the set any more, if it was
 pub record Forgets (old new : Starts) (a weaks : ℕ) : Type 0 where
   pub region_words : new.region_words ≡ old.region_words
+  pub pairs : new.pairs ≡ old.pairs
   pub len : length new.flags ≡ length old.flags
   pub others : (j : ℕ) → j ≢ a → has new.flags j ≡ has old.flags j
   pub here : has new.flags a ≡ true → (has old.flags a ≡ true) × (weaks ≡ 0)
@@ -83,12 +87,14 @@ pub record Forgets (old new : Starts) (a weaks : ℕ) : Type 0 where
 pub forgets : (old new : Starts) (a weaks : ℕ) → a < length old.flags → new ≡ forgotten old a weaks → Forgets old new a weaks
 forgets old new a zero known is = record {
   region_words = ap (λ (s : Starts). s.region_words) is;
+  pairs = ap (λ (s : Starts). s.pairs) is;
   len = ap (λ (s : Starts). length s.flags) is;
   others = λ j n. ap (λ (s : Starts). has s.flags j) is;
   here = λ h. (sym (ap (λ (s : Starts). has s.flags a) is) ∙ h, refl);
 }
 forgets old new a (suc n) known is = record {
   region_words = ap (λ (s : Starts). s.region_words) is;
+  pairs = ap (λ (s : Starts). s.pairs) is;
   len = ap (λ (s : Starts). length s.flags) is ∙ length-set old.flags a false;
   others = λ j n. ap (λ (s : Starts). has s.flags j) is ∙ get_or-set_other old.flags a j false false n;
   here = λ h. absurd (let out = ap (λ (s : Starts). has s.flags a) is ∙ get_or-set_same old.flags a false false known in cc);
@@ -97,15 +103,21 @@ forgets old new a (suc n) known is = record {
 -- the addresses of region k are not in the set, and the others are as they were
 pub record Clears (old new : Starts) (k size : ℕ) : Type 0 where
   pub region_words : new.region_words ≡ old.region_words
+  pub pairs : new.pairs ≡ old.pairs
   pub len : length new.flags ≡ length old.flags
   pub flags : (a : ℕ) → has new.flags a ≡ (if is_between (k * size) (k * size + size) a then false else has old.flags a)
 
 pub clears : (old new : Starts) (n k size : ℕ) → n ≡ k → old.region_words ≡ size
-    → new.region_words ≡ old.region_words → length new.flags ≡ length old.flags
+    → new.region_words ≡ old.region_words → length new.flags ≡ length old.flags → new.pairs ≡ old.pairs
     → ((a : ℕ)
     → has new.flags a ≡ (if is_between (n * old.region_words) (n * old.region_words + old.region_words) a then false else has old.flags a))
     → Clears old new k size
-clears old new n k size number words wide len flags = record { region_words = wide; len = len; flags = rw (number, words) at flags }
+clears old new n k size number words wide len pairs flags = record {
+  region_words = wide;
+  pairs = pairs;
+  len = len;
+  flags = rw (number, words) at flags;
+}
 
 -- a region that isn't among the regions has no flag to clear
 pub none_cleared : (size k : ℕ) (regions flags : List Bool) → AreRegions size regions flags → has regions k ≡ false → (a : ℕ)
@@ -209,7 +221,7 @@ no_object : (r o : ℕ) (s : Stored) → tile_at o (remainder r) ≡ Some (Objec
 no_object (suc r) (suc o) s e = let p = past (suc r) (suc o) _ (Object s) e in let none : None ≡ Some (Object s) = p.1 in cc
 no_object _ _ s e = cc
 
-cut_object : (tile : Tile) (r o : ℕ) (s : Stored) → tile_at o (tile ∷ remainder r) ≡ Some (Object s) → (o ≡ 0) × (tile ≡ Object s)
+pub cut_object : (tile : Tile) (r o : ℕ) (s : Stored) → tile_at o (tile ∷ remainder r) ≡ Some (Object s) → (o ≡ 0) × (tile ≡ Object s)
 cut_object tile r zero s e = (refl, cc)
 cut_object tile r (suc o) s e = let p = past (tile_size tile) (suc o) _ (Object s) e in absurd (no_object r (suc o - tile_size tile) s p.1)
 

@@ -9,7 +9,6 @@ use Rattle.heap_model.proofs.Lists.{AllZip-get_right}
 use Rattle.heap_model.proofs.Shown.{followed}
 use Rattle.regions.specs.Shaped.{IsBareAt}
 use Rattle.regions.proofs.Words.Fields.{held_by_long}
-use Rattle.marker.specs.Stands.{KeepsBare}
 use Rattle.graph_runs.specs.State.{HaveNoPairs}
 use Rattle.graph_runs.proofs.SinceLaws.{place_named}
 use Rattle.step_core.specs.Stands.{CoreState, kept_of, heap_of, IsCore, Leads}
@@ -38,11 +37,6 @@ kept_bare c core a x at =
     let none = object_bare core.footing.graph x.name o.object core.rests.pairs o.named in
     let z = subst (λ (vs : List (Option ℕ)). AllZip (IsShown (heap_of c)) (kept_held (kept_of c) x) vs) none o.held in
     none_of x.held (sym (held_by_long (map (kept_word (kept_of c)) x.weaks) x.held) ∙ no_words c (kept_held (kept_of c) x) z)
-
--- so marking can go on without them
-pub keeps_bare : (c : CoreState) → IsCore c → KeepsBare c.table c.marker
-unfolding kept_of
-keeps_bare c core a x at = kept_bare c core a x at
 
 bare_at : (c : CoreState) → IsCore c → (a : ℕ) (x : Stored) → kept_of c a ≡ Some x → IsBareAt c.table a
 bare_at c core a x at s e =

@@ -6,8 +6,12 @@ use Rattle.marker.specs.Views.{heap_of, marking_of}
 use Rattle.marker.specs.Waiting.{Waiting}
 use Rattle.marker.specs.Looks.{BeginsBy}
 use Rattle.marker.proofs.Views.{previous_heap, same_heap, kept_before}
+use Rattle.marker.proofs.Follow.{unrooted}
 use Rattle.marker.proofs.Begun.{made_ready, all_begun, all_wait, waiting_stands, with_waiting}
 use Rattle.marker.proofs.marker.Marker.begin.Goals as goal
+
+pub start-requires-clause-closed : goal.start-requires-clause-closed
+start-requires-clause-closed c = unrooted c.args.table.now c.args.roots.now.words c.args.self.now c.requires.closed
 
 pub reach_roots-requires-clause-kept : goal.reach_roots-requires-clause-kept
 reach_roots-requires-clause-kept c = λ j a e.

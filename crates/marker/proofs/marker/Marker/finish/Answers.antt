@@ -13,24 +13,24 @@ returns c =
     let t = c.args.table.now in
     let m = c.args.self.now in
     let r = c.take_all_roots.ensures in
-    let s = c.scan_objects.ensures in
-    let p = over t m c.take_all_roots.new.self c.scan_objects.new.self c.scan_objects.result c.law.ensures c.requires.running
+    let s = c.mark_rest.ensures in
+    let p = over t m c.take_all_roots.new.self c.mark_rest.new.self c.requires.running
     (same_trans m c.take_logs.new.self c.take_all_roots.new.self c.take_logs.ensures.same r.same)
     (snapshots_trans t m c.take_logs.new.self c.take_all_roots.new.self c.take_logs.ensures.same c.take_logs.ensures.snapshots r.snapshots)
     (subst (λ (ls : List (List ℕ)). (k : ℕ) → k < length ls → log_of ls k ≡ []) (sym r.logs) c.take_logs.ensures.emptied)
-    s.stands s.same s.snapshots s.logs r.none_left s.waiting s.count s.none_left in
-    let count = done_count c.args.table.now c.scan_objects.new.self p.stands p.running p.scanned in
+    s.stands s.same s.snapshots s.logs r.none_left s.waiting s.none_left s.pairs in
+    let count = done_count c.args.table.now c.mark_rest.new.self p.stands p.running p.scanned in
     let last : Marker = record {
       bitmaps = c.swap_roles.new.self;
       tams = c.swap_roles-2.new.self;
-      grey = c.scan_objects.new.self.grey;
-      logs = c.scan_objects.new.self.logs;
+      grey = c.mark_rest.new.self.grey;
+      logs = c.mark_rest.new.self.logs;
       running = false;
-      scans = c.scan_objects.new.self.scans;
+      scans = c.mark_rest.new.self.scans;
       live = c.swap_roles-3.new.self;
-      waiting = c.scan_objects.new.self.waiting;
+      waiting = c.mark_rest.new.self.waiting;
     } in
-    let e : IsExchanged c.scan_objects.new.self last = record {
+    let e : IsExchanged c.mark_rest.new.self last = record {
       previous = c.swap_roles.ensures.previous;
       next = c.swap_roles.ensures.next;
       tams = c.swap_roles-2.ensures;
@@ -41,21 +41,20 @@ returns c =
       off = refl;
     } in
     record {
-      stands = exchanged_stands c.args.table.now c.scan_objects.new.self last p.stands p.scanned e;
+      stands = exchanged_stands c.args.table.now c.mark_rest.new.self last p.stands p.scanned e;
       over = refl;
-      exact = λ bare. rw c.since-count.ensures
-          (ends_exactly c.args.table.now c.args.self.now c.scan_objects.new.self last _ p e count bare);
+      exact = rw c.since-count.ensures (ends_exactly c.args.table.now c.args.self.now c.mark_rest.new.self last _ p e count);
       count = c.since-count.ensures ∙ count ∙ ap marked_count (sym c.swap_roles.ensures.previous);
       scans = search rules;
       scanned = λ a k. s.grows.scanned a (ap (λ (b : List Bool). is_marked b a) (r.scanned ∙ c.take_logs.ensures.scanned) ∙ k);
-      counted = c.scan_objects.ensures.stands.counted (s.same.running ∙ r.same.running ∙ c.take_logs.ensures.same.running ∙
+      counted = s.stands.counted (s.same.running ∙ r.same.running ∙ c.take_logs.ensures.same.running ∙
           c.requires.running);
       work = record {
-        count = c.scan_objects.result;
-        scanned = s.count
-            ∙ ap (λ (b : List Bool). marked_count b + c.scan_objects.result) (r.scanned ∙ c.take_logs.ensures.scanned);
-        scans = subst (λ (x : ScanTotals). IsMore x c.scan_objects.new.self.scans c.scan_objects.result)
-            (r.scans ∙ c.take_logs.ensures.scans) s.scans;
+        count = s.work.count;
+        scanned = s.work.scanned
+            ∙ ap (λ (b : List Bool). marked_count b + s.work.count) (r.scanned ∙ c.take_logs.ensures.scanned);
+        scans = subst (λ (x : ScanTotals). IsMore x c.mark_rest.new.self.scans s.work.count)
+            (r.scans ∙ c.take_logs.ensures.scans) s.work.scans;
       };
       tops = search rules;
       marks = search rules;

@@ -1,5 +1,5 @@
 use Rattle.regions.proofs.Common.{arith, ◌≡◌, ℕ, sym, ap, ◌∙◌, refl, List, Option, length, Row, start_added, Object, tile_size}
-use Rattle.regions.proofs.Common.{object_words}
+use Rattle.regions.proofs.Common.{object_words, AreBare, Table, subst}
 use Rattle.regions.proofs.Tiles.Making.{known, known_top, top_at, row_read}
 use Rattle.regions.proofs.Words.ObjectWords.{object_there}
 use Rattle.regions.proofs.Words.Copies.{copy_pushed}
@@ -85,6 +85,7 @@ invariant_of-self c =
     push_sound _ _ _ _ _ _ _ _ _ c.self.invariant c.self.view_is _ _ _ _ _ _ c.args.region c.word-2.result c.object_size-size.result
     (length o.0.weaks) (Object o.0) c.requires.known c.requires.ordinary (omega (arith, o.1.large, long)) (rw long at c.requires.room) tt
     (c.word-2.ensures ∙ c.top-to.ensures) (c.object_size-size.ensures ∙ long) c.put_tile.ensures refl flags
+    (λ off. subst (λ (u : Table). AreBare u) c.self.view_is (c.self.invariant.bare off) c.args.from o.0 o.1.is)
     (used_set _ _ _ _ (omega (arith, n.in_rows, c.number-number.ensures)) refl c.self.invariant.used_below)
     (count_kept c.self.inside.rows.items c.number-number.result _ _ (omega (arith, n.in_rows, c.number-number.ensures))
     (rw c.number-number.ensures (row_used _ _ _ _ _ n c.requires.ordinary)) refl c.self.invariant.free_is)

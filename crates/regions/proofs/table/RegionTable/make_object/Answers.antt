@@ -1,4 +1,4 @@
-use Rattle.regions.proofs.Common.{arith, ◌≡◌, ◌+◌, ◌-◌, ℕ, Option, None, ap, ◌∙◌, length-replicate, start_added, Object, tile_size}
+use Rattle.regions.proofs.Common.{arith, refl, ◌≡◌, ◌+◌, ◌-◌, ℕ, Option, None, ap, ◌∙◌, length-replicate, start_added, Object, tile_size}
 use Rattle.regions.proofs.Common.{new_object}
 use Rattle.regions.proofs.Tiles.Replaced.{filler_fits, filler_filled}
 use Rattle.regions.proofs.Tiles.Within.{tile_within}
@@ -52,7 +52,7 @@ invariant_of-self c =
     c.requires.there (omega (arith, long)) (omega (arith, c.requires.room, long, c.size-size.ensures)) tt
     (omega (arith, c.word-2.ensures, long)) (omega (arith, c.word-2.ensures, c.get-2.ensures.value))
     (rw c.word-2.ensures at c.cut_front.ensures)
-    (length-replicate {A = Option ℕ} c.args.counts.weaks None) flags
+    (length-replicate {A = Option ℕ} c.args.counts.weaks None) flags (λ _. refl)
     (omega (arith, c.write_object.ensures.written, c.write_remainder.ensures.written)) w
 
 pub returns : goal.returns

@@ -1,8 +1,9 @@
-use Rattle.regions.proofs.Common.{arith, ◌≡◌, ◌+◌, ◌-◌, ℕ, Option, None, ap, ◌∙◌, length-replicate, start_added, Object, tile_size}
+use Rattle.regions.proofs.Common.{arith, length, ◌≡◌, ◌+◌, ◌-◌, ℕ, Option, None, ap, ◌∙◌, length-replicate, Object, tile_size}
+use Rattle.regions.proofs.Common.{start_added, with_pairs, Starts}
 use Rattle.regions.specs.Table.{new_pairs}
 use Rattle.regions.proofs.Tiles.Replaced.{filler_fits, pairs_filled}
 use Rattle.regions.proofs.Tiles.Within.{tile_within}
-use Rattle.regions.proofs.Cards.Entries.{front_sound}
+use Rattle.regions.proofs.Cards.Entries.{front_sound, noted_sound}
 use Rattle.regions.proofs.Words.Fresh.{fresh_size}
 use Rattle.regions.proofs.table.RegionTable.make_pairs.Goals as goal
 
@@ -51,15 +52,17 @@ invariant_of-self c =
       c.size-taken.ensures,
       fresh_size c.args.name c.args.counts.pointers c.args.counts.pairs c.args.counts.pairs c.args.counts.values,
     ) in
-    let flags = c.add.ensures ∙ ap (λ (k : ℕ). start_added c.self.inside.weak_starts k c.get-weaks.result) c.word-3.ensures
-    ∙ ap (λ (n : ℕ). start_added c.self.inside.weak_starts c.args.at n) c.get-weaks.ensures.value in
-    front_sound _ _ _ _ _ _ _ _ _ c.self.invariant c.self.view_is c.cut_front.new.self _ _ c.args.at c.args.filler
-    _ (c.args.at + c.size-taken.result) (c.args.at + c.get-2.result) c.args.counts.pairs
+    let before = c.self.inside.weak_starts in
+    let flags = c.add.ensures ∙ ap (λ (s : Starts). start_added s c.word-3.result c.get-weaks.result) c.note_pairs.ensures
+    ∙ ap (λ (k : ℕ). start_added (with_pairs before) k c.get-weaks.result) c.word-3.ensures
+    ∙ ap (λ (n : ℕ). start_added (with_pairs before) c.args.at n) c.get-weaks.ensures.value in
+    front_sound _ _ _ _ _ _ _ _ _ (noted_sound _ _ _ _ _ _ _ _ c.self.invariant) c.self.view_is c.cut_front.new.self _ _ c.args.at
+    c.args.filler _ (c.args.at + c.size-taken.result) (c.args.at + c.get-2.result) c.args.counts.pairs
     (Object (new_pairs c.args.name c.args.counts.pointers c.args.counts.pairs c.args.counts.values))
     c.requires.there (omega (arith, long)) (omega (arith, c.requires.room, long, c.size-taken.ensures)) tt
     (omega (arith, c.word-2.ensures, long)) (omega (arith, c.word-2.ensures, c.get-2.ensures.value))
     (rw c.word-2.ensures at c.cut_front.ensures)
-    (length-replicate {A = Option ℕ} c.args.counts.pairs None) flags
+    (length-replicate {A = Option ℕ} c.args.counts.pairs None) flags (λ off. absurd cc)
     (omega (arith, c.write_pairs.ensures.written, c.write_remainder.ensures.written)) w
 
 pub returns : goal.returns
@@ -78,4 +81,5 @@ pub add-requires : goal.add-requires
 add-requires c =
     let f = filler_fits _ _ _ _ _ _ c.self.invariant.table c.self.view_is c.requires.there in
     let count = c.self.invariant.weak_count in
-    omega (arith, f, c.requires.room, count, c.word-3.ensures)
+    let same = ap (λ (s : Starts). length s.flags) c.note_pairs.ensures in
+    omega (arith, f, c.requires.room, count, same, c.word-3.ensures)

@@ -1,4 +1,4 @@
-use Rattle.regions.proofs.Common.{arith, ◌≡◌, ◌+◌, ◌*◌, ◌<◌, ◌≤◌, length, Option, None, ap, ◌∙◌, ℕ, length-replicate, start_added}
+use Rattle.regions.proofs.Common.{arith, refl, ◌≡◌, ◌+◌, ◌*◌, ◌<◌, ◌≤◌, length, Option, None, ap, ◌∙◌, ℕ, length-replicate, start_added}
 use Rattle.regions.proofs.Common.{new_object}
 use Rattle.regions.proofs.LongRuns.RunMade.{run_taken, run_there}
 use Rattle.regions.proofs.Tiles.Making.{size_is_of}
@@ -76,7 +76,7 @@ invariant_of-self c =
     (ap (λ (k : ℕ). k * c.self.inside.words_per_region) c.number-number.ensures
     ∙ ap (λ (m : ℕ). c.args.first * m) (size_is_of _ _ _ _ c.self.view_is))
     (omega (arith, size, new_size c.args.name c.args.counts.pointers c.args.counts.weaks c.args.counts.values))
-    c.put_tile.ensures (length-replicate {A = Option ℕ} c.args.counts.weaks None) flags
+    c.put_tile.ensures (length-replicate {A = Option ℕ} c.args.counts.weaks None) flags (λ _. refl)
     (used_written c.self.inside.rows.items _ _ c.self.inside.lowest c.args.first c.args.count c.self.inside.lowest _
     c.self.invariant.used_below (omega (arith, f.room))
     (used_le c.self.inside.rows.items c.self.inside.lowest c.args.first c.self.invariant.used_below

@@ -1,9 +1,10 @@
-use Rattle.regions.proofs.Common.{arith, ◌≡◌, ◌+◌, ◌*◌, ◌≤◌, length, Option, None, ap, ◌∙◌, ℕ, length-replicate, start_added}
+use Rattle.regions.proofs.Common.{arith, ◌≡◌, ◌+◌, ◌*◌, ◌≤◌, length, Option, None, ap, ◌∙◌, ℕ, length-replicate}
+use Rattle.regions.proofs.Common.{start_added, with_pairs, Starts}
 use Rattle.regions.proofs.LongRuns.RunMade.{run_paired, run_there}
 use Rattle.regions.proofs.Tiles.Making.{size_is_of}
 use Rattle.regions.proofs.Rows.UsedBelow.{used_written, used_le, front_free}
 use Rattle.regions.proofs.Rows.Counting.{count_run, run_counted}
-use Rattle.regions.proofs.Cards.Entries.{run_sound}
+use Rattle.regions.proofs.Cards.Entries.{run_sound, noted_sound}
 use Rattle.regions.specs.Table.{new_pairs}
 use Rattle.regions.proofs.Words.Fresh.{fresh_size}
 use Rattle.regions.proofs.table.RegionTable.make_run_of_pairs.Goals as goal
@@ -66,15 +67,16 @@ invariant_of-self c =
     c.self.invariant.table c.self.view_is e c.requires.positive c.requires.some c.requires.covers c.requires.tight (omega arith)
     (omega arith) (omega arith)
     bottom size number (rw c.zero_below.ensures.all at c.write_pairs.ensures.all) rows in
-    let flags = c.add.ensures
-    ∙ ap (λ (n : ℕ). start_added c.self.inside.weak_starts (c.number-number.result * c.self.inside.words_per_region) n)
-    c.get-weaks.ensures.value in
-    run_sound _ _ _ _ _ _ _ _ _ c.self.invariant c.self.view_is _ _ _ _ _ _ c.args.first c.args.count _ _ c.args.counts.pairs
-    (new_pairs c.args.name c.args.counts.pointers c.args.counts.pairs c.args.counts.values) c.requires.positive c.requires.lowest
+    let place : ℕ = c.number-number.result * c.self.inside.words_per_region in
+    let flags = c.add.ensures ∙ ap (λ (s : Starts). start_added s place c.get-weaks.result) c.note_pairs.ensures
+    ∙ ap (λ (n : ℕ). start_added (with_pairs c.self.inside.weak_starts) place n) c.get-weaks.ensures.value in
+    run_sound _ _ _ _ _ _ _ _ _ (noted_sound _ _ _ _ _ _ _ _ c.self.invariant) c.self.view_is _ _ _ _ _ _ c.args.first c.args.count _ _
+    c.args.counts.pairs (new_pairs c.args.name c.args.counts.pointers c.args.counts.pairs c.args.counts.values) c.requires.positive
+    c.requires.lowest
     (ap (λ (k : ℕ). k * c.self.inside.words_per_region) c.number-number.ensures
     ∙ ap (λ (m : ℕ). c.args.first * m) (size_is_of _ _ _ _ c.self.view_is))
     (omega (arith, size, fresh_size c.args.name c.args.counts.pointers c.args.counts.pairs c.args.counts.pairs c.args.counts.values))
-    c.put_tile.ensures (length-replicate {A = Option ℕ} c.args.counts.pairs None) flags
+    c.put_tile.ensures (length-replicate {A = Option ℕ} c.args.counts.pairs None) flags (λ off. absurd cc)
     (used_written c.self.inside.rows.items _ _ c.self.inside.lowest c.args.first c.args.count c.self.inside.lowest _
     c.self.invariant.used_below (omega (arith, f.room))
     (used_le c.self.inside.rows.items c.self.inside.lowest c.args.first c.self.invariant.used_below
@@ -103,7 +105,8 @@ add-requires c =
     ≤ c.args.count * c.self.inside.words_per_region =
     rw (size_is_of _ _ _ _ c.self.view_is) c.requires.covers in
     let count = c.self.invariant.weak_count in
-    rw c.number-number.ensures (omega (arith, f.ends, covers, count))
+    let same = ap (λ (s : Starts). length s.flags) c.note_pairs.ensures in
+    rw c.number-number.ensures (omega (arith, f.ends, covers, count, same))
 
 pub overflow_sub-self : goal.overflow_sub-self
 overflow_sub-self c =

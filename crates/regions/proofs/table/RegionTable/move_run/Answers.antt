@@ -296,7 +296,7 @@ invariant_of-self c =
     ∙ ap (λ (l : List (Option ℕ)). length l)
     (weaks_are c.args.self.now (c.args.first * c.self.inside.words_per_region) r.object r.stands.is) in
     let clear = clears _ _ _ c.args.first _ c.number-number.ensures (region_words _ _ _ _ _ _ _ _ _ c.self.invariant c.self.view_is)
-    c.release.ensures.region_words c.release.ensures.len c.release.ensures.flags in
+    c.release.ensures.region_words c.release.ensures.len c.release.ensures.pairs c.release.ensures.flags in
     let flags = c.add.ensures ∙ ap (λ (x : ℕ). start_added c.release.new.self x c.weak_count-weaks.result)
     (c.word-2.ensures ∙ sym c.word.ensures) in
     moved_sound _ _ _ _ _ _ _ _ _ c.self.invariant c.self.view_is c.args.first c.args.to can r _ _ _ _ _ _ _ _ _ number

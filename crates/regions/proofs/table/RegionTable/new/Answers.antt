@@ -1,9 +1,11 @@
 use Rattle.regions.proofs.Common.{arith, sym, subst, ◌≡◌, ◌*◌, ◌/◌, replicate, length, ℕ, Bool, false, List, refl, ap, ◌∙◌}
 use Rattle.regions.proofs.Common.{length-replicate, Memory, AreTilesWritten, Table, HasNoForwarded, Entries, AreEntries, Starts, AreStarts}
+use Rattle.regions.proofs.Common.{AreBare}
 use Rattle.heap_words.specs.Configs.{card_words}
 use Rattle.heap_words.proofs.Limits.{small_region, small_heap, card_power, region_cards, card_between}
 use Rattle.regions.proofs.Cards.Entries.{free_entries}
 use Rattle.regions.proofs.Tiles.WeakStarts.{starts_free}
+use Rattle.regions.proofs.Tiles.Bare.{bare_free}
 use Rattle.regions.proofs.Tiles.Within.{free_within}
 use Rattle.regions.proofs.Tiles.Making.{new_table, free_table-unmoved}
 use Rattle.regions.proofs.Rows.Sound.{power_is, whole_starts}
@@ -58,6 +60,7 @@ invariant_of-result c =
       weak_regions = ap (λ (s : Starts). s.region_words) c.in-Ok-new-2.ensures;
       weak_count = ap (λ (f : List Bool). length f) flags ∙ length-replicate {A = Bool} _ false ∙ sym long;
       weak_starts = subst (λ (t : Table). AreStarts t c.in-Ok-new-2.weak_starts.flags) (sym made.table_is) (starts_free _ _ _ _ flags);
+      bare = λ _. subst (λ (t : Table). AreBare t) (sym made.table_is) (bare_free _ _);
     }
 
 pub returns-clause-made : goal.returns-clause-made

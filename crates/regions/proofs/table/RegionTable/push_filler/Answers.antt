@@ -59,7 +59,7 @@ invariant_of-self c =
     let some : 0 < c.args.size = omega (arith, c.get-more.ensures.value, c.get-more.ensures.positive) in
     push_sound _ _ _ _ _ _ _ _ _ c.self.invariant c.self.view_is _ _ _ _ _ _ c.args.region c.word-2.result c.args.size 0
     (Filler c.args.size) c.requires.known c.requires.ordinary some c.requires.room tt (c.word-2.ensures ∙ c.top-at.ensures) refl
-    (rw c.get-more.ensures.value at c.put_tile.ensures) refl refl
+    (rw c.get-more.ensures.value at c.put_tile.ensures) refl refl (λ _. refl)
     (used_set _ _ _ _ (omega (arith, n.in_rows, c.number-number.ensures)) refl c.self.invariant.used_below)
     (count_kept c.self.inside.rows.items c.number-number.result _ _ (omega (arith, n.in_rows, c.number-number.ensures))
     (rw c.number-number.ensures (row_used _ _ _ _ _ n c.requires.ordinary)) refl c.self.invariant.free_is)

@@ -55,7 +55,7 @@ invariant_of-self c =
     c.number-at.ensures total number rows in
     let n = known _ _ _ _ _ c.self.view_is c.requires.known in
     let clear = clears _ _ _ c.args.region _ c.number.ensures (region_words _ _ _ _ _ _ _ _ _ c.self.invariant c.self.view_is)
-    c.release.ensures.region_words c.release.ensures.len c.release.ensures.flags in
+    c.release.ensures.region_words c.release.ensures.len c.release.ensures.pairs c.release.ensures.flags in
     release_sound _ _ _ _ _ _ _ _ _ c.self.invariant c.self.view_is _ _ _ _ _ c.args.region c.requires.known c.requires.releasable
     (used_written c.self.inside.rows.items _ _ c.self.inside.lowest c.number-at.result (c.rests_from-rests.result + 1)
     c.min-self-inside.result _ c.self.invariant.used_below (omega (arith, room, count, c.number-at.ensures))

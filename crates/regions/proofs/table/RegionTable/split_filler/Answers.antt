@@ -41,7 +41,7 @@ invariant_of-self c =
     front_sound _ _ _ _ _ _ _ _ _ c.self.invariant c.self.view_is c.cut_front.new.self _ _ c.args.at c.args.filler
     (c.args.filler - c.args.size) (c.args.at + c.get-kept.result) (c.args.at + c.get-2.result) 0 (Filler c.args.size) c.requires.there some
     (omega (arith, c.requires.room)) tt (omega (arith, c.get-kept.ensures.value)) (omega (arith, c.get-2.ensures.value))
-    (rw c.word-2.ensures at c.cut_front.ensures) refl refl
+    (rw c.word-2.ensures at c.cut_front.ensures) refl refl (λ _. refl)
     (omega (arith, c.write_filler.ensures.written, c.write_remainder.ensures.written)) w
 
 pub returns-clause-split : goal.returns-clause-split
