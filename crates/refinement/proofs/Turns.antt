@@ -1,5 +1,6 @@
 -- How many turns a scan takes: one for each tile, and two for each of its fields in the card, are at most two for each of its words there.
-use Rattle.std.proofs.Common.{◌≡◌, ◌+◌, ◌-◌, ◌*◌, ◌/◌, ◌%◌, ◌<◌, ◌≤◌, inl, inr, ℕ, Some, List, [], ◌∷◌, length, max, refl, sym, ap, subst, arith}
+use Rattle.std.proofs.Common.{◌≡◌, ◌+◌, ◌-◌, ◌*◌, ◌/◌, ◌%◌, ◌<◌, ◌≤◌, inl, inr, ℕ, Some, List, [], ◌∷◌}
+use Rattle.std.proofs.Common.{length, max, refl, sym, ap, subst, arith}
 use Rattle.std.proofs.lemmas.Bool.{cases_lt}
 use Rattle.heap_words.specs.declared.addr.Addr.{Addr}
 use Rattle.regions.specs.Tiles.{Tile, Object, Filler, Forwarded, tile_size}
@@ -127,5 +128,6 @@ spent_past len card before spent left s = elim (cases_lt (card * len) s.low) [
   | inr first ↦ let w = s.none first in omega (arith, w)
 ]
 
-pub spent_end : (len card before spent : ℕ) (left : List (Addr × Shape)) → IsSpent len card before spent left → spent ≤ before + scan_turns len
+pub spent_end : (len card before spent : ℕ) (left : List (Addr × Shape)) → IsSpent len card before spent left
+    → spent ≤ before + scan_turns len
 spent_end len card before spent left s = let w = s.within in let r = s.room in omega (arith, w, r)

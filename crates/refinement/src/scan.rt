@@ -354,8 +354,8 @@ pub fn scan_card(
     scan_card_counted(table, tams, marks, sets, card_words, card, &mut Work::new())
 }
 
-/// The same, for one who counts. Whatever the heap's size, it takes at most a turn for each word of the region below the card, as the search
-/// for the first tile, two for each word of the card, two more, and what the sets owe less afterwards.
+/// The same, for one who counts. Whatever the heap's size, it takes at most a turn for each word of the region below the card, as the
+/// search for the first tile, two for each word of the card, two more, and what the sets owe less afterwards.
 #[inline(always)]
 pub fn scan_card_counted(
     table: &RegionTable,

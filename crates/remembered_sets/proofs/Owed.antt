@@ -7,7 +7,8 @@ use Rattle.std.proofs.lemmas.List.{get_or_past, get_or_default}
 use Rattle.std.proofs.lemmas.List.Folds.{list_any_at, list_any_none}
 use Rattle.std.proofs.lemmas.List.Sums.{sum_by-set}
 use Rattle.bit_sets.specs.Bits.{has}
-use Rattle.remembered_sets.specs.Sets.{CardFilter, CardSet, Sets, IsFilter, AreSets, added, filter_with, first_row, letting, no_set, place_in}
+use Rattle.remembered_sets.specs.Sets.{CardFilter, CardSet, Sets, IsFilter, AreSets, added, filter_with, first_row}
+use Rattle.remembered_sets.specs.Sets.{letting, no_set, place_in}
 use Rattle.remembered_sets.specs.Sets.{second_row, set_after, set_of, set_with}
 use Rattle.remembered_sets.specs.Sharing.{part_flags}
 use Rattle.remembered_sets.specs.Owed.{owed, owed_by}

@@ -194,8 +194,8 @@ impl RememberedSets {
         self.add_counted(source, region, card, &mut Work::new());
     }
 
-    /// The same, for one who counts: a turn for each word of the set's filter that it clears first. So many turns the sets owe less then. The
-    /// look at the set's own cards, sixteen at most, isn't counted.
+    /// The same, for one who counts: a turn for each word of the set's filter that it clears first. So many turns the sets owe less then.
+    /// The look at the set's own cards, sixteen at most, isn't counted.
     #[inline(always)]
     pub fn add_counted(&mut self, source: RegionNo, region: RegionNo, card: Card, work: &mut Work)
         requires source { card / self.old.cards_per_region ≡ source }

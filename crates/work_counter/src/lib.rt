@@ -1,20 +1,21 @@
 //! How much work a call does: the turns that its loops take, counted in proofs alone.
 //!
 //! ```text
-//!   for card in cards {          the clause of the whole loop, where it has n cards and a card takes at most t turns more:
-//!       work.tick();                 ensures work { work.new ≤ work.old + n * (1 + t) }
+//!   for card in cards {          where there are n cards, and `look_at` ensures work.new ≤ work.old + t,
+//!       work.tick();             the function ensures work.new ≤ work.old + n * (1 + t)
 //!       look_at(card, work);
-//!   }                            the clause of `look_at`: work.new ≤ work.old + t
+//!   }
 //! ```
 //!
 //! These are time credits (Atkey 2011, Charguéraud and Pottier 2015), written as a count that goes up: a clause says how many turns a call
-//! may take of the one who calls it. A `Work` takes no bytes, and its calls leave no instruction. It is lent to each function on the way, so
-//! nobody can count on another one: the number of a new `Work` isn't known, so a clause on what was lent can't be met by it.
+//! may take from the one who calls it. What is put off, as clearing what the next one finds, is owed: a value of a model, which the clause
+//! adds on both sides. A `Work` takes no bytes, and its calls leave no instruction.
 //!
-//! **A tick is the author's word.** That each turn of a loop ticks no proof can ask for: a loop without a tick counts nothing. So a tick is
-//! the first thing in the body of a loop, where a reader sees it, and between two ticks is a number of instructions that no size changes:
-//! no call of a loop that isn't counted. What a loop of the standard library takes, as a `fill`, its caller counts by `tick_each`. What a
-//! clause then refuses is a turn too many: a loop that starts anew, a second scan, a walk over all where a part was promised.
+//! **A tick is the author's word.** No proof asks that each turn of a loop ticks: a loop without a tick counts nothing, and neither does a
+//! call that is lent a new `Work`. So a reader has to see three things. Each turn begins with a tick, or with a call that ticks. Between
+//! two ticks no loop runs whose length a size changes. What a loop of the standard library takes, as a `fill`, its caller counts by
+//! `tick_each`. What a clause then refuses is a turn too many: a second scan, a search that begins anew, a walk over all where a part was
+//! promised.
 #![tactic(auto)]
 
 ghost use Rattle.std.specs.Borrow.{ftrue};

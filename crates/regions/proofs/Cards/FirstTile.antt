@@ -1,5 +1,6 @@
 -- The search for the tile that holds a word.
-use Rattle.regions.proofs.Common.{max_words, ◌≡◌, ℕ, zero, suc, ◌+◌, ◌-◌, ◌*◌, ◌/◌, ◌%◌, ◌<◌, ◌≤◌, min, Some, List, [], ◌∷◌, inl, inr, refl, sym, ap, ◌∙◌}
+use Rattle.regions.proofs.Common.{max_words, ◌≡◌, ℕ, zero, suc, ◌+◌, ◌-◌, ◌*◌, ◌/◌, ◌%◌, ◌<◌, ◌≤◌, min, Some}
+use Rattle.regions.proofs.Common.{List, [], ◌∷◌, inl, inr, refl, sym, ap, ◌∙◌}
 use Rattle.regions.proofs.Common.{arith, cases_lt, mul-le, Addr, Tile, Object, tile_size, total_size, Table, Region, Free, Ordinary, First}
 use Rattle.regions.proofs.Common.{Rest, nth_region, region_kind, region_used, kind_of, used_of, top_of, tile_in, tile_shape, size_of_shape}
 use Rattle.regions.proofs.Common.{length, tiles_from, tiles_of, placed, walk_rest, IsCut, IsHolder, IsRunStart, IsShaped, IsLater, Shape}
@@ -103,7 +104,8 @@ pub record IsCounted (t : Table) (word : ℕ) (left : List (Addr × Shape)) (bef
   pub passed : now ≤ before + searching.search.offset
   pub tiles : now + length left ≤ before + length (tiles_of t searching.first)
 
-pub counted_first : (t : Table) (word before : ℕ) (left : List (Addr × Shape)) → IsSearching t word left → IsCounted t word left before before
+pub counted_first : (t : Table) (word before : ℕ) (left : List (Addr × Shape)) → IsSearching t word left
+    → IsCounted t word left before before
 counted_first t word before left s =
     let all = fewer s.search.offset (s.first * t.words_per_region + s.search.offset) (tiles_of t s.first) in
     let is = ap (λ (l : List (Addr × Shape)). length l) s.search.left_is in
@@ -145,9 +147,15 @@ module _ (t : Table) (word before now : ℕ) (left rest : List (Addr × Shape)) 
       size = t.words_per_region
 
       go : (r : Region) → nth_region t k ≡ r → now + 1 ≤ before + word % size + 1
-      go Free f = let none : length (tiles_of t k) ≡ 0 = ap (λ (l : List Tile). length l) (tiles_at t k Free f) in omega (arith, none, c.tiles, taken)
-      go (Rest m) f = let none : length (tiles_of t k) ≡ 0 = ap (λ (l : List Tile). length l) (tiles_at t k (Rest m) f) in omega (arith, none, c.tiles, taken)
-      go (First o) f = let one : length (tiles_of t k) ≡ 1 = ap (λ (l : List Tile). length l) (tiles_at t k (First o) f) in omega (arith, one, c.tiles, taken)
+      go Free f =
+          let none : length (tiles_of t k) ≡ 0 = ap (λ (l : List Tile). length l) (tiles_at t k Free f) in
+          omega (arith, none, c.tiles, taken)
+      go (Rest m) f =
+          let none : length (tiles_of t k) ≡ 0 = ap (λ (l : List Tile). length l) (tiles_at t k (Rest m) f) in
+          omega (arith, none, c.tiles, taken)
+      go (First o) f =
+          let one : length (tiles_of t k) ≡ 1 = ap (λ (l : List Tile). length l) (tiles_at t k (First o) f) in
+          omega (arith, one, c.tiles, taken)
       go (Ordinary ts) f =
           let s = c.searching.search in
           let n = search_step t k word left rest x shape g s e in

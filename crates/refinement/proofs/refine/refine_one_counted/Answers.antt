@@ -8,7 +8,8 @@ pub returns-clause-remembers : goal.returns-clause-remembers
 returns-clause-remembers c = λ before.
     taken_remembers c.args.table.now.words_per_region c.args.card_words c.in-Some.card
     (kept_in c.args.table.now c.args.tams.now c.args.marks.now) c.args.cards.now.dirty c.dequeue.new.self.dirty (may_lead c.args.sets.now)
-    (may_lead c.scan_card_counted.new.sets) c.in-Some.ensures.cleaned c.scan_card_counted.ensures.covered c.scan_card_counted.ensures.leads before
+    (may_lead c.scan_card_counted.new.sets) c.in-Some.ensures.cleaned c.scan_card_counted.ensures.covered
+    c.scan_card_counted.ensures.leads before
 
 pub returns-clause-work : goal.returns-clause-work
 returns-clause-work c = omega (arith, c.scan_card_counted.ensures.work, c.law.ensures.positive)

@@ -36,7 +36,8 @@ loop-at-init c =
           (kept_object c.args.table.now c.args.tams.now c.args.marks.now)
           c.args.card_words c.args.card c.args.first (may_lead c.args.sets.now) c.into_iter-at-iterator.result h.tile h.tile_is walk;
       count = count_first c.args.table.now c.args.card_words c.args.card c.args.first c.into_iter-at-iterator.result c.law.ensures z h walk;
-      spent = spent_first c.args.table.now c.args.card_words c.args.card c.args.first _ c.into_iter-at-iterator.result c.law.ensures z h walk;
+      spent = spent_first c.args.table.now c.args.card_words c.args.card c.args.first _ c.into_iter-at-iterator.result c.law.ensures z h
+          walk;
       last = λ differs. absurd (differs refl);
     }
 

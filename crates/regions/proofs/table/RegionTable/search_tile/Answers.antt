@@ -21,8 +21,8 @@ overflow_add-word c =
 
 pub returns-then-word-size-clause-found : goal.returns-then-word-size-clause-found
 returns-then-word-size-clause-found c = (
-  λ _. found_below _ _ _ _ _ _ _ c.law.ensures c.loop-at.invariant.searching.start c.loop-at.invariant.searching.search c.in-Some.ensures.steps
-      (omega (arith, c.word.ensures, c.word-in-loop-at.ensures, c.size.ensures, c.if-word-size.true)),
+  λ _. found_below _ _ _ _ _ _ _ c.law.ensures c.loop-at.invariant.searching.start c.loop-at.invariant.searching.search
+      c.in-Some.ensures.steps (omega (arith, c.word.ensures, c.word-in-loop-at.ensures, c.size.ensures, c.if-word-size.true)),
   λ _. refl,
 )
 
@@ -45,7 +45,8 @@ loop-at-preserved c =
 pub returns-clause-found : goal.returns-clause-found
 returns-clause-found c = (
   λ z. cc,
-  λ h. absurd (search_last _ _ _ _ c.law.ensures c.loop-at.invariant.searching.start c.loop-at.invariant.searching.search c.in-None.ensures.steps.0 h),
+  λ h. absurd (search_last _ _ _ _ c.law.ensures c.loop-at.invariant.searching.start c.loop-at.invariant.searching.search
+      c.in-None.ensures.steps.0 h),
 )
 
 pub returns-clause-work : goal.returns-clause-work

@@ -5,7 +5,8 @@ use Rattle.remembered_sets.proofs.Filters.{rows_with}
 use Rattle.remembered_sets.proofs.Kept.{none_still}
 use Rattle.remembered_sets.proofs.Owed.{owed_added}
 use Rattle.remembered_sets.specs.Owed.{owed, owed_by}
-use Rattle.remembered_sets.proofs.Reading.{added_is, all_are, filter_stands, is_set, kept_sets, known_set, known_table, put_tables, reading, set_is}
+use Rattle.remembered_sets.proofs.Reading.{added_is, all_are, filter_stands, is_set, kept_sets, known_set, known_table}
+use Rattle.remembered_sets.proofs.Reading.{put_tables, reading, set_is}
 use Rattle.remembered_sets.proofs.Laws.{covers-added, leads-added, AreSets-added, source_known}
 use Rattle.remembered_sets.proofs.sets.RememberedSets.add_counted.Goals as goal
 
