@@ -112,31 +112,25 @@ impl Flags {
         }
     }
 
-    /// A card is flagged, or it isn't any more.
-    #[inline(always)]
-    fn put(&mut self, card: u32, flag: bool)
-        requires { card < length self.old }
-        ensures { self.new ≡ slice_set self.old card flag }
-    {
-        clear_below(&mut self.items, card + 1, self.count);
-        self.items[card as usize] = flag;
-    }
-
     /// A card is flagged.
     #[inline(always)]
     pub(crate) fn set(&mut self, card: u32)
         requires { card < length self.old }
         ensures { self.new ≡ slice_set self.old card true }
     {
-        self.put(card, true);
+        clear_below(&mut self.items, card + 1, self.count);
+        self.items[card as usize] = true;
     }
 
-    /// A card isn't flagged any more.
+    /// A card isn't flagged any more. No flag is written for it.
     pub(crate) fn remove(&mut self, card: u32)
         requires { card < length self.old }
         ensures { self.new ≡ slice_set self.old card false }
     {
-        self.put(card, false);
+        let place = card as usize;
+        if place < self.items.len() {
+            self.items[place] = false;
+        }
     }
 
     /// The flags after the last one that is set are no longer written, and their memory goes back to the system. Each flag stays, and so

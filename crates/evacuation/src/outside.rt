@@ -4,7 +4,7 @@
 //! is walked from the tile that holds its first word. Copies may come to other regions meanwhile, so a cursor walks, no
 //! iterator.
 
-ghost use Rattle.std.specs.Prelude.{◌≡◌, ◌<◌, ◌+◌, ◌*◌, ◌/◌, ℕ, Bool, List, IsSome, false, length};
+ghost use Rattle.std.specs.Prelude.{◌≡◌, ◌<◌, ◌≤◌, ◌+◌, ◌*◌, ◌/◌, ℕ, Bool, List, IsSome, count_by, false, length};
 ghost use Rattle.regions.specs.Table.{object_at, tile_in};
 ghost use Rattle.regions.specs.Walks.{IsHolder, IsPlacedTile};
 ghost use Rattle.refinement.specs.Remembering.{field_word};
@@ -20,6 +20,7 @@ use mark_bitmap::marks::Marks;
 use mark_bitmap::tams::Tams;
 use refinement::{is_kept, next_link};
 use regions::{RegionTable, Shape};
+use work_counter::Work;
 
 /// What tells which objects are kept: the tops at mark start, and the marks of the marking that is over.
 #[derive(Clone, Copy)]
@@ -213,9 +214,30 @@ pub(crate) fn update_cards(
     ensures goes_on { PauseGoesOn pause table.old table.new context.old context.new }
     ensures clean { AreClean (layout pause) (plan pause) visited.now (space pause table.new) (length visited.now) }
 {
+    update_cards_counted(table, context, kept, visited, &mut Work::new());
+}
+
+/// The same, for one who counts the cards: each that is flagged is visited once. What a card takes isn't counted yet.
+#[inline(always)]
+pub(crate) fn update_cards_counted(
+    table: &mut RegionTable,
+    context: &mut Context,
+    kept: Kept,
+    visited: &BoundedBits,
+    visits: &mut Work,
+)
+    ghost pause: { Pause }
+    requires stands { PauseStands pause table.old context.old }
+    requires kept { AreKept pause kept }
+    requires visited { EachCard pause visited.now }
+    ensures goes_on { PauseGoesOn pause table.old table.new context.old context.new }
+    ensures clean { AreClean (layout pause) (plan pause) visited.now (space pause table.new) (length visited.now) }
+    ensures visits { visits.new ≤ visits.old + count_by (λ is_in. is_in) visited.now }
+{
     visited.law();
     let mut start = 0;
     while let Some(card) = visited.next(start) {
+        visits.tick();
         update_card(table, context, kept, card);
         start = card + 1;
     }

@@ -25,7 +25,7 @@ placed_words from low a [] p f l = tt
 placed_words from low a (u ∷ us) p f l =
     (omega arith, placed_words from (suc (max from a)) (a + tile_size u) us p.1 (omega arith) (omega (arith, p.0)))
 
-onward_positive : (o : ℕ) (ts : List Tile) → AllPositive ts → AllPositive (tiles_from o ts)
+pub onward_positive : (o : ℕ) (ts : List Tile) → AllPositive ts → AllPositive (tiles_from o ts)
 onward_positive zero ts p = p
 onward_positive (suc o) [] p = tt
 onward_positive (suc o) (t ∷ ts) p = onward_positive (suc o - tile_size t) ts p.1

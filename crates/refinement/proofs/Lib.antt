@@ -4,4 +4,5 @@ pub mod Holders
 pub mod Fields
 pub mod Scanned
 pub mod Counted
+pub mod Turns
 pub mod Taken

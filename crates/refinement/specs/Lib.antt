@@ -1,2 +1,3 @@
 pub mod Remembering
 pub mod Refining
+pub mod Turns

@@ -28,6 +28,6 @@ pub mod links;
 pub mod refine;
 pub mod scan;
 
-pub use links::next_link;
-pub use refine::refine_one;
-pub use scan::{is_kept, scan_card};
+pub use links::{next_link, next_link_counted};
+pub use refine::{refine_one, refine_one_counted};
+pub use scan::{is_kept, scan_card, scan_card_counted};

@@ -11,23 +11,26 @@
 //! Of the fields, those marked `*` are in the card; those of a dead object aren't looked at. In a run of regions A is the
 //! run's one object, however far below the card it starts.
 
-ghost use Rattle.std.specs.Prelude.{◌≡◌, ◌≢◌, ◌↔◌, ◌+◌, ◌-◌, ◌*◌, ◌/◌, ◌^◌, ◌<◌, ◌≤◌, true, false, ℕ, Option, Some, IsSome, IsTrue};
+ghost use Rattle.std.specs.Prelude.{◌≡◌, ◌≢◌, ◌↔◌, ◌+◌, ◌-◌, ◌*◌, ◌/◌, ◌%◌, ◌^◌, ◌<◌, ◌≤◌, true, false, ℕ, Option, Some, IsSome, IsTrue};
 ghost use Rattle.std.specs.Prelude.{length, min, slice_get};
 ghost use Rattle.heap_model.specs.Heap.{Stored};
 ghost use Rattle.regions.specs.Table.{object_at, fields_at, tile_in};
 ghost use Rattle.regions.specs.Walks.{IsHolder, IsPlacedTile};
 ghost use Rattle.mark_bitmap.specs.Kept.{kept_in};
 ghost use Rattle.remembered_sets.specs.Sets.{card_count, covers, may_lead};
+ghost use Rattle.remembered_sets.specs.Owed.{owed};
 ghost use Rattle.refinement.specs.Remembering.{field_word, Gains, IsCovered};
 ghost use Rattle.refinement.specs.Refining.{with_field, AddsCard, AreObjectsCovered, CanScan, FieldsInside, IsObjectCovered, IsScanned};
 ghost use Rattle.refinement.specs.Refining.{SetsFit};
+ghost use Rattle.refinement.specs.Turns.{card_fields, scan_turns};
 
-use crate::links::{leads_elsewhere, next_link};
+use crate::links::{leads_elsewhere, next_link_counted};
 use heap_words::addr::{Addr, Card, RegionNo};
 use mark_bitmap::marks::Marks;
 use mark_bitmap::tams::Tams;
 use regions::{RegionTable, Shape};
 use remembered_sets::RememberedSets;
+use work_counter::Work;
 
 /// Whether the tile at an address is a kept object.
 #[inline(always)]
@@ -78,6 +81,7 @@ fn scan_field(
     target: Addr,
     home: u32,
     last: u32,
+    work: &mut Work,
 ) -> u32
     requires names { slice_get (fields_at table.now object) field ≡ Some (Some target) }
     requires inside { FieldsInside table.now object }
@@ -90,6 +94,7 @@ fn scan_field(
     ensures covered { target / table.now.words_per_region ≢ field_word object field / table.now.words_per_region
         → may_lead sets.new (target / table.now.words_per_region) card ≡ true }
     ensures last { result ≢ home → may_lead sets.new result card ≡ true }
+    ensures work { work.new + owed sets.new ≤ work.old + owed sets.old }
 {
     let region = table.region_of(target);
     if region.number() == home {
@@ -98,7 +103,7 @@ fn scan_field(
     if region.number() == last {
         return last;
     }
-    sets.add_from(RegionNo::new(home), region, card);
+    sets.add_counted(RegionNo::new(home), region, card, work);
     region.number()
 }
 
@@ -112,6 +117,7 @@ fn scan_object(
     object: Addr,
     home: u32,
     before: u32,
+    work: &mut Work,
 ) -> u32
     requires object { IsSome (object_at table.now object) }
     requires inside { FieldsInside table.now object }
@@ -122,14 +128,17 @@ fn scan_object(
     ensures scanned { (kept : ℕ → Option Stored) → kept object ≡ object_at table.now object
         → IsScanned table.now.words_per_region kept card_words card object sets.old sets.new }
     ensures last { result ≢ home → may_lead sets.new result card ≡ true }
+    ensures work { work.new + owed sets.new
+        ≤ work.old + owed sets.old + card_fields card_words card object (length (fields_at table.now object)) }
 {
     table.law();
     let count = table.field_count(object);
     let (start, end) = fields_in(card_words, card, object, count);
     let mut last = before;
     let mut next = start;
-    'fields: while let Some(link) = next_link(table, object, next, end) {
-        last = scan_field(table, sets, card, object, link.0, link.1, home, last);
+    // Each turn begins with a call that ticks.
+    'fields: while let Some(link) = next_link_counted(table, object, next, end, work) {
+        last = scan_field(table, sets, card, object, link.0, link.1, home, last, work);
         next = link.0 + 1;
     }
     last
@@ -149,6 +158,7 @@ fn scan_tile(
     shape: Shape,
     home: u32,
     before: u32,
+    work: &mut Work,
 ) -> u32
     requires stands { CanScan table.now tams.now marks.now card_words sets.old }
     requires card { card < card_count sets.old }
@@ -159,9 +169,11 @@ fn scan_tile(
     ensures covered { IsObjectCovered table.now.words_per_region (kept_in table.now tams.now marks.now) card_words card
         (may_lead sets.new) at }
     ensures last { result ≢ home → may_lead sets.new result card ≡ true }
+    ensures work { work.new + owed sets.new
+        ≤ work.old + owed sets.old + card_fields card_words card at (length (fields_at table.now at)) }
 {
     if is_kept(table, tams, marks, at, shape) {
-        return scan_object(table, sets, card_words, card, at, home, before);
+        return scan_object(table, sets, card_words, card, at, home, before, work);
     }
     before
 }
@@ -179,6 +191,7 @@ fn scan_apart(
     at: Addr,
     home: u32,
     before: u32,
+    work: &mut Work,
 ) -> u32
     requires stands { CanScan table.now tams.now marks.now card_words sets.old }
     requires card { card < card_count sets.old }
@@ -189,10 +202,12 @@ fn scan_apart(
     ensures covered { IsObjectCovered table.now.words_per_region (kept_in table.now tams.now marks.now) card_words card
         (may_lead sets.new) at }
     ensures last { result ≢ home → may_lead sets.new result card ≡ true }
+    ensures work { work.new + owed sets.new
+        ≤ work.old + owed sets.old + card_fields card_words card at (length (fields_at table.now at)) }
 {
     let shape = table.tile(at);
     scan_tile(
-        table, tams, marks, sets, card_words, card, at, shape, home, before,
+        table, tams, marks, sets, card_words, card, at, shape, home, before, work,
     )
 }
 
@@ -210,6 +225,7 @@ fn scan_small(
     shape: Shape,
     home: u32,
     before: u32,
+    work: &mut Work,
 ) -> u32
     requires stands { CanScan table.now tams.now marks.now card_words sets.old }
     requires card { card < card_count sets.old }
@@ -220,13 +236,17 @@ fn scan_small(
     ensures covered { IsObjectCovered table.now.words_per_region (kept_in table.now tams.now marks.now) card_words card
         (may_lead sets.new) at }
     ensures last { result ≢ home → may_lead sets.new result card ≡ true }
+    ensures work { work.new + owed sets.new
+        ≤ work.old + owed sets.old + 2 * card_fields card_words card at (length (fields_at table.now at)) }
 {
     table.law();
     match shape {
         Shape::Object { .. } => {
             let (start, end) = fields_in(card_words, card, at, table.field_count(at));
-            if leads_elsewhere(table, at, start, end, home, before) {
-                return scan_apart(table, tams, marks, sets, card_words, card, at, home, before);
+            if leads_elsewhere(table, at, start, end, home, before, work) {
+                return scan_apart(
+                    table, tams, marks, sets, card_words, card, at, home, before, work,
+                );
             }
             before
         }
@@ -245,6 +265,7 @@ fn scan_walk(
     card_words: u32,
     card: Card,
     first: Addr,
+    work: &mut Work,
 ) -> u32
     requires stands { CanScan table.now tams.now marks.now card_words sets.old }
     requires card { card < card_count sets.old }
@@ -252,6 +273,7 @@ fn scan_walk(
     ensures looked { result ≤ card_words }
     ensures adds { AddsCard table.now.words_per_region (kept_in table.now tams.now marks.now) card_words card sets.old sets.new }
     ensures covered { AreObjectsCovered table.now (kept_in table.now tams.now marks.now) card_words card (may_lead sets.new) first }
+    ensures work { work.new + owed sets.new ≤ work.old + owed sets.old + scan_turns card_words }
 {
     table.law();
     let from = card.number() * card_words;
@@ -260,12 +282,13 @@ fn scan_walk(
     let mut looked = 0;
     let mut last = home;
     for (at, shape) in table.walk_from(first) {
+        work.tick();
         if at.word() >= end {
             return looked;
         }
         looked += 1;
         last = scan_small(
-            table, tams, marks, sets, card_words, card, at, shape, home, last,
+            table, tams, marks, sets, card_words, card, at, shape, home, last, work,
         );
         if at.word() + shape.size() >= end {
             return looked;
@@ -283,6 +306,7 @@ fn scan_tiles(
     card_words: u32,
     card: Card,
     first: Addr,
+    work: &mut Work,
 ) -> u32
     requires stands { CanScan table.now tams.now marks.now card_words sets.old }
     requires card { card < card_count sets.old }
@@ -290,16 +314,17 @@ fn scan_tiles(
     ensures looked { result ≤ card_words }
     ensures adds { AddsCard table.now.words_per_region (kept_in table.now tams.now marks.now) card_words card sets.old sets.new }
     ensures covered { AreObjectsCovered table.now (kept_in table.now tams.now marks.now) card_words card (may_lead sets.new) first }
+    ensures work { work.new + owed sets.new ≤ work.old + owed sets.old + scan_turns card_words }
 {
     table.law();
     let from = card.number() * card_words;
     let shape = table.tile(first);
     if first.word() + shape.size() < from + card_words {
-        return scan_walk(table, tams, marks, sets, card_words, card, first);
+        return scan_walk(table, tams, marks, sets, card_words, card, first, work);
     }
     let home = table.region_of(Addr::new(from)).number();
     scan_tile(
-        table, tams, marks, sets, card_words, card, first, shape, home, home,
+        table, tams, marks, sets, card_words, card, first, shape, home, home, work,
     );
     1
 }
@@ -326,10 +351,38 @@ pub fn scan_card(
     ensures stands { CanScan table.now tams.now marks.now card_words sets.new }
     ensures count { card_count sets.new ≡ card_count sets.old }
 {
+    scan_card_counted(table, tams, marks, sets, card_words, card, &mut Work::new())
+}
+
+/// The same, for one who counts. Whatever the heap's size, it takes at most a turn for each word of the region below the card, as the
+/// search for the first tile, two for each word of the card, two more, and what the sets owe less afterwards.
+#[inline(always)]
+pub fn scan_card_counted(
+    table: &RegionTable,
+    tams: &Tams,
+    marks: &Marks,
+    sets: &mut RememberedSets,
+    card_words: u32,
+    card: Card,
+    work: &mut Work,
+) -> u32
+    requires stands { CanScan table.now tams.now marks.now card_words sets.old }
+    requires card { card < card_count sets.old }
+    ensures looked { result ≤ card_words }
+    ensures covered { IsCovered table.now.words_per_region (kept_in table.now tams.now marks.now) card_words card (may_lead sets.new) }
+    ensures adds { AddsCard table.now.words_per_region (kept_in table.now tams.now marks.now) card_words card sets.old sets.new }
+    ensures gains { Gains table.now.words_per_region (kept_in table.now tams.now marks.now) card_words sets.old.cards_per_region card
+        (covers sets.old) (covers sets.new) }
+    ensures leads { (region c : ℕ) → may_lead sets.old region c ≡ true → may_lead sets.new region c ≡ true }
+    ensures stands { CanScan table.now tams.now marks.now card_words sets.new }
+    ensures count { card_count sets.new ≡ card_count sets.old }
+    ensures work { work.new + owed sets.new
+        ≤ work.old + owed sets.old + (card * card_words % table.now.words_per_region + 1) + scan_turns card_words }
+{
     table.law();
     let from = Addr::new(card.number() * card_words);
-    let Some(first) = table.first_tile(from) else {
+    let Some(first) = table.first_tile_counted(from, work) else {
         return 0;
     };
-    scan_tiles(table, tams, marks, sets, card_words, card, first)
+    scan_tiles(table, tams, marks, sets, card_words, card, first, work)
 }

@@ -1,5 +1,5 @@
 //! Walks over a region's tiles, the tile behind another one, and the tile that holds a word.
-ghost use Rattle.std.specs.Prelude.{◌≡◌, ◌≢◌, ◌↔◌, ◌*◌, ◌/◌, ◌%◌, ◌<◌, ◌≤◌, ℕ, length, IsSome, IfSome, IfNone};
+ghost use Rattle.std.specs.Prelude.{◌≡◌, ◌≢◌, ◌↔◌, ◌+◌, ◌*◌, ◌/◌, ◌%◌, ◌<◌, ◌≤◌, ℕ, length, IsSome, IfSome, IfNone};
 ghost use Rattle.std.specs.Iterator.{YieldsFirst, item_count};
 ghost use Rattle.regions.specs.Tiles.{total_size};
 ghost use Rattle.regions.specs.Table.{kind_of, object_at, tile_in, top_of};
@@ -11,6 +11,7 @@ use crate::row::{Kind, Shape};
 use crate::table::{RegionTable, shape_at, size_at};
 use heap_words::addr::{Addr, RegionNo};
 use std::marker::Model;
+use work_counter::Work;
 
 /// The tiles of a region in order, each with its address. Clauses see the list of those that are left.
 #[derive(Drop)]
@@ -143,6 +144,18 @@ impl RegionTable {
         ensures found { IsSome result ↔ (word < top_of self.now (word / self.now.words_per_region)) }
         ensures holder { IfSome result (λ a. IsHolder self.now a word) }
     {
+        self.first_tile_counted(word, &mut Work::new())
+    }
+
+    /// The same, for one who counts: a turn for each tile that it looks at after the first. No promise says that these are few, so they are
+    /// at most the words of the region below the word, and one more.
+    #[inline(always)]
+    pub fn first_tile_counted(&self, word: Addr, work: &mut Work) -> Option<Addr>
+        requires { word < length self.now.regions * self.now.words_per_region }
+        ensures found { IsSome result ↔ (word < top_of self.now (word / self.now.words_per_region)) }
+        ensures holder { IfSome result (λ a. IsHolder self.now a word) }
+        ensures work { work.new ≤ work.old + word % self.now.words_per_region + 1 }
+    {
         self.law();
         if self.top(self.region_of(word)).word() <= word.word() {
             return None;
@@ -152,19 +165,22 @@ impl RegionTable {
         if word.word() < start.word() + self.tile(start).size() {
             return Some(start);
         }
-        self.search_tile(start, word)
+        self.search_tile(start, word, work)
     }
 
     /// The same by a search from a tile on that leads to the word's. It isn't made part of its callers, which mostly look for a card's
     /// first word.
     #[inline(never)]
-    fn search_tile(&self, start: Addr, word: Addr) -> Option<Addr>
-        requires { (a : ℕ) × IsHolder self.now a word × LeadsTo self.now start a word }
+    fn search_tile(&self, start: Addr, word: Addr, work: &mut Work) -> Option<Addr>
+        requires leads { (a : ℕ) × IsHolder self.now a word × LeadsTo self.now start a word }
+        requires below { word < top_of self.now (word / self.now.words_per_region) }
         ensures found { IsSome result ↔ (word < top_of self.now (word / self.now.words_per_region)) }
         ensures holder { IfSome result (λ a. IsHolder self.now a word) }
+        ensures work { work.new ≤ work.old + word % self.now.words_per_region + 1 }
     {
         self.law();
         for (at, shape) in self.walk_from(start) {
+            work.tick();
             if word.word() < at.word() + shape.size() {
                 return Some(at);
             }

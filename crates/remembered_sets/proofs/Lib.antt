@@ -3,6 +3,7 @@ pub mod Covered
 pub mod Laws
 pub mod Sharing
 pub mod Parts
+pub mod Owed
 pub mod Kept
 pub mod Reading
 pub mod Flagging

@@ -39,7 +39,8 @@ few_of : (rows w n : ℕ) → 0 < w → 3 * rows * w < n → 3 * rows < n
 few_of rows zero n some h = absurd (omega arith)
 few_of rows (suc k) n some h = omega arith
 
-unused_has : (used flags : List Bool) (size part place : ℕ) → has used part ≡ false → has (part_flags used flags size part) place ≡ false
+pub unused_has : (used flags : List Bool) (size part place : ℕ) → has used part ≡ false
+    → has (part_flags used flags size part) place ≡ false
 unused_has used flags size part place unused = elim (cases_lt place size) [
   | inl h ↦ taken-part used flags size part place h ∙ ap (λ (b : Bool). b && has flags (part * size + place)) unused
   | inr past ↦ get_or_past (part_flags used flags size part) place false (omega (arith, past, length-part used flags size part))

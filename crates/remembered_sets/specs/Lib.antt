@@ -1,3 +1,4 @@
 pub mod Sets
+pub mod Owed
 pub mod Sharing
 pub mod Inside

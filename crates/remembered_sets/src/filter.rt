@@ -27,12 +27,14 @@ ghost use Rattle.bit_sets.specs.Bits.{has, is_between};
 ghost use Rattle.remembered_sets.specs.Sets.{IsFilter, empty_filter, emptied_filter, filter_with, lets_through, taking};
 ghost use Rattle.remembered_sets.specs.Sets.{first_row, second_row, place_in};
 ghost use Rattle.remembered_sets.specs.Sharing.{filter_at, filter_of, is_taken};
+ghost use Rattle.remembered_sets.specs.Owed.{owed_by};
 
 use bit_sets::bits::Bits;
 use bit_sets::bounded::BoundedBits;
 use heap_words::addr::Card;
 use std::alloc::{AllocError, Global};
 use std::marker::Model;
+use work_counter::Work;
 
 /// How many neighbouring regions' filters share a table.
 pub(crate) const SHARERS: u32 = 4;
@@ -116,15 +118,17 @@ fn places(rows: u32, card: Card, source: u32, cards_per_region: u32) -> (u32, u3
     )
 }
 
-/// None of the flags of one of the four is set.
+/// None of the flags of one of the four is set. That is a turn for each word of them.
 #[cold]
 #[inline(never)]
-fn clear_part(flags: &mut Bits, size: u32, part: u32)
+fn clear_part(flags: &mut Bits, size: u32, part: u32, work: &mut Work)
     requires part { part < 4 }
     requires size { length flags.old ≡ 4 * size }
     ensures len { length flags.new ≡ length flags.old }
     ensures flags { (a : ℕ) → has flags.new a ≡ (if is_between (part * size) (part * size + size) a then false else has flags.old a) }
+    ensures work { work.new ≡ work.old + size / 64 }
 {
+    work.tick_each(size / 64);
     flags.law();
     let from = part * size;
     flags.clear_range(from, from + size);
@@ -132,18 +136,19 @@ fn clear_part(flags: &mut Bits, size: u32, part: u32)
 
 /// The flags of one of the four count from now on. Where they didn't before, none of them is set then.
 #[inline(always)]
-fn begin(flags: &mut Bits, used: &mut [bool; 4], size: u32, part: u32)
+fn begin(flags: &mut Bits, used: &mut [bool; 4], size: u32, part: u32, work: &mut Work)
     requires part { part < 4 }
     requires size { length flags.old ≡ 4 * size }
     ensures used { used.new ≡ slice_set used.old part true }
     ensures len { length flags.new ≡ length flags.old }
     ensures same { (other place : ℕ) → place < size
         → is_taken used.new flags.new size other place ≡ is_taken used.old flags.old size other place }
+    ensures work { work.new ≡ work.old + (if has used.old part then 0 else size / 64) }
 {
     if used[part as usize] {
         return;
     }
-    clear_part(flags, size, part);
+    clear_part(flags, size, part, work);
     used[part as usize] = true;
 }
 
@@ -174,6 +179,7 @@ pub(crate) fn add_to_filter(
     card: Card,
     source: u32,
     cards_per_region: u32,
+    work: &mut Work,
 )
     requires known { region / 4 < length filters.old.items }
     requires some_cards { 0 < cards_per_region }
@@ -183,10 +189,11 @@ pub(crate) fn add_to_filter(
     ensures own { filter_of filters.new.items region ≡ filter_with (filter_of filters.old.items region) cards_per_region card }
     ensures others { (other : ℕ) → other ≢ region → filter_of filters.new.items other ≡ filter_of filters.old.items other }
     ensures len { length filters.new.items ≡ length filters.old.items }
+    ensures work { work.new ≤ work.old + owed_by (filter_of filters.old.items region) }
 {
     if have_rows {
         let filter = &mut filters[(region / SHARERS) as usize];
-        filter.add(region % SHARERS, card, source, cards_per_region);
+        filter.add(region % SHARERS, card, source, cards_per_region, work);
     }
 }
 
@@ -254,32 +261,48 @@ impl Filter {
 
     /// One of the four lets a card of the region `source` through from now on. Where it has no rows this is a test alone.
     #[inline(always)]
-    pub(crate) fn add(&mut self, part: u32, card: Card, source: u32, cards_per_region: u32)
+    pub(crate) fn add(
+        &mut self,
+        part: u32,
+        card: Card,
+        source: u32,
+        cards_per_region: u32,
+        work: &mut Work,
+    )
         requires part { part < 4 }
         requires some_cards { 0 < cards_per_region }
         requires stands { IsFilter cards_per_region (filter_at self.old part) }
         requires source { card / cards_per_region ≡ source }
         ensures added { self.new ≡ slice_set self.old part (filter_with (filter_at self.old part) cards_per_region card) }
         ensures four { length self.old ≡ 4 }
+        ensures work { work.new ≤ work.old + owed_by (filter_at self.old part) }
     {
         if self.rows == 0 {
             return;
         }
-        self.take_places(part, card, source, cards_per_region);
+        self.take_places(part, card, source, cards_per_region, work);
     }
 
     /// The same where there are rows: the card's places in both its rows are taken.
     #[inline(never)]
-    fn take_places(&mut self, part: u32, card: Card, source: u32, cards_per_region: u32)
+    fn take_places(
+        &mut self,
+        part: u32,
+        card: Card,
+        source: u32,
+        cards_per_region: u32,
+        work: &mut Work,
+    )
         requires part { part < 4 }
         requires some_cards { 0 < cards_per_region }
         requires some_rows { 0 < (filter_at self.old part).rows }
         requires stands { IsFilter cards_per_region (filter_at self.old part) }
         requires source { card / cards_per_region ≡ source }
-        ensures { self.new ≡ slice_set self.old part (taking (filter_at self.old part) cards_per_region card) }
+        ensures taken { self.new ≡ slice_set self.old part (taking (filter_at self.old part) cards_per_region card) }
+        ensures work { work.new ≤ work.old + owed_by (filter_at self.old part) }
     {
         self.flags.law();
-        begin(&mut self.flags, &mut self.used, self.size, part);
+        begin(&mut self.flags, &mut self.used, self.size, part, work);
         let (first, second) = places(self.rows, card, source, cards_per_region);
         let from = part * self.size;
         self.flags.set(from + first);

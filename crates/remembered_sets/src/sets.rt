@@ -22,6 +22,7 @@ ghost use Rattle.bit_sets.specs.Bits.{has, is_between};
 ghost use Rattle.remembered_sets.specs.Sets.{added, after_all, card_count, cleared, covers, empty_sets, may_lead, set_of};
 ghost use Rattle.remembered_sets.specs.Sets.{emptied, emptied_filter, no_set, Change, AreSets, LeavesSet, Sets};
 ghost use Rattle.remembered_sets.specs.Sharing.{filter_of};
+ghost use Rattle.remembered_sets.specs.Owed.{owed};
 
 use crate::filter::{Filter, SHARERS, add_to_filter, clear_filter, new_filters};
 use crate::set::RememberedSet;
@@ -31,6 +32,7 @@ use heap_words::addr::{Card, RegionNo};
 use heap_words::powers::quotient;
 use std::alloc::{AllocError, Global};
 use std::marker::Model;
+use work_counter::Work;
 
 /// A remembered set for each region, and the cards that entered one. Clauses see the list of the sets, each with its filter, how many
 /// cards a region has, and a flag for each card.
@@ -189,6 +191,21 @@ impl RememberedSets {
         ensures covered { covers self.new region card ≡ true }
         ensures leads { may_lead self.new region card ≡ true }
     {
+        self.add_counted(source, region, card, &mut Work::new());
+    }
+
+    /// The same, for one who counts: a turn for each word of the set's filter that it clears first. So many turns the sets owe less then.
+    /// The look at the set's own cards, sixteen at most, isn't counted.
+    #[inline(always)]
+    pub fn add_counted(&mut self, source: RegionNo, region: RegionNo, card: Card, work: &mut Work)
+        requires source { card / self.old.cards_per_region ≡ source }
+        requires region { region < length self.old.sets }
+        requires card { card < card_count self.old }
+        ensures after { self.new ≡ added self.old region card }
+        ensures covered { covers self.new region card ≡ true }
+        ensures leads { may_lead self.new region card ≡ true }
+        ensures work { work.new + owed self.new ≤ work.old + owed self.old }
+    {
         self.entered.set(card.number());
         let number = region.number();
         add_to_filter(
@@ -198,6 +215,7 @@ impl RememberedSets {
             card,
             source.number(),
             self.cards_per_region,
+            work,
         );
         let set = &mut self.sets[number as usize];
         set.add(card, source.number());

@@ -1,13 +1,15 @@
 -- The search for the tile that holds a word.
-use Rattle.regions.proofs.Common.{max_words, ◌≡◌, ℕ, ◌+◌, ◌-◌, ◌*◌, ◌/◌, ◌<◌, ◌≤◌, min, Some, List, [], ◌∷◌, inl, inr, refl, sym, ap, ◌∙◌}
+use Rattle.regions.proofs.Common.{max_words, ◌≡◌, ℕ, zero, suc, ◌+◌, ◌-◌, ◌*◌, ◌/◌, ◌%◌, ◌<◌, ◌≤◌, min, Some}
+use Rattle.regions.proofs.Common.{List, [], ◌∷◌, inl, inr, refl, sym, ap, ◌∙◌}
 use Rattle.regions.proofs.Common.{arith, cases_lt, mul-le, Addr, Tile, Object, tile_size, total_size, Table, Region, Free, Ordinary, First}
 use Rattle.regions.proofs.Common.{Rest, nth_region, region_kind, region_used, kind_of, used_of, top_of, tile_in, tile_shape, size_of_shape}
-use Rattle.regions.proofs.Common.{tiles_of, placed, walk_rest, IsCut, IsHolder, IsRunStart, IsShaped, IsLater, Shape}
+use Rattle.regions.proofs.Common.{length, tiles_from, tiles_of, placed, walk_rest, IsCut, IsHolder, IsRunStart, IsShaped, IsLater, Shape}
 use Rattle.regions.specs.declared.row.Kind.TheVariants as kinds
 use Rattle.regions.proofs.Walks.WalkLaws.{cut_none, cut_step}
 use Rattle.regions.proofs.Walks.WalkMade.{cut_tile, shape_size_is, positive_at}
 use Rattle.regions.proofs.Walks.WalkFrom.{listed_tile}
 use Rattle.regions.proofs.Tiles.ShapedMade.{kind_at, tiles_at}
+use Rattle.regions.proofs.Words.Divides.{div_is}
 
 -- the search in region k, up to an offset
 pub record IsSearch (t : Table) (k word : ℕ) (left : List (Addr × Shape)) : Type 0 where
@@ -32,6 +34,7 @@ pub record IsNextTile (t : Table) (k o : ℕ) (x : Addr) (shape : Shape) (rest :
   pub rest_is : rest ≡ walk_rest t k (o + tile_size tile)
   pub cut : IsCut (o + tile_size tile) (tiles_of t k)
   pub within : o + tile_size tile ≤ total_size (tiles_of t k)
+  pub positive : 0 < tile_size tile
 
 pub search_step : (t : Table) (k word : ℕ) (left rest : List (Addr × Shape)) (x : Addr) (shape : Shape) → IsShaped t
     → (s : IsSearch t k word left) → left ≡ (x, shape) ∷ rest → IsNextTile t k s.offset x shape rest
@@ -58,6 +61,7 @@ search_step t k word left rest x shape g s e =
             rest_is = cc;
             cut = step.cut;
             within = step.within;
+            positive = pos;
           }
       | inr le ↦
           let fitting = g.fitting k in
@@ -83,6 +87,85 @@ search_next t k word left rest x shape g s e l =
       within = n.within;
       low = omega (arith, n.at_is, n.size_is);
     }
+
+-- ---- how many turns the search takes
+length_placed : (a : ℕ) (ts : List Tile) → length (placed a ts) ≡ length ts
+length_placed a [] = refl
+length_placed a (u ∷ us) = let i = length_placed (a + tile_size u) us in omega arith
+
+fewer : (o a : ℕ) (ts : List Tile) → length (placed a (tiles_from o ts)) ≤ length ts
+fewer zero a ts = omega (arith, length_placed a ts)
+fewer (suc o) a [] = omega arith
+fewer (suc o) a (u ∷ us) = let i = fewer (suc o - tile_size u) a us in omega arith
+
+-- it took a turn for each tile that it passed, of which each has words, and all are of one region
+pub record IsCounted (t : Table) (word : ℕ) (left : List (Addr × Shape)) (before now : ℕ) : Type 0 where
+  pub searching : IsSearching t word left
+  pub passed : now ≤ before + searching.search.offset
+  pub tiles : now + length left ≤ before + length (tiles_of t searching.first)
+
+pub counted_first : (t : Table) (word before : ℕ) (left : List (Addr × Shape)) → IsSearching t word left
+    → IsCounted t word left before before
+counted_first t word before left s =
+    let all = fewer s.search.offset (s.first * t.words_per_region + s.search.offset) (tiles_of t s.first) in
+    let is = ap (λ (l : List (Addr × Shape)). length l) s.search.left_is in
+    record { searching = s; passed = omega arith; tiles = omega (arith, all, is) }
+
+module _ (t : Table) (word before now : ℕ) (left rest : List (Addr × Shape)) (x : Addr) (shape : Shape) (g : IsShaped t)
+    (c : IsCounted t word left before now) (e : left ≡ (x, shape) ∷ rest) where
+  abbrev k : ℕ
+  k = c.searching.first
+
+  taken : length left ≡ suc (length rest)
+  taken = ap (λ (l : List (Addr × Shape)). length l) e
+
+  pub counted_next : x + size_of_shape shape ≤ word → IsCounted t word rest before (now + 1)
+  counted_next l =
+      let s = c.searching.search in
+      let n = search_step t k word left rest x shape g s e in
+      record {
+        searching = record {
+          first = k;
+          start = c.searching.start;
+          search = record {
+            offset = s.offset + tile_size n.tile;
+            left_is = n.rest_is;
+            cut = n.cut;
+            within = n.within;
+            low = omega (arith, n.at_is, n.size_is);
+          };
+        };
+        passed = omega (arith, c.passed, n.positive);
+        tiles = omega (arith, c.tiles, taken);
+      }
+
+  -- where it ends at the tile of the word, those passed are below the word, or the region has one tile
+  pub counted_found : word < x + size_of_shape shape → now + 1 ≤ before + word % t.words_per_region + 1
+  counted_found l = go (nth_region t k) refl
+    where
+      size : ℕ
+      size = t.words_per_region
+
+      go : (r : Region) → nth_region t k ≡ r → now + 1 ≤ before + word % size + 1
+      go Free f =
+          let none : length (tiles_of t k) ≡ 0 = ap (λ (l : List Tile). length l) (tiles_at t k Free f) in
+          omega (arith, none, c.tiles, taken)
+      go (Rest m) f =
+          let none : length (tiles_of t k) ≡ 0 = ap (λ (l : List Tile). length l) (tiles_at t k (Rest m) f) in
+          omega (arith, none, c.tiles, taken)
+      go (First o) f =
+          let one : length (tiles_of t k) ≡ 1 = ap (λ (l : List Tile). length l) (tiles_at t k (First o) f) in
+          omega (arith, one, c.tiles, taken)
+      go (Ordinary ts) f =
+          let s = c.searching.search in
+          let n = search_step t k word left rest x shape g s e in
+          let z = g.positive in
+          let fits = (g.fitting k).fits (kind_at t k (Ordinary ts) f) in
+          let low = s.low in
+          let same : word / size ≡ k = div_is word size k (omega arith) (omega (arith, n.at_is, n.size_is, n.within, fits)) in
+          let whole : word / size * size + word % size ≡ word = omega arith in
+          let there : word / size * size ≡ k * size = ap (λ (m : ℕ). m * size) same in
+          omega (arith, c.passed, low, whole, there)
 
 -- words of a region: those below its top are those below the end of its run's tiles
 reach : (t : Table) (k first w : ℕ) → IsShaped t → IsRunStart t k first → k * t.words_per_region ≤ w

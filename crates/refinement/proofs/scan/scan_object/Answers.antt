@@ -19,8 +19,8 @@ fields_in-start-requires-clause-card c =
     let e = card_end c.args.table.now c.args.card_words c.args.card c.args.sets.now c.requires.fit c.requires.card in
     omega (arith, e, c.law.ensures.in_all)
 
-pub next_link-requires : goal.next_link-requires
-next_link-requires c = omega (arith, c.fields_in-start.ensures.end, c.field_count-count.ensures)
+pub next_link_counted-requires : goal.next_link_counted-requires
+next_link_counted-requires c = omega (arith, c.fields_in-start.ensures.end, c.field_count-count.ensures)
 
 pub fields-init : goal.fields-init
 fields-init c =
@@ -36,6 +36,8 @@ fields-init c =
           c.fields_in-start.result.0 (c.args.card * c.args.card_words + c.args.card_words - (c.args.object + 2))
           c.fields_in-start.result.1 z refl refl c.fields_in-start.ensures.start refl c.fields_in-start.ensures.end;
       low = omega arith;
+      high = omega arith;
+      spent = omega arith;
     }
 
 pub scan_field-last-requires-clause-regions : goal.scan_field-last-requires-clause-regions
@@ -93,6 +95,8 @@ fields-preserved c =
       last = c.scan_field-last.ensures.last;
       lie = c.fields.invariant.lie;
       low = omega (arith, low);
+      high = omega (arith, found.high);
+      spent = omega (arith, c.fields.invariant.spent, found.low, found.work, c.scan_field-last.ensures.work);
     }
 
 pub returns-clause-scanned : goal.returns-clause-scanned
@@ -107,3 +111,17 @@ returns-clause-scanned c = λ kept same.
 
 pub returns-clause-last : goal.returns-clause-last
 returns-clause-last c = c.fields.invariant.last
+
+pub returns-clause-work : goal.returns-clause-work
+returns-clause-work c =
+    let v = c.fields.invariant in
+    omega (
+      arith,
+      v.spent,
+      v.low,
+      v.high,
+      c.in_default.ensures.work,
+      c.fields_in-start.ensures.start,
+      c.fields_in-start.ensures.end,
+      c.field_count-count.ensures,
+    )

@@ -41,7 +41,7 @@ returns-else-leads_elsewhere-clause-covered c =
     covered_near t (kept_in t c.args.tams.now c.args.marks.now) c.args.card_words c.args.card c.args.at c.field_count.result
     c.fields_in-start.result.0 c.fields_in-start.result.1 c.args.home c.args.before (may_lead c.args.sets.now)
     (kept_object t c.args.tams.now c.args.marks.now) lie c.field_count.ensures
-    (c.leads_elsewhere.ensures c.if-leads_elsewhere.false)
+    (c.leads_elsewhere.ensures.near c.if-leads_elsewhere.false)
     (λ w e. sym (region_of_card t.words_per_region c.args.card_words c.args.sets.now.cards_per_region w c.law.ensures.positive
     fit.whole_cards) ∙ ap (λ (n : ℕ). n / c.args.sets.now.cards_per_region) e ∙ c.requires.home)
     c.requires.last
@@ -59,4 +59,20 @@ returns-in-Filler c =
       covered = covered_dead t.words_per_region kept c.args.card_words c.args.card c.args.at (may_lead c.args.sets.now)
           (no_kept t c.args.tams.now c.args.marks.now c.args.at none);
       last = c.requires.last;
+      work = omega arith;
     }
+
+pub returns-then-leads_elsewhere-clause-work : goal.returns-then-leads_elsewhere-clause-work
+returns-then-leads_elsewhere-clause-work c =
+    omega (
+      arith,
+      c.leads_elsewhere.ensures.work,
+      c.scan_apart.ensures.work,
+      c.fields_in-start.ensures.start,
+      c.fields_in-start.ensures.end,
+      c.field_count.ensures,
+    )
+
+pub returns-else-leads_elsewhere-clause-work : goal.returns-else-leads_elsewhere-clause-work
+returns-else-leads_elsewhere-clause-work c =
+    omega (arith, c.leads_elsewhere.ensures.work, c.fields_in-start.ensures.start, c.fields_in-start.ensures.end, c.field_count.ensures)

@@ -16,7 +16,7 @@ returns-then-is_kept c =
     let kept = kept_in c.args.table.now c.args.tams.now c.args.marks.now in
     let scanned = c.scan_object.ensures.scanned kept (same_object c.args.table.now kept c.args.at
     (kept_object c.args.table.now c.args.tams.now c.args.marks.now) (c.is_kept.ensures.0 c.if-is_kept.true)) in
-    record { adds = scanned.adds; covered = scanned.covered; last = search rules }
+    record { adds = scanned.adds; covered = scanned.covered; last = search rules; work = c.scan_object.ensures.work }
 
 pub returns-clause-adds : goal.returns-clause-adds
 returns-clause-adds c =

@@ -31,3 +31,6 @@ returns-clause-covered c =
     c.args.card_words c.args.card c.args.first (may_lead c.scan_tile.new.sets) c.tile-shape.result c.size.result z
     (record { tile = h.tile; tile_is = h.tile_is; shape_is = shape_is }) h.low c.scan_tile.ensures.covered c.size.ensures
     (omega (arith, from, c.word.ensures, c.if-word-size.false))
+
+pub returns-clause-work : goal.returns-clause-work
+returns-clause-work c = omega (arith, c.scan_tile.ensures.work)

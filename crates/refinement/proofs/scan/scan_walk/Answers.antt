@@ -8,6 +8,7 @@ use Rattle.refinement.proofs.Entered.{adds_none, adds_more, adds_lead, adds_sets
 use Rattle.refinement.proofs.Fields.{adds_fit, card_end, region_of_first}
 use Rattle.refinement.proofs.Holders.{kept_object}
 use Rattle.refinement.proofs.Scanned.{tile_words, turn_over, turn_first, turn_last, turn_next, turn_past, turn_placed}
+use Rattle.refinement.proofs.Turns.{fields_fit, spent_first, spent_last, spent_next, spent_past, spent_end}
 use Rattle.refinement.proofs.scan.scan_walk.Goals as goal
 
 pub overflow_mul-from : goal.overflow_mul-from
@@ -35,6 +36,8 @@ loop-at-init c =
           (kept_object c.args.table.now c.args.tams.now c.args.marks.now)
           c.args.card_words c.args.card c.args.first (may_lead c.args.sets.now) c.into_iter-at-iterator.result h.tile h.tile_is walk;
       count = count_first c.args.table.now c.args.card_words c.args.card c.args.first c.into_iter-at-iterator.result c.law.ensures z h walk;
+      spent = spent_first c.args.table.now c.args.card_words c.args.card c.args.first _ c.into_iter-at-iterator.result c.law.ensures z h
+          walk;
       last = λ differs. absurd (differs refl);
     }
 
@@ -126,6 +129,12 @@ loop-at-preserved c =
     let fit =
     (adds_fit c.args.table.now kept c.args.card_words c.args.card c.args.sets.now c.loop-at.sets c.requires.stands.fit p.adds).0 in
     let inside = subst (λ (n : ℕ). LeadsInside words n kept) (sym fit.each_region) c.requires.stands.inside in
+    let from : c.number.result * c.args.card_words ≡ c.args.card * c.args.card_words =
+    ap (λ (n : ℕ). n * c.args.card_words) c.number.ensures in
+    let tile = turn_placed c.args.table.now c.law.ensures (kept_in c.args.table.now c.args.tams.now c.args.marks.now)
+    (kept_object c.args.table.now c.args.tams.now c.args.marks.now)
+    c.args.card_words c.args.card c.args.first (may_lead c.loop-at.sets) c.loop-at.at-iterator c.next.new.self c.in-Some.at c.in-Some.shape
+    c.loop-at.invariant.turn c.in-Some.ensures.steps in
     record {
       adds = adds_more words kept c.args.card_words c.args.card c.args.sets.now c.loop-at.sets c.scan_small-last.new.sets p.adds
           c.scan_small-last.ensures.adds;
@@ -136,6 +145,10 @@ loop-at-preserved c =
           c.scan_small-last.ensures.adds) c.scan_small-last.ensures.covered;
       count = count_next c.args.card_words c.args.card c.loop-at.looked c.in-Some.at c.in-Some.shape c.loop-at.at-iterator c.next.new.self
           p.count c.in-Some.ensures.steps c.word.result c.number.result c.word.ensures c.number.ensures c.if-word-end.false;
+      spent = spent_next c.args.card_words c.args.card _ _ c.in-Some.at _ c.in-Some.shape c.loop-at.at-iterator c.next.new.self p.spent
+          c.in-Some.ensures.steps (omega (arith, from, c.word.ensures, c.if-word-end.false)) (fields_fit c.args.table.now c.in-Some.at
+          c.in-Some.shape tile) _ (omega (arith, c.tick.ensures, c.scan_small-last.ensures.work))
+          (omega (arith, from, c.word-in-loop-at.ensures, c.size.ensures, c.if-word-size.false));
       last = c.scan_small-last.ensures.last;
     }
 
@@ -148,3 +161,24 @@ returns-clause-covered c =
     (kept_object c.args.table.now c.args.tams.now c.args.marks.now)
     c.args.card_words c.args.card c.args.first (may_lead c.loop-at.sets) c.loop-at.at-iterator
     c.loop-at.invariant.turn c.in-None.ensures.steps.0
+
+pub returns-then-word-end-clause-work : goal.returns-then-word-end-clause-work
+returns-then-word-end-clause-work c =
+    let spent = spent_past c.args.card_words c.args.card _ _ c.loop-at.at-iterator c.loop-at.invariant.spent in
+    omega (arith, spent, c.tick.ensures)
+
+pub returns-then-word-size-clause-work : goal.returns-then-word-size-clause-work
+returns-then-word-size-clause-work c =
+    let from : c.number.result * c.args.card_words ≡ c.args.card * c.args.card_words =
+    ap (λ (n : ℕ). n * c.args.card_words) c.number.ensures in
+    let tile = turn_placed c.args.table.now c.law.ensures (kept_in c.args.table.now c.args.tams.now c.args.marks.now)
+    (kept_object c.args.table.now c.args.tams.now c.args.marks.now)
+    c.args.card_words c.args.card c.args.first (may_lead c.loop-at.sets) c.loop-at.at-iterator c.next.new.self c.in-Some.at c.in-Some.shape
+    c.loop-at.invariant.turn c.in-Some.ensures.steps in
+    spent_last c.args.card_words c.args.card _ _ c.in-Some.at _ c.in-Some.shape c.loop-at.at-iterator c.next.new.self
+    c.loop-at.invariant.spent c.in-Some.ensures.steps (omega (arith, from, c.word.ensures, c.if-word-end.false))
+    (fields_fit c.args.table.now c.in-Some.at c.in-Some.shape tile) _
+    (omega (arith, c.tick.ensures, c.scan_small-last.ensures.work))
+
+pub returns-clause-work : goal.returns-clause-work
+returns-clause-work c = spent_end c.args.card_words c.args.card _ _ c.loop-at.at-iterator c.loop-at.invariant.spent

@@ -2,6 +2,7 @@ use Rattle.std.proofs.Common.{◌+◌, ◌*◌, ◌^◌, ◌∙◌, ap, ap₂, a
 use Rattle.remembered_sets.specs.Sets.{CardFilter}
 use Rattle.remembered_sets.specs.Sharing.{four_filters}
 use Rattle.remembered_sets.proofs.Parts.{part_at, few_flags, has_rows, in_table, taking_is}
+use Rattle.remembered_sets.proofs.Owed.{owes_turns}
 use Rattle.remembered_sets.proofs.Sharing.{two_taken}
 use Rattle.remembered_sets.proofs.filter.Filter.take_places.Goals as goal
 
@@ -40,8 +41,8 @@ set-requires-2 c =
       length-set c.begin.new.flags (c.args.part * c.self.inside.size + c.places-first.result.0) true,
     )
 
-pub returns : goal.returns
-returns c =
+pub returns-clause-taken : goal.returns-clause-taken
+returns-clause-taken c =
     let is = part_at c.self.inside _ _ _ c.self.view_is c.self.invariant c.requires.part c.requires.stands in
     ap (λ (l : List Bool). four_filters c.self.inside.rows c.begin.new.used l c.self.inside.size)
     (c.set-2.ensures
@@ -53,3 +54,7 @@ returns c =
     ∙ ap₂ (λ (l : List CardFilter) (f : CardFilter). set l c.args.part f) c.self.view_is
     (taking_is is c.args.card c.args.source c.places-first.result.0 c.places-first.result.1 c.requires.source
     c.places-first.ensures.first c.places-first.ensures.second)
+
+pub returns-clause-work : goal.returns-clause-work
+returns-clause-work c =
+    owes_turns (part_at c.self.inside _ _ _ c.self.view_is c.self.invariant c.requires.part c.requires.stands) _ _ c.begin.ensures.work

@@ -2,7 +2,7 @@ use Rattle.regions.proofs.Common.{arith, ap, ◌≡◌, ◌∙◌, tile_size, ti
 use Rattle.regions.proofs.Cards.CardStarts.{led}
 use Rattle.regions.proofs.Tiles.Steps.{tile_there}
 use Rattle.regions.proofs.Walks.WalkMade.{shape_size_is}
-use Rattle.regions.proofs.table.RegionTable.first_tile.Goals as goal
+use Rattle.regions.proofs.table.RegionTable.first_tile_counted.Goals as goal
 
 pub tile-requires : goal.tile-requires
 tile-requires c =
@@ -36,8 +36,8 @@ returns-then-word-size-clause-holder c =
       high = omega (arith, size, c.word-4.ensures, c.word-5.ensures, c.if-word-size.true);
     }
 
-pub search_tile-requires : goal.search_tile-requires
-search_tile-requires c =
+pub search_tile-requires-clause-leads : goal.search_tile-requires-clause-leads
+search_tile-requires-clause-leads c =
     let l = led _ _ _ _ _ _ _ _ _ c.args.word _ _ _ _ _ c.new-start.result c.self.invariant c.self.view_is
     (c.word.ensures ∙ c.top.ensures) c.region_of.ensures c.word-2.ensures c.if-word.false c.word-3.ensures c.card_of-card.ensures.card
     c.card_of-card.ensures.positive (c.new-start.ensures ∙ c.start.ensures) in

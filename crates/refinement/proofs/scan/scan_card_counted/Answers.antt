@@ -1,4 +1,4 @@
-use Rattle.std.proofs.Common.{◌≡◌, ◌∙◌, ◌*◌, ◌/◌, ◌≤◌, ℕ, ap, sym, subst, inl, inr, arith}
+use Rattle.std.proofs.Common.{◌≡◌, ◌∙◌, ◌*◌, ◌/◌, ◌%◌, ◌≤◌, ℕ, ap, sym, subst, inl, inr, arith}
 use Rattle.std.proofs.lemmas.Bool.{cases_lt}
 use Rattle.regions.specs.Table.{top_of}
 use Rattle.regions.specs.Walks.{IsHolder}
@@ -10,7 +10,7 @@ use Rattle.refinement.proofs.Entered.{adds_gains, adds_lead}
 use Rattle.refinement.proofs.Fields.{adds_fit, card_end}
 use Rattle.refinement.proofs.Holders.{kept_object}
 use Rattle.refinement.proofs.Scanned.{card_covered, card_empty}
-use Rattle.refinement.proofs.scan.scan_card.Goals as goal
+use Rattle.refinement.proofs.scan.scan_card_counted.Goals as goal
 
 pub overflow_mul-number : goal.overflow_mul-number
 overflow_mul-number c =
@@ -18,8 +18,8 @@ overflow_mul-number c =
     let small = c.law.ensures.in_all in
     rw c.number.ensures (omega (arith, e, small))
 
-pub first_tile-requires : goal.first_tile-requires
-first_tile-requires c =
+pub first_tile_counted-requires : goal.first_tile_counted-requires
+first_tile_counted-requires c =
     let e = card_end c.args.table.now c.args.card_words c.args.card c.args.sets.now c.requires.stands.fit c.requires.card in
     let z = card_has_words c.args.card_words c.args.table.now.words_per_region c.args.sets.now.cards_per_region
     c.law.ensures.positive c.requires.stands.fit.whole_cards in
@@ -48,6 +48,7 @@ returns c =
       leads = adds_lead words kept c.args.card_words c.args.card c.args.sets.now c.scan_tiles.new.sets inside adds;
       stands = record { fit = fit.0; each_word = can.each_word; inside = can.inside };
       count = fit.1;
+      work = omega (arith, c.in-Some.ensures.work, c.scan_tiles.ensures.work, ap (λ (n : ℕ). n % words) from);
     }
 
 pub returns-in_default-clause-covered : goal.returns-in_default-clause-covered
@@ -63,3 +64,9 @@ returns-in_default-clause-covered c =
     card_empty c.args.table.now c.law.ensures (kept_in c.args.table.now c.args.tams.now c.args.marks.now)
     (kept_object c.args.table.now c.args.tams.now c.args.marks.now)
     c.args.card_words c.args.card 0 c.args.sets.now.cards_per_region c.requires.stands.fit.whole_cards (may_lead c.args.sets.now) high
+
+pub returns-in_default-clause-work : goal.returns-in_default-clause-work
+returns-in_default-clause-work c =
+    let from : c.new-from.result ≡ c.args.card * c.args.card_words =
+    c.new-from.ensures ∙ ap (λ (n : ℕ). n * c.args.card_words) c.number.ensures in
+    omega (arith, c.in_default.ensures.work, ap (λ (n : ℕ). n % c.args.table.now.words_per_region) from)

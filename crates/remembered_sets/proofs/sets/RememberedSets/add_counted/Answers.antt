@@ -3,9 +3,12 @@ use Rattle.remembered_sets.specs.Sets.{Sets, CardSet, CardFilter, AreSets, IsFil
 use Rattle.remembered_sets.specs.Sharing.{filter_of}
 use Rattle.remembered_sets.proofs.Filters.{rows_with}
 use Rattle.remembered_sets.proofs.Kept.{none_still}
-use Rattle.remembered_sets.proofs.Reading.{added_is, all_are, filter_stands, is_set, kept_sets, known_set, known_table, put_tables, reading}
+use Rattle.remembered_sets.proofs.Owed.{owed_added}
+use Rattle.remembered_sets.specs.Owed.{owed, owed_by}
+use Rattle.remembered_sets.proofs.Reading.{added_is, all_are, filter_stands, is_set, kept_sets, known_set, known_table}
+use Rattle.remembered_sets.proofs.Reading.{put_tables, reading, set_is}
 use Rattle.remembered_sets.proofs.Laws.{covers-added, leads-added, AreSets-added, source_known}
-use Rattle.remembered_sets.proofs.sets.RememberedSets.add_from.Goals as goal
+use Rattle.remembered_sets.proofs.sets.RememberedSets.add_counted.Goals as goal
 
 pub add_to_filter-requires-clause-known : goal.add_to_filter-requires-clause-known
 add_to_filter-requires-clause-known c =
@@ -65,3 +68,12 @@ returns-clause-leads c =
     let all = subst AreSets c.self.view_is c.self.invariant.all in
     ap (λ (s : Sets). may_lead s c.args.region c.args.card) (returns-clause-after c)
     ∙ leads-added c.args.self.now c.args.region c.args.card all c.requires.region c.requires.card
+
+pub returns-clause-work : goal.returns-clause-work
+returns-clause-work c =
+    let is = reading c.self.view_is c.self.invariant c.requires.region c.number-number.ensures c.index_mut-set.ensures.value in
+    let paid = owed_added c.args.self.now c.args.region c.args.card (all_are is) c.requires.region in
+    let owes = ap (λ (i : ℕ). owed_by (filter_of c.self.inside.filters.items i)) c.number-number.ensures
+    ∙ sym (ap (λ (x : CardSet). owed_by x.filter) (set_is is)) in
+    let now = ap owed (returns-clause-after c) in
+    omega (arith, c.add_to_filter.ensures.work, paid, owes, now)

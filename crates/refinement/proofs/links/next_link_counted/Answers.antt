@@ -2,7 +2,7 @@ use Rattle.std.proofs.Common.{◌≡◌, ◌∙◌, ◌+◌, ◌<◌, ◌≤◌,
 use Rattle.std.specs.Option.{is_some}
 use Rattle.std.proofs.lemmas.Bool.{cases_lt}
 use Rattle.regions.specs.Table.{fields_at}
-use Rattle.refinement.proofs.links.next_link.Goals as goal
+use Rattle.refinement.proofs.links.next_link_counted.Goals as goal
 
 none_of : (o : Option ℕ) → is_some o ≡ false → o ≡ None
 none_of None e = refl
@@ -19,7 +19,7 @@ nil_on xs start field o nil here none i l h = elim (cases_lt i field) [
 ]
 
 pub fields-init : goal.fields-init
-fields-init c = record { low = omega arith; high = omega arith; nil = λ i l h. absurd (omega arith) }
+fields-init c = record { low = omega arith; high = omega arith; spent = omega arith; nil = λ i l h. absurd (omega arith) }
 
 pub fields-preserved : goal.fields-preserved
 fields-preserved c =
@@ -27,6 +27,7 @@ fields-preserved c =
     record {
       low = omega (arith, v.low);
       high = omega arith;
+      spent = omega (arith, v.spent, c.tick.ensures);
       nil = λ i l h. nil_on (fields_at c.args.table.now c.args.object) c.args.start c.fields.field c.get_field.result v.nil
           c.get_field.ensures (none_of c.get_field.result (cc)) i l (omega arith);
     }

@@ -1,6 +1,6 @@
-use Rattle.std.proofs.Common.{◌∙◌, arith}
+use Rattle.std.proofs.Common.{◌∙◌, arith, true}
 use Rattle.cards.proofs.Flagged.{length_flags, flag_set}
-use Rattle.cards.proofs.flags.Flags.put.Goals as goal
+use Rattle.cards.proofs.flags.Flags.set.Goals as goal
 
 pub overflow_add-card : goal.overflow_add-card
 overflow_add-card c =
@@ -16,5 +16,5 @@ clear_below-requires-clause-within c =
 pub returns : goal.returns
 returns c =
     let items = c.clear_below.new.items in
-    flag_set items.items _ c.self.inside.count c.args.card c.args.flag (omega (arith, c.clear_below.ensures.written, items.ok.0))
+    flag_set items.items _ c.self.inside.count c.args.card true (omega (arith, c.clear_below.ensures.written, items.ok.0))
     (c.clear_below.ensures.all ∙ c.self.view_is)
