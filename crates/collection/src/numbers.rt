@@ -335,8 +335,8 @@ impl Policy {
         self.left = self.look;
     }
 
-    /// Sets how fast a cycle marks: so that it ends where a fifth of the regions above the reserve is left, if marking looks at so many words
-    /// as estimated. What is left of an evacuation waits for the end of the cycle.
+    /// Sets how fast a cycle marks: so that it ends where a fifth of the regions above the reserve is left, if marking looks at as many
+    /// words as estimated. What is left of an evacuation waits for the end of the cycle.
     pub(crate) fn plan_marking(&mut self, config: &Config, free: u32, words: u64) {
         let room = u64::from(free.saturating_sub(self.kept(config)).max(1));
         let pace = 64 + words.min(u64::from(u32::MAX)) * 5 / 8 / room;
