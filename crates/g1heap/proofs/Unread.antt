@@ -52,7 +52,8 @@ unread_draw name names true every given left old new err err' status unread kept
 -- the file of another task
 pub unread_task : (name names types : List ℕ) (task : Task) (given left : Reader) (old new err err' : Writer) (status : ℕ)
     → ((followed : Bool) → task ≡ Check followed → ⊥) → FailsToGive reads.CannotRead given left → WritesNothing old new
-    → TellsEnd err err' (Err (faults.Read reads.CannotRead)) status → DoesJob names types (name, task, false) given left old new err err' status
+    → TellsEnd err err' (Err (faults.Read reads.CannotRead)) status
+    → DoesJob names types (name, task, false) given left old new err err' status
 unread_task name names types (Script order) given left old new err err' status other unread kept tells =
     record { outcome = Err (faults.Read reads.CannotRead); ends = (unread, kept); tells = tells }
 unread_task name names types (Check followed) given left old new err err' status other unread kept tells = absurd (other followed refl)

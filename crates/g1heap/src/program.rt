@@ -164,7 +164,8 @@ fn open_and_name<H: Files + Threads + Wait + Sync, I: Read, W: Write, E: Write>(
     out: &mut WatchedWriter<W>,
     err: &mut WatchedWriter<E>,
 ) -> u8
-    ensures { (types : Option (List ℕ)) → DoesNamed (Some path.now) types (asked_by job.now) input.old input.new out.old out.new err.old err.new result }
+    ensures { (types : Option (List ℕ))
+        → DoesNamed (Some path.now) types (asked_by job.now) input.old input.new out.old out.new err.old err.new result }
 {
     match fs::open(rt, path) {
         Ok(file) => do_with(
@@ -278,7 +279,8 @@ fn do_named<H: Files + Threads + Wait + Sync, I: Read, W: Write, E: Write>(
     out: &mut WatchedWriter<W>,
     err: &mut WatchedWriter<E>,
 ) -> u8
-    ensures { DoesNamed (names_by job.now) (types_by job.now) (asked_by job.now) input.old input.new out.old out.new err.old err.new result }
+    ensures { DoesNamed (names_by job.now) (types_by job.now) (asked_by job.now) input.old input.new out.old out.new err.old err.new
+        result }
 {
     match job.names() {
         Some(path) => open_and_name(rt, alloc, job, path, input, out, err),
@@ -322,7 +324,8 @@ pub fn do_words<H: Files + Threads + Wait + Sync, I: Read, W: Write, E: Write>(
     err: &mut WatchedWriter<E>,
 ) -> u8
     ensures asked { (asked : Asked) → Asks (map string_bytes words.now) asked
-        → DoesTask (names_of (map string_bytes words.now)) (types_of (map string_bytes words.now)) asked input.old input.new out.old out.new err.old err.new result }
+        → DoesTask (names_of (map string_bytes words.now)) (types_of (map string_bytes words.now)) asked
+        input.old input.new out.old out.new err.old err.new result }
     ensures most { result ≤ 3 }
 {
     match read_words(alloc, words) {

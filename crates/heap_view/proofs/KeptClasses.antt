@@ -143,8 +143,8 @@ pub row_small : (n size : ℕ) → n ≤ max_words → size ≤ max_words → n 
 row_small n size few small = mul-le n size max_words max_words few small
 
 -- ---- the lines of their census
-pub lines_are : (types : List ℕ) (c : CoreState) (classes : List Class) (rows told : List Row) (words objects : ℕ) → classes ≡ kept_classes c
-    → IsCensus classes rows → told ≡ rows → words ≡ sum_by class_size classes → objects ≡ length classes
+pub lines_are : (types : List ℕ) (c : CoreState) (classes : List Class) (rows told : List Row) (words objects : ℕ)
+    → classes ≡ kept_classes c → IsCensus classes rows → told ≡ rows → words ≡ sum_by class_size classes → objects ≡ length classes
     → AreCensusLines types c (table_text types told words objects)
 lines_are types c classes rows told words objects is census same w o = record {
   rows = told;

@@ -48,7 +48,8 @@ IsRedoFault events _ = ⊥
 -- how a view of a record after so many events ended, with the names of types that a text gives
 abbrev pub Reviews : Glance → List ℕ → Reader → Reader → Writer → Writer → Result ⊤ JobFault → Type 0
 Reviews glance types given left old new outcome =
-    AnswersRecord (IsReviewOfRecord glance types) (λ history. DiffersAt RunsFromNew (beginning_of glance.at history)) given left old new outcome
+    AnswersRecord (IsReviewOfRecord glance types) (λ history. DiffersAt RunsFromNew (beginning_of glance.at history)) given left old new
+    outcome
 
 -- A record was viewed so, and it was told so.
 pub record PerformsReview (glance : Glance) (types : List ℕ) (given left : Reader) (old new err err' : Writer) (status : ℕ) : Type 0 where

@@ -88,7 +88,8 @@ same_name name other e = (bytes_eq-Decides name other).0 e
 pub firsts_more : (ts : List TypeName) (t : TypeName) (old new : BTreeMap (Bor (List ℕ)) ℕ) → word_among ts t.name ≡ None
     → UpdatesBy (λ x y. slice_cmp nat_cmp x.now y.now) (λ k. slice_cmp nat_cmp t.name k.now) old new (Some t.word)
     → AreFirsts ts old → AreFirsts (ts ++ t ∷ []) new
-firsts_more ts t old new none updates are = λ name. btree_map_updates_str t.name old new (Some t.word) updates name ∙ go name (bytes_eq t.name name) refl
+firsts_more ts t old new none updates are = λ name.
+    btree_map_updates_str t.name old new (Some t.word) updates name ∙ go name (bytes_eq t.name name) refl
   where
     go : (name : List ℕ) (b : Bool) → bytes_eq t.name name ≡ b
         → cond b (Some t.word) (get_by (λ k. slice_cmp nat_cmp name k.now) old) ≡ word_among (ts ++ t ∷ []) name

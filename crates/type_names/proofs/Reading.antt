@@ -41,7 +41,8 @@ pub is_fault : (n : ℕ) (ts : List TypeName) (rest line : List ℕ) (total : Re
     → line ≡ line_of rest → types_from n ts (pieces_of rest) ≡ total → in_line n (with_line ts line) ≡ Err fault → total ≡ Err fault
 is_fault n ts rest line total fault same so_far read =
     let (lines, piece) = first_piece rest in
-    sym so_far ∙ goes_wrong n ts fault rest (line_of rest) lines piece (subst (λ (l : List ℕ). in_line n (with_line ts l) ≡ Err fault) same read)
+    sym so_far ∙ goes_wrong n ts fault rest (line_of rest) lines piece
+    (subst (λ (l : List ℕ). in_line n (with_line ts l) ≡ Err fault) same read)
 
 -- the last line is read
 pub is_done : (n : ℕ) (ts more : List TypeName) (rest line : List ℕ) (total : Result (List TypeName) TypesFault)

@@ -21,4 +21,4 @@ mod lines;
 mod types;
 
 pub use faults::{Mistake, TypesFault, conclude_types};
-pub use types::{Types, read_types};
+pub use types::{Types, read_types, types_law};

@@ -1,6 +1,6 @@
 //! The types that a text names.
 
-ghost use Rattle.std.specs.Prelude.{◌≡◌, ◌≢◌, ◌++◌, ◌∷◌, [], ℕ, List, None, IfErr, IfOk, OnOk, option_map};
+ghost use Rattle.std.specs.Prelude.{◌≡◌, ◌≢◌, ◌++◌, ◌∷◌, [], ℕ, List, None, Some, IfErr, IfOk, OnOk, option_map};
 ghost use Rattle.std.specs.Ordering.{nat_cmp};
 ghost use Rattle.std.specs.BTreeMap.{get};
 ghost use Rattle.type_names.specs.NamedLines.{TypeName};
@@ -174,3 +174,8 @@ pub fn read_types<'a>(alloc: Global, text: &'a [u8]) -> Result<Types<'a>, TypesF
         number += 1;
     }
 }
+
+/// The first word of a name has that name.
+pub fn types_law()
+    ensures { (text : List ℕ) (word first : ℕ) → first_for text word ≡ Some first → name_in text first ≡ name_in text word }
+{}

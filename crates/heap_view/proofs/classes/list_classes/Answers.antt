@@ -1,4 +1,5 @@
-use Rattle.std.proofs.Common.{◌≡◌, ◌∙◌, ◌++◌, ◌∷◌, ◌<◌, ◌+◌, [], ℕ, suc, zero, List, add-one, ap, arith, drop, get_or, length, map, refl, sym, take}
+use Rattle.std.proofs.Common.{◌≡◌, ◌∙◌, ◌++◌, ◌∷◌, ◌<◌, ◌+◌, [], ℕ, suc, zero, List, add-one, ap, arith, drop, get_or, length, map}
+use Rattle.std.proofs.Common.{refl, sym, take}
 use Rattle.std.specs.Prelude.{slice_set}
 use Rattle.heap_model.proofs.Lists.{length-set}
 use Rattle.heap_view.specs.Types.{listed_class}
@@ -24,7 +25,8 @@ loop-place-preserved c =
       done =
           ap (slice_set c.loop-place.classes.items place) (c.listed_class.ensures ∙ ap f c.index.ensures)
           ∙ ap (λ (cs : List Class). slice_set cs place (f (get_or cs place item))) c.loop-place.invariant.done
-          ∙ one_more f all place item (let test = c.loop-place-test.true in let size = c.len-place-end.ensures in omega (arith, length, test, size))
+          ∙ one_more f all place item
+          (let test = c.loop-place-test.true in let size = c.len-place-end.ensures in omega (arith, length, test, size))
           ∙ ap (λ (n : ℕ). map f (take n all) ++ drop n all) (sym (add-one place));
       length = length-set c.loop-place.classes.items place c.listed_class.result ∙ length;
     }

@@ -5,5 +5,6 @@ use Rattle.heap_view.proofs.snapshot_lines.put_escaped.Goals as goal
 
 pub loop-byte-preserved : goal.loop-byte-preserved
 loop-byte-preserved c =
-    adds_more escaped_byte c.args.name.now c.loop-byte.byte-index _ _ _ _ (item_at c.args.name.now c.loop-byte.byte-index 0 c.loop-byte-test.true)
+    adds_more escaped_byte c.args.name.now c.loop-byte.byte-index _ _ _ _
+    (item_at c.args.name.now c.loop-byte.byte-index 0 c.loop-byte-test.true)
     c.loop-byte.invariant c.put_escaped_byte.ensures
