@@ -9,7 +9,7 @@ use Rattle.clap.specs.Words.{App, FailsBy, HasKind, HasMatchesOf, is_simple, kin
 use Rattle.clap.specs.declared.error.Error.{Error}
 use Rattle.clap.specs.declared.error.kind.ErrorKind.TheVariants.{MissingRequiredArgument}
 use Rattle.clap.specs.declared.parser.matches.ArgMatches.{ArgMatches}
-use Rattle.command_line.specs.Asked.{Asked, asked_in, asked_of, faults_of, names_in, names_of}
+use Rattle.command_line.specs.Asked.{Asked, asked_in, asked_of, faults_of, names_in, names_of, types_in, types_of}
 use Rattle.command_line.specs.Program.{g1heap}
 
 is_read_whole : is_simple_and_free g1heap ≡ true
@@ -29,6 +29,13 @@ pub names_by : (app : App) (words : List Text) (m : ArgMatches) (names : Option 
 names_by app words m names is matches found =
     let rows = (matches (ap is_simple is ∙ (both _ _ is_read_whole).0)).1 in
     sym (found ∙ ap (option_and_then (λ found. names_in found.1)) (rows ∙ ap (λ (a : App). subcommand_of a words) is))
+
+-- which file of types the matches of a parse name
+pub types_by : (app : App) (words : List Text) (m : ArgMatches) (types : Option Text) → app ≡ g1heap → HasMatchesOf app words m
+    → types ≡ option_and_then (λ found. types_in found.1) (subcommand_rows_of m) → types_of words ≡ types
+types_by app words m types is matches found =
+    let rows = (matches (ap is_simple is ∙ (both _ _ is_read_whole).0)).1 in
+    sym (found ∙ ap (option_and_then (λ found. types_in found.1)) (rows ∙ ap (λ (a : App). subcommand_of a words) is))
 
 -- words that ask for something, and that their parse takes, have no fault
 pub taken : (app : App) (words : List Text) (asked : Asked) → app ≡ g1heap → (is_simple_and_free app ≡ true → fault_of app words ≡ [])

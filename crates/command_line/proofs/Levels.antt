@@ -15,7 +15,7 @@ use Rattle.clap.specs.Walk.{option, option_word, rows_after, settled, stop_after
 use Rattle.clap.specs.Walk.{walk, walk_from, walked}
 use Rattle.clap.specs.Words.{Text, subcommand_of}
 use Rattle.clap.specs.declared.error.kind.ErrorKind.TheVariants.{MissingRequiredArgument}
-use Rattle.command_line.specs.Asked.{Asked, Asks, asked_in, asked_of, is_path, names_in, names_of as file_of_names}
+use Rattle.command_line.specs.Asked.{Asked, Asks, asked_in, asked_of, is_path, names_in, names_of as file_of_names, types_in, types_of}
 use Rattle.command_line.specs.Program.{by_actors, checked, drawn, file, g1heap, plain, schedule, viewed, workers}
 
 -- a word that a parse takes for a value: not `--`, and no option
@@ -213,6 +213,12 @@ pub asks_names : (name : Text) (s : Shape) → Enters (built g1heap) name s → 
     → is_path path ≡ true → file_of_names (program ∷ name ∷ path ∷ options) ≡ names_in (finished s.rules (end_of s path options))
 asks_names name s enters program path options h =
     ap (option_and_then (λ found. names_in found.1)) (rows g1heap refl name s enters program path (is_value path h) options)
+
+-- the file of types that such words name
+pub asks_types : (name : Text) (s : Shape) → Enters (built g1heap) name s → (program path : Text) (options : List Text)
+    → is_path path ≡ true → types_of (program ∷ name ∷ path ∷ options) ≡ types_in (finished s.rules (end_of s path options))
+asks_types name s enters program path options h =
+    ap (option_and_then (λ found. types_in found.1)) (rows g1heap refl name s enters program path (is_value path h) options)
 
 -- a subcommand as a parse has it
 abbrev pub leaf : App → Shape

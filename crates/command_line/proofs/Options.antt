@@ -1,14 +1,15 @@
 -- What words with an option ask for.
 use Rattle.std.proofs.Common.{◌≡◌, ◌∷◌, ◌∙◌, [], None, Some, false, true, ap, ap₂, codes, refl}
 use Rattle.clap.proofs.OnLiterals.{clap_on_literals}
+use Rattle.std.specs.Prelude.{fold}
 use Rattle.clap.specs.Kinds.{Kinds, or_else}
 use Rattle.clap.specs.Walk.{Held, Walk, finished, walked}
 use Rattle.clap.specs.Words.{Text}
-use Rattle.command_line.specs.Asked.{Asks, asked_in, is_path, names_in, names_of}
-use Rattle.command_line.specs.Program.{drawn}
+use Rattle.command_line.specs.Asked.{Asks, asked_in, is_path, names_in, names_of, types_in, types_of}
+use Rattle.command_line.specs.Program.{drawn, viewed}
 use Rattle.command_line.specs.declared.Task.TheVariants.{Draw, View}
 use Rattle.command_line.specs.declared.Viewed.TheVariants.{Census, Object, Path, Regions, Snapshot}
-use Rattle.command_line.proofs.Levels.{asks, asks_names, end_fault, from_path, is_value, leaf, takes_value, to_draw, to_view}
+use Rattle.command_line.proofs.Levels.{asks, asks_names, asks_types, end_fault, from_path, is_value, leaf, takes_value, to_draw, to_view}
 use Rattle.command_line.proofs.Levels.{value_is_taken}
 
 pub every : (program path : Text) → is_path path ≡ true
@@ -68,3 +69,27 @@ pub heapsnapshot : (program path : Text) → is_path path ≡ true
     → Asks (program ∷ codes "view" ∷ path ∷ codes "--heapsnapshot" ∷ []) (path, View false None Snapshot, false)
 unfolding clap_on_literals
 heapsnapshot program path h = asks _ _ to_view program path (codes "--heapsnapshot" ∷ []) _ h refl refl
+
+-- what is held after `--heapsnapshot --types`
+abbrev held_types : Text → Held
+held_types path = (fold (walked (leaf viewed).rules []) (from_path path) (codes "--heapsnapshot" ∷ codes "--types" ∷ [])).held
+
+pub types : (program path file : Text) → is_path path ≡ true → is_path file ≡ true
+    → Asks (program ∷ codes "view" ∷ path ∷ codes "--heapsnapshot" ∷ codes "--types" ∷ file ∷ [])
+    (path, View false None Snapshot, false)
+    × (types_of (program ∷ codes "view" ∷ path ∷ codes "--heapsnapshot" ∷ codes "--types" ∷ file ∷ []) ≡ Some file)
+unfolding clap_on_literals
+types program path file h k =
+    let s = leaf viewed in
+    let v = is_value file k in
+    let options = codes "--heapsnapshot" ∷ codes "--types" ∷ file ∷ [] in
+    let taken = takes_value s (held_types path) (codes "types") 2 file v in
+    let quiet = value_is_taken s (held_types path) (codes "types") 2 file v in (
+      asks _ _ to_view program path options _ h (ap (λ (w : Walk). asked_in s.name (finished s.rules w.held)) taken)
+          (ap₂ (λ (k : Kinds) (w : Walk). or_else (or_else k []) (end_fault s w.held)) quiet taken),
+      asks_types _ _ to_view program path options h ∙ ap (λ (w : Walk). types_in (finished s.rules w.held)) taken,
+    )
+
+pub no_types : (program path : Text) → is_path path ≡ true → types_of (program ∷ codes "view" ∷ path ∷ []) ≡ None
+unfolding clap_on_literals
+no_types program path h = asks_types _ _ to_view program path [] h

@@ -95,6 +95,16 @@ names_by job = option_map (λ path. path.now) job.names
 abbrev pub names_of : List Text → Option Text
 names_of words = option_and_then (λ found. names_in found.1) (subcommand_of g1heap words)
 
+-- the path of a file of names for types, where one was given; that of a job; and that which the words name
+abbrev pub types_in : List Row → Option Text
+types_in rows = first_of (codes "types") rows
+
+abbrev pub types_by : Job → Option Text
+types_by job = option_map (λ path. path.now) job.types
+
+abbrev pub types_of : List Text → Option Text
+types_of words = option_and_then (λ found. types_in found.1) (subcommand_of g1heap words)
+
 -- what the words ask for, the program's name first
 abbrev pub asked_of : List Text → Option Asked
 asked_of words = option_and_then (λ found. asked_in found.0 found.1) (subcommand_of g1heap words)

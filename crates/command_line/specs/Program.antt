@@ -62,17 +62,23 @@ every = record (number (codes "every") (parser.Signed (pos 1) (pos 1000000))) { 
 abbrev pub names : Rule
 names = record (new_rule (codes "names")) { long = Some (codes "names"); action = Some Set; value_names = 1 }
 
+-- the path of a file of names for types
+abbrev pub types : Rule
+types = record (new_rule (codes "types")) { long = Some (codes "types"); action = Some Set; value_names = 1 }
+
 -- the subcommand that views a heap
 abbrev pub viewed : App
 viewed =
-    with_rule (with_rule (with_rule (with_rule (with_rule (with_rule (with_rule (with_rule (plain (codes "view")) (flag (codes "record")))
+    with_rule (with_rule (with_rule (with_rule (with_rule (with_rule (with_rule (with_rule (with_rule (plain (codes "view"))
+    (flag (codes "record")))
     (count (codes "at")))
     (count (codes "region")))
     (flag (codes "summary")))
     (large (codes "object")))
     (large (codes "path")))
     (flag (codes "census")))
-    (flag (codes "heapsnapshot"))
+    (flag (codes "heapsnapshot")))
+    types
 
 -- the subcommand that draws the life of a heap
 abbrev pub drawn : App

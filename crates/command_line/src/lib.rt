@@ -15,7 +15,8 @@
 //!   g1heap help, and every mistake    an `Error`, whose text is for the user
 //! ```
 //!
-//! A `Job` is such a task, FILE, and whether `--explain` is there too, which each of these takes; and of `draw` the path after `--names`.
+//! A `Job` is such a task, FILE, and whether `--explain` is there too, which each of these takes; of `draw` the path after `--names`,
+//! and of `view` the path after `--types`.
 //!
 //! Whether a count is in range, the run itself says.
 #![tactic(auto)]
@@ -26,12 +27,13 @@ ghost use Rattle.clap.specs.Words.{App, FailsBy, HasKind, first_of, found_of, ki
 ghost use Rattle.clap.specs.Words.{subcommand_rows_of, with_rule, with_subcommand};
 ghost use Rattle.clap.specs.declared.error.kind.ErrorKind.TheVariants.{InvalidValue};
 ghost use Rattle.command_line.specs.Asked.{Asks, asked_by, asked_in, asked_of, drawn_in, faults_of, flag_in, is_path, number_in, task_in};
-ghost use Rattle.command_line.specs.Asked.{names_by, names_in, names_of, pathed_in, threads_in, viewed_in, wide_in};
+ghost use Rattle.command_line.specs.Asked.{names_by, names_in, names_of, pathed_in, threads_in, types_by, types_in, types_of};
+ghost use Rattle.command_line.specs.Asked.{viewed_in, wide_in};
 ghost use Rattle.command_line.specs.declared.Order.TheVariants.{Concurrent, Drawn, File};
 ghost use Rattle.command_line.specs.declared.Task.TheVariants.{Check, Draw, Script, View};
 ghost use Rattle.command_line.specs.declared.Viewed.TheVariants.{Census, Object, Path, Regions, Snapshot};
 ghost use Rattle.command_line.specs.Program.{IsReadAs, background, bare, by_actors, checked, count, drawn, every, file, flag, g1heap};
-ghost use Rattle.command_line.specs.Program.{large, names, number, plain, schedule, viewed, with_path, workers};
+ghost use Rattle.command_line.specs.Program.{large, names, number, plain, schedule, types, viewed, with_path, workers};
 
 use clap::builder::ValueParser;
 use clap::error::ErrorKind;
@@ -99,6 +101,7 @@ pub enum Task {
 pub struct Job<'a> {
     file: &'a str,
     names: Option<&'a str>,
+    types: Option<&'a str>,
     task: Task,
     explained: bool,
 }
@@ -116,6 +119,13 @@ impl<'a> Job<'a> {
         ensures { option_map (λ path. path.now) result ≡ names_by self.now }
     {
         self.names
+    }
+
+    /// The path of a file of names for types, where one was given.
+    pub fn types(&self) -> Option<&'a str>
+        ensures { option_map (λ path. path.now) result ≡ types_by self.now }
+    {
+        self.types
     }
 
     /// What is done with it.
@@ -251,6 +261,20 @@ fn names<'a>(alloc: Global) -> Arg<'a>
     let help = "Shows the names for shapes that the lines of a file give";
     Arg::new(alloc, "names")
         .long("names")
+        .value_name("FILE")
+        .help(help)
+        .action(ArgAction::Set)
+}
+
+/// The option that takes the path of a file of names for types.
+fn types<'a>(alloc: Global) -> Arg<'a>
+    ensures rule { rule_of result ≡ types }
+    ensures own { result.global ≡ false }
+{
+    let help =
+        "Names types by first data words in a census or a snapshot: the lines of a file, as `7 pair`";
+    Arg::new(alloc, "types")
+        .long("types")
         .value_name("FILE")
         .help(help)
         .action(ArgAction::Set)
@@ -431,7 +455,8 @@ fn view_command<'a>(alloc: Global) -> Result<Command<'a>, AllocError>
     let help = "Counts objects and words by shape and first data word, most words first";
     let command = with_arg(command, flag(alloc, "census", help));
     let help = "Prints a snapshot for the tools of Chrome and Node: a .heapsnapshot file";
-    with_arg(command, flag(alloc, "heapsnapshot", help))
+    let command = with_arg(command, flag(alloc, "heapsnapshot", help));
+    with_arg(command, types(alloc))
 }
 
 fn draw_command<'a>(alloc: Global) -> Result<Command<'a>, AllocError>
@@ -585,12 +610,14 @@ fn text_in<'a>(found: &ArgMatches<'a>, name: &str) -> Option<&'a str>
 fn job_of<'a>(name: &str, found: &ArgMatches<'a>) -> Option<Job<'a>>
     ensures asked { option_map asked_by result ≡ asked_in name.now (rows_of (found_of found.now)) }
     ensures names { IfSome result (λ job. names_by job ≡ names_in (rows_of (found_of found.now))) }
+    ensures types { IfSome result (λ job. types_by job ≡ types_in (rows_of (found_of found.now))) }
 {
     let task = task_of(name, found)?;
     let file = text_in(found, "FILE")?;
     Some(Job {
         file,
         names: text_in(found, "names"),
+        types: text_in(found, "types"),
         task,
         explained: flag_in(found, "explain"),
     })
@@ -602,6 +629,8 @@ fn job_found<'a>(matches: &ArgMatches<'a>) -> Option<Job<'a>>
         ≡ option_and_then (λ found. asked_in found.0 found.1) (subcommand_rows_of matches.now) }
     ensures names { IfSome result (λ job. names_by job
         ≡ option_and_then (λ found. names_in found.1) (subcommand_rows_of matches.now)) }
+    ensures types { IfSome result (λ job. types_by job
+        ≡ option_and_then (λ found. types_in found.1) (subcommand_rows_of matches.now)) }
 {
     let (name, found) = matches.subcommand()?;
     job_of(name, found)
@@ -612,6 +641,7 @@ fn job_among<'a>(command: &mut Command<'a>, words: &'a [String]) -> Result<Job<'
     requires { IsReadAs g1heap command.old }
     ensures job { IfOk result (λ job. asked_of (map string_bytes words.entry.now) ≡ Some (asked_by job)) }
     ensures names { IfOk result (λ job. names_of (map string_bytes words.entry.now) ≡ names_by job) }
+    ensures types { IfOk result (λ job. types_of (map string_bytes words.entry.now) ≡ types_by job) }
     ensures faults { FailsBy (faults_of (map string_bytes words.entry.now)) result }
 {
     let matches = command.try_get_matches_from_mut(words)?;
@@ -627,6 +657,7 @@ fn job_among<'a>(command: &mut Command<'a>, words: &'a [String]) -> Result<Job<'
 pub fn read_words<'a>(alloc: Global, words: &'a [String]) -> Result<Job<'a>, Error>
     ensures job { IfOk result (λ job. asked_of (map string_bytes words.entry.now) ≡ Some (asked_by job)) }
     ensures names { IfOk result (λ job. names_of (map string_bytes words.entry.now) ≡ names_by job) }
+    ensures types { IfOk result (λ job. types_of (map string_bytes words.entry.now) ≡ types_by job) }
     ensures faults { FailsBy (faults_of (map string_bytes words.entry.now)) result }
 {
     let mut command = command(alloc)?;
@@ -670,6 +701,11 @@ pub fn words_law()
         → Asks (program ∷ codes "view" ∷ path ∷ codes "--census" ∷ []) (path, View false None Census, false) }
     ensures heapsnapshot { (program path : List ℕ) → is_path path ≡ true
         → Asks (program ∷ codes "view" ∷ path ∷ codes "--heapsnapshot" ∷ []) (path, View false None Snapshot, false) }
+    ensures types { (program path file : List ℕ) → is_path path ≡ true → is_path file ≡ true
+        → Asks (program ∷ codes "view" ∷ path ∷ codes "--heapsnapshot" ∷ codes "--types" ∷ file ∷ [])
+        (path, View false None Snapshot, false)
+        × (types_of (program ∷ codes "view" ∷ path ∷ codes "--heapsnapshot" ∷ codes "--types" ∷ file ∷ []) ≡ Some file) }
+    ensures no_types { (program path : List ℕ) → is_path path ≡ true → types_of (program ∷ codes "view" ∷ path ∷ []) ≡ None }
     ensures run_explained { (program path : List ℕ) → is_path path ≡ true
         → Asks (program ∷ codes "run" ∷ path ∷ codes "--explain" ∷ []) (path, Script File, true) }
     ensures check_explained { (program path : List ℕ) → is_path path ≡ true

@@ -33,12 +33,12 @@ unread_followed name false given left old new err err' status unread kept tells 
 unread_followed name true given left old new err err' status unread kept tells =
     record { outcome = Err (faults.Read reads.CannotRead); follows = (unread, kept); tells = tells }
 
-unread_view : (recorded : Bool) (glance : Glance) (given left : Reader) (old new err err' : Writer) (status : ℕ)
+unread_view : (recorded : Bool) (glance : Glance) (types : List ℕ) (given left : Reader) (old new err err' : Writer) (status : ℕ)
     → FailsToGive reads.CannotRead given left → WritesNothing old new
-    → TellsEnd err err' (Err (faults.Read reads.CannotRead)) status → DoesView recorded glance given left old new err err' status
-unread_view false glance given left old new err err' status unread kept tells =
+    → TellsEnd err err' (Err (faults.Read reads.CannotRead)) status → DoesView recorded glance types given left old new err err' status
+unread_view false glance types given left old new err err' status unread kept tells =
     record { outcome = Err (faults.Read reads.CannotRead); views = (unread, kept); tells = tells }
-unread_view true glance given left old new err err' status unread kept tells =
+unread_view true glance types given left old new err err' status unread kept tells =
     record { outcome = Err (faults.Read reads.CannotRead); views = (unread, kept); tells = tells }
 
 unread_draw : (name names : List ℕ) (recorded : Bool) (every : ℕ) (given left : Reader) (old new err err' : Writer) (status : ℕ)
@@ -50,30 +50,31 @@ unread_draw name names true every given left old new err err' status unread kept
     record { outcome = Err (faults.Read reads.CannotRead); draws = (unread, kept); tells = tells }
 
 -- the file of another task
-pub unread_task : (name names : List ℕ) (task : Task) (given left : Reader) (old new err err' : Writer) (status : ℕ)
+pub unread_task : (name names types : List ℕ) (task : Task) (given left : Reader) (old new err err' : Writer) (status : ℕ)
     → ((followed : Bool) → task ≡ Check followed → ⊥) → FailsToGive reads.CannotRead given left → WritesNothing old new
-    → TellsEnd err err' (Err (faults.Read reads.CannotRead)) status → DoesJob names (name, task, false) given left old new err err' status
-unread_task name names (Script order) given left old new err err' status other unread kept tells =
+    → TellsEnd err err' (Err (faults.Read reads.CannotRead)) status
+    → DoesJob names types (name, task, false) given left old new err err' status
+unread_task name names types (Script order) given left old new err err' status other unread kept tells =
     record { outcome = Err (faults.Read reads.CannotRead); ends = (unread, kept); tells = tells }
-unread_task name names (Check followed) given left old new err err' status other unread kept tells = absurd (other followed refl)
-unread_task name names (View recorded at viewed) given left old new err err' status other unread kept tells =
-    unread_view recorded (glance_of at viewed) given left old new err err' status unread kept tells
-unread_task name names (Draw every recorded) given left old new err err' status other unread kept tells =
+unread_task name names types (Check followed) given left old new err err' status other unread kept tells = absurd (other followed refl)
+unread_task name names types (View recorded at viewed) given left old new err err' status other unread kept tells =
+    unread_view recorded (glance_of at viewed) types given left old new err err' status unread kept tells
+unread_task name names types (Draw every recorded) given left old new err err' status other unread kept tells =
     unread_draw name names recorded every given left old new err err' status unread kept tells
 
 -- the same where it is to be explained
-pub as_job : (name names : List ℕ) (task : Task) (given left : Reader) (old new err err' : Writer) (status : ℕ)
-    → ((followed : Bool) → task ≡ Check followed → ⊥) → DoesExplained name names task given left old new err err' status
-    → DoesJob names (name, task, true) given left old new err err' status
-as_job name names (Script order) given left old new err err' status other does = does
-as_job name names (Check followed) given left old new err err' status other does = absurd (other followed refl)
-as_job name names (View recorded at viewed) given left old new err err' status other does = does
-as_job name names (Draw every recorded) given left old new err err' status other does = does
+pub as_job : (name names types : List ℕ) (task : Task) (given left : Reader) (old new err err' : Writer) (status : ℕ)
+    → ((followed : Bool) → task ≡ Check followed → ⊥) → DoesExplained name names types task given left old new err err' status
+    → DoesJob names types (name, task, true) given left old new err err' status
+as_job name names types (Script order) given left old new err err' status other does = does
+as_job name names types (Check followed) given left old new err err' status other does = absurd (other followed refl)
+as_job name names types (View recorded at viewed) given left old new err err' status other does = does
+as_job name names types (Draw every recorded) given left old new err err' status other does = does
 
-pub unread_more : (name names : List ℕ) (task : Task) (given left : Reader) (old new err err' : Writer) (status : ℕ)
+pub unread_more : (name names types : List ℕ) (task : Task) (given left : Reader) (old new err err' : Writer) (status : ℕ)
     → ((followed : Bool) → task ≡ Check followed → ⊥) → FailsToGive reads.CannotRead given left → WritesNothing old new → status ≡ 1
     → TellsMore (faults.Read reads.CannotRead) (IsReadReason name) err err'
-    → DoesJob names (name, task, true) given left old new err err' status
-unread_more name names task given left old new err err' status other unread kept one tells =
-    as_job name names task given left old new err err' status other
+    → DoesJob names types (name, task, true) given left old new err err' status
+unread_more name names types task given left old new err err' status other unread kept one tells =
+    as_job name names types task given left old new err err' status other
     (inr (record { fault = reads.CannotRead; fails = unread; stays = kept; one = one; tells = tells }))

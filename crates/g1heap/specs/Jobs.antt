@@ -1,10 +1,14 @@
 -- What the program does with a job.
-use Rattle.std.specs.Prelude.{◌≡◌, ◌⊎◌, ℕ, ⊤, Bool, List, [], Option, None, Some, Result, true, false, codes, if◌then◌else◌}
+use Rattle.std.specs.Prelude.{◌≡◌, ◌⊎◌, ℕ, ⊤, Bool, List, [], Option, None, Some, Result, Err, true, false, codes, if◌then◌else◌}
 use Rattle.script_text.specs.Watched.{Reader, Writer, FailsToGive, WritesNothing}
 use Rattle.script_text.specs.declared.fault.ReadFault.{ReadFault}
 use Rattle.script_text.specs.declared.expected.TextKind.{TextKind}
 use Rattle.script_text.specs.declared.expected.TextKind.TheVariants as texts
 use Rattle.g1heap.specs.Runs.{EndsIn, MakesRecord, MayFail}
+use Rattle.type_names.specs.FaultTexts.{TellsTypes}
+use Rattle.type_names.specs.Naming.{NamesTypes, types_of}
+use Rattle.type_names.specs.declared.faults.Mistake.{Mistake}
+use Rattle.type_names.specs.declared.faults.TypesFault.TheVariants.{Line}
 use Rattle.jobs.specs.Reasons.{IsReadReason, TellsExplained, TellsMore}
 use Rattle.job_ends.specs.Runs.{GivesAll, Performs}
 use Rattle.jobs.specs.declared.causes.Counts.{Counts}
@@ -36,10 +40,10 @@ DoesCheck name false false given left old new err err' status = PerformsCheck gi
 DoesCheck name true false given left old new err err' status = PerformsExplain name given left old new err err' status
 DoesCheck name explained true given left old new err err' status = PerformsFollow explained given left old new err err' status
 
--- what was asked for was viewed of a heap, of a record's or of a script's
-abbrev pub DoesView : Bool → Glance → Reader → Reader → Writer → Writer → Writer → Writer → ℕ → Type 0
-DoesView false glance given left old new err err' status = PerformsView glance given left old new err err' status
-DoesView true glance given left old new err err' status = PerformsReview glance given left old new err err' status
+-- what was asked for was viewed of a heap, of a record's or of a script's, with these names for types
+abbrev pub DoesView : Bool → Glance → List ℕ → Reader → Reader → Writer → Writer → Writer → Writer → ℕ → Type 0
+DoesView false glance types given left old new err err' status = PerformsView glance types given left old new err err' status
+DoesView true glance types given left old new err err' status = PerformsReview glance types given left old new err err' status
 
 -- the life of a heap was drawn, of a record or of a script in a file of this name, with these names for shapes
 abbrev pub DoesDraw : List ℕ → List ℕ → Bool → ℕ → Reader → Reader → Writer → Writer → Writer → Writer → ℕ → Type 0
@@ -58,16 +62,16 @@ abbrev pub glance_of : Option ℕ → Viewed → Glance
 glance_of at viewed = record { at = at; viewed = viewed_of viewed }
 
 -- How a task that does a heap's steps, of a file of this name, ended, whatever is told of it: what was read, what was written, and its
--- outcome. A page has these names for shapes.
-abbrev pub EndsAs : List ℕ → List ℕ → Task → Reader → Reader → Writer → Writer → Result ⊤ JobFault → Type 0
-EndsAs name names (Script order) given left old new outcome = EndsIn order given left old new outcome
-EndsAs name names (View false at viewed) given left old new outcome =
-    Views (glance_of at viewed) given left old new outcome
-EndsAs name names (View true at viewed) given left old new outcome =
-    Reviews (glance_of at viewed) given left old new outcome
-EndsAs name names (Draw every false) given left old new outcome = Draws name names every given left old new outcome
-EndsAs name names (Draw every true) given left old new outcome = Redraws name names every given left old new outcome
-EndsAs name names (Check followed) given left old new outcome = ⊥
+-- outcome. A page has these names for shapes, and a view these for types.
+abbrev pub EndsAs : List ℕ → List ℕ → List ℕ → Task → Reader → Reader → Writer → Writer → Result ⊤ JobFault → Type 0
+EndsAs name names types (Script order) given left old new outcome = EndsIn order given left old new outcome
+EndsAs name names types (View false at viewed) given left old new outcome =
+    Views (glance_of at viewed) types given left old new outcome
+EndsAs name names types (View true at viewed) given left old new outcome =
+    Reviews (glance_of at viewed) types given left old new outcome
+EndsAs name names types (Draw every false) given left old new outcome = Draws name names every given left old new outcome
+EndsAs name names types (Draw every true) given left old new outcome = Redraws name names every given left old new outcome
+EndsAs name names types (Check followed) given left old new outcome = ⊥
 
 -- what a task reads a text as
 abbrev pub kind_of : Task → TextKind
@@ -94,16 +98,16 @@ abbrev pub reader_of : List ℕ → Reader
 reader_of text = record { left = Some text; refused = false }
 
 -- The task did with the text of a file of this name what it does with a reader of it, and its end was told and explained.
-pub record TellsOver (name names : List ℕ) (task : Task) (text : List ℕ) (old new err err' : Writer) (status : ℕ) : Type 0 where
+pub record TellsOver (name names types : List ℕ) (task : Task) (text : List ℕ) (old new err err' : Writer) (status : ℕ) : Type 0 where
   pub rest : Reader
   pub outcome : Result ⊤ JobFault
-  pub ends : EndsAs name names task (reader_of text) rest old new outcome
+  pub ends : EndsAs name names types task (reader_of text) rest old new outcome
   pub tells : TellsExplained (kind_of task) text (counts_of task) err err' outcome status
 
 -- the reader gave a text, to its end, and the task was done over it
-abbrev pub DoesOver : List ℕ → List ℕ → Task → Reader → Reader → Writer → Writer → Writer → Writer → ℕ → Type 0
-DoesOver name names task given left old new err err' status =
-    (text : List ℕ) × GivesAll given left text × TellsOver name names task text old new err err' status
+abbrev pub DoesOver : List ℕ → List ℕ → List ℕ → Task → Reader → Reader → Writer → Writer → Writer → Writer → ℕ → Type 0
+DoesOver name names types task given left old new err err' status =
+    (text : List ℕ) × GivesAll given left text × TellsOver name names types task text old new err err' status
 
 -- A file of this name could not be read, and that was told and explained; nothing was written.
 pub record IsUnreadFile (name : List ℕ) (given left : Reader) (old new err err' : Writer) (status : ℕ) : Type 0 where
@@ -114,27 +118,30 @@ pub record IsUnreadFile (name : List ℕ) (given left : Reader) (old new err err
   pub tells : TellsMore (Read fault) (IsReadReason name) err err'
 
 -- a task was done whose faults are to be explained
-abbrev pub DoesExplained : List ℕ → List ℕ → Task → Reader → Reader → Writer → Writer → Writer → Writer → ℕ → Type 0
-DoesExplained name names task given left old new err err' status =
-    DoesOver name names task given left old new err err' status ⊎ IsUnreadFile name given left old new err err' status
+abbrev pub DoesExplained : List ℕ → List ℕ → List ℕ → Task → Reader → Reader → Writer → Writer → Writer → Writer → ℕ → Type 0
+DoesExplained name names types task given left old new err err' status =
+    DoesOver name names types task given left old new err err' status ⊎ IsUnreadFile name given left old new err err' status
 
 -- A script was run, a record judged, a heap viewed, or its life drawn, and its end was told, and explained where that was asked for: what
--- was read of the file of this name, what was written, what standard error took, and the status. A page has these names for shapes.
-abbrev pub DoesJob : List ℕ → Asked → Reader → Reader → Writer → Writer → Writer → Writer → ℕ → Type 0
-DoesJob names (name, Check followed, explained) given left old new err err' status =
+-- was read of the file of this name, what was written, what standard error took, and the status. A page has these names for shapes,
+-- and a view these for types.
+abbrev pub DoesJob : List ℕ → List ℕ → Asked → Reader → Reader → Writer → Writer → Writer → Writer → ℕ → Type 0
+DoesJob names types (name, Check followed, explained) given left old new err err' status =
     DoesCheck name explained followed given left old new err err' status
-DoesJob names (name, Script order, false) given left old new err err' status =
+DoesJob names types (name, Script order, false) given left old new err err' status =
     Performs (MakesRecord order) (MayFail order) given left old new err err' status
-DoesJob names (name, View recorded at viewed, false) given left old new err err' status =
-    DoesView recorded (glance_of at viewed) given left old new err err' status
-DoesJob names (name, Draw every recorded, false) given left old new err err' status =
+DoesJob names types (name, View recorded at viewed, false) given left old new err err' status =
+    DoesView recorded (glance_of at viewed) types given left old new err err' status
+DoesJob names types (name, Draw every recorded, false) given left old new err err' status =
     DoesDraw name names recorded every given left old new err err' status
-DoesJob names (name, task, true) given left old new err err' status = DoesExplained name names task given left old new err err' status
+DoesJob names types (name, task, true) given left old new err err' status =
+    DoesExplained name names types task given left old new err err' status
 
--- what was asked for was done, on the program's own input where the path is `-`, else on some input; a page has these names for shapes
-abbrev pub DoesAsked : List ℕ → Asked → Reader → Reader → Writer → Writer → Writer → Writer → ℕ → Type 0
-DoesAsked names asked input input' old new err err' status = (given : Reader) × (left : Reader)
-    × (asked.0 ≡ codes "-" → (given ≡ input) × (left ≡ input')) × DoesJob names asked given left old new err err' status
+-- what was asked for was done, on the program's own input where the path is `-`, else on some input; a page has these names for
+-- shapes, and a view these for types
+abbrev pub DoesAsked : List ℕ → List ℕ → Asked → Reader → Reader → Writer → Writer → Writer → Writer → ℕ → Type 0
+DoesAsked names types asked input input' old new err err' status = (given : Reader) × (left : Reader)
+    × (asked.0 ≡ codes "-" → (given ≡ input) × (left ≡ input')) × DoesJob names types asked given left old new err err' status
 
 -- A file of names for shapes could not be read, and that was told with its path; nothing else was read, and nothing was written.
 pub record AreUnread (path : List ℕ) (given left input input' : Reader) (old new err err' : Writer) (status : ℕ) : Type 0 where
@@ -148,16 +155,52 @@ pub record AreUnread (path : List ℕ) (given left input input' : Reader) (old n
 -- what was asked for was done with the names for shapes that the file of this path gave, to its end; or they could not be read
 abbrev pub DoesWith : List ℕ → Reader → Reader → Asked → Reader → Reader → Writer → Writer → Writer → Writer → ℕ → Type 0
 DoesWith path given left asked input input' old new err err' status =
-    ((names : List ℕ) × GivesAll given left names × DoesAsked names asked input input' old new err err' status)
+    ((names : List ℕ) × GivesAll given left names × DoesAsked names [] asked input input' old new err err' status)
     ⊎ AreUnread path given left input input' old new err err' status
 
--- the same where a path of names for shapes was given; else it was done with none
-abbrev pub DoesNamed : Option (List ℕ) → Asked → Reader → Reader → Writer → Writer → Writer → Writer → ℕ → Type 0
-DoesNamed None asked input input' old new err err' status = DoesAsked [] asked input input' old new err err' status
-DoesNamed (Some path) asked input input' old new err err' status =
-    (given : Reader) × (left : Reader) × DoesWith path given left asked input input' old new err err' status
+-- A file of names for types has a line with a mistake, the first of the text, and that was told with its path; nothing else was read, and
+-- nothing was written.
+pub record AreFaulty (path types : List ℕ) (input input' : Reader) (old new err err' : Writer) (status : ℕ) : Type 0 where
+  pub line : ℕ
+  pub mistake : Mistake
+  pub first : types_of types ≡ Err (Line line mistake)
+  pub unread : input' ≡ input
+  pub stays : WritesNothing old new
+  pub one : status ≡ 1
+  pub tells : TellsTypes line mistake path err err'
+
+-- memory was refused for names of types, and that was told; nothing else was read, and nothing was written
+pub record AreRefused (input input' : Reader) (old new err err' : Writer) (status : ℕ) : Type 0 where
+  pub unread : input' ≡ input
+  pub stays : WritesNothing old new
+  pub one : status ≡ 1
+  pub tells : TellsLine (Run NoMemory) err err'
+
+-- what was asked for was done with the names for types that a text of this path gives; or it has a mistake, or memory was refused
+abbrev pub DoesBy : List ℕ → List ℕ → Asked → Reader → Reader → Writer → Writer → Writer → Writer → ℕ → Type 0
+DoesBy path types asked input input' old new err err' status =
+    (NamesTypes types × DoesAsked [] types asked input input' old new err err' status)
+    ⊎ AreFaulty path types input input' old new err err' status ⊎ AreRefused input input' old new err err' status
+
+-- the same with the text that the file of this path gave, to its end; or it could not be read
+abbrev pub DoesWithTypes : List ℕ → Reader → Reader → Asked → Reader → Reader → Writer → Writer → Writer → Writer → ℕ → Type 0
+DoesWithTypes path given left asked input input' old new err err' status =
+    ((types : List ℕ) × GivesAll given left types × DoesBy path types asked input input' old new err err' status)
+    ⊎ AreUnread path given left input input' old new err err' status
+
+-- the same where a path of names for types was given; else it was done with none
+abbrev pub DoesTyped : Option (List ℕ) → Asked → Reader → Reader → Writer → Writer → Writer → Writer → ℕ → Type 0
+DoesTyped None asked input input' old new err err' status = DoesAsked [] [] asked input input' old new err err' status
+DoesTyped (Some path) asked input input' old new err err' status =
+    (given : Reader) × (left : Reader) × DoesWithTypes path given left asked input input' old new err err' status
+
+-- the same where a path of names for shapes was given, which no task takes that takes names for types
+abbrev pub DoesNamed : Option (List ℕ) → Option (List ℕ) → Asked → Reader → Reader → Writer → Writer → Writer → Writer → ℕ → Type 0
+DoesNamed None path asked input input' old new err err' status = DoesTyped path asked input input' old new err err' status
+DoesNamed (Some names) path asked input input' old new err err' status =
+    (given : Reader) × (left : Reader) × DoesWith names given left asked input input' old new err err' status
 
 -- the same; or memory was refused for the words, and that was told
-abbrev pub DoesTask : Option (List ℕ) → Asked → Reader → Reader → Writer → Writer → Writer → Writer → ℕ → Type 0
-DoesTask path asked input input' old new err err' status =
-    DoesNamed path asked input input' old new err err' status ⊎ ((status ≡ 1) × WritesNothing old new × TellsLine (Run NoMemory) err err')
+abbrev pub DoesTask : Option (List ℕ) → Option (List ℕ) → Asked → Reader → Reader → Writer → Writer → Writer → Writer → ℕ → Type 0
+DoesTask names types asked input input' old new err err' status = DoesNamed names types asked input input' old new err err' status
+    ⊎ ((status ≡ 1) × WritesNothing old new × TellsLine (Run NoMemory) err err')

@@ -15,19 +15,21 @@ use std::alloc::Global;
 use std::io::{Read, Write};
 use std::sync::Wait;
 use std::thread::Threads;
+use type_names::Types;
 
-/// Does a task that does a heap's steps, of a file of this name, with these names for shapes in a page.
+/// Does a task that does a heap's steps, of a file of this name, with these names for shapes in a page and for types in a view.
 fn do_task<H: Threads + Wait + Sync, R: Read, W: Write>(
     rt: &H,
     alloc: Global,
     name: &str,
     names: &[u8],
+    types: &Types,
     task: Task,
     reader: &mut WatchedReader<R>,
     out: &mut WatchedWriter<W>,
 ) -> Result<(), JobFault>
     requires { (followed : Bool) → task ≢ Check followed }
-    ensures { EndsAs name.now names.now task reader.old reader.new out.old out.new result }
+    ensures { EndsAs name.now names.now types.now task reader.old reader.new out.old out.new result }
 {
     match task {
         Task::Script(order) => do_script(rt, alloc, order, reader, out),
@@ -38,9 +40,9 @@ fn do_task<H: Threads + Wait + Sync, R: Read, W: Write>(
         } => {
             let glance = glance_of(at, viewed);
             if recorded {
-                view_record(alloc, &glance, reader, out)
+                view_record(alloc, &glance, types, reader, out)
             } else {
-                view_script(alloc, &glance, reader, out)
+                view_script(alloc, &glance, types, reader, out)
             }
         }
         Task::Draw { every, recorded } => {
@@ -131,19 +133,21 @@ fn do_over<H: Threads + Wait + Sync, W: Write, E: Write>(
     alloc: Global,
     name: &str,
     names: &[u8],
+    types: &Types,
     task: Task,
     text: &[u8],
     out: &mut WatchedWriter<W>,
     err: &mut WatchedWriter<E>,
 ) -> u8
     requires { (followed : Bool) → task ≢ Check followed }
-    ensures { TellsOver name.now names.now task text.now out.old out.new err.old err.new result }
+    ensures { TellsOver name.now names.now types.now task text.now out.old out.new err.old err.new result }
 {
     let outcome = do_task(
         rt,
         alloc,
         name,
         names,
+        types,
         task,
         &mut WatchedReader::new(text),
         out,
@@ -158,16 +162,27 @@ pub(crate) fn do_explained<H: Threads + Wait + Sync, R: Read, W: Write, E: Write
     alloc: Global,
     name: &str,
     names: &[u8],
+    types: &Types,
     task: Task,
     reader: &mut WatchedReader<R>,
     out: &mut WatchedWriter<W>,
     err: &mut WatchedWriter<E>,
 ) -> u8
     requires { (followed : Bool) → task ≢ Check followed }
-    ensures { DoesExplained name.now names.now task reader.old reader.new out.old out.new err.old err.new result }
+    ensures { DoesExplained name.now names.now types.now task reader.old reader.new out.old out.new err.old err.new result }
 {
     match read_text(alloc, reader) {
-        Ok(text) => do_over(rt, alloc, name, names, task, text.as_slice(), out, err),
+        Ok(text) => do_over(
+            rt,
+            alloc,
+            name,
+            names,
+            types,
+            task,
+            text.as_slice(),
+            out,
+            err,
+        ),
         Err(fault) => conclude_unread(fault, name, reader.reason(), err),
     }
 }

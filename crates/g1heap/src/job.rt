@@ -18,6 +18,7 @@ use std::alloc::Global;
 use std::io::{Read, Write};
 use std::sync::Wait;
 use std::thread::Threads;
+use type_names::Types;
 
 /// Does a script's steps in an order.
 pub(crate) fn do_script<H: Threads + Wait + Sync, R: Read, W: Write>(
@@ -94,22 +95,23 @@ pub(crate) fn glance_of(at: Option<u32>, viewed: Viewed) -> Glance
     }
 }
 
-/// Views the heap of a script, or of a record, and answers the program's status.
+/// Views the heap of a script, or of a record, with these names for types, and answers the program's status.
 fn do_view<R: Read, W: Write, E: Write>(
     alloc: Global,
     recorded: bool,
     glance: &Glance,
+    types: &Types,
     reader: &mut WatchedReader<R>,
     out: &mut WatchedWriter<W>,
     err: &mut WatchedWriter<E>,
 ) -> u8
-    ensures { DoesView recorded glance.now reader.old reader.new out.old out.new err.old err.new result }
+    ensures { DoesView recorded glance.now types.now reader.old reader.new out.old out.new err.old err.new result }
 {
     if recorded {
-        let viewed = view_record(alloc, glance, reader, out);
+        let viewed = view_record(alloc, glance, types, reader, out);
         conclude(viewed, err)
     } else {
-        let viewed = view_script(alloc, glance, reader, out);
+        let viewed = view_script(alloc, glance, types, reader, out);
         conclude(viewed, err)
     }
 }
@@ -137,18 +139,19 @@ fn do_draw<R: Read, W: Write, E: Write>(
     }
 }
 
-/// Does a task with a file of this name and these names for shapes, whose faults aren't to be explained, and answers the program's status.
+/// Does a task with a file of this name and these names, whose faults aren't to be explained, and answers the program's status.
 fn do_plain<H: Threads + Wait + Sync, R: Read, W: Write, E: Write>(
     rt: &H,
     alloc: Global,
     name: &str,
     names: &[u8],
+    types: &Types,
     task: Task,
     reader: &mut WatchedReader<R>,
     out: &mut WatchedWriter<W>,
     err: &mut WatchedWriter<E>,
 ) -> u8
-    ensures { DoesJob names.now (name.now, task, false) reader.old reader.new out.old out.new err.old err.new result }
+    ensures { DoesJob names.now types.now (name.now, task, false) reader.old reader.new out.old out.new err.old err.new result }
 {
     match task {
         Task::Script(order) => {
@@ -162,7 +165,7 @@ fn do_plain<H: Threads + Wait + Sync, R: Read, W: Write, E: Write>(
             viewed,
         } => {
             let glance = glance_of(at, viewed);
-            do_view(alloc, recorded, &glance, reader, out, err)
+            do_view(alloc, recorded, &glance, types, reader, out, err)
         }
         Task::Draw { every, recorded } => {
             do_draw(alloc, name, names, recorded, every, reader, out, err)
@@ -170,44 +173,46 @@ fn do_plain<H: Threads + Wait + Sync, R: Read, W: Write, E: Write>(
     }
 }
 
-/// Does a task with a file of this name and these names for shapes, and explains its fault, and answers the program's status.
+/// Does a task with a file of this name and these names, and explains its fault, and answers the program's status.
 fn do_explaining<H: Threads + Wait + Sync, R: Read, W: Write, E: Write>(
     rt: &H,
     alloc: Global,
     name: &str,
     names: &[u8],
+    types: &Types,
     task: Task,
     reader: &mut WatchedReader<R>,
     out: &mut WatchedWriter<W>,
     err: &mut WatchedWriter<E>,
 ) -> u8
-    ensures { DoesJob names.now (name.now, task, true) reader.old reader.new out.old out.new err.old err.new result }
+    ensures { DoesJob names.now types.now (name.now, task, true) reader.old reader.new out.old out.new err.old err.new result }
 {
     match task {
         Task::Check { followed } => do_check(alloc, name, true, followed, reader, out, err),
         Task::Script(_) | Task::View { .. } | Task::Draw { .. } => {
-            do_explained(rt, alloc, name, names, task, reader, out, err)
+            do_explained(rt, alloc, name, names, types, task, reader, out, err)
         }
     }
 }
 
-/// Does the job, with these names for shapes in a page, and answers the program's status.
+/// Does the job, with these names for shapes in a page and for types in a view, and answers the program's status.
 pub fn do_job<H: Threads + Wait + Sync, R: Read, W: Write, E: Write>(
     rt: &H,
     alloc: Global,
     job: &Job,
     names: &[u8],
+    types: &Types,
     reader: &mut WatchedReader<R>,
     out: &mut WatchedWriter<W>,
     err: &mut WatchedWriter<E>,
 ) -> u8
-    ensures { DoesJob names.now (asked_by job.now) reader.old reader.new out.old out.new err.old err.new result }
+    ensures { DoesJob names.now types.now (asked_by job.now) reader.old reader.new out.old out.new err.old err.new result }
 {
     let name = job.file();
     let task = job.task();
     let explained = job.explained();
     if explained {
-        return do_explaining(rt, alloc, name, names, task, reader, out, err);
+        return do_explaining(rt, alloc, name, names, types, task, reader, out, err);
     }
-    do_plain(rt, alloc, name, names, task, reader, out, err)
+    do_plain(rt, alloc, name, names, types, task, reader, out, err)
 }

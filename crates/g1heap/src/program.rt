@@ -1,12 +1,12 @@
 //! The whole program: its words, the file that they name, and the status.
 
-ghost use Rattle.std.specs.Prelude.{◌≡◌, ◌≢◌, ◌≤◌, ◌⊎◌, ℕ, Bool, List, Some, map, string_bytes};
+ghost use Rattle.std.specs.Prelude.{◌≡◌, ◌≢◌, ◌≤◌, ◌⊎◌, ℕ, Bool, List, Option, Some, map, string_bytes};
 ghost use Rattle.clap.specs.Values.{kind_of};
 ghost use Rattle.script_text.specs.Watched.{Reader, Writer, FailsToGive, WritesNothing};
 ghost use Rattle.job_ends.specs.FaultLines.{TellsLine};
-ghost use Rattle.command_line.specs.Asked.{Asked, Asks, asked_by, names_by, names_of};
+ghost use Rattle.command_line.specs.Asked.{Asked, Asks, asked_by, names_by, names_of, types_by, types_of};
 ghost use Rattle.command_line.specs.declared.Task.TheVariants.{Check};
-ghost use Rattle.g1heap.specs.Jobs.{DoesAsked, DoesCheck, DoesJob, DoesNamed, DoesTask, DoesWith};
+ghost use Rattle.g1heap.specs.Jobs.{DoesAsked, DoesBy, DoesCheck, DoesJob, DoesNamed, DoesTask, DoesTyped, DoesWith, DoesWithTypes};
 
 use crate::job::do_job;
 use clap::Error;
@@ -23,6 +23,7 @@ use std::io::{ErrorKind as Reason, Read, Write};
 use std::sync::Wait;
 use std::thread::Threads;
 use std::{env, fs, io};
+use type_names::{Types, TypesFault, conclude_types, read_types};
 
 /// Tells that a record to be judged can't be opened, and why where that is to be explained, and answers the program's status.
 fn unopened_check<E: Write>(
@@ -53,9 +54,9 @@ fn unopened_task<E: Write>(
     err: &mut WatchedWriter<E>,
 ) -> u8
     requires { (followed : Bool) → task ≢ Check followed }
-    ensures { (names : List ℕ) (given left : Reader) (old new : Writer) → FailsToGive ReadFault.CannotRead given left
+    ensures { (names types : List ℕ) (given left : Reader) (old new : Writer) → FailsToGive ReadFault.CannotRead given left
         → WritesNothing old new
-        → DoesJob names (name.now, task, explained) given left old new err.old err.new result }
+        → DoesJob names types (name.now, task, explained) given left old new err.old err.new result }
 {
     if explained {
         return conclude_unread(ReadFault::CannotRead, name, Some(reason), err);
@@ -65,9 +66,9 @@ fn unopened_task<E: Write>(
 
 /// Tells that a job's file can't be opened, and why where that is to be explained, and answers the program's status.
 fn conclude_unopened<E: Write>(job: &Job, reason: Reason, err: &mut WatchedWriter<E>) -> u8
-    ensures { (names : List ℕ) (given left : Reader) (old new : Writer) → FailsToGive ReadFault.CannotRead given left
+    ensures { (names types : List ℕ) (given left : Reader) (old new : Writer) → FailsToGive ReadFault.CannotRead given left
         → WritesNothing old new
-        → DoesJob names (asked_by job.now) given left old new err.old err.new result }
+        → DoesJob names types (asked_by job.now) given left old new err.old err.new result }
 {
     let name = job.file();
     let task = job.task();
@@ -80,17 +81,19 @@ fn conclude_unopened<E: Write>(job: &Job, reason: Reason, err: &mut WatchedWrite
     }
 }
 
-/// Opens the job's file and does the job, with these names for shapes in a page, and answers the program's status. A file that can't be
+/// Opens the job's file and does the job, with these names for shapes in a page and for types in a view, and answers the program's
+/// status. A file that can't be
 /// opened is told as a reader that refused.
 pub fn open_and_do<H: Files + Threads + Wait + Sync, W: Write, E: Write>(
     rt: &H,
     alloc: Global,
     job: &Job,
     names: &[u8],
+    types: &Types,
     out: &mut WatchedWriter<W>,
     err: &mut WatchedWriter<E>,
 ) -> u8
-    ensures { (given left : Reader) × DoesJob names.now (asked_by job.now) given left out.old out.new err.old err.new result }
+    ensures { (given left : Reader) × DoesJob names.now types.now (asked_by job.now) given left out.old out.new err.old err.new result }
 {
     match fs::open(rt, job.file()) {
         Ok(file) => do_job(
@@ -98,6 +101,7 @@ pub fn open_and_do<H: Files + Threads + Wait + Sync, W: Write, E: Write>(
             alloc,
             job,
             names,
+            types,
             &mut WatchedReader::new(file),
             out,
             err,
@@ -113,17 +117,18 @@ fn do_asked<H: Files + Threads + Wait + Sync, I: Read, W: Write, E: Write>(
     alloc: Global,
     job: &Job,
     names: &[u8],
+    types: &Types,
     input: &mut WatchedReader<I>,
     out: &mut WatchedWriter<W>,
     err: &mut WatchedWriter<E>,
 ) -> u8
-    ensures { DoesAsked names.now (asked_by job.now) input.old input.new out.old out.new err.old err.new result }
+    ensures { DoesAsked names.now types.now (asked_by job.now) input.old input.new out.old out.new err.old err.new result }
 {
     let name = job.file();
     if name == "-" {
-        return do_job(rt, alloc, job, names, input, out, err);
+        return do_job(rt, alloc, job, names, types, input, out, err);
     }
-    open_and_do(rt, alloc, job, names, out, err)
+    open_and_do(rt, alloc, job, names, types, out, err)
 }
 
 /// Reads names for shapes from the file of this path, to its end, and does the job with them, and answers the program's status. Where the
@@ -141,7 +146,10 @@ fn do_with<H: Files + Threads + Wait + Sync, N: Read, I: Read, W: Write, E: Writ
     ensures { DoesWith path.now file.old file.new (asked_by job.now) input.old input.new out.old out.new err.old err.new result }
 {
     match read_text(alloc, file) {
-        Ok(names) => do_asked(rt, alloc, job, names.as_slice(), input, out, err),
+        Ok(names) => {
+            let types = Types::new(alloc);
+            do_asked(rt, alloc, job, names.as_slice(), &types, input, out, err)
+        }
         Err(fault) => conclude_unread(fault, path, file.reason(), err),
     }
 }
@@ -156,7 +164,8 @@ fn open_and_name<H: Files + Threads + Wait + Sync, I: Read, W: Write, E: Write>(
     out: &mut WatchedWriter<W>,
     err: &mut WatchedWriter<E>,
 ) -> u8
-    ensures { DoesNamed (Some path.now) (asked_by job.now) input.old input.new out.old out.new err.old err.new result }
+    ensures { (types : Option (List ℕ))
+        → DoesNamed (Some path.now) types (asked_by job.now) input.old input.new out.old out.new err.old err.new result }
 {
     match fs::open(rt, path) {
         Ok(file) => do_with(
@@ -173,7 +182,95 @@ fn open_and_name<H: Files + Threads + Wait + Sync, I: Read, W: Write, E: Write>(
     }
 }
 
-/// Does the job, with the names for shapes of the file that it names, and answers the program's status.
+/// Does the job with the names for types that the text of a file of this path gives, and answers the program's status. Where a line has a
+/// mistake, standard error is told which, with the path.
+fn do_by<H: Files + Threads + Wait + Sync, I: Read, W: Write, E: Write>(
+    rt: &H,
+    alloc: Global,
+    job: &Job,
+    path: &str,
+    text: &[u8],
+    input: &mut WatchedReader<I>,
+    out: &mut WatchedWriter<W>,
+    err: &mut WatchedWriter<E>,
+) -> u8
+    ensures { DoesBy path.now text.now (asked_by job.now) input.old input.new out.old out.new err.old err.new result }
+{
+    match read_types(alloc, text) {
+        Ok(types) => do_asked(rt, alloc, job, &[], &types, input, out, err),
+        Err(TypesFault::Line { line, mistake }) => conclude_types(line, mistake, path, err),
+        Err(TypesFault::NoMemory) => conclude(Err(JobFault::Run(RunFault::NoMemory)), err),
+    }
+}
+
+/// Reads names for types from the file of this path, to its end, and does the job with them, and answers the program's status. Where the
+/// file can't be read, standard error is told its path, and why.
+fn do_with_types<H: Files + Threads + Wait + Sync, N: Read, I: Read, W: Write, E: Write>(
+    rt: &H,
+    alloc: Global,
+    job: &Job,
+    path: &str,
+    file: &mut WatchedReader<N>,
+    input: &mut WatchedReader<I>,
+    out: &mut WatchedWriter<W>,
+    err: &mut WatchedWriter<E>,
+) -> u8
+    ensures { DoesWithTypes path.now file.old file.new (asked_by job.now) input.old input.new out.old out.new err.old err.new result }
+{
+    match read_text(alloc, file) {
+        Ok(text) => do_by(rt, alloc, job, path, text.as_slice(), input, out, err),
+        Err(fault) => conclude_unread(fault, path, file.reason(), err),
+    }
+}
+
+/// Opens the file of this path, and does the job with its names for types, and answers the program's status.
+fn open_types<H: Files + Threads + Wait + Sync, I: Read, W: Write, E: Write>(
+    rt: &H,
+    alloc: Global,
+    job: &Job,
+    path: &str,
+    input: &mut WatchedReader<I>,
+    out: &mut WatchedWriter<W>,
+    err: &mut WatchedWriter<E>,
+) -> u8
+    ensures { DoesTyped (Some path.now) (asked_by job.now) input.old input.new out.old out.new err.old err.new result }
+{
+    match fs::open(rt, path) {
+        Ok(file) => do_with_types(
+            rt,
+            alloc,
+            job,
+            path,
+            &mut WatchedReader::new(file),
+            input,
+            out,
+            err,
+        ),
+        Err(error) => conclude_unread(ReadFault::CannotRead, path, Some(error.kind()), err),
+    }
+}
+
+/// Does the job, with the names for types of the file that it names, and answers the program's status.
+fn do_typed<H: Files + Threads + Wait + Sync, I: Read, W: Write, E: Write>(
+    rt: &H,
+    alloc: Global,
+    job: &Job,
+    input: &mut WatchedReader<I>,
+    out: &mut WatchedWriter<W>,
+    err: &mut WatchedWriter<E>,
+) -> u8
+    ensures { DoesTyped (types_by job.now) (asked_by job.now) input.old input.new out.old out.new err.old err.new result }
+{
+    match job.types() {
+        Some(path) => open_types(rt, alloc, job, path, input, out, err),
+        None => {
+            let types = Types::new(alloc);
+            do_asked(rt, alloc, job, &[], &types, input, out, err)
+        }
+    }
+}
+
+/// Does the job, with the names for shapes or types of the file that it names, and answers the program's status.
 fn do_named<H: Files + Threads + Wait + Sync, I: Read, W: Write, E: Write>(
     rt: &H,
     alloc: Global,
@@ -182,11 +279,12 @@ fn do_named<H: Files + Threads + Wait + Sync, I: Read, W: Write, E: Write>(
     out: &mut WatchedWriter<W>,
     err: &mut WatchedWriter<E>,
 ) -> u8
-    ensures { DoesNamed (names_by job.now) (asked_by job.now) input.old input.new out.old out.new err.old err.new result }
+    ensures { DoesNamed (names_by job.now) (types_by job.now) (asked_by job.now) input.old input.new out.old out.new err.old err.new
+        result }
 {
     match job.names() {
         Some(path) => open_and_name(rt, alloc, job, path, input, out, err),
-        None => do_asked(rt, alloc, job, &[], input, out, err),
+        None => do_typed(rt, alloc, job, input, out, err),
     }
 }
 
@@ -226,7 +324,8 @@ pub fn do_words<H: Files + Threads + Wait + Sync, I: Read, W: Write, E: Write>(
     err: &mut WatchedWriter<E>,
 ) -> u8
     ensures asked { (asked : Asked) → Asks (map string_bytes words.now) asked
-        → DoesTask (names_of (map string_bytes words.now)) asked input.old input.new out.old out.new err.old err.new result }
+        → DoesTask (names_of (map string_bytes words.now)) (types_of (map string_bytes words.now)) asked
+        input.old input.new out.old out.new err.old err.new result }
     ensures most { result ≤ 3 }
 {
     match read_words(alloc, words) {

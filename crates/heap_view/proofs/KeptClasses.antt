@@ -143,11 +143,11 @@ pub row_small : (n size : ℕ) → n ≤ max_words → size ≤ max_words → n 
 row_small n size few small = mul-le n size max_words max_words few small
 
 -- ---- the lines of their census
-pub lines_are : (c : CoreState) (classes : List Class) (rows told : List Row) (words objects : ℕ) → classes ≡ kept_classes c
-    → IsCensus classes rows → told ≡ rows → words ≡ sum_by class_size classes → objects ≡ length classes
-    → AreCensusLines c (table_text told words objects)
-lines_are c classes rows told words objects is census same w o = record {
+pub lines_are : (types : List ℕ) (c : CoreState) (classes : List Class) (rows told : List Row) (words objects : ℕ)
+    → classes ≡ kept_classes c → IsCensus classes rows → told ≡ rows → words ≡ sum_by class_size classes → objects ≡ length classes
+    → AreCensusLines types c (table_text types told words objects)
+lines_are types c classes rows told words objects is census same w o = record {
   rows = told;
   census = subst (λ (ks : List Class). IsCensus ks told) is (subst (λ (r : List Row). IsCensus classes r) (sym same) census);
-  is = ap₂ (λ (m n : ℕ). table_text told m n) (w ∙ ap (sum_by class_size) is) (o ∙ ap length is);
+  is = ap₂ (λ (m n : ℕ). table_text types told m n) (w ∙ ap (sum_by class_size) is) (o ∙ ap length is);
 }

@@ -1,6 +1,7 @@
 -- A census: how many kept objects there are of each class, and how many words they have.
 use Rattle.std.specs.Prelude.{◌≡◌, ◌<◌, ◌≤◌, ◌-◌, ◌*◌, ◌/◌, ◌==◌, ℕ, zero, suc, Bool, true, false, List, [], ◌++◌}
 use Rattle.std.specs.Prelude.{All, IsSorted, codes, count_by, decimal, flat_map, length, map, sum_by, if◌then◌else◌}
+use Rattle.std.specs.Option.{option_map_or}
 use Rattle.std.specs.Ordering.{is_eq, nat_cmp, ordering_then}
 use Rattle.std.specs.declared.cmp.Ordering.{Ordering}
 use Rattle.heap_words.specs.Configs.{max_words}
@@ -11,6 +12,7 @@ use Rattle.heap_walk.specs.Walks.{entries_at, told_between}
 use Rattle.heap_walk.specs.declared.objects.Entry.{Entry}
 use Rattle.heap_view.specs.declared.census.Row.{Row}
 use Rattle.heap_view.specs.declared.classes.Class.{Class}
+use Rattle.heap_view.specs.Types.{type_of}
 
 -- ---- classes
 -- the class of an object: how many fields of each kind it has, and its first data word
@@ -101,11 +103,16 @@ first_text k = if k.values == 0 then codes "none" else decimal k.word
 abbrev pub class_text : Class → List ℕ
 class_text k = column k.pointers ++ codes "  " ++ column k.weaks ++ codes "  " ++ column k.values ++ codes "  " ++ first_text k
 
-abbrev pub row_line : Row → List ℕ
-row_line row = column row.words ++ codes "  " ++ column row.objects ++ codes "  " ++ class_text row.class ++ codes "\n"
+-- the name of a class's first data word, if it has one
+abbrev pub type_text : List ℕ → Class → List ℕ
+type_text types k = option_map_or (λ name. codes "  " ++ name) (type_of types k) []
 
-abbrev pub rows_text : List Row → List ℕ
-rows_text rows = flat_map row_line rows
+abbrev pub row_line : List ℕ → Row → List ℕ
+row_line types row = column row.words ++ codes "  " ++ column row.objects ++ codes "  " ++ class_text row.class
+    ++ type_text types row.class ++ codes "\n"
+
+abbrev pub rows_text : List ℕ → List Row → List ℕ
+rows_text types rows = flat_map (row_line types) rows
 
 -- how many words, objects and classes there are in all
 abbrev pub sums_line : ℕ → ℕ → ℕ → List ℕ
@@ -113,13 +120,13 @@ sums_line words objects classes =
     column words ++ codes "  " ++ column objects ++ codes "  in all: classes " ++ decimal classes ++ codes "\n"
 
 -- a line of titles, the rows, and the sums
-abbrev pub table_text : List Row → ℕ → ℕ → List ℕ
-table_text rows words objects =
-    codes "     words     objects    pointers  weak slots  data words  first word\n" ++ rows_text rows
+abbrev pub table_text : List ℕ → List Row → ℕ → ℕ → List ℕ
+table_text types rows words objects =
+    codes "     words     objects    pointers  weak slots  data words  first word\n" ++ rows_text types rows
     ++ sums_line words objects (length rows)
 
--- the lines of the census of the kept objects
-pub record AreCensusLines (c : CoreState) (text : List ℕ) : Type 0 where
+-- the lines of the census of the kept objects, with the names of types that a text gives
+pub record AreCensusLines (types : List ℕ) (c : CoreState) (text : List ℕ) : Type 0 where
   pub rows : List Row
   pub census : IsCensus (kept_classes c) rows
-  pub is : text ≡ table_text rows (sum_by class_size (kept_classes c)) (length (kept_classes c))
+  pub is : text ≡ table_text types rows (sum_by class_size (kept_classes c)) (length (kept_classes c))

@@ -66,13 +66,13 @@ viewed_regions (Some k) summary c = numbered_region summary c k
 viewed_regions None summary c =
     text_below (listed_region summary c) (length c.table.regions) ++ below_regions summary c
 
--- these lines are what is viewed
-abbrev pub AreViewed : Viewed → CoreState → List ℕ → Type 0
-AreViewed (Regions region summary) c lines = lines ≡ viewed_regions region summary c
-AreViewed (Object name) c lines = AreObjectLines c name lines
-AreViewed (Path name) c lines = AreWayLines c name lines
-AreViewed Census c lines = AreCensusLines c lines
-AreViewed Snapshot c lines = IsSnapshot c lines
+-- these lines are what is viewed, with the names of types that a text gives
+abbrev pub AreViewed : List ℕ → Viewed → CoreState → List ℕ → Type 0
+AreViewed types (Regions region summary) c lines = lines ≡ viewed_regions region summary c
+AreViewed types (Object name) c lines = AreObjectLines c name lines
+AreViewed types (Path name) c lines = AreWayLines c name lines
+AreViewed types Census c lines = AreCensusLines types c lines
+AreViewed types Snapshot c lines = IsSnapshot types c lines
 
 -- what comes before that: the sizes as the script's first line has them, and the state; nothing before a snapshot, which other tools read
 abbrev pub has_head : Viewed → Bool
@@ -83,7 +83,7 @@ abbrev pub head_lines : Viewed → CoreState → List ℕ
 head_lines viewed c = if has_head viewed then line (heap_words c.config) ++ state_lines c else []
 
 -- the text of a view: these, and what is viewed
-pub record IsViewText (glance : Glance) (c : CoreState) (text : List ℕ) : Type 0 where
+pub record IsViewText (glance : Glance) (types : List ℕ) (c : CoreState) (text : List ℕ) : Type 0 where
   pub lines : List ℕ
-  pub viewed : AreViewed glance.viewed c lines
+  pub viewed : AreViewed types glance.viewed c lines
   pub is : text ≡ head_lines glance.viewed c ++ lines

@@ -4,6 +4,7 @@ pub mod Areas
 pub mod Folds
 pub mod Nexts
 pub mod Objects
+pub mod Types
 pub mod Census
 pub mod Search
 pub mod Snapshot

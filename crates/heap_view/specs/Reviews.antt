@@ -28,16 +28,16 @@ abbrev pub beginning_of : Option ℕ → EventList → EventList
 beginning_of at history = record history { events = front at history.events }
 
 -- the text is the view of the core at which the first so many events of a record ended
-pub record IsReviewOf (glance : Glance) (history : EventList) (text : List ℕ) : Type 0 where
+pub record IsReviewOf (glance : Glance) (types : List ℕ) (history : EventList) (text : List ℕ) : Type 0 where
   pub core : CoreState
   pub goes : GoesTo (beginning_of glance.at history) core
-  pub is : IsViewText glance core text
+  pub is : IsViewText glance types core text
 
 -- the input is a record, and the text is the view of it
-pub record IsReviewOfRecord (glance : Glance) (input text : List ℕ) : Type 0 where
+pub record IsReviewOfRecord (glance : Glance) (types input text : List ℕ) : Type 0 where
   pub history : EventList
   pub read : record_of input ≡ Ok history
-  pub viewed : IsReviewOf glance history text
+  pub viewed : IsReviewOf glance types history text
 
 -- why a new heap didn't do the steps of these events and give them their replies
 abbrev pub IsRedoFault : EventList → JobFault → Type 0
@@ -45,13 +45,14 @@ IsRedoFault events (faults.Run fault) = IsRunFault events.config fault
 IsRedoFault events (faults.Differs event) = DiffersAt RunsFromNew events event
 IsRedoFault events _ = ⊥
 
--- how a view of a record after so many events ended
-abbrev pub Reviews : Glance → Reader → Reader → Writer → Writer → Result ⊤ JobFault → Type 0
-Reviews glance given left old new outcome =
-    AnswersRecord (IsReviewOfRecord glance) (λ history. DiffersAt RunsFromNew (beginning_of glance.at history)) given left old new outcome
+-- how a view of a record after so many events ended, with the names of types that a text gives
+abbrev pub Reviews : Glance → List ℕ → Reader → Reader → Writer → Writer → Result ⊤ JobFault → Type 0
+Reviews glance types given left old new outcome =
+    AnswersRecord (IsReviewOfRecord glance types) (λ history. DiffersAt RunsFromNew (beginning_of glance.at history)) given left old new
+    outcome
 
 -- A record was viewed so, and it was told so.
-pub record PerformsReview (glance : Glance) (given left : Reader) (old new err err' : Writer) (status : ℕ) : Type 0 where
+pub record PerformsReview (glance : Glance) (types : List ℕ) (given left : Reader) (old new err err' : Writer) (status : ℕ) : Type 0 where
   pub outcome : Result ⊤ JobFault
-  pub views : Reviews glance given left old new outcome
+  pub views : Reviews glance types given left old new outcome
   pub tells : TellsEnd err err' outcome status

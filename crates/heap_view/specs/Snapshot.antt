@@ -1,6 +1,6 @@
 -- The numbers of a snapshot: which node an object is, and where its class is in a table.
 use Rattle.std.specs.Prelude.{◌≡◌, ◌≤◌, ◌+◌, ℕ, Bool, false, true, List, [], ◌∷◌, Option, Some, None, All, Contains, IsSome}
-use Rattle.std.specs.Prelude.{count_by, is_some, length, max, slice_get, sum_by}
+use Rattle.std.specs.Prelude.{count_by, is_some, length, map, max, slice_get, sum_by}
 use Rattle.std.specs.List.{prefix_len}
 use Rattle.std.specs.List.Sorted.{IsStrictlySortedBy}
 use Rattle.std.specs.Ordering.{is_lt, nat_cmp}
@@ -13,6 +13,7 @@ use Rattle.heap_walk.specs.Holders.{links_at}
 use Rattle.heap_walk.specs.Starts.{word_count}
 use Rattle.heap_walk.specs.Walks.{told_between}
 use Rattle.heap_view.specs.Census.{class_cmp, kept_classes}
+use Rattle.heap_view.specs.Types.{listed_class}
 use Rattle.heap_view.specs.declared.classes.Class.{Class}
 use Rattle.heap_view.specs.declared.snapshot.Numbering.{Numbering}
 
@@ -83,10 +84,14 @@ first_class c = 2 + length c.roots
 abbrev pub first_weak : CoreState → List Class → ℕ
 first_weak c table = first_class c + length table
 
--- the nodes and the classes of the kept objects are numbered
+-- the classes under which the kept objects are listed, one for each object, with the names of types that a text gives
+abbrev pub listed_classes : List ℕ → CoreState → List Class
+listed_classes types c = map (listed_class types) (kept_classes c)
+
+-- the nodes of the kept objects are numbered, and classes
 pub record IsNumbering (c : CoreState) (n : Numbering) : Type 0 where
   pub nodes : AreNodes c
   pub starts_are : n.starts.items ≡ starts c
   pub few : length (starts c) ≤ max_words
-  pub classes_are : IsClassTable (kept_classes c) n.classes.items
+  pub sorted : IsStrictlySortedBy class_cmp n.classes.items
   pub few_classes : length n.classes.items ≤ max_words

@@ -2,6 +2,7 @@
 use Rattle.std.specs.Prelude.{◌≡◌, ◌+◌, ◌*◌, ◌%◌, ℕ, Bool, false, true, List, [], ◌++◌, Option, Some, None, codes, flat_map}
 use Rattle.std.specs.Prelude.{length, slice_index_or, if◌then◌else◌}
 use Rattle.std.specs.Fmt.{decimal}
+use Rattle.std.specs.Option.{option_map_or}
 use Rattle.step_core.specs.Stands.{CoreState, root_counts_of}
 use Rattle.step_core.specs.Mutators.{root_of}
 use Rattle.heap_dump.specs.Lists.{text_below}
@@ -11,7 +12,8 @@ use Rattle.heap_walk.specs.declared.objects.Entry.{Entry}
 use Rattle.heap_view.specs.Census.{class_cmp, class_of, class_size, first_text, kept_classes}
 use Rattle.heap_view.specs.Objects.{root_text}
 use Rattle.heap_view.specs.Snapshot.{AreNodes, IsClassTable, edge_count, edges_from, first_class, first_weak, node_count, node_of, place_by}
-use Rattle.heap_view.specs.Snapshot.{root_edges, starts, widest}
+use Rattle.heap_view.specs.Snapshot.{listed_classes, root_edges, starts, widest}
+use Rattle.heap_view.specs.Types.{escaped, listed_class, type_of}
 use Rattle.heap_view.specs.declared.classes.Class.{Class}
 
 -- ---- the head
@@ -52,15 +54,16 @@ abbrev pub id_of : ℕ → ℕ
 id_of name = name % 4611686018427387904 * 2 + 5
 
 -- an object: the name of its class, its id, and eight bytes a word
-abbrev pub node_text : CoreState → List Class → ℕ → Entry → List ℕ
-node_text c table a e = codes "\n,3," ++ decimal (first_class c + place_by class_cmp table (class_of e)) ++ codes ","
+abbrev pub node_text : List ℕ → CoreState → List Class → ℕ → Entry → List ℕ
+node_text types c table a e =
+    codes "\n,3," ++ decimal (first_class c + place_by class_cmp table (listed_class types (class_of e))) ++ codes ","
     ++ decimal (id_of e.name) ++ codes "," ++ decimal (class_size (class_of e) * 8) ++ codes "," ++ decimal (edges_from c a) ++ codes ",0"
 
-abbrev pub object_node : CoreState → List Class → ℕ → List ℕ
-object_node c table a = flat_map (node_text c table a) (entries_at c a)
+abbrev pub object_node : List ℕ → CoreState → List Class → ℕ → List ℕ
+object_node types c table a = flat_map (node_text types c table a) (entries_at c a)
 
-abbrev pub nodes_text : CoreState → List Class → List ℕ
-nodes_text c table = root_nodes c ++ flat_map (object_node c table) (starts c) ++ codes "],\n"
+abbrev pub nodes_text : List ℕ → CoreState → List Class → List ℕ
+nodes_text types c table = root_nodes c ++ flat_map (object_node types c table) (starts c) ++ codes "],\n"
 
 -- ---- edges: a type, a name's number or an index, and where the node that it leads to begins
 -- an edge to where a root or a link leads, unless that is nil
@@ -106,8 +109,12 @@ abbrev pub shape_text : Class → List ℕ
 shape_text k = codes "pointers " ++ decimal k.pointers ++ codes ", weak slots " ++ decimal k.weaks ++ codes ", data words "
     ++ decimal k.values ++ codes ", first word " ++ first_text k
 
-abbrev pub class_name : Class → List ℕ
-class_name k = string_text (shape_text k)
+-- the name of a class's type, if it has one; else its shape
+abbrev pub label_text : List ℕ → Class → List ℕ
+label_text types k = option_map_or escaped (type_of types k) (shape_text k)
+
+abbrev pub class_name : List ℕ → Class → List ℕ
+class_name types k = string_text (label_text types k)
 
 abbrev pub slot_text : ℕ → List ℕ
 slot_text i = codes "weak slot " ++ decimal i
@@ -115,21 +122,23 @@ slot_text i = codes "weak slot " ++ decimal i
 abbrev pub weak_name : ℕ → List ℕ
 weak_name i = string_text (slot_text i)
 
-abbrev pub strings_text : CoreState → List Class → List ℕ
-strings_text c table = codes "\"strings\":[\"\",\n\"(roots)\"" ++ text_below (root_name c) (length c.roots) ++ flat_map class_name table
-    ++ text_below weak_name (widest table) ++ codes "]}\n"
+abbrev pub strings_text : List ℕ → CoreState → List Class → List ℕ
+strings_text types c table = codes "\"strings\":[\"\",\n\"(roots)\"" ++ text_below (root_name c) (length c.roots)
+    ++ flat_map (class_name types) table ++ text_below weak_name (widest (kept_classes c)) ++ codes "]}\n"
 
 -- ---- all of it
 -- lists of which nothing is told here
 abbrev pub empty_lists : List ℕ
 empty_lists = codes "\"trace_function_infos\":[],\n\"trace_tree\":[],\n\"samples\":[],\n\"locations\":[],\n"
 
-abbrev pub snapshot_text : CoreState → List Class → List ℕ
-snapshot_text c table = head_text c ++ nodes_text c table ++ edges_text c table ++ empty_lists ++ strings_text c table
+abbrev pub snapshot_text : List ℕ → CoreState → List Class → List ℕ
+snapshot_text types c table =
+    head_text c ++ nodes_text types c table ++ edges_text c table ++ empty_lists ++ strings_text types c table
 
--- the snapshot of the kept objects: a node each, and an edge for each root and link that leads to one
-pub record IsSnapshot (c : CoreState) (text : List ℕ) : Type 0 where
+-- the snapshot of the kept objects: a node each, and an edge for each root and link that leads to one; with the names of types that a text
+-- gives
+pub record IsSnapshot (types : List ℕ) (c : CoreState) (text : List ℕ) : Type 0 where
   pub nodes : AreNodes c
   pub table : List Class
-  pub classes : IsClassTable (kept_classes c) table
-  pub is : text ≡ snapshot_text c table
+  pub classes : IsClassTable (listed_classes types c) table
+  pub is : text ≡ snapshot_text types c table

@@ -21,25 +21,25 @@ abbrev pub front_of : Option ℕ → StepList → StepList
 front_of at plan = record plan { steps = front at plan.steps }
 
 -- The text is the view of the core at which a run of the plan's first so many steps in a new heap ended
-pub record IsViewOf (glance : Glance) (plan : StepList) (text : List ℕ) : Type 0 where
+pub record IsViewOf (glance : Glance) (types : List ℕ) (plan : StepList) (text : List ℕ) : Type 0 where
   pub events : EventList
   pub runs : IsRunInOrder (front_of glance.at plan) events
   pub core : CoreState
   pub ends : RunsTo plan.config events.events core
-  pub is : IsViewText glance core text
+  pub is : IsViewText glance types core text
 
 -- the input is a script, and the text is the view of it
-pub record IsViewOfScript (glance : Glance) (input text : List ℕ) : Type 0 where
+pub record IsViewOfScript (glance : Glance) (types input text : List ℕ) : Type 0 where
   pub plan : StepList
   pub read : script_of input ≡ Ok plan
-  pub viewed : IsViewOf glance plan text
+  pub viewed : IsViewOf glance types plan text
 
--- how a view ended
-abbrev pub Views : Glance → Reader → Reader → Writer → Writer → Result ⊤ JobFault → Type 0
-Views glance given left old new outcome = AnswersScript (IsViewOfScript glance) given left old new outcome
+-- how a view ended, with the names of types that a text gives
+abbrev pub Views : Glance → List ℕ → Reader → Reader → Writer → Writer → Result ⊤ JobFault → Type 0
+Views glance types given left old new outcome = AnswersScript (IsViewOfScript glance types) given left old new outcome
 
 -- A script was viewed so, and it was told so.
-pub record PerformsView (glance : Glance) (given left : Reader) (old new err err' : Writer) (status : ℕ) : Type 0 where
+pub record PerformsView (glance : Glance) (types : List ℕ) (given left : Reader) (old new err err' : Writer) (status : ℕ) : Type 0 where
   pub outcome : Result ⊤ JobFault
-  pub views : Views glance given left old new outcome
+  pub views : Views glance types given left old new outcome
   pub tells : TellsEnd err err' outcome status

@@ -1,12 +1,14 @@
 //! The classes of the kept objects, one for each object.
 
-ghost use Rattle.std.specs.Prelude.{◌≡◌, ◌++◌, IfOk, OnOk, map, sum_by};
+ghost use Rattle.std.specs.Prelude.{◌≡◌, ◌++◌, IfOk, OnOk, map, length, option_map, sum_by};
 ghost use Rattle.heap_view.specs.Census.{AddsClasses, AreSmall, class_cmp, class_of, class_size, is_same, kept_classes};
+ghost use Rattle.heap_view.specs.Types.{listed_class, type_of, type_word, word_class};
 
 use heap_walk::{Entry, walk};
 use std::alloc::{AllocError, Global};
 use std::cmp::Ordering;
 use step_core::Core;
+use type_names::Types;
 
 /// How many objects a walk tells at a time.
 const AT_A_TIME: usize = 64;
@@ -109,4 +111,56 @@ pub(crate) fn sum_of(classes: &[Class]) -> u64
         sum += class_size(class);
     }
     sum
+}
+
+/// The name of a class's first data word, if it has one.
+pub(crate) fn type_of<'a>(types: &Types<'a>, class: &Class) -> Option<&'a [u8]>
+    ensures { option_map (λ name. name.now) result ≡ type_of types.now class.now }
+{
+    if class.values == 0 {
+        return None;
+    }
+    types.name(class.word)
+}
+
+/// The first word with the name of a class, if that has a name.
+fn type_word(types: &Types, class: &Class) -> Option<u64>
+    ensures { result ≡ type_word types.now class.now }
+{
+    if class.values == 0 {
+        return None;
+    }
+    types.first(class.word)
+}
+
+/// The class of objects of one data word and nothing else.
+fn word_class(word: u64) -> Class
+    ensures { result ≡ word_class word }
+{
+    Class {
+        pointers: 0,
+        weaks: 0,
+        values: 1,
+        word,
+    }
+}
+
+/// The class under which objects of a class are listed.
+pub(crate) fn listed_class(types: &Types, class: &Class) -> Class
+    ensures { result ≡ listed_class types.now class.now }
+{
+    match type_word(types, class) {
+        Some(word) => word_class(word),
+        None => *class,
+    }
+}
+
+/// Puts in the place of each class the one under which its objects are listed.
+pub(crate) fn list_classes(types: &Types, classes: &mut Vec<Class>)
+    ensures value { classes.new.items ≡ map (listed_class types.now) classes.old.items }
+    ensures length { length classes.new.items ≡ length classes.old.items }
+{
+    for place in 0..classes.len() {
+        classes[place] = listed_class(types, &classes[place]);
+    }
 }

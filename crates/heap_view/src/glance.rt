@@ -21,6 +21,7 @@ use heap_words::addr::RegionNo;
 use script_text::Text;
 use std::alloc::{AllocError, Global};
 use step_core::Core;
+use type_names::Types;
 
 /// What of a heap is viewed.
 #[derive(Clone, Copy, Debug, PartialEq, Eq)]
@@ -158,8 +159,14 @@ fn put_regions(core: &Core, text: &mut Text, region: Option<u32>, summary: bool)
 }
 
 /// Puts what of a heap is viewed. The error is want of memory.
-fn put_viewed(alloc: Global, core: &Core, text: &mut Text, viewed: Viewed) -> Result<(), AllocError>
-    ensures { OnOk result ((lines : List ℕ) × AreViewed viewed core.now lines × Adds text.old lines text.new) }
+fn put_viewed(
+    alloc: Global,
+    core: &Core,
+    types: &Types,
+    text: &mut Text,
+    viewed: Viewed,
+) -> Result<(), AllocError>
+    ensures { OnOk result ((lines : List ℕ) × AreViewed types.now viewed core.now lines × Adds text.old lines text.new) }
 {
     match viewed {
         Viewed::Regions { region, summary } => {
@@ -171,8 +178,8 @@ fn put_viewed(alloc: Global, core: &Core, text: &mut Text, viewed: Viewed) -> Re
             Ok(())
         }
         Viewed::Path(name) => put_path(alloc, core, text, name),
-        Viewed::Census => put_census(alloc, core, text),
-        Viewed::Snapshot => put_snapshot(alloc, core, text),
+        Viewed::Census => put_census(alloc, core, types, text),
+        Viewed::Snapshot => put_snapshot(alloc, core, types, text),
     }
 }
 
@@ -197,12 +204,17 @@ fn put_head(core: &Core, text: &mut Text, viewed: Viewed)
     put_state(core, text);
 }
 
-/// The text of what of a heap is viewed. The error is want of memory.
-pub fn view_text(alloc: Global, core: &Core, glance: &Glance) -> Result<Vec<u8>, AllocError>
-    ensures { IfOk result (λ text. IsViewText glance.now core.now text.items) }
+/// The text of what of a heap is viewed, with the names of these types in a census and in a snapshot. The error is want of memory.
+pub fn view_text(
+    alloc: Global,
+    core: &Core,
+    glance: &Glance,
+    types: &Types,
+) -> Result<Vec<u8>, AllocError>
+    ensures { IfOk result (λ text. IsViewText glance.now types.now core.now text.items) }
 {
     let mut text = Text::new(alloc);
     put_head(core, &mut text, glance.viewed);
-    put_viewed(alloc, core, &mut text, glance.viewed)?;
+    put_viewed(alloc, core, types, &mut text, glance.viewed)?;
     text.into_bytes()
 }

@@ -17,6 +17,7 @@ use script_text::{WatchedReader, WatchedWriter, write_bytes};
 use std::alloc::{AllocError, Global};
 use std::io::{Read, Write};
 use step_core::{Core, run_to_core};
+use type_names::Types;
 
 /// The steps of events.
 fn steps_of(alloc: Global, events: &[Event]) -> Result<Vec<Step>, AllocError>
@@ -54,8 +55,13 @@ fn core_over(alloc: Global, config: &Config, events: &[Event]) -> Result<Core, J
 }
 
 /// What is viewed of a new heap after the first so many events of a record.
-fn review_of(alloc: Global, history: &Record, glance: &Glance) -> Result<Vec<u8>, JobFault>
-    ensures text { IfOk result (λ text. IsReviewOf glance.now history.now text.items) }
+fn review_of(
+    alloc: Global,
+    history: &Record,
+    glance: &Glance,
+    types: &Types,
+) -> Result<Vec<u8>, JobFault>
+    ensures text { IfOk result (λ text. IsReviewOf glance.now types.now history.now text.items) }
     ensures fault { IfErr result (IsRedoFault (beginning_of glance.now.at history.now)) }
 {
     let events = first_of(history.events(), glance.at);
@@ -63,7 +69,7 @@ fn review_of(alloc: Global, history: &Record, glance: &Glance) -> Result<Vec<u8>
         Ok(core) => core,
         Err(fault) => return Err(fault),
     };
-    match text_of(alloc, &core, glance) {
+    match text_of(alloc, &core, glance, types) {
         Ok(text) => Ok(text),
         Err(fault) => Err(JobFault::Run(fault)),
     }
@@ -75,13 +81,14 @@ fn review_of(alloc: Global, history: &Record, glance: &Glance) -> Result<Vec<u8>
 pub fn view_record<R: Read, W: Write>(
     alloc: Global,
     glance: &Glance,
+    types: &Types,
     reader: &mut WatchedReader<R>,
     writer: &mut WatchedWriter<W>,
 ) -> Result<(), JobFault>
-    ensures { Reviews glance.now reader.old reader.new writer.old writer.new result }
+    ensures { Reviews glance.now types.now reader.old reader.new writer.old writer.new result }
 {
     let history = read_record(alloc, reader)?;
-    let text = match review_of(alloc, &history, glance) {
+    let text = match review_of(alloc, &history, glance, types) {
         Ok(text) => text,
         Err(fault) => return Err(fault),
     };

@@ -10,21 +10,24 @@ ghost use Rattle.heap_words.specs.Configs.{max_words};
 ghost use Rattle.step_core.specs.Stands.{kept_of};
 ghost use Rattle.step_core.specs.Mutators.{root_of};
 ghost use Rattle.heap_walk.specs.Holders.{links_at};
-ghost use Rattle.heap_view.specs.Census.{class_cmp};
+ghost use Rattle.heap_view.specs.Census.{class_cmp, kept_classes};
 ghost use Rattle.heap_view.specs.Snapshot.{IsClassTable, IsNumbering, edge_count, edges_from, links_set, node_of, place_by, root_edges};
-ghost use Rattle.heap_view.specs.Snapshot.{starts, widest};
+ghost use Rattle.heap_view.specs.Snapshot.{listed_classes, starts, widest};
 
-use crate::classes::{Class, class_order, is_same, kept_classes};
+use crate::classes::{Class, class_order, is_same, kept_classes, list_classes};
 use heap_walk::{kept_above, link_at, links};
 use heap_words::addr::{Addr, Ptr};
 use std::alloc::{AllocError, Global};
 use step_core::Core;
+use type_names::Types;
 
-/// Where the kept objects start, by rising address; and their classes, in order and each once.
+/// Where the kept objects start, by rising address; the classes under which they are listed, in order and each once; and the most weak
+/// slots that one of them has.
 #[derive(Drop)]
 pub(crate) struct Numbering {
     pub(crate) starts: Vec<u32>,
     pub(crate) classes: Vec<Class>,
+    pub(crate) weaks: u32,
 }
 
 /// Where the kept objects start, by rising address.
@@ -50,16 +53,28 @@ fn to_table(classes: &mut Vec<Class>)
     classes.dedup_by(|a, b| is_same(a, b));
 }
 
-/// The numbers of the kept objects and of their classes.
-pub(crate) fn numbering_of(alloc: Global, core: &Core) -> Result<Numbering, AllocError>
-    ensures { IfOk result (IsNumbering core.now) }
+/// The numbers of the kept objects and of the classes under which they are listed.
+pub(crate) fn numbering_of(
+    alloc: Global,
+    core: &Core,
+    types: &Types,
+) -> Result<Numbering, AllocError>
+    ensures numbering { IfOk result (IsNumbering core.now) }
+    ensures classes { IfOk result (λ n. IsClassTable (listed_classes types.now core.now) n.classes.items) }
+    ensures weaks { IfOk result (λ n. n.weaks ≡ widest (kept_classes core.now)) }
 {
     core.law_shaped();
     core.law_remembers();
     let mut classes = kept_classes(alloc, core)?;
+    let weaks = widest(&classes);
+    list_classes(types, &mut classes);
     to_table(&mut classes);
     let starts = kept_starts(alloc, core)?;
-    Ok(Numbering { starts, classes })
+    Ok(Numbering {
+        starts,
+        classes,
+        weaks,
+    })
 }
 
 /// How many of these addresses come before one.
@@ -173,7 +188,7 @@ pub(crate) fn edge_count(core: &Core, numbering: &Numbering) -> u64
 }
 
 /// The most weak slots that an object of these classes has.
-pub(crate) fn widest(classes: &[Class]) -> u32
+fn widest(classes: &[Class]) -> u32
     ensures { result ≡ widest classes.now }
 {
     let mut most = 0;

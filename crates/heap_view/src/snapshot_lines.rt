@@ -21,25 +21,28 @@ ghost use Rattle.step_core.specs.Stands.{kept_of};
 ghost use Rattle.script_text.specs.Texts.{Adds};
 ghost use Rattle.heap_dump.specs.Lists.{text_below};
 ghost use Rattle.heap_walk.specs.Holders.{links_at};
+ghost use Rattle.heap_view.specs.Types.{escaped, escaped_byte};
+ghost use Rattle.heap_view.specs.Census.{kept_classes};
 ghost use Rattle.heap_view.specs.Snapshot.{IsNumbering, first_weak, starts, widest};
-ghost use Rattle.heap_view.specs.SnapshotTexts.{IsSnapshot, class_name, counts_text, edge_kind, edge_name, edge_text};
+ghost use Rattle.heap_view.specs.SnapshotTexts.{IsSnapshot, class_name, counts_text, edge_kind, edge_name, edge_text, label_text};
 ghost use Rattle.heap_view.specs.SnapshotTexts.{edge_types, edges_text};
 ghost use Rattle.heap_view.specs.SnapshotTexts.{empty_lists, head_text, link_edge, link_edges, node_fields, node_types, nodes_text};
 ghost use Rattle.heap_view.specs.SnapshotTexts.{object_edges, object_node, other_fields, root_edge, root_name, root_nodes, shape_text};
 ghost use Rattle.heap_view.specs.SnapshotTexts.{slot_text, snapshot_text, strings_text, weak_name};
 
 use crate::census_lines::put_first;
-use crate::classes::{Class, class_of, class_size};
+use crate::classes::{Class, class_of, class_size, listed_class, type_of};
 use crate::object_lines::put_root_holder;
 use crate::snapshot::{
     Numbering, class_place, edge_count, edges_from, node_of, numbering_of, root_at, root_count,
-    root_edges, widest,
+    root_edges,
 };
 use heap_walk::{entry_of, link_at, links, root_holder};
 use heap_words::addr::{Addr, Ptr};
 use script_text::Text;
 use std::alloc::{AllocError, Global};
 use step_core::Core;
+use type_names::Types;
 
 /// Puts which numbers a node is.
 fn put_node_fields(text: &mut Text)
@@ -121,14 +124,15 @@ fn put_root_nodes(core: &Core, text: &mut Text)
 }
 
 /// Puts a node of a kept object.
-fn put_node(core: &Core, numbering: &Numbering, text: &mut Text, object: Addr)
+fn put_node(core: &Core, types: &Types, numbering: &Numbering, text: &mut Text, object: Addr)
     requires numbering { IsNumbering core.now numbering.now }
     requires kept { IsSome (kept_of core.now object) }
-    ensures { Adds text.old (object_node core.now numbering.now.classes.items object) text.new }
+    ensures { Adds text.old (object_node types.now core.now numbering.now.classes.items object) text.new }
 {
     let entry = entry_of(core, object);
     let class = class_of(&entry);
-    let place = class_place(&numbering.classes, &class) as u64;
+    let listed = listed_class(types, &class);
+    let place = class_place(&numbering.classes, &listed) as u64;
     text.put("\n,3,");
     text.put_digits(2 + u64::from(root_count(core)) + place);
     text.put(",");
@@ -141,23 +145,29 @@ fn put_node(core: &Core, numbering: &Numbering, text: &mut Text, object: Addr)
 }
 
 /// Puts the nodes.
-fn put_nodes(core: &Core, numbering: &Numbering, text: &mut Text)
+fn put_nodes(core: &Core, types: &Types, numbering: &Numbering, text: &mut Text)
     requires { IsNumbering core.now numbering.now }
-    ensures { Adds text.old (nodes_text core.now numbering.now.classes.items) text.new }
+    ensures { Adds text.old (nodes_text types.now core.now numbering.now.classes.items) text.new }
 {
     put_root_nodes(core, text);
-    put_object_nodes(core, numbering, text, &numbering.starts);
+    put_object_nodes(core, types, numbering, text, &numbering.starts);
     text.put("],\n");
 }
 
 /// Puts the nodes of the kept objects, which start at these addresses.
-fn put_object_nodes(core: &Core, numbering: &Numbering, text: &mut Text, items: &[u32])
+fn put_object_nodes(
+    core: &Core,
+    types: &Types,
+    numbering: &Numbering,
+    text: &mut Text,
+    items: &[u32],
+)
     requires numbering { IsNumbering core.now numbering.now }
     requires items { items.now ≡ starts core.now }
-    ensures { Adds text.old (flat_map (object_node core.now numbering.now.classes.items) items.now) text.new }
+    ensures { Adds text.old (flat_map (object_node types.now core.now numbering.now.classes.items) items.now) text.new }
 {
     for start in items {
-        put_node(core, numbering, text, Addr::new(*start));
+        put_node(core, types, numbering, text, Addr::new(*start));
     }
 }
 
@@ -327,21 +337,51 @@ fn put_shape(text: &mut Text, class: &Class)
     put_first(text, class);
 }
 
+/// Puts a byte of a text of JSON.
+fn put_escaped_byte(text: &mut Text, byte: u8)
+    ensures { Adds text.old (escaped_byte byte) text.new }
+{
+    if byte == b'"' || byte == b'\\' {
+        text.put_bytes(&[b'\\', byte]);
+        return;
+    }
+    text.put_bytes(&[byte]);
+}
+
+/// Puts a name as a text of JSON.
+fn put_escaped(text: &mut Text, name: &[u8])
+    ensures { Adds text.old (escaped name.now) text.new }
+{
+    for byte in name {
+        put_escaped_byte(text, *byte);
+    }
+}
+
+/// Puts the name of a class's type, or its shape.
+fn put_label(text: &mut Text, types: &Types, class: &Class)
+    ensures { Adds text.old (label_text types.now class.now) text.new }
+{
+    match type_of(types, class) {
+        Some(name) => put_escaped(text, name),
+        None => put_shape(text, class),
+    }
+}
+
 /// Puts the name of a class.
-fn put_class_name(text: &mut Text, class: &Class)
-    ensures { Adds text.old (class_name class.now) text.new }
+fn put_class_name(text: &mut Text, types: &Types, class: &Class)
+    ensures { Adds text.old (class_name types.now class.now) text.new }
 {
     text.put(",\n\"");
-    put_shape(text, class);
+    put_label(text, types, class);
     text.put("\"");
 }
 
 /// Puts the names of classes.
-fn put_class_names(text: &mut Text, classes: &[Class])
-    ensures { Adds text.old (flat_map class_name classes.now) text.new }
+fn put_class_names(text: &mut Text, types: &Types, classes: &[Class])
+    ensures { Adds text.old (flat_map (class_name types.now) classes.now) text.new }
 {
     for class in classes {
-        put_class_name(text, class);
+        put_class_name(text, types, class);
     }
 }
 
@@ -372,13 +412,14 @@ fn put_weak_names(text: &mut Text, count: u32)
 }
 
 /// Puts the strings.
-fn put_strings(core: &Core, text: &mut Text, classes: &[Class])
-    ensures { Adds text.old (strings_text core.now classes.now) text.new }
+fn put_strings(core: &Core, types: &Types, text: &mut Text, classes: &[Class], weaks: u32)
+    requires { weaks ≡ widest (kept_classes core.now) }
+    ensures { Adds text.old (strings_text types.now core.now classes.now) text.new }
 {
     text.put("\"strings\":[\"\",\n\"(roots)\"");
     put_root_names(core, text);
-    put_class_names(text, classes);
-    put_weak_names(text, widest(classes));
+    put_class_names(text, types, classes);
+    put_weak_names(text, weaks);
     text.put("]}\n");
 }
 
@@ -392,22 +433,28 @@ fn put_empty_lists(text: &mut Text)
 }
 
 /// Puts a snapshot by its numbers.
-fn put_numbered(core: &Core, numbering: &Numbering, text: &mut Text)
-    requires { IsNumbering core.now numbering.now }
-    ensures { Adds text.old (snapshot_text core.now numbering.now.classes.items) text.new }
+fn put_numbered(core: &Core, types: &Types, numbering: &Numbering, text: &mut Text)
+    requires numbering { IsNumbering core.now numbering.now }
+    requires weaks { numbering.now.weaks ≡ widest (kept_classes core.now) }
+    ensures { Adds text.old (snapshot_text types.now core.now numbering.now.classes.items) text.new }
 {
     put_head(core, numbering, text);
-    put_nodes(core, numbering, text);
+    put_nodes(core, types, numbering, text);
     put_edges(core, numbering, text);
     put_empty_lists(text);
-    put_strings(core, text, &numbering.classes);
+    put_strings(core, types, text, &numbering.classes, numbering.weaks);
 }
 
 /// Puts the snapshot of the kept objects. The error is want of memory.
-pub(crate) fn put_snapshot(alloc: Global, core: &Core, text: &mut Text) -> Result<(), AllocError>
-    ensures { OnOk result ((lines : List ℕ) × IsSnapshot core.now lines × Adds text.old lines text.new) }
+pub(crate) fn put_snapshot(
+    alloc: Global,
+    core: &Core,
+    types: &Types,
+    text: &mut Text,
+) -> Result<(), AllocError>
+    ensures { OnOk result ((lines : List ℕ) × IsSnapshot types.now core.now lines × Adds text.old lines text.new) }
 {
-    let numbering = numbering_of(alloc, core)?;
-    put_numbered(core, &numbering, text);
+    let numbering = numbering_of(alloc, core, types)?;
+    put_numbered(core, types, &numbering, text);
     Ok(())
 }

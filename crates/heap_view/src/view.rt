@@ -14,13 +14,19 @@ use script_text::{WatchedReader, WatchedWriter, write_bytes};
 use std::alloc::Global;
 use std::io::{Read, Write};
 use step_core::{Core, run_to_core};
+use type_names::Types;
 
 /// The text of a view, whose only fault is want of memory.
-pub(crate) fn text_of(alloc: Global, core: &Core, glance: &Glance) -> Result<Vec<u8>, RunFault>
-    ensures text { IfOk result (λ text. IsViewText glance.now core.now text.items) }
+pub(crate) fn text_of(
+    alloc: Global,
+    core: &Core,
+    glance: &Glance,
+    types: &Types,
+) -> Result<Vec<u8>, RunFault>
+    ensures text { IfOk result (λ text. IsViewText glance.now types.now core.now text.items) }
     ensures memory { IfErr result (λ fault. fault ≡ RunFault.NoMemory) }
 {
-    match view_text(alloc, core, glance) {
+    match view_text(alloc, core, glance, types) {
         Ok(text) => Ok(text),
         Err(_) => Err(RunFault::NoMemory),
     }
@@ -37,28 +43,29 @@ pub(crate) fn first_of<T>(items: &[T], at: Option<u32>) -> &[T]
 }
 
 /// The view of a new heap after the first so many steps of a plan.
-fn view_of(alloc: Global, plan: &Plan, glance: &Glance) -> Result<Vec<u8>, RunFault>
-    ensures text { IfOk result (λ text. IsViewOf glance.now plan.now text.items) }
+fn view_of(alloc: Global, plan: &Plan, glance: &Glance, types: &Types) -> Result<Vec<u8>, RunFault>
+    ensures text { IfOk result (λ text. IsViewOf glance.now types.now plan.now text.items) }
     ensures fault { IfErr result (IsRunFault plan.now.config) }
 {
     match run_to_core(alloc, &plan.config(), first_of(plan.steps(), glance.at)) {
-        Ok((_record, core)) => text_of(alloc, &core, glance),
+        Ok((_record, core)) => text_of(alloc, &core, glance, types),
         Err(fault) => Err(fault),
     }
 }
 
-/// Reads a script to the end of input, does its steps in a new heap, and writes what is viewed of the heap as it is then. Nothing is
-/// written before the run has ended well.
+/// Reads a script to the end of input, does its steps in a new heap, and writes what is viewed of the heap as it is then, with the names of
+/// these types in a census and in a snapshot. Nothing is written before the run has ended well.
 pub fn view_script<R: Read, W: Write>(
     alloc: Global,
     glance: &Glance,
+    types: &Types,
     reader: &mut WatchedReader<R>,
     writer: &mut WatchedWriter<W>,
 ) -> Result<(), JobFault>
-    ensures { Views glance.now reader.old reader.new writer.old writer.new result }
+    ensures { Views glance.now types.now reader.old reader.new writer.old writer.new result }
 {
     let plan = read_plan(alloc, reader)?;
-    let text = match view_of(alloc, &plan, glance) {
+    let text = match view_of(alloc, &plan, glance, types) {
         Ok(text) => text,
         Err(fault) => return Err(JobFault::Run(fault)),
     };

@@ -8,6 +8,7 @@ use std::io::{ErrorKind, Write};
 use std::process::Abort;
 use std::test::Fail;
 use step_core::{Core, run_to_core};
+use type_names::Types;
 
 /// The heap after a script.
 fn heap_after(alloc: Global, script: &str) -> Result<Core, Fail> {
@@ -39,7 +40,8 @@ fn assert_glance(
     view: &str,
 ) -> Result<(), Fail> {
     let core = heap_after(alloc, script)?;
-    let written = view_text(alloc, &core, glance)?;
+    let types = Types::new(alloc);
+    let written = view_text(alloc, &core, glance, &types)?;
     assert_eq!(rt; written.as_slice(), view.as_bytes(), "{script}");
     Ok(())
 }
@@ -331,7 +333,8 @@ fn a_full_set(rt: HostRuntime) -> Result<(), Fail> {
     }
     script.push_str("gc pause 0\n")?;
     let core = heap_after(alloc, script.as_str())?;
-    let written = view_text(alloc, &core, &WHOLE)?;
+    let types = Types::new(alloc);
+    let written = view_text(alloc, &core, &WHOLE, &types)?;
     let start = "\
 heap 3 256 128 1 0
 next name 20
@@ -475,14 +478,15 @@ fn a_writer_that_fails(rt: HostRuntime) -> Result<(), Fail> {
     let alloc = rt.alloc();
     let script = "heap 4 16 8 1 0\n0 new r0 1 1\n0 put r0 0 r0\ngc begin\n";
     let core = heap_after(alloc, script)?;
-    let whole = view_text(alloc, &core, &WHOLE)?;
+    let types = Types::new(alloc);
+    let whole = view_text(alloc, &core, &WHOLE, &types)?;
     assert!(rt; whole.len() > 100);
     for room in 0..whole.len() {
         let taken = Vec::new(alloc);
         let mut reader = WatchedReader::new(script.as_bytes());
         let mut writer = WatchedWriter::new(Small { taken, room });
         assert!(rt;
-            view_script(alloc, &WHOLE, &mut reader, &mut writer).is_err(),
+            view_script(alloc, &WHOLE, &types, &mut reader, &mut writer).is_err(),
             "{room}"
         );
         let Small { taken, room: _ } = writer.into_inner();

@@ -1,6 +1,6 @@
 use Rattle.std.proofs.Common.{map, string_bytes}
 use Rattle.clap.specs.Words.{app_of}
-use Rattle.command_line.proofs.Faults.{asked_by, missing, names_by, refused, taken}
+use Rattle.command_line.proofs.Faults.{asked_by, missing, names_by, refused, taken, types_by}
 use Rattle.command_line.proofs.job_among.Goals as goal
 
 pub returns-in_err-matches-clause-faults : goal.returns-in_err-matches-clause-faults
@@ -17,6 +17,11 @@ pub returns-in-Some-clause-names : goal.returns-in-Some-clause-names
 returns-in-Some-clause-names c =
     names_by (app_of c.args.command.now) (map string_bytes c.args.words.now) c.in_ok-matches.matches _
     c.requires c.in_ok-matches.ensures.ok.2 c.in-Some.ensures.names
+
+pub returns-in-Some-clause-types : goal.returns-in-Some-clause-types
+returns-in-Some-clause-types c =
+    types_by (app_of c.args.command.now) (map string_bytes c.args.words.now) c.in_ok-matches.matches _
+    c.requires c.in_ok-matches.ensures.ok.2 c.in-Some.ensures.types
 
 pub returns-in-Some-clause-faults : goal.returns-in-Some-clause-faults
 returns-in-Some-clause-faults c =

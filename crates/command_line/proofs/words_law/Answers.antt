@@ -1,5 +1,5 @@
 use Rattle.command_line.proofs.Explained.{check_explained, draw_explained, run_explained, view_explained}
-use Rattle.command_line.proofs.Options.{at, census, every, heapsnapshot, names, no_names, object, redraw, way}
+use Rattle.command_line.proofs.Options.{at, census, every, heapsnapshot, names, no_names, no_types, object, redraw, types, way}
 use Rattle.command_line.proofs.Paths.{check, draw, follow, run, sim, threads, view}
 use Rattle.command_line.proofs.words_law.Goals as goal
 
@@ -21,6 +21,8 @@ returns c = record {
   way = way;
   census = census;
   heapsnapshot = heapsnapshot;
+  types = types;
+  no_types = no_types;
   run_explained = run_explained;
   check_explained = check_explained;
   view_explained = view_explained;

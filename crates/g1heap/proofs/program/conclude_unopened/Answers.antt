@@ -13,6 +13,7 @@ unopened_task-requires g c = λ followed is. elim c.in-Script.is [
 ]
 
 pub returns-in-Script : goal.returns-in-Script
-returns-in-Script g c = λ names given left old new unread kept.
-    at_parts (λ asked. DoesJob names asked given left old new c.args.err.now c.unopened_task.new.err c.unopened_task.result) _ _ _ _ _ _
-    c.file-name.ensures c.task-task.ensures c.explained-explained.ensures (c.unopened_task.ensures names given left old new unread kept)
+returns-in-Script g c = λ names types given left old new unread kept.
+    at_parts (λ asked. DoesJob names types asked given left old new c.args.err.now c.unopened_task.new.err c.unopened_task.result) _ _ _ _ _
+    _ c.file-name.ensures c.task-task.ensures c.explained-explained.ensures
+    (c.unopened_task.ensures names types given left old new unread kept)

@@ -14,5 +14,5 @@ pub returns-in-Err : goal.returns-in-Err
 returns-in-Err g c = (
   fresh,
   spent,
-  c.conclude_unopened.ensures c.args.names.now fresh spent _ _ (([], tt), refl) (Keeps-refl c.args.out.now.held, refl),
+  c.conclude_unopened.ensures c.args.names.now c.args.types.now fresh spent _ _ (([], tt), refl) (Keeps-refl c.args.out.now.held, refl),
 )

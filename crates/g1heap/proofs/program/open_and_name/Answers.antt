@@ -12,7 +12,7 @@ abbrev spent : Reader
 spent = record { left = None; refused = true }
 
 pub returns-in-Err : goal.returns-in-Err
-returns-in-Err g c = (
+returns-in-Err g c = λ types. (
   fresh,
   spent,
   inr (record {

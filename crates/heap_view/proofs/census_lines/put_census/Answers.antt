@@ -11,6 +11,7 @@ returns c =
     let census = subst (λ (ks : List Class). IsCensus ks rows) c.deref_mut.ensures.value c.in_ok-rows.ensures.census in
     let words = c.sum_of-words.ensures ∙ ap (sum_by class_size) c.deref.ensures.value in (
       _,
-      lines_are c.args.core.now classes rows _ _ _ c.in_ok-classes.ensures.value census c.deref-2.ensures.value words (omega arith),
+      lines_are c.args.types.now c.args.core.now classes rows _ _ _ c.in_ok-classes.ensures.value census c.deref-2.ensures.value words
+          (omega arith),
       c.put_table.ensures,
     )

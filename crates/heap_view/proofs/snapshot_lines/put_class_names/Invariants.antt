@@ -5,4 +5,4 @@ use Rattle.heap_view.specs.SnapshotTexts.{class_name}
 use Rattle.heap_view.proofs.snapshot_lines.put_class_names.Given as goal
 
 abbrev pub invariant-loop-class : goal.invariant-loop-class
-invariant-loop-class l = Adds l.initial.text (flat_map class_name (take l.class-index l.classes)) l.text
+invariant-loop-class l = Adds l.initial.text (flat_map (class_name l.types) (take l.class-index l.classes)) l.text

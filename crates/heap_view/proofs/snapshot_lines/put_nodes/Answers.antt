@@ -10,5 +10,5 @@ put_object_nodes-requires-clause-items c = c.deref.ensures.value ∙ c.requires.
 pub returns : goal.returns
 returns c =
     then_adds _ _ _ _ _ (then_adds _ _ _ _ _ c.put_root_nodes.ensures
-    (adds_at (flat_map (object_node c.args.core.now c.args.numbering.now.classes.items)) _ _ _ _
+    (adds_at (flat_map (object_node c.args.types.now c.args.core.now c.args.numbering.now.classes.items)) _ _ _ _
     (sym (c.deref.ensures.value ∙ c.requires.starts_are)) c.put_object_nodes.ensures)) c.put.ensures

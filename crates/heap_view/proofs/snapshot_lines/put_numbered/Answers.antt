@@ -9,4 +9,4 @@ returns c =
     c.put_nodes.ensures)
     c.put_edges.ensures)
     c.put_empty_lists.ensures)
-    (adds_at (strings_text c.args.core.now) _ _ _ _ (sym c.deref.ensures.value) c.put_strings.ensures)
+    (adds_at (strings_text c.args.types.now c.args.core.now) _ _ _ _ (sym c.deref.ensures.value) c.put_strings.ensures)

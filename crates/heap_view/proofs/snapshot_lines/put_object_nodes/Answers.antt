@@ -13,7 +13,7 @@ put_node-requires-clause-kept c =
 
 pub loop-start-preserved : goal.loop-start-preserved
 loop-start-preserved c =
-    let told = object_node c.args.core.now c.args.numbering.now.classes.items in
+    let told = object_node c.args.types.now c.args.core.now c.args.numbering.now.classes.items in
     adds_more told c.args.items.now c.loop-start.start-index _ _ _ _
     (item_at c.args.items.now c.loop-start.start-index _ c.loop-start-test.true) c.loop-start.invariant
     (adds_at told _ _ _ _ (sym c.new.ensures) c.put_node.ensures)

@@ -5,4 +5,5 @@ use Rattle.heap_view.specs.SnapshotTexts.{object_node}
 use Rattle.heap_view.proofs.snapshot_lines.put_object_nodes.Given as goal
 
 abbrev pub invariant-loop-start : goal.invariant-loop-start
-invariant-loop-start l = Adds l.initial.text (flat_map (object_node l.core l.numbering.classes.items) (take l.start-index l.items)) l.text
+invariant-loop-start l =
+    Adds l.initial.text (flat_map (object_node l.types l.core l.numbering.classes.items) (take l.start-index l.items)) l.text

@@ -9,5 +9,5 @@ returns c =
     then_adds _ _ _ _ _ (then_adds _ _ _ _ _ (then_adds _ _ _ _ _ (then_adds _ _ _ _ _ c.put.ensures
     c.put_root_names.ensures)
     c.put_class_names.ensures)
-    (adds_at (text_below weak_name) _ _ _ _ (sym c.widest.ensures) c.put_weak_names.ensures))
+    (adds_at (text_below weak_name) _ _ _ _ (sym c.requires) c.put_weak_names.ensures))
     c.put-2.ensures

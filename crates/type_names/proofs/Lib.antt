@@ -1,0 +1,4 @@
+mod Numbers
+mod Naming
+mod Reading
+mod Distinct

@@ -1,0 +1,4 @@
+pub mod NamedLines
+pub mod Naming
+pub mod FaultTexts
+pub mod Tables
