@@ -58,7 +58,14 @@ fn pause_within<W: Watch>(
     let reply = take(core, policy, step, watch);
     let (taken, copied) = moved(reply);
     let is_whole = taken >= regions || copied >= u64::from(words) * 3 / 4;
-    policy.note_pause(&config, before, core.free_regions(), reply, is_whole, core.queued());
+    policy.note_pause(
+        &config,
+        before,
+        core.free_regions(),
+        reply,
+        is_whole,
+        core.queued(),
+    );
     reply
 }
 
