@@ -105,6 +105,11 @@ impl<'p, 'o, 'h> Vm<'p, 'o, 'h> {
         self.words.push(self.words[place]);
         Ok(())
     }
+    /// A place takes the last value, which stays.
+    fn assign(&mut self, stack: &mut Stack<'_, 'h>, place: usize) {
+        stack.assign(place, self.words.len() - 1);
+        self.words[place] = self.top(0);
+    }
     /// Pops a value into a place.
     fn store(&mut self, stack: &mut Stack<'_, 'h>, place: usize) {
         stack.store(place);
@@ -150,6 +155,8 @@ impl<'p, 'o, 'h> Vm<'p, 'o, 'h> {
         Ok(())
     }
 
+    /// It's a function by itself: within `main` each step would make ready what few of them need.
+    #[inline(never)]
     fn run(&mut self, stack: &mut Stack<'_, 'h>) -> Answer {
         self.push(stack, NIL)?;
         self.push(stack, NIL)?;
@@ -165,10 +172,7 @@ impl<'p, 'o, 'h> Vm<'p, 'o, 'h> {
                 Op::Pop => self.truncate(stack, self.words.len() - 1),
                 Op::Again => self.pick(stack, self.words.len() - 1)?,
                 Op::Pick(place) => self.pick(stack, base + place as usize)?,
-                Op::Store(place) => {
-                    self.pick(stack, self.words.len() - 1)?;
-                    self.store(stack, base + place as usize);
-                }
+                Op::Store(place) => self.assign(stack, base + place as usize),
                 Op::Jump(to) => call.pc = to as usize,
                 Op::JumpFalse(to) => {
                     if !self.words.last().map_or(false, |it| it.is_true()) {
@@ -321,7 +325,11 @@ impl<'p, 'o, 'h> Vm<'p, 'o, 'h> {
         Ok(())
     }
 
-    /// What a place holds, as a root of this frame.
+    /// What a place holds.
+    fn value<'s>(&self, stack: &'s Stack<'_, 'h>, place: usize) -> Slot<'s, 'h> {
+        (self.words[place], stack.at(place))
+    }
+    /// The same, as a root of this frame.
     fn at<'g>(&self, g: &Frame<'g, 'h>, stack: &Stack<'_, 'h>, place: usize) -> Answer<Slot<'g, 'h>> {
         Ok((self.words[place], stack.at(place).map(|it| g.copy(it)).transpose()?))
     }
@@ -348,8 +356,7 @@ impl<'p, 'o, 'h> Vm<'p, 'o, 'h> {
             Ok::<_, Error>(open)
         })?;
         if open > 0 {
-            self.pick(stack, self.words.len() - 1)?;
-            self.store(stack, open - 1);
+            self.assign(stack, open - 1);
         }
         Ok(())
     }
@@ -402,19 +409,25 @@ impl<'p, 'o, 'h> Vm<'p, 'o, 'h> {
         })
     }
     /// The upvalues of places from `from` on take what these hold.
+    #[inline(always)]
     fn close(&mut self, stack: &mut Stack<'_, 'h>, from: usize) -> Answer {
         while let Some(place) = self.places.last().copied().filter(|it| *it >= from) {
-            stack.scope(|g, s| {
-                let upvalue = g.copy(self.open.local().expect("an open one"))?;
-                self.open.follow(g, Upvalue::next);
-                g.put(upvalue, Upvalue::next, Nil);
-                g.put(upvalue, Upvalue::value, s.at(place));
-                g.write(upvalue, Upvalue::scalar, self.words[place]);
-                g.write(upvalue, Upvalue::open, 0);
-                Ok::<_, Error>(())
-            })?;
-            self.places.pop();
+            self.close_last(stack, place)?;
         }
+        Ok(())
+    }
+    #[inline(never)]
+    fn close_last(&mut self, stack: &mut Stack<'_, 'h>, place: usize) -> Answer {
+        stack.scope(|g, s| {
+            let upvalue = g.copy(self.open.local().expect("an open one"))?;
+            self.open.follow(g, Upvalue::next);
+            g.put(upvalue, Upvalue::next, Nil);
+            g.put(upvalue, Upvalue::value, s.at(place));
+            g.write(upvalue, Upvalue::scalar, self.words[place]);
+            g.write(upvalue, Upvalue::open, 0);
+            Ok::<_, Error>(())
+        })?;
+        self.places.pop();
         Ok(())
     }
 }

@@ -178,6 +178,8 @@ impl<'p> Vm<'p> {
         self.stack.push(value);
     }
 
+    /// It's a function by itself: within `main` each step would make ready what few of them need.
+    #[inline(never)]
     fn run(&mut self) -> Answer {
         self.stack = vec![Value::Nil, Value::Nil];
         self.calls.push(Call { function: self.program.functions.len() - 1, pc: 0, base: 1 });

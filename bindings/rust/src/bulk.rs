@@ -85,6 +85,8 @@ impl<T> Typed for Array<T> {}
 
 /// Words that bytes are moved by at once.
 const RUN: usize = 32;
+/// Most texts are shorter than so many words.
+const SHORT: usize = 8;
 /// How many bytes the last word can have, and where in it is how many it lacks.
 const LAST: u64 = 7;
 const LACKS: u32 = 56;
@@ -215,6 +217,14 @@ impl<'f, 'h> Frame<'f, 'h> {
     #[track_caller]
     pub(crate) fn runs_up_to<T>(&self, object: Local<'_, 'h, T>, end: u32, mut take: impl FnMut(&[u8]) -> bool) -> bool {
         let (raw, mutator, register) = (self.raw(), self.mutator(), object.register());
+        if (2..=SHORT as u32).contains(&end) {
+            // It isn't worth while to clear larger buffers.
+            let (mut words, mut bytes) = ([0; SHORT], [0; 8 * SHORT]);
+            let last = end as usize - 2;
+            done(raw.read_words(mutator, register, 1, &mut words[..=last]));
+            bytes.chunks_exact_mut(8).zip(&words).for_each(|(eight, word)| eight.copy_from_slice(&word.to_le_bytes()));
+            return take(&bytes[..8 * (last + 1) - lacks(words[last])]);
+        }
         let (mut words, mut bytes) = ([0; RUN], [0; 8 * RUN]);
         for from in (1..end).step_by(RUN) {
             let run = &mut words[..RUN.min((end - from) as usize)];

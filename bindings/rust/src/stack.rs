@@ -192,13 +192,36 @@ impl<'h> Stack<'_, 'h> {
     #[track_caller]
     pub fn store(&mut self, index: usize) {
         let last = self.len().wrapping_sub(1);
-        let holds = self.holds[last];
-        self.holds[index] = holds;
-        if index != last {
-            let (raw, mutator, to) = (self.frame.raw(), self.frame.mutator(), self.register(index));
-            done(if holds { raw.copy(mutator, to, self.register(last)) } else { raw.drop(mutator, to) });
-        }
+        self.assign(index, last);
         self.truncate(last);
+    }
+    /// A place takes the value of another place too; 0 is that of the first value. Panics where there is none.
+    ///
+    /// ```
+    /// # use g1heap::*;
+    /// # let mut heap = Heap::new(&Sizes::default())?;
+    /// # heap.run(|f| { let object = f.alloc_any(0, 0, 1)?; f.stack(|stack| {
+    /// stack.push(Nil)?;
+    /// stack.push(object)?;
+    /// stack.assign(0, 1);
+    /// assert!(stack.len() == 2 && stack.at(0).is_some() && stack.at(1).is_some());
+    /// stack.push(Nil)?;
+    /// stack.assign(1, 2);
+    /// assert!(stack.at(0).is_some() && stack.at(1).is_none());
+    /// # Ok::<_, Error>(())
+    /// # }) })?;
+    /// # Ok::<_, Box<dyn std::error::Error>>(())
+    /// ```
+    #[inline]
+    #[track_caller]
+    pub fn assign(&mut self, index: usize, from: usize) {
+        let (held, holds) = (self.holds[index], self.holds[from]);
+        self.holds[index] = holds;
+        // Where neither is an object, the register is nil and stays so.
+        if index != from && (held || holds) {
+            let (raw, mutator, to) = (self.frame.raw(), self.frame.mutator(), self.register(index));
+            done(if holds { raw.copy(mutator, to, self.register(from)) } else { raw.drop(mutator, to) });
+        }
     }
     /// Pops values until there are so many; where there are no more it does nothing. It needs no call of the heap.
     ///

@@ -43,10 +43,13 @@ impl<'h> Vm<'_, '_, 'h> {
             let class = s.at(place).expect("a class").assume();
             Ok(object(Instance::alloc(g, class, number, vm.fields[number as usize].len() as u32)?))
         })?;
-        if let Some(init) = self.init {
-            if let Some(function) = self.put_method(stack, place, init)? {
-                return self.enter(function, args);
-            }
+        let names = stack.read(1 + args as usize, Class::names);
+        if let Some((at, function)) = self.init.and_then(|init| self.names.place(names, init)) {
+            self.put(stack, place, |_, g, s| {
+                let class = s.at(place).expect("a class").assume();
+                Ok(object(Class::method(g, class, at)?))
+            })?;
+            return self.enter(function, args);
         }
         if args > 0 {
             return wrong(format!("Expected 0 arguments but got {args}."));
@@ -63,10 +66,7 @@ impl<'h> Vm<'_, '_, 'h> {
         name: u32,
     ) -> Result<Option<(Local<'g, 'h, Closure>, u32)>, Error> {
         match self.names.place(names, name) {
-            Some((at, function)) => {
-                let method = g.item(g.field(class, Class::methods)?, at)?.expect("a method");
-                Ok(Some((method, function)))
-            }
+            Some((at, function)) => Ok(Some((Class::method(g, class, at)?, function))),
             None => Ok(None),
         }
     }
@@ -172,28 +172,18 @@ impl<'h> Vm<'_, '_, 'h> {
     }
     pub fn class(&mut self, stack: &mut Stack<'_, 'h>, name: u32, number: u32) -> Answer {
         self.make(stack, 0, |vm, g, _| {
-            let (name, methods) = (g.item(vm.texts, name)?, g.alloc_array(4)?);
-            Ok(object(g.new::<Class>(|p| {
-                p.put(Class::name, name);
-                p.put(Class::methods, methods);
-                p.write(Class::head, Head(Tag::Class, number));
-            })?))
+            let name = g.item(vm.texts, name)?.expect("a name");
+            Ok(object(Class::alloc(g, name, number)?))
         })
     }
     /// The class below takes a method, and this is popped.
     pub fn add_method(&mut self, stack: &mut Stack<'_, 'h>, name: u32) -> Answer {
         stack.scope(|g, s| {
             let (class, method) = (s.top(1).expect("a class").assume(), s.top(0).expect("a closure").assume());
-            let (names, methods) = (g.read(class, Class::names), g.field(class, Class::methods)?);
-            let (names, at) = self.names.with(names, name, g.read(method, Closure::head).1);
+            let (names, at) = self.names.with(g.read(class, Class::names), name, g.read(method, Closure::head).1);
+            Class::set_method(g, class, at, method)?;
             g.write(class, Class::names, names);
-            if at < g.array_len(methods) {
-                return g.set_item(methods, at, method);
-            }
-            let more = g.alloc_array(2 * at)?;
-            g.copy_items(methods, 0..at, more, 0)?;
-            g.put(class, Class::methods, more);
-            g.set_item(more, at, method)
+            Ok::<_, Error>(())
         })?;
         self.truncate(stack, self.words.len() - 1);
         Ok(())
@@ -206,10 +196,10 @@ impl<'h> Vm<'_, '_, 'h> {
                 None => return wrong("Superclass must be a class."),
             };
             let class = s.top(0).expect("a class").assume::<Class>();
-            let (names, methods) = (g.read(other, Class::names), g.field(other, Class::methods)?);
-            let own = g.alloc_array(g.array_len(methods))?;
-            g.copy_items(methods, 0..self.names.count(names), own, 0)?;
-            g.put(class, Class::methods, own);
+            let names = g.read(other, Class::names);
+            for at in 0..self.names.count(names) {
+                g.scope(|g| Class::set_method(g, class, at, Class::method(g, other, at)?))?;
+            }
             g.write(class, Class::names, names);
             Ok(())
         })
@@ -217,25 +207,17 @@ impl<'h> Vm<'_, '_, 'h> {
 
     pub fn list(&mut self, stack: &mut Stack<'_, 'h>, count: u32) -> Answer {
         self.make(stack, count as usize, |vm, g, s| {
-            let items = Slots::alloc(g, count)?;
             let first = vm.words.len() - count as usize;
-            for at in 0..count {
-                let place = first + at as usize;
-                Slots::fill(g, items, at, (vm.words[place], s.at(place)))?;
-            }
-            Ok(object(g.new::<List>(|p| {
-                p.put(List::items, items);
-                p.write(List::head, Head(Tag::List, count));
-            })?))
+            Ok(object(List::alloc(g, count, |at| vm.value(s, first + at as usize))?))
         })
     }
     pub fn index(&mut self, stack: &mut Stack<'_, 'h>) -> Answer {
         self.make(stack, 2, |vm, g, s| {
             let key = vm.top(0).number();
             match headed(g, s.top(1)) {
-                Some((it, Head(Tag::List, count))) => {
+                Some((it, Head(tag @ (Tag::List | Tag::Grown), count))) => {
                     let at = place_in(key, count as usize)?;
-                    Ok(Slots::load(g, g.field(it.assume(), List::items)?, at as u32)?)
+                    Ok(List::load(g, (it.assume(), tag), at as u32)?)
                 }
                 Some((it, Head(Tag::Map, _))) => {
                     let (found, object) = Map::get(g, it.assume(), key_of(g, s.top(0))?)?;
@@ -254,9 +236,9 @@ impl<'h> Vm<'_, '_, 'h> {
         stack.scope(|g, s| {
             let value = (self.top(0), s.top(0));
             match headed(g, s.top(2)) {
-                Some((it, Head(Tag::List, count))) => {
+                Some((it, Head(tag @ (Tag::List | Tag::Grown), count))) => {
                     let at = place_in(self.top(1).number(), count as usize)?;
-                    Ok(Slots::store(g, g.field(it.assume(), List::items)?, at as u32, value)?)
+                    Ok(List::store(g, (it.assume(), tag), at as u32, value)?)
                 }
                 Some((it, Head(Tag::Map, count))) => Ok(Map::set(g, (it.assume(), count), key_of(g, s.top(1))?, value)?),
                 _ => wrong("Only lists and maps take items."),
@@ -275,17 +257,16 @@ impl<'h> Vm<'_, '_, 'h> {
         self.make(stack, args as usize + 2, |vm, g, s| match name {
             "map" => Ok(object(Map::alloc(g)?)),
             "len" => match headed(g, s.top(0)) {
-                Some((_, Head(Tag::List | Tag::Map, count))) => Ok((Scalar::of(count.into()), None)),
+                Some((_, Head(Tag::List | Tag::Grown | Tag::Map, count))) => Ok((Scalar::of(count.into()), None)),
                 Some((it, Head(Tag::Text, _))) => Ok((Scalar::of(g.text_len(it.assume()) as f64), None)),
                 _ => wrong("Only lists, maps and strings have a length."),
             },
-            "push" => match as_a::<List>(g, s.top(1), Tag::List) {
-                Some((list, count)) => {
-                    Slots::store_in(g, list, List::items, count, (vm.top(0), s.top(0)))?;
-                    g.write(list, List::head, Head(Tag::List, count + 1));
+            "push" => match headed(g, s.top(1)) {
+                Some((it, Head(tag @ (Tag::List | Tag::Grown), count))) => {
+                    List::push(g, (it.assume(), tag), count, (vm.top(0), s.top(0)))?;
                     vm.at(g, s, vm.words.len() - 1)
                 }
-                None => wrong("Only lists can be pushed to."),
+                _ => wrong("Only lists can be pushed to."),
             },
             "has" => match as_a::<Map>(g, s.top(1), Tag::Map) {
                 Some((map, _)) => {
@@ -316,11 +297,11 @@ impl<'h> Vm<'_, '_, 'h> {
                 Ok(g.text(g.field(class, Class::name)?) + " instance")
             }
             Tag::Map => Ok(format!("<map of {number}>")),
-            Tag::List => {
-                let (items, mut all) = (g.field(it.assume(), List::items)?, Vec::new());
+            Tag::List | Tag::Grown => {
+                let mut all = Vec::new();
                 for at in 0..number {
                     all.push(g.scope(|g| {
-                        let (word, item) = Slots::load(g, items, at)?;
+                        let (word, item) = List::load(g, (it.assume(), tag), at)?;
                         self.shown(g, word, item)
                     })?);
                 }

@@ -1,6 +1,6 @@
 //! The values of Lox on the heap. A value is a word and, where the word says so, an object: so numbers need none.
 use super::table::Table;
-use g1heap::{layout, Any, Array, Bits, Error, Frame, Local, Text, Var};
+use g1heap::{layout, Any, Array, Bits, Error, Frame, Local, Nil, Text, Var};
 use std::collections::HashMap;
 
 /// A number; or one of the constants below, which are no numbers' words.
@@ -60,10 +60,13 @@ pub enum Tag {
     Class,
     Instance,
     Bound,
+    /// A list that has its items in itself.
     List,
+    /// One that has them in slots, with room for more.
+    Grown,
     Map,
 }
-const TAGS: [Tag; 7] = [Tag::Text, Tag::Closure, Tag::Class, Tag::Instance, Tag::Bound, Tag::List, Tag::Map];
+const TAGS: [Tag; 8] = [Tag::Text, Tag::Closure, Tag::Class, Tag::Instance, Tag::Bound, Tag::List, Tag::Grown, Tag::Map];
 
 /// The first word of an object: what it is, and a number that is wanted with it. So one call tells both.
 #[derive(Clone, Copy, Debug, PartialEq, Eq)]
@@ -90,15 +93,15 @@ layout! {
             open: usize,
         }
     }
-    /// Its number tells the names of its instances' fields, and `names` those of its methods.
-    pub struct Class { pointers { name: Text, methods: Array<Closure> } words { head: Head, names: usize } }
+    /// Its number tells the names of its instances' fields, and `names` those of its methods. What it has no pointer for is in `more`.
+    pub struct Class { pointers { name: Text, more: Array<Closure>, methods: Closure.. } words { head: Head, names: usize } }
     /// Its number is its class's. It has a pointer and a word for each field that instances of that class had when it was made; `more` has
     /// slots for others.
     pub struct Instance { pointers { class: Class, more: Slots, fields: Any.. } words { head: Head } }
     /// Its number is that of the method's function.
     pub struct Bound { pointers { receiver: Any, method: Closure } words { head: Head } }
-    /// Its number tells how many items it has.
-    pub struct List { pointers { items: Slots } words { head: Head } }
+    /// Its number tells how many items it has. As long as it doesn't grow, it has a pointer and a word for each.
+    pub struct List { pointers { items: Slots, values: Any.. } words { head: Head } }
     /// Its number tells how many keys it has. Its slots are `room` keys, whose words are their names, and then their values.
     pub struct Map { pointers { slots: Slots } words { head: Head } }
     /// Values: slot n has pointer n and the word after word n.
@@ -176,6 +179,67 @@ impl Slots {
     }
 }
 
+/// So many words need no memory of the system.
+const FEW: usize = 8;
+
+impl List {
+    /// A list of some values, which `value` tells by their places.
+    pub fn alloc<'f, 'g, 'h>(g: &Frame<'f, 'h>, count: u32, value: impl Fn(u32) -> Slot<'g, 'h>) -> Result<Local<'f, 'h, List>, Error> {
+        let list = g.alloc_any(1 + count, 0, 1 + count)?.assume();
+        let (mut few, mut many) = ([0; FEW], Vec::new());
+        let words = match few.get_mut(..=count as usize) {
+            Some(words) => words,
+            None => {
+                many.resize(1 + count as usize, 0);
+                &mut many[..]
+            }
+        };
+        words[0] = Head(Tag::List, count).to_word();
+        for (at, word) in (0..).zip(&mut words[1..]) {
+            let (scalar, object) = value(at);
+            *word = scalar.0;
+            if object.is_some() {
+                g.put_at(list, 1 + at, object)?;
+            }
+        }
+        g.write_words(list, 0, words)?;
+        Ok(list)
+    }
+    pub fn load<'f, 'h>(g: &Frame<'f, 'h>, (list, tag): (Local<'_, 'h, List>, Tag), at: u32) -> Result<Slot<'f, 'h>, Error> {
+        match tag {
+            Tag::List => load_at(g, list, 1 + at, 1 + at),
+            _ => Slots::load(g, g.field(list, List::items)?, at),
+        }
+    }
+    pub fn store<'h>(g: &Frame<'_, 'h>, (list, tag): (Local<'_, 'h, List>, Tag), at: u32, value: Slot<'_, 'h>) -> Result<(), Error> {
+        match tag {
+            Tag::List => store_at(g, list, 1 + at, 1 + at, value),
+            _ => Slots::store(g, g.field(list, List::items)?, at, value),
+        }
+    }
+    pub fn push<'h>(g: &mut Frame<'_, 'h>, (list, tag): (Local<'_, 'h, List>, Tag), count: u32, value: Slot<'_, 'h>) -> Result<(), Error> {
+        if tag == Tag::List {
+            g.scope(|g| List::grow(g, list, count))?;
+        }
+        Slots::store_in(g, list, List::items, count, value)?;
+        g.write(list, List::head, Head(Tag::Grown, count + 1));
+        Ok(())
+    }
+    /// Its items go to slots.
+    fn grow<'h>(g: &mut Frame<'_, 'h>, list: Local<'_, 'h, List>, count: u32) -> Result<(), Error> {
+        let slots = Slots::alloc(g, 2 * count + 4)?;
+        for at in 0..count {
+            g.scope(|g| {
+                let value = load_at(g, list, 1 + at, 1 + at)?;
+                g.put_at(list, 1 + at, Nil)?;
+                Slots::fill(g, slots, at, value)
+            })?;
+        }
+        g.put(list, List::items, slots);
+        Ok(())
+    }
+}
+
 impl Instance {
     pub fn alloc<'f, 'h>(
         g: &Frame<'f, 'h>,
@@ -202,6 +266,43 @@ impl Instance {
         match store_at(g, instance, 2 + at, 1 + at, value) {
             Err(Error::NoField) => Slots::store_in(g, instance, Instance::more, at, value),
             done => done,
+        }
+    }
+}
+
+/// A class has pointers for so many methods.
+const METHODS: u32 = 4;
+
+impl Class {
+    pub fn alloc<'f, 'h>(g: &Frame<'f, 'h>, name: Local<'_, 'h, Text>, number: u32) -> Result<Local<'f, 'h, Class>, Error> {
+        let class = g.alloc_with::<Class>(METHODS)?;
+        g.put(class, Class::name, name);
+        g.write(class, Class::head, Head(Tag::Class, number));
+        Ok(class)
+    }
+    pub fn method<'f, 'h>(g: &Frame<'f, 'h>, class: Local<'_, 'h, Class>, at: u32) -> Result<Local<'f, 'h, Closure>, Error> {
+        let found = match at.checked_sub(METHODS) {
+            None => g.get_nth(class, Class::methods, at)?,
+            Some(at) => g.item(g.field(class, Class::more)?, at)?,
+        };
+        Ok(found.expect("a method"))
+    }
+    pub fn set_method<'h>(g: &Frame<'_, 'h>, class: Local<'_, 'h, Class>, at: u32, method: Local<'_, 'h, Closure>) -> Result<(), Error> {
+        let at = match at.checked_sub(METHODS) {
+            None => return g.put_nth(class, Class::methods, at, method),
+            Some(at) => at,
+        };
+        let old = g.get(class, Class::more)?;
+        match old {
+            Some(old) if at < g.array_len(old) => g.set_item(old, at, method),
+            _ => {
+                let more = g.alloc_array(2 * at + METHODS)?;
+                if let Some(old) = old {
+                    g.copy_items(old, 0..at, more, 0)?;
+                }
+                g.put(class, Class::more, more);
+                g.set_item(more, at, method)
+            }
         }
     }
 }
