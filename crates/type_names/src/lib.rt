@@ -14,6 +14,13 @@
 //! - `conclude_types` tells a fault on standard error.
 //!
 //! Clauses see `Types` as the text that was read, and `specs` says what a text names.
+//!
+//! Examples of calls go on from this one, in which `rt` is a test's `HostRuntime` and `alloc` its allocator:
+//!
+//! ```rust
+//! use script_text::WatchedWriter;
+//! use type_names::{Mistake, Types, TypesFault, conclude_types, read_types};
+//! ```
 #![tactic(auto)]
 
 mod faults;
