@@ -410,7 +410,7 @@ typedef struct g1_policy {
     uint32_t young_words;  /* words: new regions of so many are evacuated first, and no fewer later */
     uint32_t cards_left;   /* cards: where more are queued at a look, it refines all but half as many */
     uint32_t visit_cards;  /* cards: as many may lead into the regions of a pause, and more only after one that gained little for them */
-    uint32_t clear_objects;/* objects with weak slots: so many are cleared at a look, up to 16 times as many near the reserve */
+    uint32_t clear_objects;/* objects with weak slots: so many are cleared at a look, and up to 4 times as many near the reserve */
     uint32_t least;        /* regions: so many are in play at least */
     uint32_t look, left;   /* words that may be asked for before the next look, as it was set, and what is left of them */
     uint32_t begin_at;     /* regions: where so many are free, or fewer, a cycle begins */

@@ -214,7 +214,7 @@ Word bytes_of(const g1_sizes& sizes) {
     Word bytes = 8 * words + 4 * set_bytes(words);
     for (Word size : {64 * 64, 64 * 64 * 64, 64 * 64 * 64 * 64}) bytes += 8 * parts(words, size);
     bytes += 9 * cards + 3 * set_bytes(cards) + parts(sizes.regions, 4) * (80 + set_bytes(4 * 3 * rows * in_region));
-    return bytes + sizes.regions * (181 + set_bytes(sizes.regions)) + set_bytes(sizes.regions) + 72 * sizes.mutators + 12 * roots + 2064;
+    return bytes + sizes.regions * (181 + set_bytes(sizes.regions)) + set_bytes(sizes.regions) + 72 * sizes.mutators + 12 * roots + 2072;
 }
 
 g1_sizes sizes_of(const Heap& heap) {

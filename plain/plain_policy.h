@@ -59,8 +59,7 @@ static inline void policy_start(g1_policy *policy, const g1_sizes *sizes)
     start.mark_words = policy_least(524288, policy_most(131072, policy_within((uint64_t)16 * sizes->words)));
     start.mark_words = policy_most(start.mark_words, policy_within((uint64_t)4 * sizes->words));
     start.cycle_words = policy_within((uint64_t)4 * policy_within((uint64_t)sizes->regions * sizes->words));
-    start.young_words = 131072, start.cards_left = 4096, start.packed_next = UINT64_MAX;
-    start.clear_objects = policy_least(65536, policy_most(16384, sizes->words / 8));
+    start.young_words = 131072, start.cards_left = 4096, start.clear_objects = 16384, start.packed_next = UINT64_MAX;
     start.visit_cards = policy_most(16384, policy_least(65536, sizes->words));
     start.least = start.most = policy_least(sizes->regions, policy_most(64, 16777216 / policy_most(1, sizes->words)));
     start.held = sizes->regions - start.least;
@@ -82,16 +81,13 @@ static inline uint32_t policy_cards(policy_of *of)
 }
 /* The cards that may lead into the regions of a pause. */
 static inline uint32_t policy_visits(policy_of *of) { return policy_most(of->policy->visits, of->policy->visit_cards); }
-/* Takes note of a pause within cards, which took all that it was to take or not. Where it gained little for its cards, or the regions in
-   play are used up, the next one may visit more; and it rests. */
-static inline void policy_note_pause(policy_of *of, uint32_t before, g1_answer moved, int is_whole)
+/* Takes note of a pause within cards: where it gained little for them, the next one may visit more; and it rests. */
+static inline void policy_note_pause(policy_of *of, uint32_t before, g1_answer moved)
 {
     uint64_t gained = (uint64_t)policy_above(policy_free(of->heap), before) * of->sizes->words;
     uint32_t visits = policy_visits(of);
     uint64_t rest = (moved.first + 32 * g1_queued(of->heap).first) / 4;
-    if (is_whole) of->policy->visits = visits - visits / 8;
-    else if (gained < visits || policy_free(of->heap) <= of->policy->held)
-        of->policy->visits = policy_least(policy_within((uint64_t)2 * visits), policy_within((uint64_t)16 * policy_cards(of)));
+    if (gained < visits) of->policy->visits = policy_least(policy_within((uint64_t)2 * visits), policy_within((uint64_t)16 * policy_cards(of)));
     else if (gained / 4 >= visits) of->policy->visits = visits / 2;
     of->policy->rest = rest < gained / 2 ? rest : gained / 2;
 }
@@ -177,7 +173,7 @@ static inline void policy_pause_young(policy_of *of)
     uint32_t words = policy->pause_words, cards = policy_visits(of);
     g1_answer moved = policy_moved(of, policy->cycles != 0 ? g1_young(of->heap, words, cards) : g1_pause_within(of->heap, words, cards));
     after = policy_free(of->heap);
-    policy_note_pause(of, before, moved, moved.second >= policy->young || moved.first >= (uint64_t)words * 3 / 4);
+    policy_note_pause(of, before, moved);
     policy->gained += policy_above(after, before), policy->paid += moved.first;
     uint64_t worth = (uint64_t)policy->gained * of->sizes->words;
     int is_cut_short = (uint64_t)2 * policy->pause_words < (uint64_t)before * of->sizes->words;
@@ -225,7 +221,6 @@ static inline int policy_evacuate_some(policy_of *of, uint32_t *left, int is_wit
     }
     live = g1_live_words(of->heap).first, used = (of->sizes->regions - before) * words;
     more = policy_above(policy->wanted, before) * words;
-    more = more < policy->pause_words ? more : policy->pause_words;
     all = live != 0 && more > UINT64_MAX / live ? UINT64_MAX : more * live;
     budget = used <= live ? *left : all / (used - live);
     budget = budget < *left ? budget : *left;
@@ -233,7 +228,7 @@ static inline int policy_evacuate_some(policy_of *of, uint32_t *left, int is_wit
     if (is_within) {
         moved = policy_moved(of, g1_pause_within(of->heap, (uint32_t)budget, policy_visits(of)));
         is_cut_short |= (moved.second == 0 || moved.first < budget / 2) && policy_visits(of) < policy_cards(of);
-        policy_note_pause(of, before, moved, moved.first >= (uint32_t)budget * 3ull / 4);
+        policy_note_pause(of, before, moved);
     } else moved = policy_pause(of, (uint32_t)budget);
     copied = moved.first, after = policy_free(of->heap);
     *left = copied < *left ? *left - (uint32_t)copied : 0;
@@ -256,19 +251,19 @@ static inline int policy_begin(policy_of *of)
     uint64_t most = (uint64_t)policy->cycle_words * policy_in_play(policy, of->sizes) / of->sizes->regions;
     if (free > policy->begin_at && policy->asked < most) return 0;
     words = policy->cycles == 0 ? g1_used_words(of->heap).first / 2 : policy->marked;
-    pace = 64 + policy_within(words) * 5ull / 8 / policy_most(1, policy_above(free, policy_kept(policy, of->sizes)));
+    pace = 64 + policy_within(words) * 3ull / 2 / policy_most(1, policy_above(free, policy_kept(policy, of->sizes)));
     policy->pace = pace < policy->mark_words ? (uint32_t)pace : policy->mark_words, policy->asked = 0, policy->wanted = 0;
     policy->looked = 0, policy->marked = words;
     g1_begin(of->heap);
     if (free <= policy->reserve) policy_end(of);
     return 1;
 }
-/* How many objects with weak slots are cleared at a look: more where few regions are free above the reserve, or none of those in play. */
+/* How many objects with weak slots are cleared at a look: more where few regions are free above the reserve. */
 static inline uint32_t policy_spend_clears(policy_of *of, uint32_t free)
 {
     g1_policy *policy = of->policy;
-    uint32_t room = policy_above(free, policy_kept(policy, of->sizes));
-    uint32_t looks = room == 0 ? 8 : 1 + policy_least(3, policy_above(policy->cleared, policy->clears) / room);
+    uint32_t room = policy_most(1, policy_above(free, policy_kept(policy, of->sizes)));
+    uint32_t looks = 1 + policy_least(3, policy_above(policy->cleared, policy->clears) / room);
     policy->clears = policy_within((uint64_t)policy->clears + looks);
     return policy_within((uint64_t)policy->clear_objects * looks);
 }

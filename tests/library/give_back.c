@@ -6,8 +6,7 @@
                              and while the program goes on 3 times and 32 MiB; then all is filled once more. A heap that grows and shrinks
                              100 times
      give_back courses FIRST COUNT    other courses of a program with 50 MB alive, by COUNT seeds each from FIRST on, in heaps of 1 GiB and
-                             4 GiB that had up to 1 GB alive: the process holds at most 3 times the most that lives and 32 MiB,
-                             of objects with weak slots 4 times
+                             4 GiB that had up to 1 GB alive: the process holds at most 3 times the most that lives and 32 MiB
      give_back same COUNT    a drawn program, which gives back COUNT times: its record is the same whatever COUNT is
 
    Prints what the process holds. The status is 1 where that is too much, or an object isn't as it was. */
@@ -289,85 +288,14 @@ static uint32_t array(uint32_t most)
 static uint32_t put_array(void) { return array(12288); }
 static uint32_t put_large(void) { return array(3 * sizes.words); }
 
-/* A hash table with chains. An entry names the next one and its key, an object of 4 words; a drawn key is put in where it isn't there, else
-   taken out. Registers of the chain: the entry at hand, the one before it, the key. */
-enum { ENTRY_WORDS = 12, AT_HAND = 0, BEFORE, KEY };
-
-static int loads(uint32_t to, uint32_t object, uint32_t field) { return g1_get(&heap, 0, to, object, field).code == G1_NAME; }
-
-static int begin_chains(void)
-{
-    entries = LIVE / (ENTRY_WORDS + 1), columns = 1;
-    while (columns * columns < entries) columns++;
-    entries = columns * (columns - 1);
-    if (g1_make(&heap, &policy, 0, TABLE, columns - 1, 0, 0).code != G1_NAME) return 0;
-    for (uint32_t row = 0; row < columns - 1; row++) {
-        if (!makes(columns, columns + 2)) return 0;
-        g1_put(&heap, 0, TABLE, row, NEW);
-    }
-    lives(entries, 0);
-    return 1;
-}
-
-/* Takes the entry at hand out of its chain. */
-static uint32_t take_out(uint32_t before, uint32_t field)
-{
-    loads(KEY, AT_HAND, 0);
-    g1_put(&heap, 0, before, field, KEY), lives(0, ENTRY_WORDS);
-    return 1;
-}
-
-static uint32_t put_in(uint32_t column, uint32_t key)
-{
-    if (!makes(0, 6)) return 0;
-    g1_move(&heap, 0, KEY, NEW);
-    if (!makes(2, 6)) return 0;
-    g1_write(&heap, 0, NEW, 0, key), g1_put(&heap, 0, NEW, 1, KEY);
-    loads(AT_HAND, ROW, column);
-    g1_put(&heap, 0, NEW, 0, AT_HAND), g1_put(&heap, 0, ROW, column, NEW), lives(ENTRY_WORDS, 0);
-    return ENTRY_WORDS;
-}
-
-static uint32_t change_chain(void)
-{
-    uint32_t key = draw(2 * entries), column = key % entries % columns, is_first = 1;
-    loads(ROW, TABLE, key % entries / columns);
-    int is_there = loads(AT_HAND, ROW, column);
-    for (; is_there && g1_read(&heap, 0, AT_HAND, 0).first != key; is_first = 0)
-        g1_move(&heap, 0, BEFORE, AT_HAND), is_there = loads(AT_HAND, AT_HAND, 0);
-    if (!is_there) return put_in(column, key);
-    return take_out(is_first ? ROW : BEFORE, is_first ? column : 0);
-}
-
-/* Objects of 4 weak slots, which name entries at drawn places. */
-static int begin_weak(void) { return begin_table(9); }
-
-static uint32_t put_weak(void)
-{
-    uint32_t entry = draw(entries);
-    if (g1_make(&heap, &policy, 0, NEW, 1, 4, 1).code != G1_NAME) return 0;
-    for (uint32_t slot = 0; slot < 4; slot++) {
-        uint32_t other = draw(entries);
-        loads(ROW, TABLE, other / columns), loads(AT, ROW, other % columns);
-        g1_put_weak(&heap, 0, NEW, slot, AT);
-    }
-    loads(ROW, TABLE, entry / columns), g1_put(&heap, 0, ROW, entry % columns, NEW);
-    return 8;
-}
-
-/* A course, and how many times what lives it may hold. */
 static const struct course {
     const char *name;
     int (*begin)(void);
     uint32_t (*step)(void);
-    uint64_t times;
 } courses[] = {
-    {"entries replaced", begin_entries, replace, 3}, {"small ones replaced", begin_small, replace, 3},
-    {"rows replaced", begin_entries, refill, 3},     {"lists", begin_nothing, push_by_chance, 3},
-    {"lists of small ones", begin_nothing, push_small, 3}, {"one list", begin_nothing, build, 3},
-    {"a queue", begin_nothing, queue, 3},            {"arrays", begin_nothing, put_array, 3},
-    {"large arrays", begin_nothing, put_large, 3},   {"hash chains", begin_chains, change_chain, 3},
-    {"weak slots", begin_weak, put_weak, 4}};
+    {"entries replaced", begin_entries, replace}, {"small ones replaced", begin_small, replace}, {"rows replaced", begin_entries, refill},
+    {"lists", begin_nothing, push_by_chance},     {"lists of small ones", begin_nothing, push_small}, {"one list", begin_nothing, build},
+    {"a queue", begin_nothing, queue},            {"arrays", begin_nothing, put_array}, {"large arrays", begin_nothing, put_large}};
 enum { COURSES = sizeof courses / sizeof *courses };
 
 /* Takes a course in a heap in which nothing lives, until 400 MB are made: so the marking before it had nothing to look at. */
@@ -386,7 +314,7 @@ static int take_course(const struct course *course)
     printf("%s: %llu bytes live at most, %llu held at most, %u regions in play\n", course->name, (unsigned long long)most_alive * 8,
            (unsigned long long)most, sizes.regions - policy.held);
     uint64_t live = most_alive > LIVE ? most_alive : LIVE;
-    return most <= course->times * 8 * live + 32 * MEBIBYTE ? 0 : fails("too much is held");
+    return most <= 3 * 8 * live + 32 * MEBIBYTE ? 0 : fails("too much is held");
 }
 
 /* Each course by so many seeds, in a heap of so many mebibytes of which three quarters were filled, 1 GB at most, and dropped. */

@@ -13,7 +13,7 @@ pub record IsStarted (config : Config) (p : Policy) : Type 0 where
   pub mark_regions : min (config.words * 4) (2 ^ 32 - 1) ≤ p.mark_words
   pub young_words : p.young_words ≡ 131072
   pub cards_left : p.cards_left ≡ 4096
-  pub clear_objects : p.clear_objects ≡ min (max (config.words / 8) 16384) 65536
+  pub clear_objects : p.clear_objects ≡ 16384
   pub least : p.least ≡ min (max (16777216 / max config.words 1) 64) config.regions
   pub held : p.held ≡ config.regions - p.least
   pub visit_cards : p.visit_cards ≡ min (max config.words 16384) 65536

@@ -40,13 +40,11 @@ fn bounded_pause(config: &Config, words: u32, cards: u32, is_young: bool) -> Col
     }
 }
 
-/// Takes a pause within the cards that the policy has for it, which is to take so many regions, or such as have so many live words. It took
-/// them all if three quarters of these words were copied.
+/// Takes a pause within the cards that the policy has for it.
 fn pause_within<W: Watch>(
     core: &mut Core,
     policy: &mut Policy,
     words: u32,
-    regions: u32,
     is_young: bool,
     watch: &mut W,
 ) -> Reply
@@ -56,16 +54,7 @@ fn pause_within<W: Watch>(
     let before = core.free_regions();
     let step = bounded_pause(&config, words, policy.visited(), is_young);
     let reply = take(core, policy, step, watch);
-    let (taken, copied) = moved(reply);
-    let is_whole = taken >= regions || copied >= u64::from(words) * 3 / 4;
-    policy.note_pause(
-        &config,
-        before,
-        core.free_regions(),
-        reply,
-        is_whole,
-        core.queued(),
-    );
+    policy.note_pause(&config, before, core.free_regions(), reply, core.queued());
     reply
 }
 
@@ -78,8 +67,7 @@ fn pause_young<W: Watch>(core: &mut Core, policy: &mut Policy, watch: &mut W)
     let before = core.free_regions();
     let budget = policy.pause_words;
     let is_young = policy.cycles != 0;
-    let regions = policy.young;
-    let reply = pause_within(core, policy, budget, regions, is_young, watch);
+    let reply = pause_within(core, policy, budget, is_young, watch);
     policy.note_young(&config, before, core.free_regions(), reply);
 }
 
@@ -148,7 +136,7 @@ fn pause_some<W: Watch>(
     ensures { CollectsWithin W.sees 1 core.old watch.old core.new watch.new }
 {
     if is_within {
-        return pause_within(core, policy, words, u32::MAX, false, watch);
+        return pause_within(core, policy, words, false, watch);
     }
     take(core, policy, CollectorStep::Pause(words), watch)
 }

@@ -184,7 +184,7 @@ impl Policy {
             young_words,
             cards_left: 4096,
             visit_cards: config.words.max(16384).min(65536),
-            clear_objects: (config.words / 8).max(16384).min(65536),
+            clear_objects: 16384,
             least,
             look: 0,
             left: 0,
@@ -335,11 +335,11 @@ impl Policy {
         self.left = self.look;
     }
 
-    /// Sets how fast a cycle marks: so that it ends where a fifth of the regions above the reserve is left, if marking looks at as many
-    /// words as estimated. What is left of an evacuation waits for the end of the cycle.
+    /// Sets how fast a cycle marks: three times as fast as it would take to end at the reserve, where marking looks at so many words by
+    /// estimate. What is left of an evacuation waits for the end of the cycle.
     pub(crate) fn plan_marking(&mut self, config: &Config, free: u32, words: u64) {
         let room = u64::from(free.saturating_sub(self.kept(config)).max(1));
-        let pace = 64 + words.min(u64::from(u32::MAX)) * 5 / 8 / room;
+        let pace = 64 + words.min(u64::from(u32::MAX)) * 3 / 2 / room;
         self.pace = pace.min(u64::from(self.mark_words)) as u32;
         self.asked = 0;
         self.wanted = 0;
@@ -412,7 +412,7 @@ impl Policy {
     }
 
     /// The budget of a pause after a cycle, at most so many words: what it takes to empty regions of the usual density until as many are
-    /// free as are wanted, or `pause_words` are gained. So a pause of regions in which little lives is no longer than another one.
+    /// free as are wanted.
     pub(crate) fn evacuation_budget(
         &self,
         config: &Config,
@@ -426,8 +426,7 @@ impl Policy {
         if garbage == 0 {
             return most;
         }
-        let wanted = u64::from(self.wanted.saturating_sub(free)) * words;
-        let more = wanted.min(u64::from(self.pause_words));
+        let more = u64::from(self.wanted.saturating_sub(free)) * words;
         let budget = more.saturating_mul(live) / garbage;
         budget.min(u64::from(most)) as u32
     }
@@ -445,14 +444,10 @@ impl Policy {
 
     /// Objects with weak slots: so many are cleared at the next look. It is `clear_objects`; but where fewer regions are free above the
     /// reserve than clearing has looks left, by those after the last marking, two, three or four times as many, so that it ends before the
-    /// reserve is reached; and eight times as many where those in play are used up. It counts as so many looks.
+    /// reserve is reached. It counts as so many looks.
     pub(crate) fn spend_clears(&mut self, config: &Config, free: u32) -> u32 {
-        let room = free.saturating_sub(self.kept(config));
-        let looks = if room == 0 {
-            8
-        } else {
-            1 + (self.cleared.saturating_sub(self.clears) / room).min(3)
-        };
+        let room = free.saturating_sub(self.kept(config)).max(1);
+        let looks = 1 + (self.cleared.saturating_sub(self.clears) / room).min(3);
         self.clears = self.clears.saturating_add(looks);
         self.clear_objects.saturating_mul(looks)
     }
@@ -499,25 +494,21 @@ impl Policy {
                     .saturating_add(reserve.saturating_mul(2).max(wanted))
     }
 
-    /// Takes note of a pause within cards, after which so many are queued. If it took all that it was to take, the next one may visit an
-    /// eighth less. Else some regions had too many cards: if it gained fewer words than the cards that it might visit, or those in play are
-    /// used up, the next one may visit twice as many, and half as many if it gained four times as many, or after a cycle. A card counts for
-    /// each region that it may lead into, so more than all cards may be needed. The next one rests until a fourth of its work is asked for,
-    /// a word copied counted as one and a card that it left as 32, but for no more than half of what it gained.
+    /// Takes note of a pause within cards, after which so many are queued. If it gained fewer words than the cards that it might visit,
+    /// the next one may visit twice as many, and half as many if it gained four times as many, or after a cycle. A card counts for each
+    /// region that it may lead into, so more than all cards may be needed. The next one rests until a fourth of its
+    /// work is asked for, a word copied counted as one and a card that it left as 32, but for no more than half of what it gained.
     pub(crate) fn note_pause(
         &mut self,
         config: &Config,
         before: u32,
         after: u32,
         reply: Reply,
-        is_whole: bool,
         queued: u32,
     ) {
         let gained = u64::from(after.saturating_sub(before)) * u64::from(config.words);
         let visits = self.visited();
-        if is_whole {
-            self.visits = visits - visits / 8;
-        } else if gained < u64::from(visits) || after <= self.held {
+        if gained < u64::from(visits) {
             let most = cards_of(config).saturating_mul(16);
             self.visits = visits.saturating_mul(2).min(most);
         } else if gained / 4 >= u64::from(visits) {

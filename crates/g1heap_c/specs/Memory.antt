@@ -31,4 +31,4 @@ region_bytes count = count * (181 + set_bytes count) + set_bytes count
 abbrev pub heap_bytes : Config → ℕ
 heap_bytes c = word_bytes (c.regions * c.words) + card_bytes (c.regions * (c.words / card_words c))
     + filter_bytes c.regions (filter_rows c) (c.words / card_words c) + region_bytes c.regions
-    + 72 * c.mutators + 12 * (globals_of c + registers_of c * c.mutators) + 2064
+    + 72 * c.mutators + 12 * (globals_of c + registers_of c * c.mutators) + 2072

@@ -97,7 +97,7 @@ fn heap_bytes(config: &Config) -> u64
         + region_bytes(regions)
         + 72 * mutators
         + 12 * roots
-        + 2064
+        + 2072
 }
 
 /// How many bytes `g1_new` asks for with these sizes, in all pieces; 0 where they don't suit.
